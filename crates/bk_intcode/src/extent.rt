@@ -9,7 +9,8 @@ ghost use Rattle.bk_intcode.specs.Inner.Reach.{address_size, operand_size, item_
 use crate::item::{Item, Operand};
 use bk_base::limit;
 
-/// The least address that takes a word of its own after its instruction.
+/// The least address that takes a word of its own after its instruction. The field for an address has the bits below it, and a word
+/// divided by it gives the form of the instruction.
 pub(crate) const LONG_ADDRESS: u32 = 0x200_0000;
 
 /// How many words an instruction with this address takes.

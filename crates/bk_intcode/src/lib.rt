@@ -1,3 +1,4 @@
+//! INTCODE: items, segments, the loader, and the machine that executes them.
 #![tactic(auto)]
 
 mod extent;

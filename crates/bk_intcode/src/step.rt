@@ -5,6 +5,7 @@ ghost use Rattle.bk_intcode.specs.Decoding.{form as form_of, form_function};
 ghost use Rattle.bk_intcode.specs.Step.{Goes, addressed, with_local, with_global, pointed, operand, matched, switched, byte_stored, called, operated, executed, step_on, step as step_of};
 ghost use Rattle.bk_intcode.specs.Inner.Effects.{turn_of, OwnEnd};
 
+use crate::extent::LONG_ADDRESS;
 use crate::item::Function;
 use crate::operation::{Operation, Routine, apply, operation_of};
 use crate::output::{Output, Piece, byte_at};
@@ -34,7 +35,7 @@ fn address_at(store: &[u32], c: u32, form: u32, word: u32) -> Option<(u32, u32)>
         let d = word_at(store, c)?;
         Some((d, word::sum(c, 1)))
     } else {
-        Some((word % 0x200_0000, c))
+        Some((word % LONG_ADDRESS, c))
     }
 }
 
@@ -295,7 +296,7 @@ fn step_as(store: &mut [u32], r: &mut Registers, form: u32, word: u32) -> Option
 // the code after the match.
 macro_rules! step_by_form {
     ($store:ident, $r:ident, $word:ident; $($form:literal)*; $($other:literal)*) => {
-        match $word / 0x200_0000 {
+        match $word / LONG_ADDRESS {
             $($form => return step_as($store, $r, $form, $word),)*
             $($other => {})*
             _ => unreachable!(),
@@ -321,5 +322,5 @@ pub fn step(store: &mut [u32], r: &mut Registers) -> Option<Effect>
         80 81 82 83 84 85 86 87 88 89 90 91 92 93 94 95
         96 97 98 99 100 101 102 103 104 105 106 107 108 109 110 111 112;
         113 114 115 116 117 118 119 120 121 122 123 124 125 126 127);
-    step_as(store, r, word / 0x200_0000, word)
+    step_as(store, r, word / LONG_ADDRESS, word)
 }

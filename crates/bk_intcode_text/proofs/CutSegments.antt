@@ -9,14 +9,14 @@ use Rattle.bk_words.specs.Words.{words_of}
 use Rattle.bk_words.specs.Gathering.{BeginsWord}
 use Rattle.bk_words.specs.WordLaws.{words_of-more_blanks, EndsInBlank-append}
 use Rattle.bk_intcode_text.specs.ItemText.{item_text}
-use Rattle.bk_intcode_text.specs.SegmentReading.{IsBegun, StopsAtDevice}
+use Rattle.bk_intcode_text.specs.SegmentReading.{IsPartial, StopsAtDevice}
 use Rattle.bk_intcode_text.specs.FirstSaying.{segment, nothing, fault}
 use Rattle.bk_intcode_text.specs.SegmentAnswer.{Takes, NoSegmentPassed}
 use Rattle.bk_intcode_text.proofs.ReadingLemmas.{Read}
 use Rattle.bk_intcode_text.proofs.OneSaying.{one_saying}
 
 -- the device failed at a word
-pub stops_behind : (a b c : Option (List ℕ)) (m : ℕ) (ended : Bool) (items : List Item) (given : List ℕ) → Read a b m items → BeginsWord given → Consumes b c given → IsBegun items →
+pub stops_behind : (a b c : Option (List ℕ)) (m : ℕ) (ended : Bool) (items : List Item) (given : List ℕ) → Read a b m items → BeginsWord given → Consumes b c given → IsPartial items →
     Takes a c ended (λ taken end. StopsAtDevice taken)
 stops_behind a b c m ended items given s begins gives begun = (
   s.0 ++ given,

@@ -4,7 +4,7 @@ pub mod OperandLemmas
 pub mod WordLemmas
 pub mod ItemLengths
 pub mod DraftLemmas
-pub mod BegunLemmas
+pub mod PartialLemmas
 pub mod ReadingLemmas
 pub mod ItemSame
 pub mod PrintedLemmas

@@ -19,11 +19,11 @@ use Rattle.bk_intcode.specs.declared.item.Item.TheVariants.{Instruction, SetLabe
 use Rattle.bk_intcode_text.specs.ItemText.{letter, item_text}
 use Rattle.bk_intcode_text.specs.ItemFault.{all_set, item_fault}
 use Rattle.bk_intcode_text.specs.WordMeaning.{Means, WordFault, begins_item, IsByteOver255}
-use Rattle.bk_intcode_text.specs.SegmentReading.{IsBegun, FaultBehind, FaultAt, CutAt}
+use Rattle.bk_intcode_text.specs.SegmentReading.{IsPartial, FaultBehind, FaultAt, CutAt}
 use Rattle.bk_intcode_text.specs.FirstSaying.{segment, nothing, fault, Says, SayOneThing}
 use Rattle.bk_words.specs.Numerals.{rest_same, first-numeral}
 use Rattle.bk_intcode_text.proofs.WordLemmas.{each_digit, other_class, nothing-empty}
-use Rattle.bk_intcode_text.proofs.BegunLemmas.{get_low, get-take, sets-at}
+use Rattle.bk_intcode_text.proofs.PartialLemmas.{get_low, get-take, sets-at}
 use Rattle.bk_intcode_text.proofs.ItemSame.{item_same}
 
 -- items whose words begin the words of others begin those
@@ -333,7 +333,7 @@ segment_faultless items whole k (LabelWord l) at = none-of_one (nat_lt (length (
 segment_faultless items whole k (SetGlobal n l) at = none-of_one (nat_lt (length (take k items)) INTCODE_ITEMS) TooLong (few-before items whole k (SetGlobal n l) at)
 
 -- items that a segment begins are not begun: the end is among them
-begun_no_segment : (a b c : List Item) → IsSegment a → IsBegun b → b ≡ a ++ c → ⊥
+begun_no_segment : (a b c : List Item) → IsSegment a → IsPartial b → b ≡ a ++ c → ⊥
 begun_no_segment a b c whole begun is =
     begun.no_end (length a - 1) (ap (λ (l : List Item). slice_get l (length a - 1)) is ∙ get-append a c (length a - 1) End whole.ended)
 

@@ -12,7 +12,7 @@ use Rattle.bk_words.specs.Words.{words_of}
 use Rattle.bk_words.specs.Taking.{TakesWords, StopsInWord}
 
 -- Items of a segment that goes on: none has a fault after those before it, and none is the end.
-pub record IsBegun (items : List Item) : Type 0 where
+pub record IsPartial (items : List Item) : Type 0 where
   pub in_range : AreItems items
   pub faultless : (k : ℕ) (item : Item) → slice_get items k ≡ Some item → item_fault (take k items) item ≡ None
   pub no_end : (k : ℕ) → slice_get items k ≢ Some End
@@ -25,7 +25,7 @@ FaultBehind before word kind = WordFault word kind ⊎ ((item : Item) × Means w
 -- The words are those of items without a fault, and the last word has this one. Items are counted from 1.
 pub record FaultAt (words : List (List ℕ)) (number : ℕ) (kind : IntcodeKind) : Type 0 where
   pub before : List Item
-  pub begun : IsBegun before
+  pub begun : IsPartial before
   pub word : List ℕ
   pub are : words ≡ map item_text before ++ word ∷ []
   pub place : number ≡ length before + 1
@@ -34,7 +34,7 @@ pub record FaultAt (words : List (List ℕ)) (number : ℕ) (kind : IntcodeKind)
 -- The words are those of items without a fault, and a further item is due.
 pub record CutAt (words : List (List ℕ)) (number : ℕ) : Type 0 where
   pub before : List Item
-  pub begun : IsBegun before
+  pub begun : IsPartial before
   pub some : 0 < length before
   pub are : words ≡ map item_text before
   pub place : number ≡ length before + 1
@@ -56,7 +56,7 @@ GivesFault taken end number kind =
 -- Memory was refused at the last word that was taken; those before it are the words of items without a fault.
 pub record StopsAtWord (taken : List ℕ) (end : Type 0) : Type 0 where
   pub before : List Item
-  pub begun : IsBegun before
+  pub begun : IsPartial before
   pub word : List ℕ
   pub are : TakesWords taken end (map item_text before ++ word ∷ [])
 
@@ -64,5 +64,5 @@ pub record StopsAtWord (taken : List ℕ) (end : Type 0) : Type 0 where
 -- more was taken than the bytes of one word that did not end.
 pub record StopsAtDevice (taken : List ℕ) : Type 0 where
   pub before : List Item
-  pub begun : IsBegun before
+  pub begun : IsPartial before
   pub are : StopsInWord taken (map item_text before)

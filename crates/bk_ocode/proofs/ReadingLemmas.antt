@@ -71,16 +71,6 @@ AreFaultless-push stmts s are fits none = record {
 AreTyped-push : (stmts : List Stmt) (s : Stmt) → AreTyped stmts → IsTyped s → AreTyped (stmts ++ s ∷ [])
 AreTyped-push stmts s are fits = λ k t is. elim (at_push stmts s k t is) [ inl p ↦ are k t p.1 | inr p ↦ subst IsTyped p.1 fits ]
 
-pub IsPartial-empty : IsPartial []
-IsPartial-empty = record {
-  are_faultless = record {
-    in_range = λ k t is. absurd (let h : None ≡ Some t = is in cc);
-    faultless = λ k t is. absurd (let h : None ≡ Some t = is in cc);
-  };
-  are_typed = λ k t is. absurd (let h : None ≡ Some t = is in cc);
-  goes_on = λ is. let h : Outside ≡ Ended = is in cc;
-}
-
 pub IsPartial-push : (stmts all : List Stmt) (s : Stmt) → all ≡ stmts ++ s ∷ [] → IsPartial stmts → IsStmt s → stmt_fault stmts s ≡ None → (context_of all).position ≢ Ended → IsPartial all
 IsPartial-push stmts all s is begun fits none on = record {
   are_faultless = subst AreFaultless (sym is) (AreFaultless-push stmts s begun.are_faultless fits.0 none);

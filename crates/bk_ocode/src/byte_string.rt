@@ -37,12 +37,4 @@ impl ByteString {
     {
         self.bytes.as_slice()
     }
-
-    /// The vector of the bytes.
-    pub fn into_vec(self) -> Vec<u8>
-        ensures value { result.items ≡ self }
-    {
-        let ByteString { bytes } = self;
-        bytes
-    }
 }

@@ -33,12 +33,4 @@ impl CaseList {
     {
         self.cases.as_slice()
     }
-
-    /// The vector of them.
-    pub fn into_vec(self) -> Vec<Case>
-        ensures { result.items ≡ self }
-    {
-        let CaseList { cases } = self;
-        cases
-    }
 }

@@ -33,12 +33,4 @@ impl GlobalList {
     {
         self.entries.as_slice()
     }
-
-    /// The vector of them.
-    pub fn into_vec(self) -> Vec<GlobalEntry>
-        ensures { result.items ≡ self }
-    {
-        let GlobalList { entries } = self;
-        entries
-    }
 }

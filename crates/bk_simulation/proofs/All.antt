@@ -1,5 +1,5 @@
 -- All forms: what holds of the meanings of the nodes inside holds of each node.
-use Rattle.bk_simulation.proofs.Words.{◌≡◌, ℕ, suc, ◌+◌, ◌-◌, ◌*◌, ◌≤◌, Bool, true, false, List, ◌∷◌, ◌++◌, Some, refl, sym, ◌∙◌, subst, arith, zero, State, from_label, Stmt, Monadic, JumpIf, Stack, CallRoutine, FRAME_WORDS, infix_code, Operator, Expression, Expressions, Action, Actions, option_map, infix_word, divides_by_zero, Value, number, sum, on_numbers, operate_prefix, Environment, constant_in, past, past_each, labelled, Sought, the_label, the_case, the_default, Mode, forwards, seeking, World, ends, divide_by_zero, done, given, with, turn, Exit, going, history, After, Throughout, Meanings, at, fetch, in_order, scope_of, landing, alone, value_of, truth_of, address_in, combined, judged, assigned, act_of, applied, rounds_of, means_with, turn_for, means, no_turns, no_turn_for, Adds, adds, stays, given_after, with_after, each_evaluation_after, either_after}
+use Rattle.bk_simulation.proofs.Words.{◌≡◌, ℕ, suc, ◌+◌, ◌-◌, ◌*◌, ◌≤◌, Bool, true, false, List, ◌∷◌, ◌++◌, Some, refl, sym, ◌∙◌, subst, arith, zero, State, from_label, Stmt, Monadic, JumpIf, Stack, CallRoutine, FRAME_WORDS, infix_code, Operator, Expression, Expressions, Action, Actions, option_map, infix_word, divides_by_zero, Value, number, sum, on_numbers, operate_prefix, Environment, constant_in, past, past_each, labelled, Sought, the_label, the_case, the_default, Mode, forwards, seeking, World, ends, divide_by_zero, done, given, with, turn, Exit, going, history, After, Throughout, Meanings, at, fetch, in_order, scope_of, landing, alone, value_of, truth_of, address_in, combined, judged, assigned, act_of, applied, rounds_of, means_with, turn_for, means, no_turns, no_turn_for, Adds, adds, stays, given_after, with_after, each_way_after, either_after}
 use Rattle.bk_ocode.specs.declared.stmt.Monadic.TheVariants as w
 use Rattle.bk_tree.specs.declared.tree.Operator.TheVariants as o
 use Rattle.bk_tree.specs.declared.tree.Prefix.TheVariants as q
@@ -29,7 +29,7 @@ use Rattle.bk_meaning.proofs.MeaningTies.{only_grows}
 -- what scopes add
 pub scope_after : (g : Setting) (m : Meanings) → Simulates g m → (cs : Actions) (mode : Mode) (env : Environment) (v : World) → After (history v) (scope_of m cs mode env v)
 scope_after g m sim cs mode env v =
-    each_evaluation_after (history v) (in_order m cs mode (labelled cs env) v) (λ _ w. done w) (landing cs env (λ x w. m.scope cs (seeking (the_label x)) env w)) ((order_adds g m sim cs mode (labelled cs env)).at v)
+    each_way_after (history v) (in_order m cs mode (labelled cs env) v) (λ _ w. done w) (landing cs env (λ x w. m.scope cs (seeking (the_label x)) env w)) ((order_adds g m sim cs mode (labelled cs env)).at v)
     (λ _. adds _ (λ w1. stays (history w1))) (λ x. landing_adds g m sim cs env x)
 
 pub alone_adds : (g : Setting) (m : Meanings) → Simulates g m → AloneAdds m

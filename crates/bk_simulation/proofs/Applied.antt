@@ -1,5 +1,5 @@
 -- Calls, for a value or not: the arguments, then the procedure, then its frame or a routine of the library.
-use Rattle.bk_simulation.proofs.Words.{◌≡◌, ℕ, suc, ◌+◌, ◌-◌, ◌*◌, ◌<◌, ◌≤◌, ◌^◌, max, nat_lt, Bool, true, false, List, ◌∷◌, length, Option, Some, None, refl, sym, ap, ◌∙◌, subst, arith, option_map_or, slice_get_within, FRAME_WORDS, Expression, Expressions, Action, Word, Cell, content_of, below, settle, Placed, Callables, Inside, State, slot, can_be_called, Stmt, Stack, Value, procedure, routine, World, Exit, Outcome, gives, undefined, each_evaluation, calling, calls_back, Environment, past, Procedure, procedure_of, history, After, Throughout, forwards, scope_of, alone, Meanings, enter, call, applied, adds, stays, earlier, with_after, each_evaluation_after, closing_after, calling_on}
+use Rattle.bk_simulation.proofs.Words.{◌≡◌, ℕ, suc, ◌+◌, ◌-◌, ◌*◌, ◌<◌, ◌≤◌, ◌^◌, max, nat_lt, Bool, true, false, List, ◌∷◌, length, Option, Some, None, refl, sym, ap, ◌∙◌, subst, arith, option_map_or, slice_get_within, FRAME_WORDS, Expression, Expressions, Action, Word, Cell, content_of, below, settle, Placed, Callables, Inside, State, slot, can_be_called, Stmt, Stack, Value, procedure, routine, World, Exit, Outcome, gives, undefined, each_way, calling, calls_back, Environment, past, Procedure, procedure_of, history, After, Throughout, forwards, scope_of, alone, Meanings, enter, call, applied, adds, stays, earlier, with_after, each_way_after, closing_after, calling_on}
 use Rattle.bk_ocode.specs.OcodeState as ocode
 use Rattle.bk_meaning.specs.Values as value
 use Rattle.bk_meaning.specs.Lasting.{Program}
@@ -14,7 +14,7 @@ use Rattle.bk_simulation.proofs.WrittenCells.{below_like, settle_like}
 use Rattle.bk_simulation.proofs.BytesKept.{moves_bytes}
 use Rattle.bk_simulation.proofs.Weights.{turns_of, turns_among}
 use Rattle.bk_simulation.proofs.Laid.{Setting, CallAt, IsValue, AreValues, count}
-use Rattle.bk_simulation.proofs.Frame.{Configuration, start, FewFrames, Ready, Account, one, comes_on, Ran, went, each_evaluation_ran, with_ran, CompletedAt, there, Out, next, ready_next, by_option}
+use Rattle.bk_simulation.proofs.Frame.{Configuration, start, FewFrames, Ready, Account, one, comes_on, Ran, went, each_way_ran, with_ran, CompletedAt, there, Out, next, ready_next, by_option}
 use Rattle.bk_simulation.proofs.Compose.{stay, roomy, completed_step, completed_on, ran_on}
 use Rattle.bk_simulation.proofs.Simulates.{Simulates, for_values}
 use Rattle.bk_simulation.proofs.Operators.{value_run}
@@ -99,7 +99,7 @@ called_after p m grows alone_after _ vs w = tt
 
 pub call_after : (p : Program) (m : Meanings) → Throughout (λ A w u. After (history w) u) m → AloneAdds m → (v : Value) (vs : List Value) (w : World) → After (history w) (call p m v vs w)
 call_after p m grows alone_after v vs w =
-    each_evaluation_after _ (called p m v vs (calling w)) _ _ (earlier _ _ (called p m v vs (calling w)) (calling_on w) (called_after p m grows alone_after v vs (calling w)))
+    each_way_after _ (called p m v vs (calling w)) _ _ (earlier _ _ (called p m v vs (calling w)) (calling_on w) (called_after p m grows alone_after v vs (calling w)))
     (λ u. adds _ (λ w1. stays (history w1))) (λ x. adds _ (λ w1. tt))
 
 called_runs : (of : Bool) (g : Setting) (p : Program) (m : Meanings) → Procedures g p → KnowsLibrary g → Simulates g m → AloneRuns g m → AloneAdds m → (s : State) (A B : Account) (z : Configuration) (rest : List Stmt) (w w1 : World)
@@ -113,8 +113,8 @@ called_runs of g p m procs known sim alone_runs alone_after s A B z rest w w1 vs
 called_runs of g p m procs known sim alone_runs alone_after s A B z rest w w1 vs _ le le' led r call ca = went tt
 
 back_ran : {g : Setting} {s : State} {B : Account} {K : Value → World → Type 0} {X : Exit → World → Type 0} {o : Outcome Value} (n : ℕ)
-    → Ran g s B (λ v w3. K v (calls_back n w3)) AnyExit o → Ran g s B K X (each_evaluation (λ v after. gives v (calls_back n after)) (λ x w. undefined) o)
-back_ran n q = each_evaluation_ran (λ t. adds _ (λ w. stays (history w))) (λ x. adds _ (λ w. tt)) q (λ v w3 k. went k) (λ x w k. went tt)
+    → Ran g s B (λ v w3. K v (calls_back n w3)) AnyExit o → Ran g s B K X (each_way (λ v after. gives v (calls_back n after)) (λ x w. undefined) o)
+back_ran n q = each_way_ran (λ t. adds _ (λ w. stays (history w))) (λ x. adds _ (λ w. tt)) q (λ v w3 k. went k) (λ x w k. went tt)
 
 -- ---- the arguments, the procedure, the call
 

@@ -1,10 +1,10 @@
 -- Calls of procedures: their frame, their body, and back. A procedure is called: into its frame, through its body, and back.
-use Rattle.bk_simulation.proofs.Words.{◌≡◌, ℕ, ◌+◌, ◌-◌, ◌*◌, ◌≤◌, Bool, List, ◌∷◌, length, Option, Some, None, refl, ap, arith, slice_get, suc, ◌<◌, ◌^◌, ◌≢◌, true, false, sym, ◌∙◌, subst, zero, Action, Expression, Expressions, Content, Word, content_of, Temporary, Link, Cell, Held, write, below, Inside, State, Goes, At, in_hand, program_step, Stmt, ReturnItem, Return, Entry, Save, CallFunction, CallRoutine, Value, unset, World, Exit, return, Outcome, gives, each_evaluation, closing, forgetting, Done, calls_back, Environment, past, Body, command, expression, Procedure, procedure_of, history, After, Throughout, forwards, scope_of, alone, Meanings, return_exit, run_body, bind_formals, values, adds, stays, each_evaluation_after, with_after, FRAME_WORDS, max, nat_lt, [], ◌++◌, ⊎_elim, inl, inr, append-nil, option_map_or, nat_tests, slice_get_within, Placed, Routine, Callables, slot, can_be_called, procedure, holds, making, calling, formal_cells, enter, closing_after}
+use Rattle.bk_simulation.proofs.Words.{◌≡◌, ℕ, ◌+◌, ◌-◌, ◌*◌, ◌≤◌, Bool, List, ◌∷◌, length, Option, Some, None, refl, ap, arith, slice_get, suc, ◌<◌, ◌^◌, ◌≢◌, true, false, sym, ◌∙◌, subst, zero, Action, Expression, Expressions, Content, Word, content_of, Temporary, Link, Cell, Held, write, below, Inside, State, Goes, At, in_hand, program_step, Stmt, ReturnItem, Return, Entry, Save, CallFunction, CallRoutine, Value, unset, World, Exit, return, Outcome, gives, each_way, closing, forgetting, Done, calls_back, Environment, past, Body, command, expression, Procedure, procedure_of, history, After, Throughout, forwards, scope_of, alone, Meanings, return_exit, run_body, bind_formals, values, adds, stays, each_way_after, with_after, FRAME_WORDS, max, nat_lt, [], ◌++◌, ⊎_elim, inl, inr, append-nil, option_map_or, nat_tests, slice_get_within, Placed, Routine, Callables, slot, can_be_called, procedure, holds, making, calling, formal_cells, enter, closing_after}
 use Rattle.bk_meaning.specs.Lasting.{Program}
 use Rattle.bk_simulation.proofs.Memory.{Stands, BaseOf, Grown, Like, like_refl, Moved, Fits, moved_on, fits_above, moved_above, Alive, StandsCell, Store, fits_more}
 use Rattle.bk_simulation.proofs.Weights.{turns_of, turns_through}
 use Rattle.bk_simulation.proofs.Laid.{Setting, Scene, IsAlone, IsValue, CallAt, AreValues, count}
-use Rattle.bk_simulation.proofs.Frame.{Configuration, start, Ready, Account, Ran, went, each_evaluation_ran, so, CompletedAt, there, Has, Out, NamedIn, store, state, FewFrames, Comes, comes_on, one, with_ran, next, ready_next, here, go_on, falls_on, ran_from}
+use Rattle.bk_simulation.proofs.Frame.{Configuration, start, Ready, Account, Ran, went, each_way_ran, so, CompletedAt, there, Has, Out, NamedIn, store, state, FewFrames, Comes, comes_on, one, with_ran, next, ready_next, here, go_on, falls_on, ran_from}
 use Rattle.bk_simulation.proofs.Compose.{completed_more, roomy, links_below, stay, completed_on, ran_on, ran_more, above}
 use Rattle.bk_simulation.proofs.Simulates.{Simulates, for_scope, RanDid, for_value, for_values}
 use Rattle.bk_simulation.proofs.Operators.{value_run}
@@ -253,9 +253,9 @@ exit_after return w = stays (history w)
 exit_after _ w = stays (history w)
 
 returned_ran : (g : Setting) (s : State) (B : Account) (z : Configuration) (r : List Stmt) (w : World) (o : Outcome Done) → RanDid g s B z (Return ∷ r) w o
-    → Ran g s B (Yielded g s B z w) AnyExit (each_evaluation (λ _ w. gives unset w) return_exit o)
+    → Ran g s B (Yielded g s B z w) AnyExit (each_way (λ _ w. gives unset w) return_exit o)
 returned_ran g s B z r w o q =
-    each_evaluation_ran (λ _. adds _ (λ w1. stays (history w1))) (λ x. adds _ (λ w1. exit_after x w1)) q
+    each_way_ran (λ _. adds _ (λ w1. stays (history w1))) (λ x. adds _ (λ w1. exit_after x w1)) q
     (λ _ w1 a. went (returned_by g s B z w w1 (Return ∷ r) z.depth r refl a)) (λ x w1 e. returned_exit g s B z w x w1 e)
 
 valued_by : (g : Setting) (s : State) (B : Account) (z : Configuration) (r : List Stmt) (w : World) (v : Value) (w1 : World)
@@ -293,13 +293,13 @@ body_runs g m sim alone_runs (expression e) z c w laid r =
 pub body_after : (m : Meanings) → Throughout (λ A w u. After (history w) u) m → ((x : Action) (env : Environment) (w : World) → After (history w) (scope_of m (alone x) forwards env w)) → (b : Body) (env : Environment) (w : World)
     → After (history w) (run_body m b env w)
 body_after m grows alone_after (command x) env w =
-    each_evaluation_after _ (scope_of m (alone x) forwards env w) _ return_exit (alone_after x env w) (λ _. adds _ (λ w. stays (history w))) (λ y. adds _ (λ w. exit_after y w))
+    each_way_after _ (scope_of m (alone x) forwards env w) _ return_exit (alone_after x env w) (λ _. adds _ (λ w. stays (history w))) (λ y. adds _ (λ w. exit_after y w))
 body_after m grows alone_after (expression e) env w = grows.value e env w
 
 -- what was made for the call dies
 pub closing_ran : {T : Type 0} {g : Setting} {s : State} {B : Account} {K L : T → World → Type 0} {o : Outcome T} (k : ℕ)
     → ((t : T) (w : World) → K t w → L t (forgetting k w)) → Ran g s B K AnyExit o → Ran g s B L AnyExit (closing k o)
-closing_ran k h q = each_evaluation_ran (λ t. adds _ (λ w. stays (history w))) (λ x. adds _ (λ w. stays (history w))) q (λ t w i. went (h t w i)) (λ x w i. went tt)
+closing_ran k h q = each_way_ran (λ t. adds _ (λ w. stays (history w))) (λ x. adds _ (λ w. stays (history w))) q (λ t w i. went (h t w i)) (λ x w i. went tt)
 
 pub call_too_high : (n : ℕ) (of : Bool) (rest : List Stmt) → IsCallAt n (call_stmt of n ∷ rest)
 call_too_high n true rest = refl

@@ -7,7 +7,7 @@ use Rattle.bk_simulation.proofs.Memory.{Like, like_on, Stands, Store, Moved, Fit
 use Rattle.bk_simulation.proofs.MadeObjects.{Since, since_on, since_cells, since_moved, closed_moved, closed_fits}
 use Rattle.bk_simulation.proofs.WrittenCells.{pushed_like, pushed_at}
 use Rattle.bk_simulation.proofs.Laid.{Setting, Scene, Exits, IsLabelHere, KeepsLabels}
-use Rattle.bk_simulation.proofs.Frame.{Configuration, store, state, start, NamedIn, FewFrames, Ready, Account, further, paying, here, comes_on, one, Ran, went, each_evaluation_ran, ran_from, so, turn_behind, Completed, CompletedAt, OpenCompleted, store_at, there, Has, GoesTo, Leads, Exited, Out, next}
+use Rattle.bk_simulation.proofs.Frame.{Configuration, store, state, start, NamedIn, FewFrames, Ready, Account, further, paying, here, comes_on, one, Ran, went, each_way_ran, ran_from, so, turn_behind, Completed, CompletedAt, OpenCompleted, store_at, there, Has, GoesTo, Leads, Exited, Out, next}
 
 -- ---- one arrival
 
@@ -371,5 +371,5 @@ closed_arrival {g} {z = z} {w = w} {more = more} {w1 = w1} r a =
 pub closed_ran : {T : Type 0} {g : Setting} {s : State} {B : Account} {z : Configuration} {w : World} {K L : T → World → Type 0} {o : Outcome T} → Ready g z w
     → ((t : T) (w1 : World) → K t w1 → L t (forgetting (length w.memory) w1))
     → Ran g s B K (OpenExited g s B z w) o → Ran g s B L (Out g s B z w) (closing (length w.memory) o)
-closed_ran r h q = each_evaluation_ran (λ t. adds _ (λ w1. stays (history w1))) (λ x. adds _ (λ w1. stays (history w1))) q (λ t w1 k. went (h t w1 k))
+closed_ran r h q = each_way_ran (λ t. adds _ (λ w1. stays (history w1))) (λ x. adds _ (λ w1. stays (history w1))) q (λ t w1 k. went (h t w1 k))
     (λ x w1 e. went (record { control = e.is.control; depth1 = e.is.depth1; leads = e.is.leads; arr = closed_arrival r e.is.arr; later = e.is.later; hands = e.is.hands }))

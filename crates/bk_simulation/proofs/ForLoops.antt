@@ -1,5 +1,5 @@
 -- FOR as a command.
-use Rattle.bk_simulation.proofs.Words.{◌≡◌, ◌≢◌, ℕ, zero, suc, ◌+◌, ◌-◌, ◌*◌, ◌<◌, ◌≤◌, ◌^◌, Bool, true, false, cond, List, [], ◌∷◌, ◌++◌, length, Some, None, refl, sym, ap, ◌∙◌, subst, arith, ⊎_elim, not, nat_lt, pos, int_lt, bytes_eq, bytes_eq-Decides, FRAME_WORDS, Bound, Binding, bound_in, bind as bind_bound, Content, Cell, Variable, Held, content_of, below, settle, Word, State, Local, Stmt, Label, Load, JumpIf, Jump, Store as Store_stmt, Stack, Number, Dyadic, Assign, variable, test_of_step, goal, meant, Mention, Expression, Expressions, Action, Value, holds, number, address, Environment, cell, past, World, Outcome, Done, done, given, with, either, making, Exit, break, loop, turn, history, Meanings, fetch, store as put_value, at, Sought, forwards, step_of, for_test, for_rounds_of, for_loop, round_exit, for_step, relation, Adds, adds, with_after, given_after, closing_after, stays, each_evaluation_after, turn_after, changes_after, either_after, scope_of, alone, nat_tests, ints, signed, word_of, from_label, read, operate, judged}
+use Rattle.bk_simulation.proofs.Words.{◌≡◌, ◌≢◌, ℕ, zero, suc, ◌+◌, ◌-◌, ◌*◌, ◌<◌, ◌≤◌, ◌^◌, Bool, true, false, cond, List, [], ◌∷◌, ◌++◌, length, Some, None, refl, sym, ap, ◌∙◌, subst, arith, ⊎_elim, not, nat_lt, pos, int_lt, bytes_eq, bytes_eq-Decides, FRAME_WORDS, Bound, Binding, bound_in, bind as bind_bound, Content, Cell, Variable, Held, content_of, below, settle, Word, State, Local, Stmt, Label, Load, JumpIf, Jump, Store as Store_stmt, Stack, Number, Dyadic, Assign, variable, test_of_step, goal, meant, Mention, Expression, Expressions, Action, Value, holds, number, address, Environment, cell, past, World, Outcome, Done, done, given, with, either, making, Exit, break, loop, turn, history, Meanings, fetch, store as put_value, at, Sought, forwards, step_of, for_test, for_rounds_of, for_loop, round_exit, for_step, relation, Adds, adds, with_after, given_after, closing_after, stays, each_way_after, turn_after, changes_after, either_after, scope_of, alone, nat_tests, ints, signed, word_of, from_label, read, operate, judged}
 use Rattle.std.specs.Prelude.{slice_get}
 use Rattle.bk_scope.specs.declared.bound.Bound.TheVariants as b
 use Rattle.bk_tree.specs.Tree as t
@@ -11,7 +11,7 @@ use Rattle.bk_simulation.proofs.WrittenCells.{below_at, below_like, settle_like,
 use Rattle.bk_simulation.proofs.MadeObjects.{make, make_fits, Since, since_refl, since_on, since_cells, since_made, grown_made, lying, since_moved, get_new}
 use Rattle.bk_simulation.proofs.Weights.{turns_of, turns_in, turns_through}
 use Rattle.bk_simulation.proofs.Laid.{Setting, Scene, in_loop, place_of, IsWord, IsAlone, KeepsLabels, IsLabelHere, LabelAt, IsAct, IsForLoop, behind_body, NameAt}
-use Rattle.bk_simulation.proofs.Frame.{some_objects, Configuration, store, state, start, named_grown, Ready, Account, further, went, ran_from, CompletedAt, OpenCompleted, there, next, ready_next, each_evaluation_ran, with_ran, so, Out, Has, by_option}
+use Rattle.bk_simulation.proofs.Frame.{some_objects, Configuration, store, state, start, named_grown, Ready, Account, further, went, ran_from, CompletedAt, OpenCompleted, there, next, ready_next, each_way_ran, with_ran, so, Out, Has, by_option}
 use Rattle.bk_simulation.proofs.Compose.{begun, stay, links_like, with_objects, stepped, behind, completed_more, comes_to, open_configuration, open_ready, open_step, open_on, ran_open, closed_ran, completed_turn, turn_there, ran_more, outside, completed_on, topped, above}
 use Rattle.bk_simulation.proofs.Simulates.{Simulates, Limit, where_to, RanDid, for_scope, for_counts}
 use Rattle.bk_simulation.proofs.ControlSteps.{label_on, landed_on, closes, caught_at, tested}
@@ -192,7 +192,7 @@ further_count g m sim s A B x o u k d z n1 body rest w w1 le0 le1 le ll la lp ed
 pub for_rounds_run : (g : Setting) (m : Meanings) → Simulates g m → (x : Action) (o : ℕ) (u : Value) (k d : ℕ) (z : Configuration) (body rest : List Stmt) (w : World) → z.depth ≡ d + 2 → IsForLoop g z.scene z.depth d k z.env x body rest → Limit g z w d o u
     → Ready g z w → RanDid g (start z body w) (for_counts x w) z rest w (for_rounds_of m x o u k z.env w)
 for_rounds_run g m sim x o u k d z body rest w ed lf lim r =
-    each_evaluation_ran (λ _. next_adds) exit_adds
+    each_way_ran (λ _. next_adds) exit_adds
     (so (omega arith) (omega arith) (λ _ w1 q. q) (λ y w1 q. q)
     (scope_runs g m sim (alone x) forwards (looping lf.2 lf.3 z) lf.4 lf.6.0 body (Label lf.2 ∷ behind_body d k lf.0 lf.5) body w (lf.6.1, lf.6.2, lf.6.3) refl (around_ready g (in_loop lf.2 lf.3 z.depth z.scene).around (in_loop lf.2 lf.3 z.depth z.scene).exits z w r)))
     (λ _ w1 q. go (for_scope (alone x) w) w1 (omega arith) (omega arith) q) out
@@ -241,7 +241,7 @@ for_rounds_run g m sim x o u k d z body rest w ed lf lim r =
 -- what rounds add
 pub rounds_adds : (g : Setting) (m : Meanings) → Simulates g m → (x : Action) (o : ℕ) (u : Value) (k : ℕ) (env : Environment) → Adds (λ w. scope_of m (alone x) forwards env w) → Adds (λ w. for_rounds_of m x o u k env w)
 rounds_adds g m sim x o u k env au =
-    adds _ (λ w. each_evaluation_after (history w) (scope_of m (alone x) forwards env w) (λ _ w. with (for_step o k w) (λ _ w. for_test o u k (λ w. turn w (λ w. m.for_rounds x o u k env w)) w)) (round_exit (λ w. with (for_step o k w) (λ _ w. for_test o u k (λ w. turn w (λ w. m.for_rounds x o u k env w)) w))) (au.at w) (λ _. next_adds) exit_adds)
+    adds _ (λ w. each_way_after (history w) (scope_of m (alone x) forwards env w) (λ _ w. with (for_step o k w) (λ _ w. for_test o u k (λ w. turn w (λ w. m.for_rounds x o u k env w)) w)) (round_exit (λ w. with (for_step o k w) (λ _ w. for_test o u k (λ w. turn w (λ w. m.for_rounds x o u k env w)) w))) (au.at w) (λ _. next_adds) exit_adds)
   where
     next_adds : Adds (λ w. with (for_step o k w) (λ _ w. for_test o u k (λ w. turn w (λ w. m.for_rounds x o u k env w)) w))
     next_adds = adds _ (λ w. with_after (history w) (for_step o k w) (λ _ w. for_test o u k (λ w. turn w (λ w. m.for_rounds x o u k env w)) w) ((step_adds o k).at w) (λ _. test_adds o k u (λ w. turn w (λ w. m.for_rounds x o u k env w))

@@ -1,5 +1,5 @@
 -- The frame of the simulation: where code runs and what it finds, counted runs, arrivals, exits and falls, and how parts compose.
-use Rattle.bk_simulation.proofs.Words.{◌≡◌, ℕ, zero, suc, ◌+◌, ◌-◌, ◌*◌, ◌<◌, ◌≤◌, ◌^◌, Bool, true, false, List, ◌∷◌, ◌++◌, length, Option, None, Some, refl, sym, ap, ◌∙◌, subst, append_assoc, arith, ◌⊎◌, ⊎_elim, inl, inr, slice_get_within, FRAME_WORDS, bound_in, Content, Cell, content_of, Placed, Inside, State, Ends, from_label, program_step, Stmt, Jump, Stack, Return, Goal, Value, Environment, Sense, constant, cell, sense_in, sense_of, World, Exit, break, loop, endcase, goto, result, return, Outcome, gives, leaves, ends, undefined, going, each_evaluation, with, turn, turn_of, history, Grows, After, Adds, adds, stays}
+use Rattle.bk_simulation.proofs.Words.{◌≡◌, ℕ, zero, suc, ◌+◌, ◌-◌, ◌*◌, ◌<◌, ◌≤◌, ◌^◌, Bool, true, false, List, ◌∷◌, ◌++◌, length, Option, None, Some, refl, sym, ap, ◌∙◌, subst, append_assoc, arith, ◌⊎◌, ⊎_elim, inl, inr, slice_get_within, FRAME_WORDS, bound_in, Content, Cell, content_of, Placed, Inside, State, Ends, from_label, program_step, Stmt, Jump, Stack, Return, Goal, Value, Environment, Sense, constant, cell, sense_in, sense_of, World, Exit, break, loop, endcase, goto, result, return, Outcome, gives, leaves, ends, undefined, going, each_way, with, turn, turn_of, history, Grows, After, Adds, adds, stays}
 use Rattle.bk_base.specs.declared.run_end.End.{End}
 use Rattle.bk_meaning.specs.World as world
 use Rattle.bk_simulation.specs.Simulation.{IsTooHigh, end_of}
@@ -181,13 +181,13 @@ falls_on g s w undefined f h = tt
 falls_on g s w (going w1) f h = falls_later g s w w1 h f
 
 -- what was given and each exit are gone on with
-pub each_evaluation_ran : {A B : Type 0} {g : Setting} {s : State} {N : Account} {K : A → World → Type 0} {L : B → World → Type 0} {X Y : Exit → World → Type 0}
+pub each_way_ran : {A B : Type 0} {g : Setting} {s : State} {N : Account} {K : A → World → Type 0} {L : B → World → Type 0} {X Y : Exit → World → Type 0}
     {o : Outcome A} {on : A → World → Outcome B} {out : Exit → World → Outcome B}
     → ((a : A) → Adds (on a)) → ((x : Exit) → Adds (out x)) → Ran g s N K X o → ((a : A) (w : World) → K a w → Ran g s N L Y (on a w))
-    → ((x : Exit) (w : World) → X x w → Ran g s N L Y (out x w)) → Ran g s N L Y (each_evaluation on out o)
-each_evaluation_ran {A} {B} {g} {s} {N} {K} {L} {X} {Y} {o} {on} {out} ad ax r h i = by o r.is
+    → ((x : Exit) (w : World) → X x w → Ran g s N L Y (out x w)) → Ran g s N L Y (each_way on out o)
+each_way_ran {A} {B} {g} {s} {N} {K} {L} {X} {Y} {o} {on} {out} ad ax r h i = by o r.is
   where
-    by : (o : Outcome A) → Went g s N K X o ⊎ Falls g s o → Ran g s N L Y (each_evaluation on out o)
+    by : (o : Outcome A) → Went g s N K X o ⊎ Falls g s o → Ran g s N L Y (each_way on out o)
     by (gives a w) (inl k) = h a w k
     by (gives a w) (inr f) = record { is = inr (falls_on g s w (on a w) f ((ad a).at w)) }
     by (leaves x w) (inl k) = i x w k
@@ -198,7 +198,7 @@ each_evaluation_ran {A} {B} {g} {s} {N} {K} {L} {X} {Y} {o} {on} {out} ad ax r h
 pub with_ran : {A B : Type 0} {g : Setting} {s : State} {N : Account} {K : A → World → Type 0} {L : B → World → Type 0} {X : Exit → World → Type 0}
     {o : Outcome A} {go : A → World → Outcome B}
     → ((a : A) → Adds (go a)) → Ran g s N K X o → ((a : A) (w : World) → K a w → Ran g s N L X (go a w)) → Ran g s N L X (with o go)
-with_ran ad r h = each_evaluation_ran ad (λ x. adds _ (λ w. stays (history w))) r h (λ x w q. went q)
+with_ran ad r h = each_way_ran ad (λ x. adds _ (λ w. stays (history w))) r h (λ x w q. went q)
 
 falls_before : (g : Setting) (s t : State) (k p : ℕ) (w : World) → Comes g k p s t → FallsIn g t w → FallsIn g s w
 falls_before g s t k p w c r = ⊎_elim

@@ -1,9 +1,9 @@
 -- Scopes: commands that own their labels; and VALOF. WHILE, UNTIL, REPEAT, REPEATWHILE and REPEATUNTIL. SWITCHON.
-use Rattle.bk_simulation.proofs.Words.{◌≡◌, ℕ, ◌+◌, ◌≤◌, Bool, true, false, List, refl, sym, ◌∙◌, subst, arith, ◌-◌, ◌*◌, ◌∷◌, Option, Some, bound_in, State, Stmt, meant, goal_in, Actions, Action, Environment, labelled, Sought, the_label, Mode, seeking, stands_in_one, forwards, World, Exit, goto, leaves, either, break, result, return, history, Meanings, landing, scope_of, alone, Adds, adds, stays, either_after, Content, Unset, option_map_or, Label, TakeResult, Around, Value, result_exit, result_of, cond, suc, Jump, goal, Expression, past, past_action, stands_in, loop, Outcome, Done, done, turn, round_exit, again, same_truth, where_truth, rounds_of, with_after, turn_after, each_evaluation_after, None, ap, below, from_label, case_label, Case, Switch, number, the_case, the_default, is_label, endcase, with, case_exit, ended_case, choose_case}
+use Rattle.bk_simulation.proofs.Words.{◌≡◌, ℕ, ◌+◌, ◌≤◌, Bool, true, false, List, refl, sym, ◌∙◌, subst, arith, ◌-◌, ◌*◌, ◌∷◌, Option, Some, bound_in, State, Stmt, meant, goal_in, Actions, Action, Environment, labelled, Sought, the_label, Mode, seeking, stands_in_one, forwards, World, Exit, goto, leaves, either, break, result, return, history, Meanings, landing, scope_of, alone, Adds, adds, stays, either_after, Content, Unset, option_map_or, Label, TakeResult, Around, Value, result_exit, result_of, cond, suc, Jump, goal, Expression, past, past_action, stands_in, loop, Outcome, Done, done, turn, round_exit, again, same_truth, where_truth, rounds_of, with_after, turn_after, each_way_after, None, ap, below, from_label, case_label, Case, Switch, number, the_case, the_default, is_label, endcase, with, case_exit, ended_case, choose_case}
 use Rattle.bk_simulation.proofs.Weights.{turns_through, turns_in, turns_of}
 use Rattle.bk_simulation.proofs.Sought.{label_stands_one, same_stands}
 use Rattle.bk_simulation.proofs.Laid.{Setting, Scene, owning, goal_named, IsLabelHere, IsScopeAt, EnteredAny, Exits, in_valof, LabelAt, IsScope, in_loop, IsJump, IsAct, IsLoop, Entered, EnteredBody, in_switch}
-use Rattle.bk_simulation.proofs.Frame.{Configuration, start, Ready, Account, went, each_evaluation_ran, CompletedAt, GoesTo, Leads, Out, next, ready_in, ready_next, Ran, so, Has, Handed, paying, with_ran, there}
+use Rattle.bk_simulation.proofs.Frame.{Configuration, start, Ready, Account, went, each_way_ran, CompletedAt, GoesTo, Leads, Out, next, ready_in, ready_next, Ran, so, Has, Handed, paying, with_ran, there}
 use Rattle.bk_simulation.proofs.Compose.{comes_to, outside, completed_turn, completed_on, turn_there, ran_on, stay, completed_more, ran_first, links_below, completed_paid}
 use Rattle.bk_simulation.proofs.Simulates.{Simulates, for_scope, RanDid, for_act, turns_in_round, for_rounds, HasTruth, for_value}
 use Rattle.bk_simulation.proofs.ControlSteps.{caught_at, label_on, taken_on, landed_on, jump_on, jumped_on}
@@ -42,7 +42,7 @@ pub scope_runs : (g : Setting) (m : Meanings) → Simulates g m → (cs : Action
     → EnteredAny mode (labelled cs z.env) cs at c e → Ready g z w
     → RanDid g (start z e w) (for_scope cs w) z rest w (scope_of m cs mode z.env w)
 scope_runs g m sim cs mode z j at c rest e w l en r =
-    each_evaluation_ran (λ _. adds _ (λ w1. stays (history w1))) (landing_adds g m sim cs z.env)
+    each_way_ran (λ _. adds _ (λ w1. stays (history w1))) (landing_adds g m sim cs z.env)
     (order_run g m sim cs mode (in_scope j cs z) at c rest e w l.0 en (scope_ready g j cs z w r)) (λ _ w1 q. went q) out
   where
     out : (x : Exit) (w1 : World) → Out g (start z e w) (for_scope cs w) (in_scope j cs z) w x w1
@@ -92,7 +92,7 @@ pub valof_run : (g : Setting) (m : Meanings) → Simulates g m → (B : Account)
     → IsScope g (in_valof n z.scene) z.depth z.env (alone x) j c (Label n ∷ TakeResult z.depth ∷ rest) → LabelAt g z.scene z.depth n (TakeResult z.depth ∷ rest) → Ready g z w
     → Ran g (start z c w) B (Has g (start z c w) B z rest (z.depth + 1) w) (Out g (start z c w) B z w) (result_of (scope_of m (alone x) forwards z.env w))
 valof_run g m sim B x z n j c rest w le le' l ln r =
-    each_evaluation_ran (λ _. adds _ (λ w1. stays (history w1))) result_adds
+    each_way_ran (λ _. adds _ (λ w1. stays (history w1))) result_adds
     (so (omega arith) (omega arith) (λ _ w1 q. q) (λ y w1 q. q) (scope_runs g m sim (alone x) forwards (around_here (in_valof n z.scene).around (in_valof n z.scene).exits z) j l.0 c (Label n ∷ TakeResult z.depth ∷ rest) c w l.1 refl (around_ready g (in_valof n z.scene).around (in_valof n z.scene).exits z w r)))
     (λ _ w1 q. went (takes_up (omega arith) (omega arith) r ln q tt)) out
   where
@@ -137,7 +137,7 @@ round_run : (g : Setting) (m : Meanings) → Simulates g m → (B : Account) (a 
     → ((A : Account) (w1 : World) → A.most ≤ 16 * w.turns → w.turns - turns_in false a ≤ A.least → CompletedAt g (start z e w) A z (Label again_at ∷ behind) z.depth w w1 → RanDid g (start z e w) B z rest w (next_one w1))
     → RanDid g (start z e w) B z rest w (again (m.act a mode env w) next_one)
 round_run g m sim B a mode z env again_at out_at at body mid behind rest e w next_one ad le le' en l ent la lo r ends go =
-    each_evaluation_ran (λ _. ad w) exit_adds
+    each_way_ran (λ _. ad w) exit_adds
     (so (omega arith) (omega arith) (λ _ w1 q. q) (λ x w1 q. q) (sim.act a mode (record (looping again_at out_at z) { env = env }) at body mid e w l ent
     (ready_at g (looping again_at out_at z) w env en (around_ready g (in_loop again_at out_at z.depth z.scene).around (in_loop again_at out_at z.depth z.scene).exits z w r))))
     (λ _ w1 q. ends (for_act a w) w1 (omega arith) (omega arith) q) out
@@ -269,7 +269,7 @@ round_exit_adds next ad loop = ad
 round_exit_adds next ad _ = adds _ (λ w1. stays (history w1))
 
 again_adds : (u : World → Outcome Done) (next : World → Outcome Done) → Adds u → Adds next → Adds (λ w. again (u w) next)
-again_adds u next au an = adds _ (λ w. each_evaluation_after (history w) (u w) (λ _ w. next w) (round_exit next) (au.at w) (λ _. an) (λ x. round_exit_adds next an x))
+again_adds u next au an = adds _ (λ w. each_way_after (history w) (u w) (λ _ w. next w) (round_exit next) (au.at w) (λ _. an) (λ x. round_exit_adds next an x))
 
 while_goes : (g : Setting) (m : Meanings) → Simulates g m → (l : ℕ) (b : Bool) (e : Expression) (a : Action) (env : Environment) (x : Bool) → Adds (λ w. either (same_truth b x) (λ w. rounds_of m (t.while l b e a) forwards env w) done w)
 while_goes g m sim l b e a env x =
@@ -336,14 +336,14 @@ case_adds endcase = adds _ (λ w. stays (history w))
 case_adds _ = adds _ (λ w. stays (history w))
 
 pub ended_adds : (g : Setting) (m : Meanings) → Simulates g m → (a : Action) (mode : Mode) (env : Environment) → Adds (λ w. ended_case (m.act a mode env w))
-ended_adds g m sim a mode env = adds _ (λ w. each_evaluation_after (history w) (m.act a mode env w) (λ _ w. done w) case_exit (sim.grows.act a mode env w) (λ _. adds _ (λ w1. stays (history w1))) case_adds)
+ended_adds g m sim a mode env = adds _ (λ w. each_way_after (history w) (m.act a mode env w) (λ _ w. done w) case_exit (sim.grows.act a mode env w) (λ _. adds _ (λ w1. stays (history w1))) case_adds)
 
 -- the body from a place in it, to its end or to an ENDCASE
 pub ended_run : (g : Setting) (m : Meanings) → Simulates g m → (B : Account) (a : Action) (s : Sought) (z : Configuration) (env : Environment) (n : ℕ) (at : Sought → List Stmt) (c1 rest e : List Stmt) (w : World) → 16 * w.turns + 1 ≤ B.most → B.least ≤ w.turns - turns_in false a
     → env.names ≡ z.env.names → IsAct g (in_switch n z.depth z.scene) z.depth env a at c1 (Label n ∷ rest) → Entered (seeking s) env a at c1 e → LabelAt g z.scene z.depth n rest → Ready g z w
     → RanDid g (start z e w) B z rest w (ended_case (m.act a (seeking s) env w))
 ended_run g m sim B a s z env n at c1 rest e w le le' en l ent ln r =
-    each_evaluation_ran (λ _. adds _ (λ w1. stays (history w1))) case_adds
+    each_way_ran (λ _. adds _ (λ w1. stays (history w1))) case_adds
     (so (omega arith) (omega arith) (λ _ w1 q. q) (λ x w1 q. q) (sim.act a (seeking s) (record (switching n z) { env = env }) at c1 (Label n ∷ rest) e w l ent
     (ready_at g (switching n z) w env en (around_ready g (in_switch n z.depth z.scene).around (in_switch n z.depth z.scene).exits z w r))))
     (λ _ w1 q. went (landed_on (omega arith) (omega arith) ln q)) out

@@ -1,5 +1,5 @@
 -- How the program ends where the call of START ends, comes on or falls.
-use Rattle.bk_simulation.proofs.Words.{◌≡◌, ℕ, zero, suc, ◌+◌, ◌*◌, ◌≤◌, List, ◌++◌, Option, Some, None, refl, sym, ap, ◌∙◌, subst, arith, ◌⊎◌, ⊎_elim, inl, inr, max, [], ◌∷◌, length, FRAME_WORDS, State, Goes, Ends, At, global_place, program_step, run, HasFrames, Value, procedure, address, World, Outcome, gives, leaves, ends, undefined, going, each_evaluation, calls_back, status, calling, making, Run, Going, Undefined, run_of, first_world, started, means, option_map, number_in, Unset, Word, content_of, first_cells, first_state, Entry, read, Environment, globals_object, Procedure, procedure_of, first_memory, history, After, Meanings, enter, call, run_body, bind_formals, formal_cells, closing_after}
+use Rattle.bk_simulation.proofs.Words.{◌≡◌, ℕ, zero, suc, ◌+◌, ◌*◌, ◌≤◌, List, ◌++◌, Option, Some, None, refl, sym, ap, ◌∙◌, subst, arith, ◌⊎◌, ⊎_elim, inl, inr, max, [], ◌∷◌, length, FRAME_WORDS, State, Goes, Ends, At, global_place, program_step, run, HasFrames, Value, procedure, address, World, Outcome, gives, leaves, ends, undefined, going, each_way, calls_back, status, calling, making, Run, Going, Undefined, run_of, first_world, started, means, option_map, number_in, Unset, Word, content_of, first_cells, first_state, Entry, read, Environment, globals_object, Procedure, procedure_of, first_memory, history, After, Meanings, enter, call, run_body, bind_formals, formal_cells, closing_after}
 use Rattle.bk_base.specs.declared.run_end.End.{End}
 use Rattle.bk_meaning.specs.World as world
 use Rattle.bk_meaning.specs.Program.{Ends as Finishes}
@@ -96,8 +96,8 @@ module _ (g : Setting) (s0 s : State) (is : settled g.program s0 ≡ s) (few : F
 
   -- what the call of START comes to, the program does
   does_those : (n k : ℕ) (B : Account) (o : Outcome Value) → B.most ≤ 16 * n + 16
-      → calls_of (run_of (each_evaluation (λ v after. gives v (calls_back k after)) (λ x w. undefined) o)) ≡ g.cap → Went g s B (Over g s B) AnyExit o ⊎ Falls g s o
-      → Does g.program g.first n s0 (run_of (each_evaluation (λ v after. gives v (calls_back k after)) (λ x w. undefined) o))
+      → calls_of (run_of (each_way (λ v after. gives v (calls_back k after)) (λ x w. undefined) o)) ≡ g.cap → Went g s B (Over g s B) AnyExit o ⊎ Falls g s o
+      → Does g.program g.first n s0 (run_of (each_way (λ v after. gives v (calls_back k after)) (λ x w. undefined) o))
   does_those n k B (gives v w) le ec r =
       subst (λ c. DoesEnd g.program g.first n s0 w.output w.input c (end_of (status 0))) (sym ec) (at_end n B (status 0) w le ec (end_of (status 0)) refl r)
   does_those n k B (ends e w) le ec r = subst (λ c. DoesEnd g.program g.first n s0 w.output w.input c (end_of e)) (sym ec) (at_end n B e w le ec (end_of e) refl r)
@@ -105,8 +105,8 @@ module _ (g : Setting) (s0 s : State) (is : settled g.program s0 ≡ s) (few : F
   does_those n k B (going w) le ec (inr f) = subst (λ c. Does g.program g.first n s0 (Going w.output w.input c)) (sym ec) (inr (falls_out w.output w.most_calls ec f))
   does_those n k B _ le ec r = tt
 
-  pub does_so : (n k : ℕ) (B : Account) (o : Outcome Value) → B.most ≤ 16 * n + 16 → calls_of (run_of (each_evaluation (λ v after. gives v (calls_back k after)) (λ x w. undefined) o)) ≡ g.cap → Ran g s B (Over g s B) AnyExit o
-      → Does g.program g.first n s0 (run_of (each_evaluation (λ v after. gives v (calls_back k after)) (λ x w. undefined) o))
+  pub does_so : (n k : ℕ) (B : Account) (o : Outcome Value) → B.most ≤ 16 * n + 16 → calls_of (run_of (each_way (λ v after. gives v (calls_back k after)) (λ x w. undefined) o)) ≡ g.cap → Ran g s B (Over g s B) AnyExit o
+      → Does g.program g.first n s0 (run_of (each_way (λ v after. gives v (calls_back k after)) (λ x w. undefined) o))
   does_so n k B o le ec r = does_those n k B o le ec r.is
 
 -- ---- The program does from its first state what its sections mean.
@@ -125,7 +125,7 @@ pub record HasStart (g : Setting) (p : Program) : Type 0 where
 abbrev pub called_at : Setting → List ℕ → ℕ → State
 called_at g input start = record { control = At start; cells = first_cells g.program g.first; frame = g.first; hand = None; input = input; output = []; written = [] }
 
-pub some_calls : (k : ℕ) (w0 : World) (o : Outcome Value) → After (history (calling w0)) o → 1 ≤ calls_of (run_of (each_evaluation (λ v after. gives v (calls_back k after)) (λ x w. undefined) o))
+pub some_calls : (k : ℕ) (w0 : World) (o : Outcome Value) → After (history (calling w0)) o → 1 ≤ calls_of (run_of (each_way (λ v after. gives v (calls_back k after)) (λ x w. undefined) o))
 some_calls k w0 (gives v w) h = let c : max w0.most_calls (w0.calls + 1) ≤ w.most_calls = h.most_calls in omega arith
 some_calls k w0 (leaves x w) h = omega arith
 some_calls k w0 (ends e w) h = let c : max w0.most_calls (w0.calls + 1) ≤ w.most_calls = h.most_calls in omega arith
@@ -179,7 +179,7 @@ does_from g p n input sim alone_runs alone_after procs fs (inr has) ec =
     w0 = first_world p input n
 
     run_at : Option Procedure → Run
-    run_at o = run_of (each_evaluation (λ v after. gives v (calls_back 0 after)) (λ x w. undefined) (enter m o [] (calling w0)))
+    run_at o = run_of (each_way (λ v after. gives v (calls_back 0 after)) (λ x w. undefined) (enter m o [] (calling w0)))
 
     B : Account
     B = record { most = 16 * n + 16; least = 0 }

@@ -1,5 +1,5 @@
 -- Where the sections mean a run without an end, the program goes on with it.
-use Rattle.bk_simulation.proofs.Words.{◌≡◌, ℕ, zero, suc, ◌+◌, ◌*◌, ◌≤◌, nat_lt, true, false, List, [], Option, Some, None, refl, sym, ap, ◌∙◌, subst, arith, ◌⊎◌, ⊎_elim, inl, inr, FRAME_WORDS, option_map, Declarations, number_in, State, Goes, Program, run, first_state, Value, procedure, World, Outcome, gives, undefined, going, each_evaluation, calling, calls_back, Procedure, program_of, procedure_of, Meanings, enter, Going, Undefined, means, meaning, started, run_of, first_world, IsWellPlaced}
+use Rattle.bk_simulation.proofs.Words.{◌≡◌, ℕ, zero, suc, ◌+◌, ◌*◌, ◌≤◌, nat_lt, true, false, List, [], Option, Some, None, refl, sym, ap, ◌∙◌, subst, arith, ◌⊎◌, ⊎_elim, inl, inr, FRAME_WORDS, option_map, Declarations, number_in, State, Goes, Program, run, first_state, Value, procedure, World, Outcome, gives, undefined, going, each_way, calling, calls_back, Procedure, program_of, procedure_of, Meanings, enter, Going, Undefined, means, meaning, started, run_of, first_world, IsWellPlaced}
 use Rattle.bk_meaning.specs.Lasting as lasting
 use Rattle.bk_meaning.proofs.MeaningSpending.{cut_only_without_turns}
 use Rattle.bk_simulation.specs.GoingOn.{settled}
@@ -42,7 +42,7 @@ record Far (g : Setting) (n : ℕ) (s0 : State) (bytes : List ℕ) : Type 0 wher
   pub wrote : last.output ≡ bytes
 
 abbrev back_to : ℕ → Outcome Value → Outcome Value
-back_to k o = each_evaluation (λ v after. gives v (calls_back k after)) (λ x w. undefined) o
+back_to k o = each_way (λ v after. gives v (calls_back k after)) (λ x w. undefined) o
 
 far_so : (g : Setting) (s0 s : State) → settled g.program s0 ≡ s → FewFrames g s0.cells s0.frame g.cap → (n k : ℕ) (B : Account) (o : Outcome Value) → n ≤ B.least → ((v : World) → back_to k o ≡ going v → v.turns ≡ 0)
     → (bytes left : List ℕ) (calls : ℕ) → run_of (back_to k o) ≡ Going bytes left calls → calls ≡ g.cap → Ran g s B (Over g s B) AnyExit o → Far g n s0 bytes ⊎ RunsOut g.program g.first s0 calls bytes

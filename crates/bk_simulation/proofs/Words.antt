@@ -59,7 +59,7 @@ pub use Rattle.bk_trans.specs.Scheme.{address_code, by_turns, cases, cases_throu
 pub use Rattle.bk_trans.specs.declared.around.Around.{Around}
 pub use Rattle.bk_trans.specs.declared.around.Goal.{Goal}
 pub use Rattle.bk_trans.specs.declared.around.Target.{Target}
-pub use Rattle.bk_meaning.proofs.After.{Adds, adds, calling_on, changes_after, closing_after, each_evaluation_after, earlier, either_after, given_after, stays, turn_after, with_after}
+pub use Rattle.bk_meaning.proofs.After.{Adds, adds, calling_on, changes_after, closing_after, each_way_after, earlier, either_after, given_after, stays, turn_after, with_after}
 pub use Rattle.bk_meaning.specs.Calls.{applied, bind_formals, call, enter, formal_cells, return_exit, run_body, values}
 pub use Rattle.bk_meaning.specs.Commands.{act_of, assigned, case_exit, choose_case, ended_case}
 pub use Rattle.bk_meaning.specs.Environment.{Environment, Named, Sense, behind, bind_each, bind_procedure_as, bind_procedures, cell, constant, constant_in, constants_declared, count, foreign, global_named, globals_object, label, labelled, letters, manifests, objects, objects_of_action, objects_of_actions, objects_of_declaration, objects_of_declarations, objects_of_definition, objects_of_definitions, objects_of_each, objects_of_starts, past, past_action, past_definition, past_each, sense_in, sense_of, sense_of_constant, sense_of_global, statics, within_let, word_named}
@@ -74,4 +74,4 @@ pub use Rattle.bk_meaning.specs.Program.{Going, Run, Undefined, first_world, mea
 pub use Rattle.bk_meaning.specs.Scopes.{alone, in_order, landing, scope_of}
 pub use Rattle.bk_meaning.specs.Seeking.{Mode, Sought, at_place, forwards, is_label, same_place, seeking, stands_in, stands_in_one, the_case, the_default, the_label}
 pub use Rattle.bk_meaning.specs.Values.{Value, address, filled, getbyte, holds, newline, number, places, procedure, putbyte, rdch, routine, set_among, stop, unset, value_in, wrch, writed, writef, writen, writes}
-pub use Rattle.bk_meaning.specs.World.{Done, Exit, Outcome, World, break, calling, calls_back, changes, closing, divide_by_zero, done, each_evaluation, either, endcase, ends, forgetting, given, gives, going, goto, leaves, loop, making, remembering, result, return, status, turn, turn_of, undefined, with, writing}
+pub use Rattle.bk_meaning.specs.World.{Done, Exit, Outcome, World, break, calling, calls_back, changes, closing, divide_by_zero, done, each_way, either, endcase, ends, forgetting, given, gives, going, goto, leaves, loop, making, remembering, result, return, status, turn, turn_of, undefined, with, writing}

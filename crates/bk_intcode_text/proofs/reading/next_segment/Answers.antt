@@ -6,9 +6,9 @@ use Rattle.bk_intcode.specs.declared.item.Item.TheVariants.{End}
 use Rattle.bk_intcode_text.specs.ItemFault.{item_fault}
 use Rattle.bk_intcode_text.specs.SegmentReading.{GivesSegment}
 use Rattle.bk_intcode_text.specs.SegmentAnswer.{Answers, Takes}
-use Rattle.bk_intcode_text.proofs.BegunLemmas.{IsSegment-of, no_fault-few}
+use Rattle.bk_intcode_text.proofs.PartialLemmas.{IsSegment-of, no_fault-few}
 use Rattle.bk_intcode_text.proofs.CutSegments.{stops_behind}
-use Rattle.bk_intcode_text.proofs.ReadingLemmas.{nothing_left, cut, word_fault, item_fault_here, segment_here, cut_behind, Read-push, IsBegun-more, stops_here}
+use Rattle.bk_intcode_text.proofs.ReadingLemmas.{nothing_left, cut, word_fault, item_fault_here, segment_here, cut_behind, Read-push, IsPartial-more, stops_here}
 use Rattle.bk_intcode_text.proofs.reading.next_segment.Goals as goal
 
 pub returns-in_default-clause-answers : goal.returns-in_default-clause-answers
@@ -71,7 +71,7 @@ loop-found-preserved g c =
     record {
       taken = Read-push _ _ _ c.loop-found.taken c.next_item.new.taken _ items all c.in-Item.item c.in-Item.last c.if-last.false c.loop-found.invariant.taken comes c.in-Ok-add.ensures.added;
       draft = c.in-Ok-add.ensures.draft;
-      begun = IsBegun-more _ _ c.loop-found.taken c.next_item.new.taken _ items all c.in-Item.item c.in-Item.last comes c.loop-found.invariant.begun faultless c.in_default-item.not-End c.in-Ok-add.ensures.added;
+      begun = IsPartial-more _ _ c.loop-found.taken c.next_item.new.taken _ items all c.in-Item.item c.in-Item.last comes c.loop-found.invariant.begun faultless c.in_default-item.not-End c.in-Ok-add.ensures.added;
       few = omega (arith, no_fault-few items c.in-Item.item faultless, ap (λ (l : List Item). length l) c.in-Ok-add.ensures.added, length-append items (c.in-Item.item ∷ []));
       clear = λ _. c.in-Ok.ensures.clear;
       over = λ was. let stays = c.loop-found.invariant.over was in search rules;

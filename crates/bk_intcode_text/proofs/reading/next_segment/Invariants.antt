@@ -4,7 +4,7 @@ use Rattle.bk_base.specs.declared.limit.TheConstants.{INPUT_BYTES, INTCODE_ITEMS
 use Rattle.bk_intcode_text.specs.ItemText.{item_text}
 use Rattle.bk_words.specs.Words.{words_of, EndsInBlank}
 use Rattle.bk_intcode_text.specs.Drafts.{IsDraft}
-use Rattle.bk_intcode_text.specs.SegmentReading.{IsBegun}
+use Rattle.bk_intcode_text.specs.SegmentReading.{IsPartial}
 use Rattle.bk_words.specs.WordLaws.{IsParted}
 use Rattle.bk_intcode_text.proofs.reading.next_segment.Given as goal
 
@@ -13,7 +13,7 @@ invariant-loop-found g l = record {
   taken : (front : List ℕ) × Consumes (g.I.ByteIn.left l.initial.input) (g.I.ByteIn.left l.input) front × (l.taken ≡ length front)
       × (words_of front ≡ map item_text l.draft.items.items) × IsParted front × EndsInBlank front;
   draft : IsDraft l.draft;
-  begun : IsBegun l.draft.items.items;
+  begun : IsPartial l.draft.items.items;
   few : length l.draft.items.items ≤ INTCODE_ITEMS;
   clear : 0 < l.taken → g.I.ByteIn.faults l.input ≡ 0;
   over : IsTrue (g.I.ByteIn.ended l.initial.input) → IsTrue (g.I.ByteIn.ended l.input) × (l.draft.items.items ≡ []);

@@ -13,7 +13,7 @@ use Rattle.bk_intcode.specs.declared.item.Operand.TheVariants.{Number, Local, Gl
 use Rattle.bk_intcode.specs.declared.item.Item.{Item}
 use Rattle.bk_intcode.specs.declared.item.Item.TheVariants.{Instruction, SetLabel, Byte, Word, LabelWord, SetGlobal, Frame, End}
 use Rattle.bk_intcode_text.specs.ItemFault.{all_set, label_not_set, label_set_twice, too_long, frame_given_twice, item_fault}
-use Rattle.bk_intcode_text.specs.SegmentReading.{IsBegun}
+use Rattle.bk_intcode_text.specs.SegmentReading.{IsPartial}
 
 pub at_push : {X : Type 0} (xs : List X) (y : X) (k : ℕ) (x : X) → slice_get (xs ++ y ∷ []) k ≡ Some x → ((k < length xs) × (slice_get xs k ≡ Some x)) ⊎ ((k ≡ length xs) × (y ≡ x))
 at_push [] y zero x is = inr (refl, cc)
@@ -63,18 +63,11 @@ no_fault-end before is = test-true (all_set before) LabelNotSet (no_fault before
 pub no_fault-frame : (before : List Item) (n : ℕ) → item_fault before (Frame n) ≡ None → gives_frame before ≡ false
 no_fault-frame before n is = test-false (gives_frame before) FrameGivenTwice (no_fault before (Frame n) is).3
 
-pub IsBegun-empty : IsBegun []
-IsBegun-empty = record {
-  in_range = λ k item is. absurd (let h : None ≡ Some item = is in cc);
-  faultless = λ k item is. absurd (let h : None ≡ Some item = is in cc);
-  no_end = λ k is. absurd (let h : None ≡ Some End = is in cc);
-}
-
 pub AreItems-push : (items : List Item) (item : Item) → AreItems items → IsItem item → AreItems (items ++ item ∷ [])
 AreItems-push items item are fits = λ k i is. elim (at_push items item k i is) [ inl p ↦ are k i p.1 | inr p ↦ subst IsItem p.1 fits ]
 
-pub IsBegun-push : (items : List Item) (item : Item) → IsBegun items → IsItem item → item_fault items item ≡ None → item ≢ End → IsBegun (items ++ item ∷ [])
-IsBegun-push items item begun fits faultless other = record {
+pub IsPartial-push : (items : List Item) (item : Item) → IsPartial items → IsItem item → item_fault items item ≡ None → item ≢ End → IsPartial (items ++ item ∷ [])
+IsPartial-push items item begun fits faultless other = record {
   in_range = AreItems-push items item begun.in_range fits;
   faultless = λ k i is. elim (at_push items item k i is) [
     | inl p ↦ ap (λ (b : List Item). item_fault b i) (take-append-le k items (item ∷ []) (omega (arith, p.0))) ∙ begun.faultless k i p.1
@@ -125,13 +118,13 @@ get-take (x ∷ xs) (suc n) zero low = refl
 get-take (x ∷ xs) (suc n) (suc k) low = get-take xs n k (omega arith)
 
 -- no label is set before itself
-label-before : (items : List Item) → IsBegun items → (j k label : ℕ) → slice_get items j ≡ Some (SetLabel label) → slice_get items k ≡ Some (SetLabel label) → j < k → ⊥
+label-before : (items : List Item) → IsPartial items → (j k label : ℕ) → slice_get items j ≡ Some (SetLabel label) → slice_get items k ≡ Some (SetLabel label) → j < k → ⊥
 label-before items begun j k label at_j at_k low =
     let set : sets label (take k items) ≡ true = sets-at label (take k items) j (get-take items k j low ∙ at_j) in
     let unset : sets label (take k items) ≡ false = no_fault-label (take k items) label (begun.faultless k (SetLabel label) at_k) in
     cc
 
-frame-before : (items : List Item) → IsBegun items → (j k m n : ℕ) → slice_get items j ≡ Some (Frame m) → slice_get items k ≡ Some (Frame n) → j < k → ⊥
+frame-before : (items : List Item) → IsPartial items → (j k m n : ℕ) → slice_get items j ≡ Some (Frame m) → slice_get items k ≡ Some (Frame n) → j < k → ⊥
 frame-before items begun j k m n at_j at_k low =
     let given : gives_frame (take k items) ≡ true = gives_frame-at m (take k items) j (get-take items k j low ∙ at_j) in
     let not_given : gives_frame (take k items) ≡ false = no_fault-frame (take k items) n (begun.faultless k (Frame n) at_k) in
@@ -173,7 +166,7 @@ sets-more label [] more set = absurd (let h : false ≡ true = set in cc)
 sets-more label (i ∷ items) more set = more_or (item_sets label i) (sets label items) (sets label (items ++ more)) (sets-more label items more) set
 
 -- With the end behind them, without a fault, they are a segment.
-pub IsSegment-of : (items all : List Item) → all ≡ items ++ End ∷ [] → IsBegun items → item_fault items End ≡ None → IsSegment all
+pub IsSegment-of : (items all : List Item) → all ≡ items ++ End ∷ [] → IsPartial items → item_fault items End ≡ None → IsSegment all
 IsSegment-of items all is begun faultless = subst IsSegment (sym is) (record {
   ends = λ k at. elim (at_push items End k End at) [ inl p ↦ absurd (begun.no_end k p.1) | inr p ↦ omega (arith, p.0, length-append items (End ∷ [])) ];
   ended = ap (λ n. slice_get (items ++ End ∷ []) n) (omega (arith, length-append items (End ∷ []))) ∙ get_push items End;
