@@ -33,7 +33,8 @@ pub fn declare<'a>(
 ) -> Result<Next<'a>, AllocError>
     ensures { IfOk result (λ next. (p : Program) (b : Bytes) →
         Comes p m.new.frames.items next (world m.new b)
-        (resumed p m.old.frames.items (tag done_tag (declared_then p (declarations_in decls.now) (actions_in commands.now) (env_in env.entry) (world m.old b))))) }
+        (resumed p m.old.frames.items (tag done_tag (declared_then p (declarations_in decls.now) (actions_in commands.now)
+        (env_in env.entry) (world m.old b))))) }
 {
     match decls.split_first() {
         None => scope(m, commands, None, env),
@@ -51,7 +52,8 @@ fn declare_one<'a>(
 ) -> Result<Next<'a>, AllocError>
     ensures { IfOk result (λ next. (p : Program) (b : Bytes) →
         Comes p m.new.frames.items next (world m.new b)
-        (resumed p m.old.frames.items (tag done_tag (declared_then p (t.declare (declaration first.now) (declarations_in rest.now)) (actions_in commands.now) (env_in env.entry) (world m.old b))))) }
+        (resumed p m.old.frames.items (tag done_tag (declared_then p (t.declare (declaration first.now) (declarations_in rest.now))
+        (actions_in commands.now) (env_in env.entry) (world m.old b))))) }
 {
     match first {
         Decl::Constants(_, sort, items) => declare_constants(m, *sort, items, rest, commands, env),
@@ -71,7 +73,9 @@ fn declare_constants<'a>(
 ) -> Result<Next<'a>, AllocError>
     ensures { IfOk result (λ next. (p : Program) (b : Bytes) (l : ℕ) →
         Comes p m.new.frames.items next (world m.new b)
-        (resumed p m.old.frames.items (tag done_tag (declared_then p (t.declare (t.constants l sort (items_in items.now)) (declarations_in rest.now)) (actions_in commands.now) (env_in env.entry) (world m.old b))))) }
+        (resumed p m.old.frames.items (tag done_tag (declared_then p
+        (t.declare (t.constants l sort (items_in items.now)) (declarations_in rest.now)) (actions_in commands.now)
+        (env_in env.entry) (world m.old b))))) }
 {
     let inside = constants(m.alloc, sort, items, env)?;
     Ok(Next::Declare(rest, commands, inside))
@@ -88,7 +92,9 @@ fn declare_let<'a>(
 ) -> Result<Next<'a>, AllocError>
     ensures { IfOk result (λ next. (p : Program) (b : Bytes) (l : ℕ) →
         Comes p m.new.frames.items next (world m.new b)
-        (resumed p m.old.frames.items (tag done_tag (declared_then p (t.declare (t.definitions l (definitions_in defs.now)) (declarations_in rest.now)) (actions_in commands.now) (env_in env.entry) (world m.old b))))) }
+        (resumed p m.old.frames.items (tag done_tag (declared_then p
+        (t.declare (t.definitions l (definitions_in defs.now)) (declarations_in rest.now)) (actions_in commands.now)
+        (env_in env.entry) (world m.old b))))) }
 {
     let here = within_let(m.alloc, defs, env)?;
     let count = count_defs(defs)?;
@@ -127,7 +133,9 @@ fn define_behind<'a>(
 ) -> Result<Next<'a>, AllocError>
     ensures { IfOk result (λ next. (p : Program) (b : Bytes) →
         Comes p m.new.frames.items next (world m.new b)
-        (resumed p m.old.frames.items (tag done_tag (with (k.let_values (full p) (t.define (definition first.now) (definitions_in others.now)) (env_in rest.entry.value.here) (world m.old b)) (λ ss w. bound_then p rest.entry.value ss w))))) }
+        (resumed p m.old.frames.items (tag done_tag (with (k.let_values (full p)
+        (t.define (definition first.now) (definitions_in others.now)) (env_in rest.entry.value.here) (world m.old b))
+        (λ ss w. bound_then p rest.entry.value ss w))))) }
 {
     let mut rest = rest;
     rest.defs = others;
@@ -153,7 +161,9 @@ fn define_one<'a>(
 ) -> Result<Next<'a>, AllocError>
     ensures { IfOk result (λ next. (p : Program) (b : Bytes) →
         Comes p m.new.frames.items next (world m.new b)
-        (resumed p m.old.frames.items (tag done_tag (with (k.let_values (full p) (t.define (definition first.now) (definitions_in rest.entry.value.defs.now)) (env_in rest.entry.value.here) (world m.old b)) (λ ss w. bound_then p rest.entry.value ss w))))) }
+        (resumed p m.old.frames.items (tag done_tag (with (k.let_values (full p)
+        (t.define (definition first.now) (definitions_in rest.entry.value.defs.now)) (env_in rest.entry.value.here)
+        (world m.old b)) (λ ss w. bound_then p rest.entry.value ss w))))) }
 {
     let count = count_def(first)?;
     let there = rest.here.again()?.behind(count)?;
@@ -203,7 +213,8 @@ fn bind_starts<'a>(
     starts: &[Start<'a>],
     env: Env<'a>,
 ) -> Result<Env<'a>, AllocError>
-    ensures { IfOk result (λ inside. (w : World) → w.memory ≡ store.old → k.bind_variables (map start_in starts.now) (env_in env.entry) w ≡ gives (env_in inside) (remembering store.new w)) }
+    ensures { IfOk result (λ inside. (w : World) → w.memory ≡ store.old
+        → k.bind_variables (map start_in starts.now) (env_in env.entry) w ≡ gives (env_in inside) (remembering store.new w)) }
 {
     let mut env = env;
     for start in starts {
@@ -225,7 +236,8 @@ pub fn starts<'a>(
 ) -> Result<Next<'a>, AllocError>
     ensures { IfOk result (λ next. (p : Program) (b : Bytes) →
         Comes p m.new.frames.items next (world m.new b)
-        (resumed p m.old.frames.items (tag done_tag (starting_then p (starts_in inits.now) (env_in here.entry) (letters_in names.now) rest.entry.value (world m.old b))))) }
+        (resumed p m.old.frames.items (tag done_tag (starting_then p (starts_in inits.now) (env_in here.entry)
+        (letters_in names.now) rest.entry.value (world m.old b))))) }
 {
     match inits.split_first() {
         None => Ok(no_start(names, rest)),
@@ -235,7 +247,8 @@ pub fn starts<'a>(
 
 /// Where no variable is left.
 fn no_start<'a>(names: &'a [Name], rest: Box<Let<'a>>) -> Next<'a>
-    ensures { (p : Program) (fs : List Continuation) (w : World) → Comes p fs result w (resumed p fs (tag done_tag (started_then p rest.entry.value (letters_in names.now) [] w))) }
+    ensures { (p : Program) (fs : List Continuation) (w : World)
+        → Comes p fs result w (resumed p fs (tag done_tag (started_then p rest.entry.value (letters_in names.now) [] w))) }
 {
     match names.split_first() {
         None => Next::Define(rest),
@@ -254,7 +267,8 @@ fn start_one<'a>(
 ) -> Result<Next<'a>, AllocError>
     ensures { IfOk result (λ next. (p : Program) (b : Bytes) →
         Comes p m.new.frames.items next (world m.new b)
-        (resumed p m.old.frames.items (tag done_tag (starting_then p (starts_in (first.now ∷ others.now)) (env_in here.entry) (letters_in names.now) rest.entry.value (world m.old b))))) }
+        (resumed p m.old.frames.items (tag done_tag (starting_then p (starts_in (first.now ∷ others.now)) (env_in here.entry)
+        (letters_in names.now) rest.entry.value (world m.old b))))) }
 {
     match first {
         Init::Value(value) => start_value(m, value, others, here, names, rest),
@@ -273,7 +287,8 @@ fn start_value<'a>(
 ) -> Result<Next<'a>, AllocError>
     ensures { IfOk result (λ next. (p : Program) (b : Bytes) →
         Comes p m.new.frames.items next (world m.new b)
-        (resumed p m.old.frames.items (tag done_tag (starting_then p (t.value (expression value.now) (starts_in others.now)) (env_in here.entry) (letters_in names.now) rest.entry.value (world m.old b))))) }
+        (resumed p m.old.frames.items (tag done_tag (starting_then p (t.value (expression value.now) (starts_in others.now))
+        (env_in here.entry) (letters_in names.now) rest.entry.value (world m.old b))))) }
 {
     let count = count(value)?;
     let behind = here.again()?.behind(count)?;
@@ -292,7 +307,9 @@ fn vector<'a>(
 ) -> Result<Next<'a>, AllocError>
     ensures { IfOk result (λ next. (p : Program) (b : Bytes) →
         Comes p m.new.frames.items next (world m.new b)
-        (resumed p m.old.frames.items (tag done_tag (turn (world m.old b) (vector_then p (constant_in (env_in here.entry) (expression size.now)) (starts_in others.now) (env_in here.entry) (letters_in names.now) rest.entry.value))))) }
+        (resumed p m.old.frames.items (tag done_tag (turn (world m.old b)
+        (vector_then p (constant_in (env_in here.entry) (expression size.now)) (starts_in others.now) (env_in here.entry)
+        (letters_in names.now) rest.entry.value))))) }
 {
     if m.turns == 0 {
         return Ok(Next::Going(line));
@@ -314,7 +331,8 @@ fn make_vector<'a>(
 ) -> Result<Next<'a>, AllocError>
     ensures { IfOk result (λ next. (p : Program) (b : Bytes) →
         Comes p m.new.frames.items next (world m.new b)
-        (resumed p m.old.frames.items (tag done_tag (vector_then p last (starts_in others.now) (env_in here.entry) (letters_in names.now) rest.entry.value (world m.old b))))) }
+        (resumed p m.old.frames.items (tag done_tag (vector_then p last (starts_in others.now) (env_in here.entry)
+        (letters_in names.now) rest.entry.value (world m.old b))))) }
 {
     match last {
         None => Ok(Next::Undefined(Subject::Expr(size), Reason::NoNumber(Worth::Unset))),
@@ -337,7 +355,8 @@ pub fn named<'a>(
     rest: Box<Let<'a>>,
 ) -> Result<Next<'a>, AllocError>
     ensures { IfOk result (λ next. (p : Program) (fs : List Continuation) (w : World) → Comes p fs next w
-        (resumed p fs (tag done_tag (with (with (k.starts (full p) (starts_in inits.now) (env_in here.entry) w) (λ vs w. gives (value_in value ∷ vs) w)) (λ vs w. started_then p rest.entry.value (letters_in names.now) vs w))))) }
+        (resumed p fs (tag done_tag (with (with (k.starts (full p) (starts_in inits.now) (env_in here.entry) w)
+        (λ vs w. gives (value_in value ∷ vs) w)) (λ vs w. started_then p rest.entry.value (letters_in names.now) vs w))))) }
 {
     match names.split_first() {
         None => Ok(Next::Starts(inits, here, names, rest)),

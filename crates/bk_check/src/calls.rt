@@ -130,7 +130,9 @@ fn called<'a>(
 ) -> Result<Next<'a>, AllocError>
     ensures { IfOk result (λ next. (b : Bytes) →
         Comes (program_in program.now) m.new.frames.items next (world m.new b)
-        (resumed (program_in program.now) m.old.frames.items (tag a_value (c.called (program_in program.now) (full (program_in program.now)) (value_in callee) (list_value values.items) (world m.old b))))) }
+        (resumed (program_in program.now) m.old.frames.items
+        (tag a_value (c.called (program_in program.now) (full (program_in program.now)) (value_in callee)
+        (list_value values.items) (world m.old b))))) }
 {
     match callee {
         Worth::Routine(routine) => Ok(Next::Library(line, routine, values)),
@@ -156,7 +158,9 @@ pub fn call<'a>(
 ) -> Result<Next<'a>, AllocError>
     ensures { IfOk result (λ next. (b : Bytes) →
         Comes (program_in program.now) m.new.frames.items next (world m.new b)
-        (resumed (program_in program.now) m.old.frames.items (tag a_value (c.call (program_in program.now) (full (program_in program.now)) (value_in callee) (list_value values.items) (world m.old b))))) }
+        (resumed (program_in program.now) m.old.frames.items
+        (tag a_value (c.call (program_in program.now) (full (program_in program.now)) (value_in callee)
+        (list_value values.items) (world m.old b))))) }
 {
     let calls = m.calls;
     m.frames.push(Continuation::Returned(Call {

@@ -114,7 +114,8 @@ fn assign<'a>(
 ) -> Result<Next<'a>, AllocError>
     ensures { IfOk result (λ next. (p : Program) (b : Bytes) →
         Comes p m.new.frames.items next (world m.new b)
-        (resumed p m.old.frames.items (tag done_tag (c.assigned (full p) (expressions_in dests.now) (env_in env.entry) (expressions_in values.now) (past_each (expressions_in dests.now) (env_in env.entry)) (world m.old b))))) }
+        (resumed p m.old.frames.items (tag done_tag (c.assigned (full p) (expressions_in dests.now) (env_in env.entry)
+        (expressions_in values.now) (past_each (expressions_in dests.now) (env_in env.entry)) (world m.old b))))) }
 {
     let behind = env.again()?.behind(count_each(dests)?)?;
     assigned(m, dests, env, values, behind)
@@ -131,7 +132,8 @@ fn call_command<'a>(
 ) -> Result<Next<'a>, AllocError>
     ensures { IfOk result (λ next. (p : Program) (b : Bytes) →
         Comes p m.new.frames.items next (world m.new b)
-        (resumed p m.old.frames.items (tag done_tag (with (applied p (full p) (expression callee.now) (expressions_in items.now) (env_in env.entry) (world m.old b)) (λ _ w. done w))))) }
+        (resumed p m.old.frames.items (tag done_tag (with (applied p (full p) (expression callee.now) (expressions_in items.now)
+        (env_in env.entry) (world m.old b)) (λ _ w. done w))))) }
 {
     m.frames.push(Continuation::Value(OnValue::Dropped))?;
     m.apply(line, callee, items, env)
@@ -150,7 +152,9 @@ fn for_command<'a>(
 ) -> Result<Next<'a>, AllocError>
     ensures { IfOk result (λ next. (p : Program) (bytes : Bytes) (l : ℕ) (mode : Mode) →
         Comes p m.new.frames.items next (world m.new bytes)
-        (resumed p m.old.frames.items (tag done_tag (c.act_of p (full p) (t.for_loop l (mention name.now) (expression first.now) (expression last.now) (step_in by.now) (action body.now)) mode (env_in env.entry) (world m.old bytes))))) }
+        (resumed p m.old.frames.items (tag done_tag (c.act_of p (full p)
+        (t.for_loop l (mention name.now) (expression first.now) (expression last.now) (step_in by.now) (action body.now)) mode
+        (env_in env.entry) (world m.old bytes))))) }
 {
     let behind = env.again()?.behind(count(first)?)?;
     let step = step_of(&env, by);
@@ -172,7 +176,8 @@ fn switch<'a>(
 ) -> Result<Next<'a>, AllocError>
     ensures { IfOk result (λ next. (p : Program) (bytes : Bytes) (l : ℕ) →
         Comes p m.new.frames.items next (world m.new bytes)
-        (resumed p m.old.frames.items (tag done_tag (c.act_of p (full p) (t.switch l (expression value.now) (action inside.now)) (mode_in mode.entry) (env_in env.entry) (world m.old bytes))))) }
+        (resumed p m.old.frames.items (tag done_tag (c.act_of p (full p) (t.switch l (expression value.now) (action inside.now))
+        (mode_in mode.entry) (env_in env.entry) (world m.old bytes))))) }
 {
     let behind = env.again()?.behind(count(value)?)?;
     match mode {
@@ -193,7 +198,9 @@ fn when<'a>(
 ) -> Result<Next<'a>, AllocError>
     ensures { IfOk result (λ next. (p : Program) (bytes : Bytes) (l : ℕ) →
         Comes p m.new.frames.items next (world m.new bytes)
-        (resumed p m.old.frames.items (tag done_tag (c.act_of p (full p) (t.when l truth (expression condition.now) (action inside.now)) (mode_in mode.entry) (env_in env.entry) (world m.old bytes))))) }
+        (resumed p m.old.frames.items (tag done_tag (c.act_of p (full p)
+        (t.when l truth (expression condition.now) (action inside.now)) (mode_in mode.entry) (env_in env.entry)
+        (world m.old bytes))))) }
 {
     let behind = env.again()?.behind(count(condition)?)?;
     match mode {
@@ -214,7 +221,8 @@ fn while_command<'a>(
 ) -> Result<Next<'a>, AllocError>
     ensures { IfOk result (λ next. (p : Program) (b : Bytes) →
         Comes p m.new.frames.items next (world m.new b)
-        (resumed p m.old.frames.items (tag done_tag (begun_loop p truth (expression condition.now) (action command.now) (mode_in mode.entry) (env_in env.entry) (world m.old b))))) }
+        (resumed p m.old.frames.items (tag done_tag (begun_loop p truth (expression condition.now) (action command.now)
+        (mode_in mode.entry) (env_in env.entry) (world m.old b))))) }
 {
     match mode {
         None => {
@@ -250,7 +258,9 @@ fn test<'a>(
 ) -> Result<Next<'a>, AllocError>
     ensures { IfOk result (λ next. (p : Program) (bytes : Bytes) (l : ℕ) →
         Comes p m.new.frames.items next (world m.new bytes)
-        (resumed p m.old.frames.items (tag done_tag (c.act_of p (full p) (t.test l (expression condition.now) (action a.now) (action b.now)) (mode_in mode.entry) (env_in env.entry) (world m.old bytes))))) }
+        (resumed p m.old.frames.items (tag done_tag (c.act_of p (full p)
+        (t.test l (expression condition.now) (action a.now) (action b.now)) (mode_in mode.entry) (env_in env.entry)
+        (world m.old bytes))))) }
 {
     let behind = env.again()?.behind(count(condition)?)?;
     match mode {
@@ -277,7 +287,8 @@ pub fn assigned<'a>(
 ) -> Result<Next<'a>, AllocError>
     ensures { IfOk result (λ next. (p : Program) (b : Bytes) →
         Comes p m.new.frames.items next (world m.new b)
-        (resumed p m.old.frames.items (tag done_tag (c.assigned (full p) (expressions_in dests.now) (env_in there.entry) (expressions_in values.now) (env_in env.entry) (world m.old b))))) }
+        (resumed p m.old.frames.items (tag done_tag (c.assigned (full p) (expressions_in dests.now) (env_in there.entry)
+        (expressions_in values.now) (env_in env.entry) (world m.old b))))) }
 {
     match dests.split_first() {
         None => Ok(Next::Gives(Thing::Done)),
@@ -350,7 +361,8 @@ fn block<'a>(
 ) -> Result<Next<'a>, AllocError>
     ensures { IfOk result (λ next. (p : Program) (b : Bytes) (l : ℕ) →
         Comes p m.new.frames.items next (world m.new b)
-        (resumed p m.old.frames.items (tag done_tag (c.act_of p (full p) (t.block l (declarations_in decls.now) (actions_in commands.now)) (mode_in mode.entry) (env_in env.entry) (world m.old b))))) }
+        (resumed p m.old.frames.items (tag done_tag (c.act_of p (full p)
+        (t.block l (declarations_in decls.now) (actions_in commands.now)) (mode_in mode.entry) (env_in env.entry) (world m.old b))))) }
 {
     match decls.split_first() {
         None => Ok(Next::InOrder(commands, mode, env)),

@@ -65,7 +65,8 @@ fn judged(store: &Store, came: Computed) -> Tested
 
 /// The variable against the limit.
 fn compared(store: &Store, step: u32, came: Computed, limit: Worth) -> Tested
-    ensures { (w : World) (go : World → Outcome Done) → w.memory ≡ store.now → tested_by go result w ≡ with (outcome_of came w) (limit_then go step (value_in limit)) }
+    ensures { (w : World) (go : World → Outcome Done) → w.memory ≡ store.now
+        → tested_by go result w ≡ with (outcome_of came w) (limit_then go step (value_in limit)) }
 {
     match came {
         Computed::Value(x) => judged(store, combine(store, relation(step), x, limit)),
@@ -122,7 +123,9 @@ pub fn begin_for<'a>(
 ) -> Result<Next<'a>, AllocError>
     ensures { IfOk result (λ next. (p : Program) (b : Bytes) →
         Comes p m.new.frames.items next (world m.new b)
-        (resumed p m.old.frames.items (tag done_tag (with (given step (world m.old b)) (λ n w. for_loop (full p) name.now.letters.items (action body.now) (value_in start) (value_in limit) n (env_in env.entry) w))))) }
+        (resumed p m.old.frames.items (tag done_tag (with (given step (world m.old b))
+        (λ n w. for_loop (full p) name.now.letters.items (action body.now) (value_in start) (value_in limit) n
+        (env_in env.entry) w))))) }
 {
     match step {
         None => Ok(Next::Undefined(Subject::Variable(name), Reason::NoNumber(start))),
@@ -142,7 +145,8 @@ fn begin_by<'a>(
 ) -> Result<Next<'a>, AllocError>
     ensures { IfOk result (λ next. (p : Program) (b : Bytes) →
         Comes p m.new.frames.items next (world m.new b)
-        (resumed p m.old.frames.items (tag done_tag (for_loop (full p) name.now.letters.items (action body.now) (value_in start) (value_in limit) step (env_in env.entry) (world m.old b))))) }
+        (resumed p m.old.frames.items (tag done_tag (for_loop (full p) name.now.letters.items (action body.now) (value_in start)
+        (value_in limit) step (env_in env.entry) (world m.old b))))) }
 {
     let object = m.store.made();
     m.frames.push(Continuation::Closing(object))?;
@@ -172,7 +176,9 @@ fn make_one(store: &mut Store, value: Worth) -> Result<(), AllocError>
 fn first_round<'a>(m: &mut Evaluator<'a>, run: For<'a>) -> Result<Next<'a>, AllocError>
     ensures { IfOk result (λ next. (p : Program) (b : Bytes) →
         Comes p m.new.frames.items next (world m.new b)
-        (resumed p m.old.frames.items (tag done_tag (test_of run.entry.object (value_in run.entry.limit) run.entry.step (λ w. for_rounds_of (full p) (action run.entry.body.now) run.entry.object (value_in run.entry.limit) run.entry.step (env_in run.entry.env) w) (world m.old b))))) }
+        (resumed p m.old.frames.items (tag done_tag (test_of run.entry.object (value_in run.entry.limit) run.entry.step
+        (λ w. for_rounds_of (full p) (action run.entry.body.now) run.entry.object (value_in run.entry.limit) run.entry.step
+        (env_in run.entry.env) w) (world m.old b))))) }
 {
     match try_limit(&m.store, run.object, run.limit, run.step) {
         Tested::Holds(truth) => if truth {
@@ -190,7 +196,8 @@ fn first_round<'a>(m: &mut Evaluator<'a>, run: For<'a>) -> Result<Next<'a>, Allo
 fn for_round<'a>(m: &mut Evaluator<'a>, run: For<'a>) -> Result<Next<'a>, AllocError>
     ensures { IfOk result (λ next. (p : Program) (b : Bytes) →
         Comes p m.new.frames.items next (world m.new b)
-        (resumed p m.old.frames.items (tag done_tag (for_rounds_of (full p) (action run.entry.body.now) run.entry.object (value_in run.entry.limit) run.entry.step (env_in run.entry.env) (world m.old b))))) }
+        (resumed p m.old.frames.items (tag done_tag (for_rounds_of (full p) (action run.entry.body.now) run.entry.object
+        (value_in run.entry.limit) run.entry.step (env_in run.entry.env) (world m.old b))))) }
 {
     let body = run.body;
     let env = run.env.again()?;
@@ -215,7 +222,8 @@ fn further_round<'a>(m: &mut Evaluator<'a>, run: For<'a>) -> Result<Next<'a>, Al
 fn test_again<'a>(m: &mut Evaluator<'a>, run: For<'a>) -> Result<Next<'a>, AllocError>
     ensures { IfOk result (λ next. (p : Program) (b : Bytes) →
         Comes p m.new.frames.items next (world m.new b)
-        (resumed p m.old.frames.items (tag done_tag (test_of run.entry.object (value_in run.entry.limit) run.entry.step (further_for p run.entry) (world m.old b))))) }
+        (resumed p m.old.frames.items (tag done_tag (test_of run.entry.object (value_in run.entry.limit) run.entry.step
+        (further_for p run.entry) (world m.old b))))) }
 {
     match try_limit(&m.store, run.object, run.limit, run.step) {
         Tested::Holds(truth) => if truth {

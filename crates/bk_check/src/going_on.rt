@@ -82,7 +82,8 @@ fn put_first<'a>(
 ) -> Result<Next<'a>, AllocError>
     ensures { IfOk result (λ next. (p : Program) (b : Bytes) →
         Comes p m.new.frames.items next (world m.new b)
-        (resumed p m.old.frames.items (tag done_tag (assigned_to (full p) (value_in x) (expressions_in dests.now) (env_in there.entry) (expressions_in values.now) (env_in env.entry) (world m.old b))))) }
+        (resumed p m.old.frames.items (tag done_tag (assigned_to (full p) (value_in x) (expressions_in dests.now)
+        (env_in there.entry) (expressions_in values.now) (env_in env.entry) (world m.old b))))) }
 {
     match dests.split_first() {
         Some((first, rest)) => {

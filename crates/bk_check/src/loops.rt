@@ -65,7 +65,9 @@ fn while_round<'a>(
 ) -> Result<Next<'a>, AllocError>
     ensures { IfOk result (λ next. (p : Program) (b : Bytes) →
         Comes p m.new.frames.items next (world m.new b)
-        (resumed p m.old.frames.items (tag done_tag (again ((full p).act (action inside.now) (mode_in mode.entry) (past (expression condition.now) (env_in env.entry)) (world m.old b)) (behind_round p (action command.now) (env_in env.entry)))))) }
+        (resumed p m.old.frames.items (tag done_tag (again ((full p).act (action inside.now) (mode_in mode.entry)
+        (past (expression condition.now) (env_in env.entry)) (world m.old b))
+        (behind_round p (action command.now) (env_in env.entry)))))) }
 {
     let behind = env.again()?.behind(count(condition)?)?;
     m.first_act(OnDone::Round(command, env), inside, mode, behind)
@@ -81,7 +83,8 @@ fn repeat_round<'a>(
 ) -> Result<Next<'a>, AllocError>
     ensures { IfOk result (λ next. (p : Program) (b : Bytes) →
         Comes p m.new.frames.items next (world m.new b)
-        (resumed p m.old.frames.items (tag done_tag (again ((full p).act (action inside.now) (mode_in mode.entry) (env_in env.entry) (world m.old b)) (behind_round p (action command.now) (env_in env.entry)))))) }
+        (resumed p m.old.frames.items (tag done_tag (again ((full p).act (action inside.now) (mode_in mode.entry) (env_in env.entry)
+        (world m.old b)) (behind_round p (action command.now) (env_in env.entry)))))) }
 {
     let outside = env.again()?;
     m.first_act(OnDone::Round(command, outside), inside, mode, env)
@@ -115,7 +118,8 @@ fn next_while<'a>(
 ) -> Result<Next<'a>, AllocError>
     ensures { IfOk result (λ next. (p : Program) (b : Bytes) →
         Comes p m.new.frames.items next (world m.new b)
-        (resumed p m.old.frames.items (tag done_tag (where_truth (full p) truth (expression condition.now) (env_in env.entry) (λ w. turn w (λ w. (full p).rounds (action command.now) forwards (env_in env.entry) w)) (world m.old b))))) }
+        (resumed p m.old.frames.items (tag done_tag (where_truth (full p) truth (expression condition.now) (env_in env.entry)
+        (λ w. turn w (λ w. (full p).rounds (action command.now) forwards (env_in env.entry) w)) (world m.old b))))) }
 {
     let outside = env.again()?;
     m.first_truth(OnTruth::Further(truth, command, outside), condition, env)
@@ -132,7 +136,9 @@ fn next_repeat_while<'a>(
 ) -> Result<Next<'a>, AllocError>
     ensures { IfOk result (λ next. (p : Program) (b : Bytes) →
         Comes p m.new.frames.items next (world m.new b)
-        (resumed p m.old.frames.items (tag done_tag (where_truth (full p) truth (expression condition.now) (past_action (action inside.now) (env_in env.entry)) (λ w. turn w (λ w. (full p).rounds (action command.now) forwards (env_in env.entry) w)) (world m.old b))))) }
+        (resumed p m.old.frames.items (tag done_tag (where_truth (full p) truth (expression condition.now)
+        (past_action (action inside.now) (env_in env.entry))
+        (λ w. turn w (λ w. (full p).rounds (action command.now) forwards (env_in env.entry) w)) (world m.old b))))) }
 {
     let behind = env.again()?.behind(count_command(inside)?)?;
     m.first_truth(OnTruth::Further(truth, command, env), condition, behind)

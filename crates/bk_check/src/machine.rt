@@ -43,7 +43,8 @@ pub struct Evaluator<'a> {
 
 /// What an operation gave, as what comes next.
 pub fn came<'a>(expr: &'a Expr, came: Computed) -> Next<'a>
-    ensures { (p : Program) (m : Evaluator) (b : Bytes) → Comes p m.frames.items result (world m b) (resumed p m.frames.items (tag a_value (outcome_of came (world m b)))) }
+    ensures { (p : Program) (m : Evaluator) (b : Bytes) → Comes p m.frames.items result (world m b)
+        (resumed p m.frames.items (tag a_value (outcome_of came (world m b)))) }
 {
     match came {
         Computed::Value(worth) => Next::Gives(Thing::Value(worth)),
@@ -68,7 +69,8 @@ fn known_name(store: &Store, sense: Option<Sense>) -> Option<Worth>
 
 /// The value of an expression that is a name or a number, if it has one.
 fn known(store: &Store, expr: &Expr, env: &Env) -> Option<Worth>
-    ensures value { IfSome result (λ x. (p : Program) (w : World) → w.memory ≡ store.now → value_of p (full p) (expression expr.now) (env_in env.now) w ≡ gives (value_in x) w) }
+    ensures value { IfSome result (λ x. (p : Program) (w : World) → w.memory ≡ store.now
+        → value_of p (full p) (expression expr.now) (env_in env.now) w ≡ gives (value_in x) w) }
     ensures lasting { IfSome result (λ _. objects (expression expr.now) ≡ 0) }
 {
     match expr {
@@ -83,7 +85,9 @@ impl<'a> Evaluator<'a> {
     /// says why.
     fn leaf(&self, expr: &Expr, env: &Env) -> Option<Worth>
         ensures left { IfSome result (λ _. 0 < self.now.turns) }
-        ensures value { IfSome result (λ x. (p : Program) (b : Bytes) → (full p).value (expression expr.now) (env_in env.now) (world self.now b) ≡ gives (value_in x) (record (world self.now b) { turns = self.now.turns - 1 })) }
+        ensures value { IfSome result (λ x. (p : Program) (b : Bytes)
+            → (full p).value (expression expr.now) (env_in env.now) (world self.now b)
+            ≡ gives (value_in x) (record (world self.now b) { turns = self.now.turns - 1 })) }
         ensures lasting { IfSome result (λ _. objects (expression expr.now) ≡ 0) }
     {
         if self.turns == 0 {
@@ -144,7 +148,8 @@ impl<'a> Evaluator<'a> {
     ) -> Result<Next<'a>, AllocError>
         ensures { IfOk result (λ next. (p : Program) (bytes : Bytes) →
             Comes p self.new.frames.items next (world self.new bytes)
-            (resumed p self.old.frames.items (tag a_value (with ((full p).value (expression b.now) (env_in env.entry) (world self.old bytes)) (combination operator (value_in x)))))) }
+            (resumed p self.old.frames.items (tag a_value (with
+            ((full p).value (expression b.now) (env_in env.entry) (world self.old bytes)) (combination operator (value_in x)))))) }
     {
         match self.leaf(b, &env) {
             Some(y) => {
@@ -210,7 +215,8 @@ impl<'a> Evaluator<'a> {
     ) -> Result<Next<'a>, AllocError>
         ensures { IfOk result (λ next. (p : Program) (b : Bytes) →
             Comes p self.new.frames.items next (world self.new b)
-            (resumed p self.old.frames.items (done_goes p frame.entry ((full p).act (action command.now) (mode_in mode.entry) (env_in env.entry) (world self.old b))))) }
+            (resumed p self.old.frames.items (done_goes p frame.entry
+            ((full p).act (action command.now) (mode_in mode.entry) (env_in env.entry) (world self.old b))))) }
     {
         self.frames.push(Continuation::Done(frame))?;
         Ok(Next::Act(command, mode, env))
@@ -285,7 +291,8 @@ impl<'a> Evaluator<'a> {
     /// The place that a vector and an offset are.
     pub fn place_given(&self, expr: &'a Expr, x: Worth, y: Worth) -> Next<'a>
         ensures { (p : Program) (b : Bytes) → Comes p self.now.frames.items result (world self.now b)
-            (resumed p self.now.frames.items (tag a_target (with (given (sum_of (world self.now b).memory (value_in x) (value_in y)) (world self.now b)) (λ a w. gives (Parts.at a) w)))) }
+            (resumed p self.now.frames.items (tag a_target (with
+            (given (sum_of (world self.now b).memory (value_in x) (value_in y)) (world self.now b)) (λ a w. gives (Parts.at a) w)))) }
     {
         match sum(&self.store, x, y) {
             Ok(at) => Next::Gives(Thing::Target(Location::Cell(at))),
@@ -319,7 +326,8 @@ impl<'a> Evaluator<'a> {
     ) -> Result<Next<'a>, AllocError>
         ensures { IfOk result (λ next. (p : Program) (b : Bytes) →
             Comes p self.new.frames.items next (world self.new b)
-            (resumed p self.old.frames.items (tag a_value (applied p (full p) (expression callee.now) (expressions_in items.now) (env_in env.entry) (world self.old b))))) }
+            (resumed p self.old.frames.items (tag a_value (applied p (full p) (expression callee.now) (expressions_in items.now)
+            (env_in env.entry) (world self.old b))))) }
     {
         let here = env.again()?.behind(count(callee)?)?;
         self.arguments(line, items, here, Vec::new(self.alloc), callee, env)
@@ -338,7 +346,8 @@ impl<'a> Evaluator<'a> {
     ) -> Result<Next<'a>, AllocError>
         ensures { IfOk result (λ next. (p : Program) (b : Bytes) →
             Comes p self.new.frames.items next (world self.new b)
-            (resumed p self.old.frames.items (tag a_value (applied_behind p (list_value before.items) (expressions_in items.now) (env_in here.entry) (expression callee.now) (env_in env.entry) (world self.old b))))) }
+            (resumed p self.old.frames.items (tag a_value (applied_behind p (list_value before.items) (expressions_in items.now)
+            (env_in here.entry) (expression callee.now) (env_in env.entry) (world self.old b))))) }
     {
         match items.split_first() {
             Some((first, rest)) => {
@@ -358,7 +367,8 @@ impl<'a> Evaluator<'a> {
     fn valof(&mut self, command: &'a Command, env: Env<'a>) -> Result<Next<'a>, AllocError>
         ensures { IfOk result (λ next. (p : Program) (b : Bytes) →
             Comes p self.new.frames.items next (world self.new b)
-            (resumed p self.old.frames.items (tag a_value (result_of (scope_of (full p) (alone (action command.now)) forwards (env_in env.entry) (world self.old b)))))) }
+            (resumed p self.old.frames.items (tag a_value (result_of
+            (scope_of (full p) (alone (action command.now)) forwards (env_in env.entry) (world self.old b)))))) }
     {
         self.frames.push(Continuation::Done(OnDone::Valof))?;
         self.alone(command, None, env)
@@ -374,7 +384,8 @@ impl<'a> Evaluator<'a> {
     ) -> Result<Next<'a>, AllocError>
         ensures { IfOk result (λ next. (p : Program) (b : Bytes) →
             Comes p self.new.frames.items next (world self.new b)
-            (resumed p self.old.frames.items (tag done_tag (scope_of (full p) (alone (action command.now)) (mode_in mode.entry) (env_in env.entry) (world self.old b))))) }
+            (resumed p self.old.frames.items (tag done_tag (scope_of (full p) (alone (action command.now)) (mode_in mode.entry)
+            (env_in env.entry) (world self.old b))))) }
     {
         self.frames
             .push(Continuation::Done(OnDone::Alone(command, env.again()?)))?;
@@ -498,7 +509,9 @@ impl<'a> Evaluator<'a> {
 
 /// A command in its scope, or nothing where the place that is sought is not in it.
 fn from_place<'a>(command: &'a Command, mode: Option<Sought<'a>>, env: Env<'a>) -> Next<'a>
-    ensures { (p : Program) (fs : List Continuation) (w : World) → Comes p fs result w (resumed p fs (tag done_tag (in_order (full p) (alone (action command.now)) (mode_in mode.entry) (env_in env.entry) w))) }
+    ensures { (p : Program) (fs : List Continuation) (w : World)
+        → Comes p fs result w (resumed p fs (tag done_tag (in_order (full p) (alone (action command.now)) (mode_in mode.entry)
+        (env_in env.entry) w))) }
 {
     match mode {
         None => Next::Act(command, None, env),

@@ -99,7 +99,8 @@ fn check_program<'a, I: ByteIn, O: ByteOut>(
     input: &mut I,
     out: &mut O,
 ) -> Result<Report, GivenUp>
-    ensures checks { IfOk result (λ report. (sections : List Declarations) → program_in program.now ≡ program_in_sections sections → Checks sections turns report.verdict
+    ensures checks { IfOk result (λ report. (sections : List Declarations) → program_in program.now ≡ program_in_sections sections
+        → Checks sections turns report.verdict
         (record { left = I.left input.old; ended = I.ended input.old; taken = O.taken out.old })
         (record { left = I.left input.new; ended = I.ended input.new; taken = O.taken out.new })) }
     ensures flushed { OnOk result (O.passed out.new ≡ O.taken out.new) }

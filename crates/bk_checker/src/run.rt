@@ -45,7 +45,8 @@ fn ask<I: ByteIn, O: ByteOut>(input: &mut I, out: &mut O) -> Result<u32, CheckFa
     ensures answered { IfOk result (λ word. Answered word
         (record { left = I.left input.old; ended = I.ended input.old; taken = O.taken out.old })
         (record { left = I.left input.new; ended = I.ended input.new; taken = O.taken out.new })) }
-    ensures still { OnErr result (Keeps (I.left input.old) (I.left input.new) × (I.ended input.new ≡ I.ended input.old) × Keeps (O.taken out.old) (O.taken out.new)) }
+    ensures still { OnErr result (Keeps (I.left input.old) (I.left input.new) × (I.ended input.new ≡ I.ended input.old)
+        × Keeps (O.taken out.old) (O.taken out.new)) }
     ensures passes { Begins (O.passed out.old) (O.passed out.new) }
     ensures sound { OnOk result ((I.faults input.new ≡ I.faults input.old) × (O.faults out.new ≡ O.faults out.old)) }
     ensures cause { IfErr result (λ fault. Blames fault (I.faults input.old) (I.faults input.new) (O.faults out.old) (O.faults out.new)) }

@@ -134,7 +134,8 @@ fn left_by(
     counts: bool,
 ) -> Option<Budget>
     requires { serves budget.now.category completion.now.onto ≡ true }
-    ensures { (e : Completion) → IsKept completion.now e → (x : Category) (c : w.Lookahead) (d n : ℕ) → holds_if result x c d n ≡ leads counts e budget.now (Some following) x c d n }
+    ensures { (e : Completion) → IsKept completion.now e → (x : Category) (c : w.Lookahead) (d n : ℕ)
+        → holds_if result x c d n ≡ leads counts e budget.now (Some following) x c d n }
 {
     let floor = raised(following.more, completion.floor);
     let rise = raised(following.more, completion.rise);
@@ -158,7 +159,8 @@ fn left_by(
 
 /// The budget that a completion leaves of another one.
 fn left_of(completion: &Completion, budget: &Budget, counts: bool) -> Option<Budget>
-    ensures { (e : Completion) → IsKept completion.now e → (x : Category) (c : w.Lookahead) (d n : ℕ) → holds_if result x c d n ≡ by_budget counts e budget.now x c d n }
+    ensures { (e : Completion) → IsKept completion.now e → (x : Category) (c : w.Lookahead) (d n : ℕ)
+        → holds_if result x c d n ≡ by_budget counts e budget.now x c d n }
 {
     if !serves(budget.category, completion.onto) {
         return None;
@@ -223,7 +225,8 @@ pub fn add_completions(
     below: &[Budget],
     counts: bool,
 ) -> Result<(), AllocError>
-    ensures { IfOk result (λ _. (e : Completions) → AreKept completions.now e → AreAdded (by_completions counts e below.now) budgets.old.items budgets.new.items) }
+    ensures { IfOk result (λ _. (e : Completions) → AreKept completions.now e
+        → AreAdded (by_completions counts e below.now) budgets.old.items budgets.new.items) }
 {
     match completions {
         Completions::One(a) => add_completion(budgets, a, below, counts),

@@ -33,7 +33,8 @@ fn add_budgets_on(
 ) -> Result<(), AllocError>
     requires held { held ≡ held_in unfinished.now }
     requires none { budgets.old.items ≡ [] }
-    ensures { OnOk result ((st : Stack) → tight_below ≡ is_tight st → AreBudgets counts st below.now → AreBudgets counts (unfinished_on unfinished.now st) budgets.new.items) }
+    ensures { OnOk result ((st : Stack) → tight_below ≡ is_tight st → AreBudgets counts st below.now
+        → AreBudgets counts (unfinished_on unfinished.now st) budgets.new.items) }
 {
     let completions = completions(unfinished, held, tight_below);
     add_completions(budgets, &completions, below, counts)?;
@@ -89,7 +90,8 @@ fn has_either_budget(
     other: Category,
     part_of_other: Size,
 ) -> bool
-    ensures { (d n e m : ℕ) → part ≡ kept_size d n → part_of_other ≡ kept_size e m → result ≡ (has_budget budgets.now category d (counted counts n) || has_budget budgets.now other e (counted counts m)) }
+    ensures { (d n e m : ℕ) → part ≡ kept_size d n → part_of_other ≡ kept_size e m
+        → result ≡ (has_budget budgets.now category d (counted counts n) || has_budget budgets.now other e (counted counts m)) }
 {
     if has_budget(budgets, counts, category, part) {
         return true;
@@ -135,7 +137,8 @@ fn has_budget_for(budgets: &[Budget], counts: bool, now: &ParserState) -> bool
 /// The budgets of the lowest frame for which none are kept.
 fn next_budgets(frames: &Frames) -> Result<Budgets, AllocError>
     requires { length frames.now.budgets.items < length frames.now.above.items }
-    ensures { IfOk result (λ budgets. AreBudgets true (stack frames.now.decls.items (take (length frames.now.budgets.items + 1) frames.now.above.items)) budgets.items) }
+    ensures { IfOk result (λ budgets. AreBudgets true (stack frames.now.decls.items
+        (take (length frames.now.budgets.items + 1) frames.now.above.items)) budgets.items) }
 {
     let at = frames.budgets.len();
     let next = &frames.above[at];
@@ -208,7 +211,8 @@ fn has_budgets(frames: &mut Frames, now: &ParserState) -> Result<bool, AllocErro
 /// not sure without them.
 pub fn is_bounded(frames: &mut Frames, now: &ParserState) -> Result<bool, AllocError>
     ensures stack { stack_of frames.new ≡ stack_of frames.old }
-    ensures goes { IfOk result (λ bounded. bounded ≡ true → Completes Always (state (stack_of frames.new) now.now) → Completes (Limit true) (state (stack_of frames.new) now.now)) }
+    ensures goes { IfOk result (λ bounded. bounded ≡ true → Completes Always (state (stack_of frames.new) now.now)
+        → Completes (Limit true) (state (stack_of frames.new) now.now)) }
     ensures only { IfOk result (λ bounded. Completes (Limit true) (state (stack_of frames.new) now.now) → bounded ≡ true) }
 {
     if is_surely_bounded(frames, now) {

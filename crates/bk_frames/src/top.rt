@@ -92,7 +92,9 @@ pub fn unfinished_still(
 /// Takes away what is on top.
 #[tactic(auto, using(crate::proofs::Stacks::stack_push))]
 pub fn pop(frames: &mut Frames) -> Option<Frame>
-    ensures frames { MatchOption result ((frames.old.above.items ≡ []) × (frames.new.above.items ≡ []) × (frames.new.decls ≡ frames.old.decls)) (λ x. (stack_of frames.old ≡ unfinished_on x.unfinished (stack_of frames.new)) × (vec_len frames.new.above + 1 ≡ vec_len frames.old.above)) }
+    ensures frames { MatchOption result ((frames.old.above.items ≡ []) × (frames.new.above.items ≡ [])
+        × (frames.new.decls ≡ frames.old.decls)) (λ x. (stack_of frames.old ≡ unfinished_on x.unfinished (stack_of frames.new))
+        × (vec_len frames.new.above + 1 ≡ vec_len frames.old.above)) }
     ensures budgets { MatchOption result Unit (λ x. HasBudgetsFor frames.new (unfinished_on x.unfinished (stack_of frames.new))) }
 {
     frames.above.pop()

@@ -139,7 +139,8 @@ fn put_source_parts<'a, O: ByteOut>(
     out: &mut O,
 ) -> Result<(), Failed>
     ensures takes { OnOk result (Appends (O.taken out.old) (O.taken out.new) (line_of (codes "line " ++ number.now ++ codes ": " ++ phrase.now ++ name.now))) }
-    ensures part { OnErr result (AppendsPart (O.taken out.old) (O.taken out.new) (line_of (codes "line " ++ number.now ++ codes ": " ++ phrase.now ++ name.now))) }
+    ensures part { OnErr result (AppendsPart (O.taken out.old) (O.taken out.new)
+        (line_of (codes "line " ++ number.now ++ codes ": " ++ phrase.now ++ name.now))) }
     ensures passes { Begins (O.passed out.old) (O.passed out.new) }
     ensures same_failures { OnOk result (O.faults out.new ≡ O.faults out.old) }
     ensures failed { OnErr result (O.faults out.new ≡ 1) }

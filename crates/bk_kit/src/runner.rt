@@ -26,8 +26,24 @@ pub fn interpret<C: ByteIn, I: ByteIn, O: ByteOut>(
     out: &mut O,
 ) -> Result<End, KitFault>
     ensures interpreted { Interpreted (HeldBy I.held) result limits.steps limits.words (C.left code.old) (C.left code.new) (C.ended code.new)
-        (record { left = I.left input.old; held = I.held input.old; ended = I.ended input.old; taken = O.taken out.old; passed = O.passed out.old; reads = I.faults input.old; writes = O.faults out.old })
-        (record { left = I.left input.new; held = I.held input.new; ended = I.ended input.new; taken = O.taken out.new; passed = O.passed out.new; reads = I.faults input.new; writes = O.faults out.new }) }
+        (record {
+          left = I.left input.old;
+          held = I.held input.old;
+          ended = I.ended input.old;
+          taken = O.taken out.old;
+          passed = O.passed out.old;
+          reads = I.faults input.old;
+          writes = O.faults out.old;
+        })
+        (record {
+          left = I.left input.new;
+          held = I.held input.new;
+          ended = I.ended input.new;
+          taken = O.taken out.new;
+          passed = O.passed out.new;
+          reads = I.faults input.new;
+          writes = O.faults out.new;
+        }) }
     ensures runs_nothing { OnErr result ((input.new ≡ input.old) × (out.new ≡ out.old)) }
     ensures read_fails { C.faults code.new ≡ (if is_read result then 1 else 0) }
 {

@@ -35,8 +35,24 @@ pub fn serve<F: ByteIn, N: ByteIn, I: ByteIn, O: ByteOut, E: ByteOut>(
     ensures serves { Serves (HeldBy I.held) order.now result
         (record { old = F.left file.old; new = F.left file.new; ended = F.ended file.new; faults = F.faults file.new })
         (record { old = N.left names.old; new = N.left names.new; ended = N.ended names.new; faults = N.faults names.new })
-        (record { left = I.left input.old; held = I.held input.old; ended = I.ended input.old; taken = O.taken out.old; passed = O.passed out.old; reads = I.faults input.old; writes = O.faults out.old })
-        (record { left = I.left input.new; held = I.held input.new; ended = I.ended input.new; taken = O.taken out.new; passed = O.passed out.new; reads = I.faults input.new; writes = O.faults out.new })
+        (record {
+          left = I.left input.old;
+          held = I.held input.old;
+          ended = I.ended input.old;
+          taken = O.taken out.old;
+          passed = O.passed out.old;
+          reads = I.faults input.old;
+          writes = O.faults out.old;
+        })
+        (record {
+          left = I.left input.new;
+          held = I.held input.new;
+          ended = I.ended input.new;
+          taken = O.taken out.new;
+          passed = O.passed out.new;
+          reads = I.faults input.new;
+          writes = O.faults out.new;
+        })
         (record { taken = E.taken err.old; passed = E.passed err.old; faults = E.faults err.old })
         (record { taken = E.taken err.new; passed = E.passed err.new; faults = E.faults err.new }) }
     ensures leaves_file { LeavesFile order.now file.old file.new }

@@ -185,8 +185,24 @@ fn trace_with<C: ByteIn, I: ByteIn, O: ByteOut, E: ByteOut>(
     err: &mut E,
 ) -> Result<End, KitFault>
     ensures traced { Traced (HeldBy I.held) result limits.steps limits.words (C.left code.old) (C.left code.new) (C.ended code.new)
-        (record { left = I.left input.old; held = I.held input.old; ended = I.ended input.old; taken = O.taken out.old; passed = O.passed out.old; reads = I.faults input.old; writes = O.faults out.old })
-        (record { left = I.left input.new; held = I.held input.new; ended = I.ended input.new; taken = O.taken out.new; passed = O.passed out.new; reads = I.faults input.new; writes = O.faults out.new }) }
+        (record {
+          left = I.left input.old;
+          held = I.held input.old;
+          ended = I.ended input.old;
+          taken = O.taken out.old;
+          passed = O.passed out.old;
+          reads = I.faults input.old;
+          writes = O.faults out.old;
+        })
+        (record {
+          left = I.left input.new;
+          held = I.held input.new;
+          ended = I.ended input.new;
+          taken = O.taken out.new;
+          passed = O.passed out.new;
+          reads = I.faults input.new;
+          writes = O.faults out.new;
+        }) }
     ensures read_fails { C.faults code.new ≡ (if is_read result then 1 else 0) }
     ensures told { Begins (E.taken err.old) (E.taken err.new) × Begins (E.passed err.old) (E.passed err.new) }
 {
@@ -207,8 +223,24 @@ pub fn trace<C: ByteIn, I: ByteIn, O: ByteOut, E: ByteOut>(
     err: &mut E,
 ) -> Result<End, KitFault>
     ensures traced { Traced (HeldBy I.held) result limits.steps limits.words (C.left code.old) (C.left code.new) (C.ended code.new)
-        (record { left = I.left input.old; held = I.held input.old; ended = I.ended input.old; taken = O.taken out.old; passed = O.passed out.old; reads = I.faults input.old; writes = O.faults out.old })
-        (record { left = I.left input.new; held = I.held input.new; ended = I.ended input.new; taken = O.taken out.new; passed = O.passed out.new; reads = I.faults input.new; writes = O.faults out.new }) }
+        (record {
+          left = I.left input.old;
+          held = I.held input.old;
+          ended = I.ended input.old;
+          taken = O.taken out.old;
+          passed = O.passed out.old;
+          reads = I.faults input.old;
+          writes = O.faults out.old;
+        })
+        (record {
+          left = I.left input.new;
+          held = I.held input.new;
+          ended = I.ended input.new;
+          taken = O.taken out.new;
+          passed = O.passed out.new;
+          reads = I.faults input.new;
+          writes = O.faults out.new;
+        }) }
     ensures read_fails { C.faults code.new ≡ (if is_read result then 1 else 0) }
     ensures told { Begins (E.taken err.old) (E.taken err.new) × Begins (E.passed err.old) (E.passed err.new) }
 {
@@ -230,8 +262,24 @@ pub fn trace_named<N: ByteIn, C: ByteIn, I: ByteIn, O: ByteOut, E: ByteOut>(
     ensures traced { TracedNamed (HeldBy I.held) result limits.steps limits.words
         (record { old = N.left ocode.old; new = N.left ocode.new; ended = N.ended ocode.new; faults = N.faults ocode.new })
         (record { old = C.left code.old; new = C.left code.new; ended = C.ended code.new; faults = C.faults code.new })
-        (record { left = I.left input.old; held = I.held input.old; ended = I.ended input.old; taken = O.taken out.old; passed = O.passed out.old; reads = I.faults input.old; writes = O.faults out.old })
-        (record { left = I.left input.new; held = I.held input.new; ended = I.ended input.new; taken = O.taken out.new; passed = O.passed out.new; reads = I.faults input.new; writes = O.faults out.new }) }
+        (record {
+          left = I.left input.old;
+          held = I.held input.old;
+          ended = I.ended input.old;
+          taken = O.taken out.old;
+          passed = O.passed out.old;
+          reads = I.faults input.old;
+          writes = O.faults out.old;
+        })
+        (record {
+          left = I.left input.new;
+          held = I.held input.new;
+          ended = I.ended input.new;
+          taken = O.taken out.new;
+          passed = O.passed out.new;
+          reads = I.faults input.new;
+          writes = O.faults out.new;
+        }) }
     ensures told { Begins (E.taken err.old) (E.taken err.new) × Begins (E.passed err.old) (E.passed err.new) }
 {
     let sections = read_sections(alloc, ocode)?;

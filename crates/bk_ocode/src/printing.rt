@@ -21,7 +21,8 @@ fn put_number<O: ByteOut>(number: i32, out: &mut O) -> Result<(), Failed>
     ensures part { OnErr result (AppendsPart (O.taken out.old) (O.taken out.new) (32 ∷ spelling number)) }
     ensures passes { Begins (O.passed out.old) (O.passed out.new) }
     ensures failed { OnErr result (O.faults out.new ≡ 1) }
-    ensures failed_again { O.faults out.old ≡ 1 → (O.faults out.new ≡ 1) × Keeps (O.taken out.old) (O.taken out.new) × Keeps (O.passed out.old) (O.passed out.new) }
+    ensures failed_again { O.faults out.old ≡ 1 → (O.faults out.new ≡ 1) × Keeps (O.taken out.old) (O.taken out.new)
+        × Keeps (O.passed out.old) (O.passed out.new) }
 {
     out.put(b' ')?;
     put_all(out, word_text(number).as_bytes())?;
@@ -35,7 +36,8 @@ fn put_natural<O: ByteOut>(number: u32, out: &mut O) -> Result<(), Failed>
     ensures part { OnErr result (AppendsPart (O.taken out.old) (O.taken out.new) (32 ∷ natural_word number)) }
     ensures passes { Begins (O.passed out.old) (O.passed out.new) }
     ensures failed { OnErr result (O.faults out.new ≡ 1) }
-    ensures failed_again { O.faults out.old ≡ 1 → (O.faults out.new ≡ 1) × Keeps (O.taken out.old) (O.taken out.new) × Keeps (O.passed out.old) (O.passed out.new) }
+    ensures failed_again { O.faults out.old ≡ 1 → (O.faults out.new ≡ 1) × Keeps (O.taken out.old) (O.taken out.new)
+        × Keeps (O.passed out.old) (O.passed out.new) }
 {
     put_number(number as i32, out)
 }
@@ -47,7 +49,8 @@ fn put_label<O: ByteOut>(label: u32, out: &mut O) -> Result<(), Failed>
     ensures part { OnErr result (AppendsPart (O.taken out.old) (O.taken out.new) (32 ∷ label_word label)) }
     ensures passes { Begins (O.passed out.old) (O.passed out.new) }
     ensures failed { OnErr result (O.faults out.new ≡ 1) }
-    ensures failed_again { O.faults out.old ≡ 1 → (O.faults out.new ≡ 1) × Keeps (O.taken out.old) (O.taken out.new) × Keeps (O.passed out.old) (O.passed out.new) }
+    ensures failed_again { O.faults out.old ≡ 1 → (O.faults out.new ≡ 1) × Keeps (O.taken out.old) (O.taken out.new)
+        × Keeps (O.passed out.old) (O.passed out.new) }
 {
     put_all(out, b" L")?;
     put_all(out, word_text(label as i32).as_bytes())?;
@@ -60,7 +63,8 @@ fn put_byte<O: ByteOut>(byte: u8, out: &mut O) -> Result<(), Failed>
     ensures part { OnErr result (AppendsPart (O.taken out.old) (O.taken out.new) (32 ∷ natural_word byte)) }
     ensures passes { Begins (O.passed out.old) (O.passed out.new) }
     ensures failed { OnErr result (O.faults out.new ≡ 1) }
-    ensures failed_again { O.faults out.old ≡ 1 → (O.faults out.new ≡ 1) × Keeps (O.taken out.old) (O.taken out.new) × Keeps (O.passed out.old) (O.passed out.new) }
+    ensures failed_again { O.faults out.old ≡ 1 → (O.faults out.new ≡ 1) × Keeps (O.taken out.old) (O.taken out.new)
+        × Keeps (O.passed out.old) (O.passed out.new) }
 {
     put_natural(u32::from(byte), out)
 }
@@ -71,7 +75,8 @@ fn put_bytes<O: ByteOut>(bytes: &[u8], out: &mut O) -> Result<(), Failed>
     ensures part { OnErr result (AppendsPart (O.taken out.old) (O.taken out.new) (spaced (byte_words bytes.now))) }
     ensures passes { Begins (O.passed out.old) (O.passed out.new) }
     ensures failed { OnErr result (O.faults out.new ≡ 1) }
-    ensures failed_again { O.faults out.old ≡ 1 → (O.faults out.new ≡ 1) × Keeps (O.taken out.old) (O.taken out.new) × Keeps (O.passed out.old) (O.passed out.new) }
+    ensures failed_again { O.faults out.old ≡ 1 → (O.faults out.new ≡ 1) × Keeps (O.taken out.old) (O.taken out.new)
+        × Keeps (O.passed out.old) (O.passed out.new) }
 {
     for byte in bytes {
         put_byte(*byte, out)?;
@@ -86,7 +91,8 @@ fn put_counted<O: ByteOut>(bytes: &[u8], out: &mut O) -> Result<(), Failed>
     ensures part { OnErr result (AppendsPart (O.taken out.old) (O.taken out.new) (spaced (natural_word (length bytes.now) ∷ byte_words bytes.now))) }
     ensures passes { Begins (O.passed out.old) (O.passed out.new) }
     ensures failed { OnErr result (O.faults out.new ≡ 1) }
-    ensures failed_again { O.faults out.old ≡ 1 → (O.faults out.new ≡ 1) × Keeps (O.taken out.old) (O.taken out.new) × Keeps (O.passed out.old) (O.passed out.new) }
+    ensures failed_again { O.faults out.old ≡ 1 → (O.faults out.new ≡ 1) × Keeps (O.taken out.old) (O.taken out.new)
+        × Keeps (O.passed out.old) (O.passed out.new) }
 {
     put_natural(bytes.len() as u32, out)?;
     put_bytes(bytes, out)?;
@@ -100,7 +106,8 @@ fn put_case<O: ByteOut>(case: Case, out: &mut O) -> Result<(), Failed>
     ensures part { OnErr result (AppendsPart (O.taken out.old) (O.taken out.new) (spaced (spelling case.value ∷ label_word case.label ∷ []))) }
     ensures passes { Begins (O.passed out.old) (O.passed out.new) }
     ensures failed { OnErr result (O.faults out.new ≡ 1) }
-    ensures failed_again { O.faults out.old ≡ 1 → (O.faults out.new ≡ 1) × Keeps (O.taken out.old) (O.taken out.new) × Keeps (O.passed out.old) (O.passed out.new) }
+    ensures failed_again { O.faults out.old ≡ 1 → (O.faults out.new ≡ 1) × Keeps (O.taken out.old) (O.taken out.new)
+        × Keeps (O.passed out.old) (O.passed out.new) }
 {
     put_number(case.value, out)?;
     put_label(case.label, out)?;
@@ -114,7 +121,8 @@ fn put_cases<O: ByteOut>(cases: &[Case], out: &mut O) -> Result<(), Failed>
     ensures part { OnErr result (AppendsPart (O.taken out.old) (O.taken out.new) (spaced (case_words cases.now))) }
     ensures passes { Begins (O.passed out.old) (O.passed out.new) }
     ensures failed { OnErr result (O.faults out.new ≡ 1) }
-    ensures failed_again { O.faults out.old ≡ 1 → (O.faults out.new ≡ 1) × Keeps (O.taken out.old) (O.taken out.new) × Keeps (O.passed out.old) (O.passed out.new) }
+    ensures failed_again { O.faults out.old ≡ 1 → (O.faults out.new ≡ 1) × Keeps (O.taken out.old) (O.taken out.new)
+        × Keeps (O.passed out.old) (O.passed out.new) }
 {
     for case in cases {
         put_case(*case, out)?;
@@ -130,7 +138,8 @@ fn put_entry<O: ByteOut>(entry: GlobalEntry, out: &mut O) -> Result<(), Failed>
     ensures part { OnErr result (AppendsPart (O.taken out.old) (O.taken out.new) (spaced (natural_word entry.number ∷ label_word entry.label ∷ []))) }
     ensures passes { Begins (O.passed out.old) (O.passed out.new) }
     ensures failed { OnErr result (O.faults out.new ≡ 1) }
-    ensures failed_again { O.faults out.old ≡ 1 → (O.faults out.new ≡ 1) × Keeps (O.taken out.old) (O.taken out.new) × Keeps (O.passed out.old) (O.passed out.new) }
+    ensures failed_again { O.faults out.old ≡ 1 → (O.faults out.new ≡ 1) × Keeps (O.taken out.old) (O.taken out.new)
+        × Keeps (O.passed out.old) (O.passed out.new) }
 {
     put_natural(entry.number, out)?;
     put_label(entry.label, out)?;
@@ -144,7 +153,8 @@ fn put_entries<O: ByteOut>(entries: &[GlobalEntry], out: &mut O) -> Result<(), F
     ensures part { OnErr result (AppendsPart (O.taken out.old) (O.taken out.new) (spaced (global_words entries.now))) }
     ensures passes { Begins (O.passed out.old) (O.passed out.new) }
     ensures failed { OnErr result (O.faults out.new ≡ 1) }
-    ensures failed_again { O.faults out.old ≡ 1 → (O.faults out.new ≡ 1) × Keeps (O.taken out.old) (O.taken out.new) × Keeps (O.passed out.old) (O.passed out.new) }
+    ensures failed_again { O.faults out.old ≡ 1 → (O.faults out.new ≡ 1) × Keeps (O.taken out.old) (O.taken out.new)
+        × Keeps (O.passed out.old) (O.passed out.new) }
 {
     for entry in entries {
         put_entry(*entry, out)?;
@@ -156,11 +166,14 @@ fn put_entries<O: ByteOut>(entries: &[GlobalEntry], out: &mut O) -> Result<(), F
 fn put_named<O: ByteOut>(label: u32, bytes: &[u8], out: &mut O) -> Result<(), Failed>
     requires label { IsLabel label }
     requires short { length bytes.now ≤ NAME_BYTES }
-    ensures takes { OnOk result (Appends (O.taken out.old) (O.taken out.new) (spaced (label_word label ∷ natural_word (length bytes.now) ∷ byte_words bytes.now))) }
-    ensures part { OnErr result (AppendsPart (O.taken out.old) (O.taken out.new) (spaced (label_word label ∷ natural_word (length bytes.now) ∷ byte_words bytes.now))) }
+    ensures takes { OnOk result (Appends (O.taken out.old) (O.taken out.new)
+        (spaced (label_word label ∷ natural_word (length bytes.now) ∷ byte_words bytes.now))) }
+    ensures part { OnErr result (AppendsPart (O.taken out.old) (O.taken out.new)
+        (spaced (label_word label ∷ natural_word (length bytes.now) ∷ byte_words bytes.now))) }
     ensures passes { Begins (O.passed out.old) (O.passed out.new) }
     ensures failed { OnErr result (O.faults out.new ≡ 1) }
-    ensures failed_again { O.faults out.old ≡ 1 → (O.faults out.new ≡ 1) × Keeps (O.taken out.old) (O.taken out.new) × Keeps (O.passed out.old) (O.passed out.new) }
+    ensures failed_again { O.faults out.old ≡ 1 → (O.faults out.new ≡ 1) × Keeps (O.taken out.old) (O.taken out.new)
+        × Keeps (O.passed out.old) (O.passed out.new) }
 {
     put_label(label, out)?;
     put_counted(bytes, out)?;
@@ -171,11 +184,14 @@ fn put_named<O: ByteOut>(label: u32, bytes: &[u8], out: &mut O) -> Result<(), Fa
 fn put_switch<O: ByteOut>(default: u32, cases: &[Case], out: &mut O) -> Result<(), Failed>
     requires default { IsLabel default }
     requires cases { AreCases cases.now }
-    ensures takes { OnOk result (Appends (O.taken out.old) (O.taken out.new) (spaced (natural_word (length cases.now) ∷ label_word default ∷ case_words cases.now))) }
-    ensures part { OnErr result (AppendsPart (O.taken out.old) (O.taken out.new) (spaced (natural_word (length cases.now) ∷ label_word default ∷ case_words cases.now))) }
+    ensures takes { OnOk result (Appends (O.taken out.old) (O.taken out.new)
+        (spaced (natural_word (length cases.now) ∷ label_word default ∷ case_words cases.now))) }
+    ensures part { OnErr result (AppendsPart (O.taken out.old) (O.taken out.new)
+        (spaced (natural_word (length cases.now) ∷ label_word default ∷ case_words cases.now))) }
     ensures passes { Begins (O.passed out.old) (O.passed out.new) }
     ensures failed { OnErr result (O.faults out.new ≡ 1) }
-    ensures failed_again { O.faults out.old ≡ 1 → (O.faults out.new ≡ 1) × Keeps (O.taken out.old) (O.taken out.new) × Keeps (O.passed out.old) (O.passed out.new) }
+    ensures failed_again { O.faults out.old ≡ 1 → (O.faults out.new ≡ 1) × Keeps (O.taken out.old) (O.taken out.new)
+        × Keeps (O.passed out.old) (O.passed out.new) }
 {
     put_natural(cases.len() as u32, out)?;
     put_label(default, out)?;
@@ -190,7 +206,8 @@ fn put_globals<O: ByteOut>(entries: &[GlobalEntry], out: &mut O) -> Result<(), F
     ensures part { OnErr result (AppendsPart (O.taken out.old) (O.taken out.new) (spaced (natural_word (length entries.now) ∷ global_words entries.now))) }
     ensures passes { Begins (O.passed out.old) (O.passed out.new) }
     ensures failed { OnErr result (O.faults out.new ≡ 1) }
-    ensures failed_again { O.faults out.old ≡ 1 → (O.faults out.new ≡ 1) × Keeps (O.taken out.old) (O.taken out.new) × Keeps (O.passed out.old) (O.passed out.new) }
+    ensures failed_again { O.faults out.old ≡ 1 → (O.faults out.new ≡ 1) × Keeps (O.taken out.old) (O.taken out.new)
+        × Keeps (O.passed out.old) (O.passed out.new) }
 {
     put_natural(entries.len() as u32, out)?;
     put_entries(entries, out)?;
@@ -204,7 +221,8 @@ fn put_argument<O: ByteOut>(argument: Argument, out: &mut O) -> Result<(), Faile
     ensures part { OnErr result (AppendsPart (O.taken out.old) (O.taken out.new) (spaced (words_in argument))) }
     ensures passes { Begins (O.passed out.old) (O.passed out.new) }
     ensures failed { OnErr result (O.faults out.new ≡ 1) }
-    ensures failed_again { O.faults out.old ≡ 1 → (O.faults out.new ≡ 1) × Keeps (O.taken out.old) (O.taken out.new) × Keeps (O.passed out.old) (O.passed out.new) }
+    ensures failed_again { O.faults out.old ≡ 1 → (O.faults out.new ≡ 1) × Keeps (O.taken out.old) (O.taken out.new)
+        × Keeps (O.passed out.old) (O.passed out.new) }
 {
     match argument {
         Argument::Nothing => Ok(()),
@@ -221,7 +239,8 @@ fn put_arguments<O: ByteOut>(stmt: &Stmt, out: &mut O) -> Result<(), Failed>
     ensures part { OnErr result (AppendsPart (O.taken out.old) (O.taken out.new) (spaced (argument_words stmt.now))) }
     ensures passes { Begins (O.passed out.old) (O.passed out.new) }
     ensures failed { OnErr result (O.faults out.new ≡ 1) }
-    ensures failed_again { O.faults out.old ≡ 1 → (O.faults out.new ≡ 1) × Keeps (O.taken out.old) (O.taken out.new) × Keeps (O.passed out.old) (O.passed out.new) }
+    ensures failed_again { O.faults out.old ≡ 1 → (O.faults out.new ≡ 1) × Keeps (O.taken out.old) (O.taken out.new)
+        × Keeps (O.passed out.old) (O.passed out.new) }
 {
     match stmt {
         Stmt::Text { bytes } => put_counted(bytes.as_bytes(), out),

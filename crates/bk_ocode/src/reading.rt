@@ -37,7 +37,8 @@ fn fault_behind(count: usize, kind: OcodeKind) -> Refused<OcodeFault>
 fn first_step(draft: &Draft, word: &Gathered) -> Result<Progress, Unfit>
     ensures step { IfOk result (λ step. (w : List ℕ) → Holds word.now w → IsStep step (w ∷ [])) }
     ensures placed { IfOk result (λ step. (w : List ℕ) → Holds word.now w → (s : Stmt) → keyword s ≡ w → misplaced (context_in draft.now) s ≡ false) }
-    ensures bad { IfErr result (λ unfit. (unfit ≡ BadWord) × ((w : List ℕ) → Holds word.now w → (s : Stmt) → keyword s ≡ w → misplaced (context_in draft.now) s ≡ true)) }
+    ensures bad { IfErr result (λ unfit. (unfit ≡ BadWord) × ((w : List ℕ) → Holds word.now w → (s : Stmt) → keyword s ≡ w
+        → misplaced (context_in draft.now) s ≡ true)) }
 {
     let Some(bytes) = word.bytes() else {
         return Err(Unfit::BadWord);
@@ -60,9 +61,12 @@ fn step_of(
 ) -> Result<Progress, Unfit>
     requires { IsPartialPart begun }
     ensures step { IfOk result (λ step. (w : List ℕ) → Holds word.now w → IsStep step (part_words begun ++ w ∷ [])) }
-    ensures placed { IfOk result (λ step. begun ≡ None → (w : List ℕ) → Holds word.now w → (s : Stmt) → keyword s ≡ w → misplaced (context_in draft.now) s ≡ false) }
-    ensures bad { IfErr result (λ unfit. unfit ≡ BadWord → (begun ≡ None) × ((w : List ℕ) → Holds word.now w → (s : Stmt) → keyword s ≡ w → misplaced (context_in draft.now) s ≡ true)) }
-    ensures number { IfErr result (λ unfit. unfit ≡ BadNumber → (0 < length (part_words begun)) × ((w : List ℕ) → Holds word.now w → BeginNone (part_words begun ++ w ∷ []))) }
+    ensures placed { IfOk result (λ step. begun ≡ None → (w : List ℕ) → Holds word.now w → (s : Stmt) → keyword s ≡ w
+        → misplaced (context_in draft.now) s ≡ false) }
+    ensures bad { IfErr result (λ unfit. unfit ≡ BadWord → (begun ≡ None)
+        × ((w : List ℕ) → Holds word.now w → (s : Stmt) → keyword s ≡ w → misplaced (context_in draft.now) s ≡ true)) }
+    ensures number { IfErr result (λ unfit. unfit ≡ BadNumber → (0 < length (part_words begun))
+        × ((w : List ℕ) → Holds word.now w → BeginNone (part_words begun ++ w ∷ []))) }
 {
     match begun {
         Some(begun) => take(begun, word, alloc),

@@ -141,7 +141,8 @@ fn infixed(
     first: &mut FirstFault,
 ) -> Option<u32>
     ensures word { result ≡ option_and_then (λ x. option_and_then (infix_word operator x) right) left }
-    ensures wrong { first_fault first.new ≡ cond (divides_by_zero operator left right) (else_first (first_fault first.old) (Some (record { line = line; wrong = divided_by_zero }))) (first_fault first.old) }
+    ensures wrong { first_fault first.new ≡ cond (divides_by_zero operator left right)
+        (else_first (first_fault first.old) (Some (record { line = line; wrong = divided_by_zero }))) (first_fault first.old) }
 {
     let x = left?;
     let y = right?;

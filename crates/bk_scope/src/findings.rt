@@ -62,7 +62,14 @@ impl<'a> Model for Findings<'a> {
 
     ghost Value = { Found };
 
-    ghost view = { λ f. record { first = first_fault f.first; claims = f.claims; meanings = f.meanings.items; words = f.words.items; next = f.next; deepest = f.deepest } };
+    ghost view = { λ f. record {
+      first = first_fault f.first;
+      claims = f.claims;
+      meanings = f.meanings.items;
+      words = f.words.items;
+      next = f.next;
+      deepest = f.deepest;
+    } };
 }
 
 impl<'a> Findings<'a> {

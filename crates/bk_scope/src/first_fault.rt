@@ -69,7 +69,8 @@ impl FirstFault {
         misnaming: Misnaming,
         name: &[u8],
     ) -> Result<(), AllocError>
-        ensures { OnOk result (first_fault self.new ≡ else_first (first_fault self.old) (Some (record { line = line; wrong = misnamed misnaming (text_of name.now) }))) }
+        ensures { OnOk result (first_fault self.new ≡ else_first (first_fault self.old)
+            (Some (record { line = line; wrong = misnamed misnaming (text_of name.now) }))) }
     {
         if self.fault.is_none() {
             let kind = kind_of(misnaming, spelled(alloc, name)?);

@@ -57,7 +57,11 @@ pub fn case<'a>(
     line: Line,
     expr: &'a Expr,
 ) -> Result<(), AllocError>
-    ensures { OnOk result (walk.new ≡ record { scope = walk.old.scope; found = chosen place.switch line (constant_word walk.old.scope (expression expr.now)) (constant_found walk.old.scope place.procedure (expression expr.now) (switched place.switch line walk.old.found)) }) }
+    ensures { OnOk result (walk.new ≡ record {
+      scope = walk.old.scope;
+      found = chosen place.switch line (constant_word walk.old.scope (expression expr.now))
+          (constant_found walk.old.scope place.procedure (expression expr.now) (switched place.switch line walk.old.found));
+    }) }
 {
     in_switch(&mut walk.findings, place.switch, line);
     let word = walk.findings.constant(&walk.table, place.procedure, expr)?;
@@ -84,7 +88,10 @@ pub fn step<'a>(
     place: Enclosing,
     by: &'a Option<Box<Expr>>,
 ) -> Result<(), AllocError>
-    ensures { OnOk result (walk.new ≡ record { scope = walk.old.scope; found = reaches (place.depth + 4) (constants_found walk.old.scope place.procedure (step_in by.now) walk.old.found) }) }
+    ensures { OnOk result (walk.new ≡ record {
+      scope = walk.old.scope;
+      found = reaches (place.depth + 4) (constants_found walk.old.scope place.procedure (step_in by.now) walk.old.found);
+    }) }
 {
     if let Some(step) = by {
         walk.findings.constant(&walk.table, place.procedure, step)?;
@@ -165,7 +172,12 @@ pub fn single(findings: &mut Findings, place: Enclosing, line: Line, word: Simpl
 /// The constant of a VEC, and how many words it makes.
 pub fn vector<'a>(walk: &mut Walk<'a>, procedure: u32, expr: &'a Expr) -> Result<usize, AllocError>
     ensures words { IfOk result (λ words. words ≡ words_of_start walk.old.scope (expression expr.now)) }
-    ensures walk { OnOk result (walk.new ≡ record { scope = walk.old.scope; found = bounded VecNumber (LineOf (expression expr.now)) vec_out_of_range (constant_word walk.old.scope (expression expr.now)) (constant_found walk.old.scope procedure (expression expr.now) walk.old.found) }) }
+    ensures walk { OnOk result (walk.new ≡ record {
+      scope = walk.old.scope;
+      found = bounded VecNumber (LineOf (expression expr.now)) vec_out_of_range
+          (constant_word walk.old.scope (expression expr.now))
+          (constant_found walk.old.scope procedure (expression expr.now) walk.old.found);
+    }) }
 {
     let word = walk.findings.constant(&walk.table, procedure, expr)?;
     match word {
@@ -207,7 +219,10 @@ pub fn head<'a>(
     name: &'a [u8],
     formals: &'a [Name],
 ) -> Result<OuterFindings, AllocError>
-    ensures walk { OnOk result (walk.new ≡ record { scope = walk.old.scope; found = headed list line name.now (map mention formals.now) (bound_in walk.old.scope name.now) walk.old.found }) }
+    ensures walk { OnOk result (walk.new ≡ record {
+      scope = walk.old.scope;
+      found = headed list line name.now (map mention formals.now) (bound_in walk.old.scope name.now) walk.old.found;
+    }) }
     ensures first { IfOk result (λ opened. first_fault opened.first ≡ walk.old.found.first) }
     ensures deepest { IfOk result (λ opened. opened.deepest ≡ walk.old.found.deepest) }
 {
@@ -238,7 +253,11 @@ pub fn begin<'a>(
     name: &'a [u8],
     formals: &'a [Name],
 ) -> Result<Procedure, AllocError>
-    ensures walk { let f : Found = listed list line name.now walk.old.found in OnOk result (walk.new ≡ record { scope = with_formals f.next 2 (map mention formals.now) walk.old.scope; found = headed f.next line name.now (map mention formals.now) (bound_in walk.old.scope name.now) (takes f) }) }
+    ensures walk { let f : Found = listed list line name.now walk.old.found in OnOk result (walk.new
+        ≡ record {
+          scope = with_formals f.next 2 (map mention formals.now) walk.old.scope;
+          found = headed f.next line name.now (map mention formals.now) (bound_in walk.old.scope name.now) (takes f);
+        }) }
     ensures number { IfOk result (λ procedure. procedure.number ≡ (listed list line name.now walk.old.found).next) }
     ensures mark { IfOk result (λ procedure. procedure.mark ≡ length walk.old.scope) }
     ensures first { IfOk result (λ procedure. first_fault procedure.opened.first ≡ (listed list line name.now walk.old.found).first) }
@@ -260,7 +279,10 @@ pub fn begin<'a>(
 #[inline]
 pub fn end(walk: &mut Walk, procedure: Procedure, line: Line)
     requires { procedure.mark ≤ length walk.old.scope }
-    ensures { walk.new ≡ record { scope = drop (length walk.old.scope - procedure.mark) walk.old.scope; found = behind (first_fault procedure.opened.first) procedure.opened.deepest (frame_wrong line walk.old.found) walk.old.found } }
+    ensures { walk.new ≡ record {
+      scope = drop (length walk.old.scope - procedure.mark) walk.old.scope;
+      found = behind (first_fault procedure.opened.first) procedure.opened.deepest (frame_wrong line walk.old.found) walk.old.found;
+    } }
 {
     walk.table.leave(procedure.mark);
     walk.findings.closes(procedure.opened, line);

@@ -26,7 +26,10 @@ pub fn constants<'a>(
     procedure: u32,
     exprs: &'a [Expr],
 ) -> Result<(), AllocError>
-    ensures { OnOk result (walk.new ≡ record { scope = walk.old.scope; found = constants_found walk.old.scope procedure (expressions_in exprs.now) walk.old.found }) }
+    ensures { OnOk result (walk.new ≡ record {
+      scope = walk.old.scope;
+      found = constants_found walk.old.scope procedure (expressions_in exprs.now) walk.old.found;
+    }) }
 {
     for expr in exprs {
         let _word = walk.findings.constant(&walk.table, procedure, expr)?;
@@ -106,7 +109,8 @@ fn fresh_statics<'a>(
     items: &'a [ConstItem],
 ) -> Result<Fresh<'a>, AllocError>
     ensures { IfOk result (λ fresh. (scope : List Binding) →
-        through_statics table.now list procedure (items_in items.now) (record { scope = scope; found = findings.old }) ≡ record { scope = bind_all fresh scope; found = findings.new }) }
+        through_statics table.now list procedure (items_in items.now) (record { scope = scope; found = findings.old })
+        ≡ record { scope = bind_all fresh scope; found = findings.new }) }
 {
     let mut fresh = Fresh::new(findings.alloc());
     for ConstItem::Item(line, name, expr) in items {
@@ -127,8 +131,10 @@ fn static_of<'a>(
     name: &'a [u8],
     expr: &'a Expr,
 ) -> Result<Bound, AllocError>
-    ensures bound { let g : Found = constant_found table.now procedure (expression expr.now) (listed list line name.now findings.old) in IfOk result (λ bound. bound ≡ Static g.next) }
-    ensures found { let g : Found = constant_found table.now procedure (expression expr.now) (listed list line name.now findings.old) in OnOk result (findings.new ≡ takes (means (Static g.next) g)) }
+    ensures bound { let g : Found = constant_found table.now procedure (expression expr.now)
+        (listed list line name.now findings.old) in IfOk result (λ bound. bound ≡ Static g.next) }
+    ensures found { let g : Found = constant_found table.now procedure (expression expr.now)
+        (listed list line name.now findings.old) in OnOk result (findings.new ≡ takes (means (Static g.next) g)) }
 {
     findings.lists(list, line, name)?;
     let _word = findings.constant(table, procedure, expr)?;
@@ -146,7 +152,8 @@ fn fresh_globals<'a>(
     items: &'a [ConstItem],
 ) -> Result<Fresh<'a>, AllocError>
     ensures { IfOk result (λ fresh. (scope : List Binding) →
-        through_globals table.now list procedure (items_in items.now) (record { scope = scope; found = findings.old }) ≡ record { scope = bind_all fresh scope; found = findings.new }) }
+        through_globals table.now list procedure (items_in items.now) (record { scope = scope; found = findings.old })
+        ≡ record { scope = bind_all fresh scope; found = findings.new }) }
 {
     let mut fresh = Fresh::new(findings.alloc());
     for ConstItem::Item(line, name, expr) in items {
@@ -168,7 +175,9 @@ fn named_global<'a>(
     expr: &'a Expr,
 ) -> Result<Bound, AllocError>
     ensures bound { IfOk result (λ bound. bound ≡ Global (within GLOBAL_NUMBER (constant_word table.now (expression expr.now)))) }
-    ensures found { OnOk result (findings.new ≡ bounded GLOBAL_NUMBER (first_line (expression expr.now)) global_out_of_range (constant_word table.now (expression expr.now)) (constant_found table.now procedure (expression expr.now) (listed list line name.now findings.old))) }
+    ensures found { OnOk result (findings.new ≡ bounded GLOBAL_NUMBER (first_line (expression expr.now)) global_out_of_range
+        (constant_word table.now (expression expr.now)) (constant_found table.now procedure (expression expr.now)
+        (listed list line name.now findings.old))) }
 {
     findings.lists(list, line, name)?;
     let word = findings.constant(table, procedure, expr)?;

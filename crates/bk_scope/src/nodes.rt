@@ -113,7 +113,10 @@ fn evaluate_each<'a>(
     place: Enclosing,
     exprs: &'a [Expr],
 ) -> Result<(), AllocError>
-    ensures { OnOk result (walk.new ≡ record { scope = walk.old.scope; found = each_evaluated words walk.old.scope place (expressions_in exprs.now) walk.old.found }) }
+    ensures { OnOk result (walk.new ≡ record {
+      scope = walk.old.scope;
+      found = each_evaluated words walk.old.scope place (expressions_in exprs.now) walk.old.found;
+    }) }
 {
     let mut next = place;
     for expr in exprs {
@@ -262,8 +265,15 @@ fn act_for<'a>(
     name: &'a Name,
     body: &'a Command,
 ) -> Result<(), AllocError>
-    ensures { let t : Stage = with_labels place.procedure (labels_of (action body.now)) (record { scope = bind ((mention name.now).letters) (Variable place.procedure place.depth) walk.old.scope; found = takes walk.old.found }) in
-        OnOk result (walk.new ≡ record { scope = walk.old.scope; found = done t.scope (labelled walk.old.found.next (looping (deeper 2 place))) (action body.now) t.found }) }
+    ensures { let t : Stage = with_labels place.procedure (labels_of (action body.now))
+        (record {
+          scope = bind ((mention name.now).letters) (Variable place.procedure place.depth) walk.old.scope;
+          found = takes walk.old.found;
+        }) in
+        OnOk result (walk.new ≡ record {
+          scope = walk.old.scope;
+          found = done t.scope (labelled walk.old.found.next (looping (deeper 2 place))) (action body.now) t.found;
+        }) }
 {
     let mark = walk.table.mark();
     walk.table.bind(&name.letters, Bound::Variable(place.procedure, place.depth))?;
@@ -280,7 +290,8 @@ fn act_each_labelled<'a>(
     place: Enclosing,
     commands: &'a [Command],
 ) -> Result<(), AllocError>
-    ensures { let t : Stage = with_labels procedure (labels_of_each (actions_in commands.now)) (record { scope = walk.old.scope; found = takes walk.old.found }) in
+    ensures { let t : Stage = with_labels procedure (labels_of_each (actions_in commands.now))
+        (record { scope = walk.old.scope; found = takes walk.old.found }) in
         OnOk result (walk.new ≡ record { scope = t.scope; found = each_done t.scope (labelled walk.old.found.next place) (actions_in commands.now) t.found }) }
 {
     let labels = walk.findings.takes();
@@ -310,7 +321,8 @@ pub fn declare_each<'a>(
     place: Enclosing,
     decls: &'a [Decl],
 ) -> Result<Enclosing, AllocError>
-    ensures { IfOk result (λ behind. (record { scope = walk.new.scope; place = behind; found = walk.new.found }) ≡ declared walk.old.scope place (declarations_in decls.now) walk.old.found) }
+    ensures { IfOk result (λ behind. (record { scope = walk.new.scope; place = behind; found = walk.new.found })
+        ≡ declared walk.old.scope place (declarations_in decls.now) walk.old.found) }
 {
     let mut behind = place;
     for decl in decls {
@@ -326,7 +338,8 @@ fn declare<'a>(
     place: Enclosing,
     decl: &'a Decl,
 ) -> Result<Enclosing, AllocError>
-    ensures { IfOk result (λ behind. (record { scope = walk.new.scope; place = behind; found = walk.new.found }) ≡ one_declared walk.old.scope place (declaration decl.now) walk.old.found) }
+    ensures { IfOk result (λ behind. (record { scope = walk.new.scope; place = behind; found = walk.new.found })
+        ≡ one_declared walk.old.scope place (declaration decl.now) walk.old.found) }
 {
     match decl {
         Decl::Constants(_, sort, items) => {
@@ -365,7 +378,8 @@ fn define_each<'a>(
     fresh: &mut Fresh<'a>,
 ) -> Result<Enclosing, AllocError>
     ensures scope { OnOk result (walk.new.scope ≡ walk.old.scope) }
-    ensures found { IfOk result (λ behind. (record { fresh = fresh.new; place = behind; found = walk.new.found }) ≡ defined list walk.old.scope (definitions_in defs.now) (record { fresh = fresh.old; place = place; found = walk.old.found })) }
+    ensures found { IfOk result (λ behind. (record { fresh = fresh.new; place = behind; found = walk.new.found })
+        ≡ defined list walk.old.scope (definitions_in defs.now) (record { fresh = fresh.old; place = place; found = walk.old.found })) }
 {
     let mut behind = place;
     for def in defs {
@@ -384,7 +398,8 @@ fn define<'a>(
     fresh: &mut Fresh<'a>,
 ) -> Result<Enclosing, AllocError>
     ensures scope { OnOk result (walk.new.scope ≡ walk.old.scope) }
-    ensures found { IfOk result (λ behind. (record { fresh = fresh.new; place = behind; found = walk.new.found }) ≡ one_defined list walk.old.scope (definition def.now) (record { fresh = fresh.old; place = place; found = walk.old.found })) }
+    ensures found { IfOk result (λ behind. (record { fresh = fresh.new; place = behind; found = walk.new.found })
+        ≡ one_defined list walk.old.scope (definition def.now) (record { fresh = fresh.old; place = place; found = walk.old.found })) }
 {
     match def {
         Def::Routine(line, name, formals, body) => {

@@ -18,7 +18,8 @@ fn put_words(
     left: &mut Remaining<'_>,
     exprs: &[Expr],
 ) -> Result<(), AllocError>
-    ensures words { OnOk result (data_words.new.items ≡ data_words.old.items ++ map (λ x. DataNumber (signed x)) (constants_of (expressions_in exprs.now) left.old).part) }
+    ensures words { OnOk result (data_words.new.items ≡ data_words.old.items
+        ++ map (λ x. DataNumber (signed x)) (constants_of (expressions_in exprs.now) left.old).part) }
     ensures left { OnOk result (left.new ≡ (constants_of (expressions_in exprs.now) left.old).left) }
 {
     for _expr in exprs {

@@ -205,7 +205,8 @@ fn each_store(
     exprs: &[Expr],
     codes: &mut Codes,
 ) -> Result<(), AllocError>
-    ensures { OnOk result ((record { codes = codes.new; writing = out.new }) ≡ stores_written depth (expressions_in exprs.now) (record { codes = codes.old; writing = out.old })) }
+    ensures { OnOk result ((record { codes = codes.new; writing = out.new })
+        ≡ stores_written depth (expressions_in exprs.now) (record { codes = codes.old; writing = out.old })) }
 {
     for expr in exprs {
         let before = out.aside();

@@ -73,7 +73,8 @@ fn serve_words<'a>(
     err: &mut Kept,
 ) -> u8
     requires fresh { IsFresh out.old × IsFresh err.old }
-    ensures served { Commands (HeldBy ⟦<Reader512<&'a [u8]> as ByteIn>⟧.held) words.now file.now ocode.now input.now result (kept_of out.new) (kept_of err.new) }
+    ensures served { Commands (HeldBy ⟦<Reader512<&'a [u8]> as ByteIn>⟧.held) words.now file.now ocode.now input.now result
+        (kept_of out.new) (kept_of err.new) }
 {
     match order_of(alloc, words) {
         Ok(order) => {
