@@ -10,7 +10,7 @@ use Rattle.bk_meaning.specs.Commands.{act_of}
 use Rattle.bk_meaning.specs.Program.{turn_for}
 use Rattle.bk_meaning.specs.Full.{full}
 use Rattle.bk_check.specs.Plain.{takes_no_turn}
-use Rattle.bk_meaning.proofs.NoDepth.{full_act, turn_left, turn_none}
+use Rattle.bk_meaning.proofs.Lemmas.{full_act, turn_left, turn_none}
 
 takes_turn : (c : Action) (w : World) (go : World → Outcome Done) → takes_no_turn c ≡ false → turn_for c w go ≡ turn w go
 takes_turn t.empty w go is = absurd (cc is)

@@ -1,11 +1,11 @@
-pub mod Acts
-pub mod Arguments
-pub mod Entering
-pub mod Formals
-pub mod ForLoops
-pub mod Lets
-pub mod Outcomes
-pub mod Resuming
-pub mod Scoped
-pub mod Seeks
-pub mod Vectors
+mod Acts
+mod Arguments
+mod Entering
+mod Formals
+mod ForLoops
+mod Lets
+mod Outcomes
+mod Resuming
+mod Scoped
+mod Seeks
+mod Vectors

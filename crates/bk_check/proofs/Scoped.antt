@@ -10,7 +10,7 @@ use Rattle.bk_meaning.specs.Commands.{act_of}
 use Rattle.bk_meaning.specs.Lasting.{Program}
 use Rattle.bk_meaning.specs.Full.{full}
 use Rattle.bk_check.specs.Resume.{lands, declared_then}
-use Rattle.bk_meaning.proofs.NoDepth.{full_scope}
+use Rattle.bk_meaning.proofs.Lemmas.{full_scope}
 
 pub scope_is : (p : Program) (cs : Actions) (mode : Mode) (env outer inner : Environment) (w : World) → outer ≡ env → inner ≡ labelled cs env →
     each_way (λ _ w. done w) (lands p cs outer) (in_order (full p) cs mode inner w) ≡ scope_of (full p) cs mode env w

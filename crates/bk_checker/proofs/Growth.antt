@@ -16,10 +16,7 @@ use Rattle.bk_meaning.specs.Blocks.{make_vec}
 use Rattle.bk_meaning.specs.Scopes.{alone}
 use Rattle.bk_meaning.specs.Growing.{History, history, Grows, After}
 use Rattle.bk_meaning.specs.Full.{full}
-use Rattle.bk_meaning.proofs.After.{stays, earlier, Adds, adds, with_after, each_way_after, given_after, either_after}
-use Rattle.bk_meaning.proofs.Ties.{Ties, ties, ties_add}
-use Rattle.bk_meaning.proofs.NodeTies.{AllTied, done_ties, fetch_ties, combined_ties, operate_prefix_ties, judged_ties, address_in_ties, values_ties, call_ties, assigned_ties, store_ties, choose_case_ties, rounds_of_ties, for_loop_ties, for_test_ties, for_step_ties, where_truth_ties, turn_ties, in_order_ties, landing_ties, result_ties, return_ties, case_exit_ties, starts_ties, let_values_ties, bind_variables_ties, declare_all_ties, scope_ties, library_ties}
-use Rattle.bk_meaning.proofs.MeaningTies.{means_tied}
+use Rattle.bk_meaning.proofs.Lemmas.{stays, earlier, Adds, adds, with_after, each_way_after, given_after, either_after, Ties, ties, ties_add, AllTied, done_ties, fetch_ties, combined_ties, operate_prefix_ties, judged_ties, address_in_ties, values_ties, call_ties, assigned_ties, store_ties, choose_case_ties, rounds_of_ties, for_loop_ties, for_test_ties, for_step_ties, where_truth_ties, turn_ties, in_order_ties, landing_ties, result_ties, return_ties, case_exit_ties, starts_ties, let_values_ties, bind_variables_ties, declare_all_ties, scope_ties, library_ties, means_tied}
 use Rattle.bk_objects.specs.Views.{value_in, routine_in}
 use Rattle.bk_lasting.specs.Views.{env_in}
 use Rattle.bk_check.specs.declared.frame.OnValue.{OnValue}

@@ -1,2 +1,2 @@
-pub mod Growth
-pub mod Running
+mod Growth
+mod Running

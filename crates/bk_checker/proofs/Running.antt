@@ -28,8 +28,7 @@ use Rattle.bk_meaning.specs.Program.{Run, means, run_of, first_world, started, m
 use Rattle.bk_meaning.specs.Full.{full}
 use Rattle.bk_meaning.specs.Growing.{History, history, Grows, After}
 use Rattle.bk_meaning.specs.Turns.{shown, RunGoesOn}
-use Rattle.bk_meaning.proofs.MeaningTies.{reads_from_the_front}
-use Rattle.bk_meaning.proofs.NoDepth.{full_call}
+use Rattle.bk_meaning.proofs.Lemmas.{reads_from_the_front, full_call}
 use Rattle.bk_checker.proofs.Growth.{resumed_after, whole_after, called_after}
 use Rattle.bk_check.specs.declared.frame.Continuation.{Continuation}
 use Rattle.bk_check.specs.declared.frame.Next.{Next}

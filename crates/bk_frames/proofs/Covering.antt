@@ -1,6 +1,6 @@
 -- A step of the machine leads to nothing that could not be completed before it.
 use Rattle.std.proofs.Common.{◌≡◌, ◌≤◌, ℕ, ◌+◌, max, Bool, true, false, cond, ◌==◌, length, Option, Some, None, refl, sym, subst, inl, inr, List, [], ◌∷◌, ◌++◌, length-append, Result, Ok, arith}
-use Rattle.bk_tree.proofs.Counts.{eq_is}
+use Rattle.bk_tree.proofs.Lemmas.{eq_is, each_depth, each_nodes, actions_depth, actions_nodes, declarations_depth, declarations_nodes, definitions_depth, definitions_nodes, items_depth, items_nodes, starts_depth, starts_nodes}
 use Rattle.bk_lex.specs.Symbol.{Symbol}
 use Rattle.bk_lex.specs.declared.token.Kind.{Kind}
 use Rattle.bk_lex.specs.declared.token.Kind.TheVariants as k
@@ -24,9 +24,7 @@ use Rattle.bk_tree.specs.Parts.{each_then, actions_then, declarations_then, item
 use Rattle.bk_frames.specs.Sizes.{form_of, owed}
 use Rattle.bk_frames.specs.Completing as nx
 use Rattle.bk_frames.specs.Completing.{Lookahead, Any, AtClosing, AtListing, AtArgument, AtAssignment, Unlisted, AtPart, If, Closed, Missing, Started, Answered, Whole, Guarded, Taken, Gives, Does, Operates, Defines, Declares, Wants, Misses, Lists, Due, Completes}
-use Rattle.bk_grammar.proofs.Before.{falls, behind_ok, inner_ok}
-use Rattle.bk_grammar.proofs.Steps.{pushes, repeated, size_then, count_then, no_comma}
-use Rattle.bk_tree.proofs.Trees.{each_depth, each_nodes, actions_depth, actions_nodes, declarations_depth, declarations_nodes, definitions_depth, definitions_nodes, items_depth, items_nodes, starts_depth, starts_nodes}
+use Rattle.bk_grammar.proofs.Lemmas.{falls, behind_ok, inner_ok, pushes, repeated, size_then, count_then, no_comma}
 use Rattle.bk_frames.proofs.Turns.{guarded_depth, guarded_nodes}
 use Rattle.bk_frames.proofs.Lowering.{Down, Falls, any, unlisted, any_falls, any_closed, any_missing, whole_falls, gives_falls, does_falls, defines_fall, declares_fall}
 

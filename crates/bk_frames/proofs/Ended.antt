@@ -14,7 +14,7 @@ use Rattle.bk_grammar.specs.Machine.{Stack, State, want, have, maybe, did, due, 
 use Rattle.bk_tree.specs.Parts.{each_then, starts_then, definitions_then, declarations_then}
 use Rattle.bk_frames.specs.Sizes.{form_of}
 use Rattle.bk_frames.specs.Completing.{Lookahead, closing, assigning, listing, going, repeating, operating, Any, AtClosing, AtPart, If, Unlisted, Closed, Missing, Started, Answered, Whole, Taken, Gives, Does, Operates, Defines, Completes}
-use Rattle.bk_tree.proofs.Trees.{each_depth, each_nodes, declarations_depth, declarations_nodes, definitions_depth, definitions_nodes, starts_depth, starts_nodes}
+use Rattle.bk_tree.proofs.Lemmas.{each_depth, each_nodes, declarations_depth, declarations_nodes, definitions_depth, definitions_nodes, starts_depth, starts_nodes}
 use Rattle.bk_frames.proofs.Turns.{guarded_depth, guarded_nodes}
 use Rattle.bk_frames.proofs.Lowering.{Down}
 

@@ -1,18 +1,19 @@
-pub mod Stacks
-pub mod Turns
-pub mod Insides
-pub mod Possible
-pub mod Ended
-pub mod Sizes
-pub mod Finished
-pub mod Lowering
-pub mod Sure
-pub mod Covering
-pub mod Links
-pub mod Joints
-pub mod Phrases
-pub mod Clauses
-pub mod Decides
-pub mod Ample
-pub mod Below
-pub mod Asks
+mod Stacks
+mod Turns
+mod Insides
+mod Possible
+mod Ended
+mod Sizes
+mod Finished
+mod Lowering
+mod Sure
+mod Covering
+mod Links
+mod Joints
+mod Phrases
+mod Clauses
+mod Decides
+mod Ample
+mod Below
+mod Asks
+pub mod Lemmas

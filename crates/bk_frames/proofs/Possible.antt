@@ -12,7 +12,7 @@ use Rattle.bk_tree.specs.Parts.{size, start_count}
 use Rattle.bk_grammar.specs.Machine.{Stack, in_section, in_block, in_let, at_name, at_formals, at_formal, at_formal_end, at_head, at_variable, at_variable_end, at_starts, at_opening, at_items, at_sign, at_goto, at_for, at_forward, at_default, in_parens, in_unary, in_binary, in_chain, in_then, in_else, in_args, in_table, in_start, in_dests, in_values, in_guard, in_test, in_result, in_while, in_from, in_to, in_by, in_item, in_function, in_value, in_vector, in_valof, in_label, in_guarded, in_default, in_do, in_or, in_for, in_routine, State, want, have, begin, maybe, did, due, bars}
 use Rattle.bk_frames.specs.Bounds.{Always}
 use Rattle.bk_frames.specs.Completing.{Lookahead, closing, assigning, listing, going, repeating, operating, Any, AtListing, Unlisted, AtPart, If, Guarded, Gives, Does, Defines, Declares, Wants, Due, Completes}
-use Rattle.bk_grammar.proofs.Fits.{ForExpression, ForCommand, ForDefinition, ForDeclaration, ForSymbol, Fits}
+use Rattle.bk_grammar.proofs.Lemmas.{ForExpression, ForCommand, ForDefinition, ForDeclaration, ForSymbol, Fits}
 use Rattle.bk_frames.proofs.Lowering.{unlisted}
 
 -- behind an expression a comma is owed, or something else may come

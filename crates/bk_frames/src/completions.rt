@@ -344,7 +344,7 @@ fn completions_of_dests(held: Size, size: u32) -> Completions
     )
 }
 
-#[tactic(auto, using(bk_tree::proofs::Trees::counts))]
+#[tactic(auto, using(bk_tree::proofs::Lemmas::counts))]
 fn completions_of_phrase(phrase: &Phrase, held: Size) -> Completions
     requires { held ≡ held_in (b.Phrase phrase.now) }
     ensures { (st : Stack) → AreKept result (completions (phrase_on phrase.now st)) }
@@ -368,7 +368,7 @@ fn completions_of_phrase(phrase: &Phrase, held: Size) -> Completions
     }
 }
 
-#[tactic(auto, using(bk_tree::proofs::Trees::counts))]
+#[tactic(auto, using(bk_tree::proofs::Lemmas::counts))]
 fn completions_of_member(member: &Member, held: Size) -> Completions
     requires { held ≡ held_in (b.Member member.now) }
     ensures { (st : Stack) → AreKept result (completions (member_on member.now st)) }
@@ -418,7 +418,7 @@ fn completions_of_clause(clause: &Clause, held: Size, tight_below: bool) -> Comp
     }
 }
 
-#[tactic(auto, using(bk_tree::proofs::Trees::counts))]
+#[tactic(auto, using(bk_tree::proofs::Lemmas::counts))]
 fn completions_of_place(place: &Place, held: Size) -> Completions
     requires { held ≡ held_in (b.Place place.now) }
     ensures { (st : Stack) → AreKept result (completions (place_on place.now st)) }

@@ -23,7 +23,7 @@ const LEVELS: u32 = 2;
 const NODES: u32 = 6;
 
 /// How many parts it owes at most.
-#[tactic(auto, using(bk_tree::proofs::Trees::counts))]
+#[tactic(auto, using(bk_tree::proofs::Lemmas::counts))]
 fn owes_of_phrase(phrase: &Phrase) -> u32
     ensures { (st : Stack) → result ≡ kept (owes (phrase_on phrase.now st)) }
 {
@@ -34,7 +34,7 @@ fn owes_of_phrase(phrase: &Phrase) -> u32
 }
 
 /// How many parts it owes at most.
-#[tactic(auto, using(bk_tree::proofs::Trees::counts))]
+#[tactic(auto, using(bk_tree::proofs::Lemmas::counts))]
 fn owes_of_member(member: &Member) -> u32
     ensures { (st : Stack) → result ≡ kept (owes (member_on member.now st)) }
 {
@@ -45,7 +45,7 @@ fn owes_of_member(member: &Member) -> u32
 }
 
 /// How many parts it owes at most.
-#[tactic(auto, using(bk_tree::proofs::Trees::counts))]
+#[tactic(auto, using(bk_tree::proofs::Lemmas::counts))]
 fn owes_of_place(place: &Place) -> u32
     ensures { (st : Stack) → result ≡ kept (owes (place_on place.now st)) }
 {

@@ -1,11 +1,12 @@
-pub mod Steps
-pub mod Begin
-pub mod Complete
-pub mod Before
-pub mod Lists
-pub mod Moves
-pub mod Sound
-pub mod StepsSound
-pub mod Fits
-pub mod Fitting
-pub mod SameTags
+mod Steps
+mod Begin
+mod Complete
+mod Before
+mod Lists
+mod Moves
+mod Sound
+mod StepsSound
+mod Fits
+mod Fitting
+mod SameTags
+pub mod Lemmas

@@ -14,7 +14,7 @@ use Rattle.bk_tree.specs.Parts.{each_then, actions_then, items_then, starts_then
 use Rattle.bk_grammar.proofs.Steps.{inner_is, size_then, count_then}
 use Rattle.bk_grammar.proofs.Before.{is_close_kind, is_comma_kind, is_colon_kind, is_do_kind, is_or_kind, is_to_kind, is_semicolon_kind, closes_kind, Ready, Before, Inv, mono, split, to, if_at, Reached, row_11, falls, limit_ok}
 use Rattle.bk_grammar.proofs.Lists.{inside_more, inside_then, commas_snoc, each_of, items_snoc, items_last, value_snoc, vector_snoc, value_last, vector_last}
-use Rattle.bk_tree.proofs.Counts.{eq_is}
+use Rattle.bk_tree.proofs.Lemmas.{eq_is}
 use Rattle.bk_grammar.proofs.Moves.{push_at, full_of, ends_of, again_at, sign_is, behind_inv, guarded_does, guarded_filled, dests_at, to_or_do_at, labelled_at, declared_at, inside_of, defined_at, constants_at}
 
 pub low : (e : Expression) (ms us : List Symbol) (t : Symbol) → Reads 0 e ms (t ∷ us) → Reached 0 e ms us t

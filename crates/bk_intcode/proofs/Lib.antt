@@ -1,10 +1,11 @@
 mod Blaming
 mod Bytes
-pub mod Formats
+mod Formats
 mod Growing
 mod Places
 mod Reaching
 mod Routines
-pub mod RunSteps
+mod RunSteps
 mod Settings
-pub mod TellSteps
+mod TellSteps
+pub mod Lemmas

@@ -1,15 +1,16 @@
-pub mod Parts
-pub mod SegmentLemmas
-pub mod OperandLemmas
-pub mod WordLemmas
-pub mod ItemLengths
-pub mod DraftLemmas
-pub mod PartialLemmas
-pub mod ReadingLemmas
-pub mod ItemSame
-pub mod PrintedLemmas
-pub mod OneSaying
-pub mod CutSegments
-pub mod AnswerLemmas
-pub mod Rows
-pub mod ReadAgain
+mod Parts
+mod SegmentLemmas
+mod OperandLemmas
+mod WordLemmas
+mod ItemLengths
+mod DraftLemmas
+mod PartialLemmas
+mod ReadingLemmas
+mod ItemSame
+mod PrintedLemmas
+mod OneSaying
+mod CutSegments
+mod AnswerLemmas
+mod Rows
+mod ReadAgain
+pub mod Lemmas

@@ -11,11 +11,10 @@ use Rattle.bk_ocode.specs.Section.{IsSection}
 use Rattle.bk_ocode.specs.SectionText.{section_words}
 use Rattle.bk_ocode.specs.StmtRange.{AreBytes, AreTyped}
 use Rattle.bk_ocode.specs.declared.stmt.Stmt.{Stmt}
-use Rattle.bk_ocode.proofs.OneSaying.{each_stmt}
-use Rattle.bk_ocode.proofs.PrintedLemmas.{words_of-printed}
+use Rattle.bk_ocode.proofs.Lemmas.{each_stmt, words_of-printed}
 use Rattle.bk_intcode_text.specs.ItemText.{item_text}
 use Rattle.bk_intcode_text.specs.FirstSaying as intcode_text
-use Rattle.bk_intcode_text.proofs.PrintedLemmas as printed
+use Rattle.bk_intcode_text.proofs.Lemmas as printed
 use Rattle.bk_gen.specs.BackEnd.{Part, segments}
 use Rattle.bk_trans.specs.Laws.{SchemeIsAccepted}
 use Rattle.bk_simulation.specs.Placement as placement

@@ -15,8 +15,7 @@ use Rattle.bk_scope.specs.Names.{words_of_start, place_behind, variables_of}
 use Rattle.bk_scope.specs.Spots.{Spot, behind_one_declared}
 use Rattle.bk_scope.specs.Scoping.{labels_in_scope, procedure_in_scope, procedures_in_scope, variables_in_scope, manifests_in_scope, statics_in_scope, globals_in_scope, scope_behind_one, place_behind_one, scope_behind}
 use Rattle.bk_simulation.specs.Regular.{Regular, RegularItems, RegularDeclaration, RegularDeclarations}
-use Rattle.bk_simulation.proofs.LaidExpressions.{HasWords}
-use Rattle.bk_simulation.proofs.Constants.{constant_small}
+use Rattle.bk_simulation.proofs.Lemmas.{HasWords, constant_small}
 
 -- a constant is a word
 abbrev IsFit : Bound → Type 0

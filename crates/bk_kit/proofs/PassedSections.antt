@@ -10,14 +10,10 @@ use Rattle.bk_lex.specs.Counting.{start}
 use Rattle.bk_lex.specs.Cutting.{state_behind, NotEnded, Settled}
 use Rattle.bk_lex.specs.Symbol.{Symbol}
 use Rattle.bk_lex.specs.Lexing.{Section, lexed}
-use Rattle.bk_lex.proofs.Cuts.{means_as}
-use Rattle.bk_lex.proofs.Faulty.{lexed_has_fault}
-use Rattle.bk_lex.proofs.Certain.{lexed_told}
-use Rattle.bk_lex.proofs.Sound.{lexed_is_section}
-use Rattle.bk_lex.proofs.Complete.{section_is_lexed}
+use Rattle.bk_lex.proofs.Lemmas.{means_as, lexed_has_fault, lexed_told, lexed_is_section, section_is_lexed}
 use Rattle.bk_ocode.specs.StmtRange.{AreBytes}
 use Rattle.bk_ocode.specs.declared.stmt.Stmt.{Stmt}
-use Rattle.bk_ocode.proofs.SectionProp.{section_whole}
+use Rattle.bk_ocode.proofs.Lemmas.{section_whole}
 use Rattle.bk_tree.specs.Tree.{Declarations}
 use Rattle.bk_kit.specs.declared.kit_fault.KitFault.TheVariants.{Source}
 use Rattle.bk_kit.specs.declared.section.CompiledSection.{CompiledSection}

@@ -16,10 +16,7 @@ use Rattle.bk_lex.specs.Counting.{start, step_of, finished, ◌>>=◌}
 use Rattle.bk_lex.specs.Lexing.{Section, section, Reading, read, read_on, run, end_as, begin, is_dot, lexed}
 use Rattle.bk_lex.specs.Found.{cut_behind}
 use Rattle.bk_lex.specs.Cutting.{goes_on_from, then_on, state_behind, cut_as}
-use Rattle.bk_lex.proofs.Steps.{behind}
-use Rattle.bk_lex.proofs.Cuts.{read_state, behind_more}
-use Rattle.bk_lex.proofs.Decided.{used_at_end, more_undecided, end_is_decided}
-use Rattle.bk_lex.proofs.Sound.{lexed_is_section}
+use Rattle.bk_lex.proofs.Lemmas.{behind, read_state, behind_more, used_at_end, more_undecided, end_is_decided, lexed_is_section}
 use Rattle.bk_kit.specs.ReadingSource.{IsUndecided, Asked, Settles, IsDelivered}
 
 -- ---- the bytes that were asked for

@@ -10,7 +10,7 @@ use Rattle.bk_ocode.specs.SectionStmts.{stmts_of}
 use Rattle.bk_ocode.specs.StmtRange.{AreBytes}
 use Rattle.bk_ocode.specs.declared.section.Ocode as o
 use Rattle.bk_ocode.specs.declared.stmt.Stmt.{Stmt}
-use Rattle.bk_ocode.proofs.SectionProp.{section_whole}
+use Rattle.bk_ocode.proofs.Lemmas.{section_whole}
 use Rattle.bk_intcode.specs.declared.item.Item.{Item}
 use Rattle.bk_intcode.specs.declared.segment.Intcode as i
 use Rattle.bk_intcode.specs.declared.load_fault.LoadFault.{LoadFault}

@@ -2,7 +2,7 @@
 use Rattle.std.proofs.Common.{◌≡◌, ℕ, true, false, List, [], ◌∷◌, ◌++◌, length, refl, sym, ap, ◌∙◌, subst, append_assoc}
 use Rattle.bk_base.specs.declared.source_fault.SourceFault.{SourceFault}
 use Rattle.bk_lex.specs.Lexing.{Section}
-use Rattle.bk_lex.proofs.Complete.{section_is_lexed}
+use Rattle.bk_lex.proofs.Lemmas.{section_is_lexed}
 use Rattle.bk_tree.specs.Tree.{Declarations}
 use Rattle.bk_kit.specs.Sources.{Accepted, Refused, WholeSection, bytes_of, trees_of, line_behind, AreAccepted}
 use Rattle.bk_ocode.specs.StmtRange.{AreBytes}

@@ -9,7 +9,7 @@ use Rattle.bk_intcode.specs.Runs.{Told, Paused, Went, Ran, Blames}
 use Rattle.bk_kit.specs.declared.kit_fault.KitFault.{KitFault}
 use Rattle.bk_kit.specs.Interpreting.{Streams, is_read_fault}
 use Rattle.bk_kit.specs.Tracing.{FileRead, OcodeRefused, RefusesNames}
-use Rattle.bk_intcode.proofs.RunSteps.{went_on, went_more}
+use Rattle.bk_intcode.proofs.Lemmas.{went_on, went_more}
 
 -- an answer that is a fault of the OCODE
 pub names_refused : (answer : Result End KitFault) (fault : KitFault) (names code : FileRead) (before after : Streams) → IsErr answer → IfErr answer (λ f. f ≡ fault)

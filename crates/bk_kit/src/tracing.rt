@@ -156,7 +156,7 @@ fn run_steps<I: ByteIn, O: ByteOut, E: ByteOut>(
     End::StepLimit
 }
 
-/// The procedures, if they are those of a program that ends at this address; else it is told that the OCODE is another.
+/// The procedures, if they are those of a program that ends at this address; else the output says that the OCODE is of another program.
 fn known_procedures<'p, E: ByteOut>(
     alloc: Global,
     procedures: Option<&'p Procedures>,

@@ -1,5 +1,5 @@
-pub mod Begun
-pub mod Bound
-pub mod Counted
-pub mod Listed
-pub mod Packed
+mod Begun
+mod Bound
+mod Counted
+mod Listed
+mod Packed

@@ -1,36 +1,37 @@
-pub mod Steps
-pub mod NoDots
-pub mod LexerLemmas
-pub mod Cuts
-pub mod SignLemmas
-pub mod Walk
-pub mod Modes
-pub mod Goings
-pub mod Wholes
-pub mod Soundness
-pub mod Naming
-pub mod Onward
-pub mod Sound
-pub mod Stops
-pub mod Runs
-pub mod Firsts
-pub mod Complete
-pub mod Placed
-pub mod FaultBegins
-pub mod GetFaults
-pub mod LongFaults
-pub mod Faulty
-pub mod Grounds
-pub mod FaultWalks
-pub mod Faultless
-pub mod Reach
-pub mod Continue
-pub mod Lowest
-pub mod BesideGet
-pub mod Ranks
-pub mod Earliest
-pub mod Certain
-pub mod Decided
-pub mod LeastRooms
-pub mod Letters
-pub mod WordsNamed
+mod Steps
+mod NoDots
+mod LexerLemmas
+mod Cuts
+mod SignLemmas
+mod Walk
+mod Modes
+mod Goings
+mod Wholes
+mod Soundness
+mod Naming
+mod Onward
+mod Sound
+mod Stops
+mod Runs
+mod Firsts
+mod Complete
+mod Placed
+mod FaultBegins
+mod GetFaults
+mod LongFaults
+mod Faulty
+mod Grounds
+mod FaultWalks
+mod Faultless
+mod Reach
+mod Continue
+mod Lowest
+mod BesideGet
+mod Ranks
+mod Earliest
+mod Certain
+mod Decided
+mod LeastRooms
+mod Letters
+mod WordsNamed
+pub mod Lemmas

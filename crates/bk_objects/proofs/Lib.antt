@@ -1,2 +1,2 @@
-pub mod Memories
-pub mod Texts
+mod Memories
+mod Texts

@@ -1,35 +1,36 @@
-pub mod Parts
-pub mod DraftLemmas
-pub mod Uses
-pub mod KeywordLemmas
-pub mod SameStmts
-pub mod NextWords
-pub mod CaseLemmas
-pub mod Completions
-pub mod CutSections
-pub mod ReadingLemmas
-pub mod FaultLemmas
-pub mod OneSaying
-pub mod AnswerLemmas
-pub mod PrintedLemmas
-pub mod ReadAgain
-pub mod Rows
-pub mod SectionProp
-pub mod Depths
-pub mod Chosen
-pub mod StepKeeps
-pub mod LabelsOnce
-pub mod JumpDepths
-pub mod JumpPlaces
-pub mod LabelRests
-pub mod SoundSteps
-pub mod SoundRests
-pub mod SoundStart
-pub mod GrowingSteps
-pub mod NearerSteps
-pub mod LabelKinds
-pub mod Plans
-pub mod TypedSections
+mod Parts
+mod DraftLemmas
+mod Uses
+mod KeywordLemmas
+mod SameStmts
+mod NextWords
+mod CaseLemmas
+mod Completions
+mod CutSections
+mod ReadingLemmas
+mod FaultLemmas
+mod OneSaying
+mod AnswerLemmas
+mod PrintedLemmas
+mod ReadAgain
+mod Rows
+mod SectionProp
+mod Depths
+mod Chosen
+mod StepKeeps
+mod LabelsOnce
+mod JumpDepths
+mod JumpPlaces
+mod LabelRests
+mod SoundSteps
+mod SoundRests
+mod SoundStart
+mod GrowingSteps
+mod NearerSteps
+mod LabelKinds
+mod Plans
+mod TypedSections
 mod TextRows
 mod ProgramRows
 mod SharedPlaceRows
+pub mod Lemmas

@@ -1,36 +1,37 @@
-pub mod Leaving
-pub mod Worded
-pub mod Texts
-pub mod Firsts
-pub mod Rows
-pub mod RowsOfTests
-pub mod RowsOfFaults
-pub mod Keys
-pub mod Claimed
-pub mod TableSteps
-pub mod Calls
-pub mod Inside
-pub mod Entered
-pub mod FreshSteps
-pub mod Definitions
-pub mod Lists
-pub mod Tied
-pub mod Operators
-pub mod Scopes
-pub mod Procedures
-pub mod Lets
-pub mod Spine
-pub mod Parts
-pub mod Constants
-pub mod Standing
-pub mod Assignable
-pub mod Expressions
-pub mod Commands
-pub mod Declared
-pub mod Counting
-pub mod Whole
-pub mod Fits
-pub mod Safe
-pub mod Soundness
-pub mod Repeated
-pub mod Numbers
+mod Leaving
+mod Worded
+mod Texts
+mod Firsts
+mod Rows
+mod RowsOfTests
+mod RowsOfFaults
+mod Keys
+mod Claimed
+mod TableSteps
+mod Calls
+mod Inside
+mod Entered
+mod FreshSteps
+mod Definitions
+mod Lists
+mod Tied
+mod Operators
+mod Scopes
+mod Procedures
+mod Lets
+mod Spine
+mod Parts
+mod Constants
+mod Standing
+mod Assignable
+mod Expressions
+mod Commands
+mod Declared
+mod Counting
+mod Whole
+mod Fits
+mod Safe
+mod Soundness
+mod Repeated
+mod Numbers
+pub mod Lemmas

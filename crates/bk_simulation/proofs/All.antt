@@ -24,7 +24,7 @@ use Rattle.bk_simulation.proofs.ForLoops.{for_run, for_rounds_run, rounds_adds}
 use Rattle.bk_simulation.proofs.Calls.{AloneRuns, Procedures}
 use Rattle.bk_simulation.proofs.Applied.{KnowsLibrary, AloneAdds, apply_runs}
 use Rattle.bk_simulation.proofs.Blocks.{block_runs}
-use Rattle.bk_meaning.proofs.MeaningTies.{only_grows}
+use Rattle.bk_meaning.proofs.Lemmas.{only_grows}
 
 -- what scopes add
 pub scope_after : (g : Setting) (m : Meanings) → Simulates g m → (cs : Actions) (mode : Mode) (env : Environment) (v : World) → After (history v) (scope_of m cs mode env v)

@@ -5,8 +5,7 @@ use Rattle.bk_meaning.specs.Values as value
 use Rattle.bk_meaning.specs.Lasting.{Program}
 use Rattle.bk_meaning.specs.Library.{library}
 use Rattle.bk_meaning.specs.Calls.{called}
-use Rattle.bk_meaning.proofs.Ties.{ties_add}
-use Rattle.bk_meaning.proofs.NodeTies.{library_ties}
+use Rattle.bk_meaning.proofs.Lemmas.{ties_add, library_ties}
 use Rattle.bk_simulation.proofs.Moves.{Moves, stack_moves, function_of_routine_moves, call_of_routine_moves, entering}
 use Rattle.bk_simulation.proofs.FramesKept.{frames_called}
 use Rattle.bk_simulation.proofs.Memory.{Like, like_on, Stands, moved_on, fits_above, moved_above, stands_grown}

@@ -4,7 +4,7 @@ use Rattle.bk_scope.specs.declared.bound.Bound.TheVariants as b
 use Rattle.bk_ocode.specs.Typing.{sets, times_set}
 use Rattle.bk_trans.specs.Program as term
 use Rattle.bk_trans.specs.Parts.{procedure}
-use Rattle.bk_trans.proofs.Once.{set_both, labels_are_set_once}
+use Rattle.bk_trans.proofs.Lemmas.{set_both, labels_are_set_once}
 use Rattle.bk_simulation.specs.Placement.{IsAccepted}
 use Rattle.bk_simulation.proofs.LastingKinds.{Kind, string, words_at, entry, Alike, kinds_of_declarations, alike_declarations, kinds, kinds_each, kinds_if, kinds_at, kinds_onto, kinds_in, kinds_through, kinds_of_items, kinds_of_declaration, kinds_of_definitions, kinds_of_definition, kinds_of_starts}
 use Rattle.bk_simulation.proofs.Standing.{first_of}

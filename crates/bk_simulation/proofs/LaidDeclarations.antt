@@ -3,7 +3,7 @@ use Rattle.bk_simulation.proofs.Words.{◌≡◌, ℕ, ◌+◌, ◌<◌, ◌≤�
 use Rattle.bk_tree.specs.declared.tree.Sort.TheVariants as sort
 use Rattle.bk_tree.specs.Tree as t
 use Rattle.bk_scope.specs.Spots as spot
-use Rattle.bk_trans.proofs.Bodies.{same_defined}
+use Rattle.bk_trans.proofs.Lemmas.{same_defined}
 use Rattle.bk_simulation.specs.Regular.{RegularItems, RegularDeclaration, RegularDeclarations, RegularDefinitions, RegularStarts, Regular}
 use Rattle.bk_simulation.proofs.Weights.{turns_one_declared, turns_declared, turns_defined, turns_started, of_light, in_light}
 use Rattle.bk_simulation.proofs.Sought.{with_names}

@@ -4,7 +4,7 @@ use Rattle.bk_tree.specs.declared.tree.Sort.TheVariants as sort
 use Rattle.bk_tree.specs.Tree as t
 use Rattle.bk_scope.specs.Places as place
 use Rattle.bk_scope.specs.Spots as spot
-use Rattle.bk_scope.proofs.Soundness.{section_sound}
+use Rattle.bk_scope.proofs.Lemmas.{section_sound}
 use Rattle.bk_simulation.specs.Placement.{IsAccepted}
 use Rattle.bk_simulation.specs.Regular.{RegularDeclarations, RegularDefinitions, DefineNoVariables, DeclareNoVariables}
 use Rattle.bk_simulation.proofs.Weights.{turns_declared, turns_defined}

@@ -1,64 +1,65 @@
 mod Words
-pub mod Moves
-pub mod FramesKept
-pub mod Memory
-pub mod CellBytes
-pub mod WrittenCells
-pub mod MadeObjects
-pub mod BytesKept
-pub mod OperatorWords
-pub mod Laid
-pub mod Frame
-pub mod Compose
-pub mod Simulates
-pub mod NewFrames
-pub mod Calls
-pub mod LibraryCalls
-pub mod Applied
-pub mod Lets
-pub mod Blocks
-pub mod Operators
-pub mod ControlSteps
-pub mod Sought
-pub mod Orders
-pub mod NamesBound
-pub mod Loops
-pub mod Branches
-pub mod Assignments
-pub mod ForLoops
-pub mod All
-pub mod ProgramRuns
-pub mod StartRuns
-pub mod ProgramEnds
-pub mod LastingFits
-pub mod LaidPrograms
-pub mod Unending
-pub mod SectionGlobals
-pub mod Held
-pub mod NamesAgree
-pub mod LastingKinds
-pub mod Standing
-pub mod LaidExpressions
-pub mod LaidAssigned
-pub mod Constants
-pub mod HeldData
-pub mod BehindDeclarations
-pub mod Renamed
-pub mod Weights
-pub mod LetWords
-pub mod LaidValues
-pub mod LaidActs
-pub mod LaidDeclarations
-pub mod LaidBlocks
-pub mod LaidProcedures
-pub mod SectionParts
-pub mod LaidSections
-pub mod StringCounts
-pub mod StringForms
-pub mod Spread
-pub mod SectionsLie
-pub mod ProgramLaid
-pub mod DataPlaces
-pub mod KindLabels
-pub mod ObjectMarks
-pub mod LieApart
+mod Moves
+mod FramesKept
+mod Memory
+mod CellBytes
+mod WrittenCells
+mod MadeObjects
+mod BytesKept
+mod OperatorWords
+mod Laid
+mod Frame
+mod Compose
+mod Simulates
+mod NewFrames
+mod Calls
+mod LibraryCalls
+mod Applied
+mod Lets
+mod Blocks
+mod Operators
+mod ControlSteps
+mod Sought
+mod Orders
+mod NamesBound
+mod Loops
+mod Branches
+mod Assignments
+mod ForLoops
+mod All
+mod ProgramRuns
+mod StartRuns
+mod ProgramEnds
+mod LastingFits
+mod LaidPrograms
+mod Unending
+mod SectionGlobals
+mod Held
+mod NamesAgree
+mod LastingKinds
+mod Standing
+mod LaidExpressions
+mod LaidAssigned
+mod Constants
+mod HeldData
+mod BehindDeclarations
+mod Renamed
+mod Weights
+mod LetWords
+mod LaidValues
+mod LaidActs
+mod LaidDeclarations
+mod LaidBlocks
+mod LaidProcedures
+mod SectionParts
+mod LaidSections
+mod StringCounts
+mod StringForms
+mod Spread
+mod SectionsLie
+mod ProgramLaid
+mod DataPlaces
+mod KindLabels
+mod ObjectMarks
+mod LieApart
+pub mod Lemmas

@@ -2,7 +2,7 @@
 use Rattle.bk_simulation.proofs.Words.{Stmt, ◌≡◌, ◌⊎◌, inl, inr, ⊎_elim, ℕ, zero, suc, ◌+◌, ◌<◌, ◌≤◌, List, [], ◌∷◌, ◌++◌, length, map, Option, Some, None, slice_get, drop, cond, Bool, eq-eqb, refl, sym, ap, ◌∙◌, subst, arith, FRAME_WORDS, string_words, Declarations, beginning, joined, Free, Placed, Inside, At, State, Program, item_words, IsWellPlaced, Text, Entry, DataLabel, named_tree, scheme, objects_of_declarations, Lasting, global_vector, words, code, of_declarations, of_sections}
 use Rattle.bk_scope.specs.Places.{outermost}
 use Rattle.bk_scope.specs.declared.bound.Bound.TheVariants as b
-use Rattle.bk_scope.proofs.Soundness.{section_sound}
+use Rattle.bk_scope.proofs.Lemmas.{section_sound}
 use Rattle.bk_simulation.specs.Placement.{IsAccepted, AreAccepted, StandFor}
 use Rattle.bk_simulation.proofs.Memory.{BaseOf, one_base}
 use Rattle.bk_simulation.proofs.Moves.{entry_settled}

@@ -1,7 +1,7 @@
 -- Moves: a step, and the state as which the one that it comes to goes on. What each statement moves to.
 use Rattle.bk_simulation.proofs.Words.{◌≡◌, ℕ, suc, ◌+◌, ◌-◌, ◌==◌, nat_lt, ◌^◌, Bool, true, false, List, ◌∷◌, length, Some, None, take, drop, slice_get, if◌then◌else◌, refl, ap, ◌∙◌, zero, [], Option, ne_eqb, pos, sym, subst, ◌++◌, ℤ, not, arith, option_map_or, Unset, Word, Temporary, Held, write, below, Content, Variable, Link, Cell, content_of, kind_of, settle, depth_behind, next_depth, AreFaultless, Placed, Routine, Inside, Behind, At, State, Goes, Placement, Control, Ends, Wild, slot, can_be_called, step, on_number, on_some, named_place, has_word, dyadic_word, operated, jump, from_label, case_label, step_by, step_from, Program, in_hand, resumed_in, program_step, Rest, rest_of, or_rest, rests, rests_of, resumed, resumed_by, find_rest, label_rest, at_number, program_step_from, Stmt, Label, Entry, CallFunction, CallRoutine, ReturnItem, Return, Number, True, False, Query, Load, Address, Text, Monadic, Dyadic, LoadByte, Assign, AssignAt, AssignByte, Jump, JumpIf, GiveResult, TakeResult, Stack, Store, Save, Switch, Finish, IsWellPlaced, not_before, Status, DivideByZero, word_of, word_sum, word_negation, word_not, truth, byte_distance, variable_at, byte_at, word_with_byte_at, Case}
 use Rattle.bk_ocode.specs.OcodeStep.{call, return}
-use Rattle.bk_ocode.proofs.LabelRests.{label_rest-at}
+use Rattle.bk_ocode.proofs.Lemmas.{label_rest-at}
 pub use Rattle.bk_simulation.specs.GoingOn.{settled, settled_from}
 use Rattle.bk_ocode.specs.declared.stmt.Variable.{Variable as Named}
 use Rattle.bk_ocode.specs.declared.stmt.Monadic.TheVariants.{Contents, Negate, Not}

@@ -6,7 +6,7 @@ use Rattle.bk_simulation.proofs.FramesKept.{LinksFrom, links_kept}
 use Rattle.bk_simulation.proofs.WrittenCells.{untouched}
 use Rattle.bk_simulation.proofs.Laid.{Setting}
 use Rattle.bk_simulation.proofs.Frame.{FewFrames, Comes, here, go_on}
-use Rattle.bk_ocode.proofs.GrowingSteps.{steps_grow}
+use Rattle.bk_ocode.proofs.Lemmas.{steps_grow}
 use Rattle.bk_simulation.specs.Simulation.{Begin}
 
 -- ---- a rest that takes up a result has slot 2 at least

@@ -8,8 +8,7 @@ use Rattle.bk_tree.specs.Tree as t
 use Rattle.bk_ocode.specs.declared.stmt.Dyadic.TheVariants as two
 use Rattle.bk_meaning.specs.Environment as m
 use Rattle.bk_meaning.specs.Lasting.{inside}
-use Rattle.bk_meaning.proofs.Numbers.{expression_counted, each_counted, action_counted, declaration_counted, declarations_counted, definition_counted, starts_counted}
-use Rattle.bk_meaning.proofs.Standing.{bound-next, labelled-next, in_scope-next, declared-next, all_declared-next}
+use Rattle.bk_meaning.proofs.Lemmas.{expression_counted, each_counted, action_counted, declaration_counted, declarations_counted, definition_counted, starts_counted, bound-next, labelled-next, in_scope-next, declared-next, all_declared-next}
 use Rattle.bk_simulation.specs.Regular.{DefineNoVariables, DeclareNoVariables}
 use Rattle.bk_simulation.proofs.Laid.{Setting, Scene, Aim, pushes, jumps, Evaluation, all_of, any_of, plain, evaluation_of, ending, Operands, in_valof, owning, Spot, Stretch, ByTurns, in_loop, in_switch, in_for as in_for_scene, variables_bound, defines_variables, IsCode, AreValues, IsAddress, IsStore, IsAct, AreActs, AreFrom, AreStores, AreDeclared, IsOneDeclared, AreDefined, AreStarts}
 use Rattle.bk_simulation.proofs.Held.{HeldIn}

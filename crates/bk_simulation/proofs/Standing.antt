@@ -1,7 +1,7 @@
 -- Where code stands in a section, with the depth before it; what a label and a call have from that; and the bases of lasting objects
 -- one behind the other.
 use Rattle.bk_simulation.proofs.Words.{length-append, ◌≡◌, ℕ, false, zero, suc, ◌+◌, ◌<◌, ◌≤◌, List, [], ◌∷◌, ◌++◌, length, Some, take, drop, slice_get, refl, ap, ◌∙◌, subst, arith, FRAME_WORDS, next_depth, depth_behind, AreFaultless, Placed, Program, IsWellPlaced, from_label, Stmt, Label, label_has_one_place, Binding, Target, outermost, Named, Lasting}
-use Rattle.bk_ocode.proofs.Depths.{depth_within}
+use Rattle.bk_ocode.proofs.Lemmas.{depth_within}
 use Rattle.bk_simulation.proofs.Memory.{BaseOf, Grown}
 use Rattle.bk_simulation.proofs.Sought.{with_names}
 use Rattle.bk_simulation.proofs.Laid.{Setting, Scene, LabelAt, CallAt, NamedIn}

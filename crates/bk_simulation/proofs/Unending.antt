@@ -1,7 +1,7 @@
 -- Where the sections mean a run without an end, the program goes on with it.
 use Rattle.bk_simulation.proofs.Words.{◌≡◌, ℕ, zero, suc, ◌+◌, ◌*◌, ◌≤◌, nat_lt, true, false, List, [], Option, Some, None, refl, sym, ap, ◌∙◌, subst, arith, ◌⊎◌, ⊎_elim, inl, inr, FRAME_WORDS, option_map, Declarations, number_in, State, Goes, Program, run, first_state, Value, procedure, World, Outcome, gives, undefined, going, each_way, calling, calls_back, Procedure, program_of, procedure_of, Meanings, enter, Going, Undefined, means, meaning, started, run_of, first_world, IsWellPlaced}
 use Rattle.bk_meaning.specs.Lasting as lasting
-use Rattle.bk_meaning.proofs.MeaningSpending.{cut_only_without_turns}
+use Rattle.bk_meaning.proofs.Lemmas.{cut_only_without_turns}
 use Rattle.bk_simulation.specs.GoingOn.{settled}
 use Rattle.bk_simulation.specs.Simulation.{Begin, RunsOut, StillGoes, RunsOutOnTheWay, IsWithoutEnd, StepsDoWhatSourcesMean, StepsGoOnWithTheirSource, StartsWithTheirSource}
 use Rattle.bk_simulation.proofs.Laid.{Setting}

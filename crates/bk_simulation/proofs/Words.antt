@@ -29,8 +29,7 @@ pub use Rattle.bk_scope.specs.declared.bound.Bound.{Bound}
 pub use Rattle.bk_scope.specs.declared.place.Enclosing.{Enclosing}
 pub use Rattle.bk_scope.specs.declared.role.Role.{Role}
 pub use Rattle.bk_scope.specs.declared.role.Role.TheVariants.{Destination, Truth}
-pub use Rattle.bk_ocode.proofs.Chosen.{chosen-false, chosen-true, if-holds, on_number-holds, on_some-holds, settle-kept}
-pub use Rattle.bk_ocode.proofs.LabelsOnce.{label_has_one_place, not_before}
+pub use Rattle.bk_ocode.proofs.Lemmas.{chosen-false, chosen-true, if-holds, on_number-holds, on_some-holds, settle-kept, label_has_one_place, not_before}
 pub use Rattle.bk_ocode.specs.Access.{byte_at, bytes_from, number_in, string_at, variable_at, variable_in, word_with_byte_at}
 pub use Rattle.bk_ocode.specs.Cells.{Cell, Content, Free, Held, Link, Partly, Temporary, Unset, Variable, Word, below, byte_in, content_of, four_bytes, kind_of, settle, with_byte, write}
 pub use Rattle.bk_ocode.specs.Depth.{depth_behind, next_depth}
@@ -48,8 +47,7 @@ pub use Rattle.bk_ocode.specs.declared.stmt.GlobalEntry.{GlobalEntry}
 pub use Rattle.bk_ocode.specs.declared.stmt.Stmt.{Stmt}
 pub use Rattle.bk_ocode.specs.declared.stmt.Stmt.TheVariants.{Address, Assign, AssignAt, AssignByte, CallFunction, CallRoutine, DataAddress, DataLabel, DataNumber, Dyadic, EndProcedure, Entry, False, Finish, GiveResult, Globals, Jump, JumpIf, Label, Load, LoadByte, Monadic, Number, Query, Return, ReturnItem, Save, Stack, Store, Switch, TakeResult, Text, True}
 pub use Rattle.bk_ocode.specs.declared.stmt.Variable.TheVariants.{Global, Local, Static}
-pub use Rattle.bk_trans.proofs.Accepted.{scheme_is_accepted, targets_found}
-pub use Rattle.bk_trans.proofs.Scopes.{AllFound, AmongProcedures, Looked, look_procedure}
+pub use Rattle.bk_trans.proofs.Lemmas.{scheme_is_accepted, targets_found, AllFound, AmongProcedures, Looked, look_procedure}
 pub use Rattle.bk_trans.specs.Depths.{behind_declaration, behind_declarations, behind_definition, behind_definitions, behind_starts, has_variables}
 pub use Rattle.bk_trans.specs.Labels.{labels, labels_at, labels_if, labels_in, labels_of_declaration, labels_of_declarations, labels_of_definition, labels_of_procedure, labels_onto}
 pub use Rattle.bk_trans.specs.Naming.{command_named, commands_named, condition_named, declaration_named, declarations_named, definition_named, definitions_named, lvalue_named, lvalues_named, meant, named_tree, starts_named, statics_named, step_named, term_named, terms_named, words_named, worth}
@@ -59,7 +57,7 @@ pub use Rattle.bk_trans.specs.Scheme.{address_code, by_turns, cases, cases_throu
 pub use Rattle.bk_trans.specs.declared.around.Around.{Around}
 pub use Rattle.bk_trans.specs.declared.around.Goal.{Goal}
 pub use Rattle.bk_trans.specs.declared.around.Target.{Target}
-pub use Rattle.bk_meaning.proofs.After.{Adds, adds, calling_on, changes_after, closing_after, each_way_after, earlier, either_after, given_after, stays, turn_after, with_after}
+pub use Rattle.bk_meaning.proofs.Lemmas.{Adds, adds, calling_on, changes_after, closing_after, each_way_after, earlier, either_after, given_after, stays, turn_after, with_after}
 pub use Rattle.bk_meaning.specs.Calls.{applied, bind_formals, call, enter, formal_cells, return_exit, run_body, values}
 pub use Rattle.bk_meaning.specs.Commands.{act_of, assigned, case_exit, choose_case, ended_case}
 pub use Rattle.bk_meaning.specs.Environment.{Environment, Named, Sense, behind, bind_each, bind_procedure_as, bind_procedures, cell, constant, constant_in, constants_declared, count, foreign, global_named, globals_object, label, labelled, letters, manifests, objects, objects_of_action, objects_of_actions, objects_of_declaration, objects_of_declarations, objects_of_definition, objects_of_definitions, objects_of_each, objects_of_starts, past, past_action, past_definition, past_each, sense_in, sense_of, sense_of_constant, sense_of_global, statics, within_let, word_named}

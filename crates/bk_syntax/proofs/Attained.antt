@@ -13,13 +13,10 @@ use Rattle.bk_grammar.specs.Machine.{Stack, in_section, in_block, in_let, at_nam
 use Rattle.bk_tree.specs.Parts.{actions_then, declarations_then, items_then, definitions_then}
 use Rattle.bk_frames.specs.Sizes.{form_of}
 use Rattle.bk_frames.specs.Completing.{Lookahead, closing, assigning, listing, going, repeating, operating, Any, Gives, Does, Operates, Defines, Declares, Wants, Misses, Lists, Due, Completes}
-use Rattle.bk_grammar.proofs.Steps.{pushes}
-use Rattle.bk_frames.proofs.Turns.{unary_done, binary_done, guarded_depth, guarded_nodes}
-use Rattle.bk_tree.proofs.Trees.{actions_depth, actions_nodes, declarations_depth, declarations_nodes, definitions_depth, definitions_nodes, items_depth, items_nodes}
-use Rattle.bk_grammar.proofs.Before.{falls, behind_ok, inner_ok}
+use Rattle.bk_grammar.proofs.Lemmas.{pushes, falls, behind_ok, inner_ok, Tagged, ForExpression, ForCommand, ForDefinition, ForDeclaration, ForSymbol, Fits, more_names}
+use Rattle.bk_frames.proofs.Lemmas.{unary_done, binary_done, guarded_depth, guarded_nodes}
+use Rattle.bk_tree.proofs.Lemmas.{actions_depth, actions_nodes, declarations_depth, declarations_nodes, definitions_depth, definitions_nodes, items_depth, items_nodes}
 use Rattle.bk_syntax.proofs.Behind.{run_end}
-use Rattle.bk_grammar.proofs.Fits.{Tagged, ForExpression, ForCommand, ForDefinition, ForDeclaration, ForSymbol, Fits}
-use Rattle.bk_grammar.proofs.Fitting.{more_names}
 use Rattle.bk_syntax.proofs.Onward.{Completion, CompletionBy, sized, step_on, step_by, open_on, shut_by, end_completion, same_by, leaves_command, at_close, at_comma, at_assignment, GivesOn, DoesOn, DefinedCompletion, DefinesOn, DeclaredCompletion, given, done, name_here, mention_here, break_here, name_on, break_on}
 use Rattle.bk_syntax.proofs.Operands.{gives_as, calls_by, whole_completion, whole_sized, args_completion, choice_completion, table_completion, prefix_tight, operates_by, operand_completion}
 use Rattle.bk_syntax.proofs.Attaining.{does_as, does_sized, closed_completion, missing_completion, break_there, value_completion, dests_end, dests_go, start_completion, guard_completion, or_completion, test_completion, to_completion, by_completion, from_completion, starts_completion, start_value, start_vector}

@@ -13,9 +13,9 @@ use Rattle.bk_grammar.specs.Machine.{Stack, at_starts, in_start, in_dests, in_va
 use Rattle.bk_tree.specs.Parts.{each_then, starts_then}
 use Rattle.bk_frames.specs.Sizes.{form_of, owed}
 use Rattle.bk_frames.specs.Completing.{Lookahead, closing, assigning, listing, going, repeating, operating, Any, AtClosing, AtListing, If, Closed, Missing, Started, Guarded, Gives, Does, Defines}
-use Rattle.bk_grammar.proofs.Steps.{repeated, same_eq, less_eq, size_then, count_then}
-use Rattle.bk_frames.proofs.Turns.{call_done, guarded_depth, guarded_nodes}
-use Rattle.bk_tree.proofs.Trees.{each_depth, each_nodes, starts_depth, starts_nodes}
+use Rattle.bk_grammar.proofs.Lemmas.{repeated, same_eq, less_eq, size_then, count_then}
+use Rattle.bk_frames.proofs.Lemmas.{call_done, guarded_depth, guarded_nodes}
+use Rattle.bk_tree.proofs.Lemmas.{each_depth, each_nodes, starts_depth, starts_nodes}
 use Rattle.bk_syntax.proofs.Onward.{Completion, CompletionBy, sized, step_on, step_by, same_by, at_close, at_comma, ends_expression, leaves_command, DoesOn, DefinesOn, done, name_here, break_here, name_on, break_on, depth_some}
 use Rattle.bk_syntax.proofs.Operands.{does_leave}
 

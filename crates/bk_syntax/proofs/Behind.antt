@@ -35,9 +35,8 @@ use Rattle.bk_frames.specs.Stacked.{above, stack}
 use Rattle.bk_frames.specs.Frames.{stack_of, state, Steps}
 use Rattle.bk_syntax.specs.SyntaxLaws.{reading}
 use Rattle.bk_syntax.specs.Parsing.{tags, Closes, goes_to, steps, leads, AfterSymbols, answered, reached, error_of, Advances, AnswersAtEnd}
-use Rattle.bk_grammar.proofs.Steps.{stepped}
-use Rattle.bk_grammar.proofs.Before.{opens_kind, closes_kind}
-use Rattle.bk_frames.proofs.Stacks.{stack_none}
+use Rattle.bk_grammar.proofs.Lemmas.{stepped, opens_kind, closes_kind}
+use Rattle.bk_frames.proofs.Lemmas.{stack_none}
 use Rattle.bk_syntax.proofs.Openings.{tags_none}
 use Rattle.bk_syntax.proofs.Tags.{tag_stands, symbol_stands}
 

@@ -11,15 +11,9 @@ use Rattle.bk_grammar.specs.Grammar.{Filled, Reads, Does, Declares, Defines, Sec
 use Rattle.bk_tree.specs.Parts.{line_of, line_of_first, line_of_names, line_of_action, size, start_count}
 use Rattle.bk_grammar.specs.Machine.{Stack, in_section, in_block, in_let, at_name, at_items, in_unary, in_binary, in_chain, in_else, in_table, in_start, in_values, in_guard, in_result, in_while, in_function, in_value, in_vector, in_valof, in_label, in_guarded, in_default, in_or, in_for, in_routine, State, want, have, begin, maybe, did, due, limit, is_sign_of, if_is, guarded, behind_sign, declared_by, defined_by, is_call, call_of, give, finish, without, inside, take_due, stepped_by, step, whole, going, run}
 use Rattle.bk_tree.specs.Parts.{each_then, declarations_then, definitions_then, starts_then}
-use Rattle.bk_grammar.proofs.Steps.{size_then, count_then}
+use Rattle.bk_grammar.proofs.Lemmas.{size_then, count_then, in_block_is, At_head, Ready, Before, May_miss, Inv, mono, split, limit_ok, semis_refl, definitions_all, each_of, value_last, vector_last, full_of, ends_of, guarded_does, guarded_filled, added, inside_of, of_let, complete, build_binary, call_filled, call_does, step_sound}
 use Rattle.bk_syntax.specs.SyntaxLaws.{reading}
-use Rattle.bk_grammar.proofs.Before.{in_block_is, At_head, Ready, Before, May_miss, Inv, mono, split, limit_ok}
-use Rattle.bk_grammar.proofs.Lists.{semis_refl, definitions_all, each_of, value_last, vector_last}
-use Rattle.bk_tree.proofs.Counts.{eq_is}
-use Rattle.bk_grammar.proofs.Moves.{full_of, ends_of, guarded_does, guarded_filled, added, inside_of, of_let}
-use Rattle.bk_grammar.proofs.Complete.{complete}
-use Rattle.bk_grammar.proofs.Sound.{build_binary, call_filled, call_does}
-use Rattle.bk_grammar.proofs.StepsSound.{step_sound}
+use Rattle.bk_tree.proofs.Lemmas.{eq_is}
 
 abbrev ended_as : Declarations → Option State
 ended_as ds = Some (due (in_section ds))

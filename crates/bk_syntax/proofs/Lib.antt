@@ -1,12 +1,13 @@
-pub mod Stands
-pub mod Tags
-pub mod Rows
-pub mod Exact
-pub mod Openings
-pub mod Behind
-pub mod Unfinished
-pub mod Told
-pub mod Onward
-pub mod Operands
-pub mod Attaining
-pub mod Attained
+mod Stands
+mod Tags
+mod Rows
+mod Exact
+mod Openings
+mod Behind
+mod Unfinished
+mod Told
+mod Onward
+mod Operands
+mod Attaining
+mod Attained
+pub mod Lemmas

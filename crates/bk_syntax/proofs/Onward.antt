@@ -12,10 +12,8 @@ use Rattle.bk_grammar.specs.Brackets.{one_more, up_to_tag, closed_by, in_front, 
 use Rattle.bk_grammar.specs.Machine.{Stack, State, want, have, begin, did, opens, closes, declared, declared_by, defined_by, stepped_by, run}
 use Rattle.bk_frames.specs.Sizes.{form_of}
 use Rattle.bk_frames.specs.Completing.{Lookahead, closing, assigning, listing, going, repeating, operating, Any, AtClosing, AtListing, AtArgument, AtAssignment, Gives, Does, Defines}
-use Rattle.bk_grammar.proofs.Steps.{Takes, stepped, alike, takes}
-use Rattle.bk_grammar.proofs.SameTags.{one_tag}
+use Rattle.bk_grammar.proofs.Lemmas.{Takes, stepped, alike, takes, one_tag, Tagged}
 use Rattle.bk_syntax.proofs.Behind.{plain_end, plain_open, plain_other, plain_close}
-use Rattle.bk_grammar.proofs.Fits.{Tagged}
 
 -- ---- ways on
 

@@ -7,7 +7,7 @@ use Rattle.bk_lex.specs.Symbol.{Symbol}
 use Rattle.bk_lex.specs.Values.{upper_name}
 use Rattle.bk_grammar.specs.Brackets.{Closing, same_tag, one_more, up_to_tag, without_tag, closed_by}
 use Rattle.bk_syntax.specs.Parsing.{tags_on, tags}
-use Rattle.bk_tree.proofs.Counts.{is_zero, is_more}
+use Rattle.bk_tree.proofs.Lemmas.{is_zero, is_more}
 
 on_push : (opens : List (List ℕ)) (xs : List (Bor (List ℕ))) (x : Bor (List ℕ)) → tags_on opens (xs ++ x ∷ []) ≡ upper_name x.now ∷ tags_on opens xs
 on_push opens [] x = refl

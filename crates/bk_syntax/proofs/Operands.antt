@@ -17,10 +17,9 @@ use Rattle.bk_grammar.specs.Machine.{Stack, in_unary, in_binary, in_chain, in_th
 use Rattle.bk_tree.specs.Parts.{each_then}
 use Rattle.bk_frames.specs.Sizes.{form_of}
 use Rattle.bk_frames.specs.Completing.{Lookahead, closing, assigning, listing, going, repeating, operating, Any, Unlisted, If, Whole, Taken, Gives, Does, Operates}
-use Rattle.bk_grammar.proofs.Steps.{pushes, no_comma}
-use Rattle.bk_grammar.proofs.Before.{falls}
-use Rattle.bk_frames.proofs.Turns.{binary_done}
-use Rattle.bk_tree.proofs.Trees.{each_depth, each_nodes}
+use Rattle.bk_grammar.proofs.Lemmas.{pushes, no_comma, falls}
+use Rattle.bk_frames.proofs.Lemmas.{binary_done}
+use Rattle.bk_tree.proofs.Lemmas.{each_depth, each_nodes}
 use Rattle.bk_syntax.proofs.Onward.{Completion, CompletionBy, IsOf, sized, step_on, step_by, same_by, at_argument, Ends, Leaves, ends_expression, GivesOn, given, name_here, name_on, depth_some}
 
 -- ---- no symbol comes that the part would take

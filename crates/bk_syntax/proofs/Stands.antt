@@ -6,9 +6,8 @@ use Rattle.bk_grammar.specs.Grammar.{Section}
 use Rattle.bk_grammar.specs.SyntaxFault.{IsSection}
 use Rattle.bk_grammar.specs.Machine.{State, due, in_section, stepped_by, step, whole, going, run}
 use Rattle.bk_lex.specs.declared.token.Kind.TheVariants as k
-use Rattle.bk_grammar.proofs.Steps.{stepped}
+use Rattle.bk_grammar.proofs.Lemmas.{stepped, complete}
 use Rattle.bk_syntax.specs.SyntaxLaws.{reading}
-use Rattle.bk_grammar.proofs.Complete.{complete}
 
 -- at most one tree
 pub one_tree : (ds es : Declarations) (ts : List Symbol) → IsSection ds ts → IsSection es ts → ds ≡ es

@@ -31,9 +31,8 @@ use Rattle.bk_syntax.proofs.Stands.{one_tree, end_stands}
 use Rattle.bk_syntax.proofs.Exact.{reads_the_grammar}
 use Rattle.bk_syntax.proofs.Tags.{tag_stands}
 use Rattle.bk_syntax.proofs.Behind.{reads, plain_all, reading_all}
-use Rattle.bk_frames.proofs.Lowering.{Down, at_most_down, levels_down}
-use Rattle.bk_frames.proofs.Covering.{run_completes}
-use Rattle.bk_grammar.proofs.Complete.{complete}
+use Rattle.bk_frames.proofs.Lemmas.{Down, at_most_down, levels_down, run_completes}
+use Rattle.bk_grammar.proofs.Lemmas.{complete}
 use Rattle.bk_syntax.proofs.Unfinished.{in_front_some, completes_begins_with, behind_begins}
 
 -- what a section has behind the symbols with which it begins is read from there

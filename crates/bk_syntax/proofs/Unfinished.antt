@@ -12,17 +12,14 @@ use Rattle.bk_grammar.specs.SyntaxFault.{Begins, Any}
 use Rattle.bk_grammar.specs.Machine.{State, due, in_section, opens, closes, stepped_by, step, run}
 use Rattle.bk_syntax.specs.SyntaxLaws.{reading}
 use Rattle.bk_syntax.specs.Parsing.{goes_to, leads, AfterSymbols}
-use Rattle.bk_grammar.proofs.Steps.{stepped}
-use Rattle.bk_grammar.proofs.Before.{opens_kind, closes_kind}
+use Rattle.bk_grammar.proofs.Lemmas.{stepped, opens_kind, closes_kind, Tagged, Fits, Fit, FitUnder, After, step_fits}
 use Rattle.bk_syntax.proofs.Stands.{whole_err}
 use Rattle.bk_syntax.proofs.Exact.{reads_the_grammar}
 use Rattle.bk_syntax.proofs.Behind.{nothing_in_front, both_in_front, leads_both, leads_runs, plain_end, plain_open, plain_other, plain_close, plain_all, reading_all, run_end, stopped}
-use Rattle.bk_grammar.proofs.Fits.{Tagged, Fits, Fit, FitUnder, After}
-use Rattle.bk_grammar.proofs.Fitting.{step_fits}
 use Rattle.bk_syntax.proofs.Onward.{Completion}
 use Rattle.bk_syntax.proofs.Attained.{state_completion}
 use Rattle.bk_frames.specs.Bounds.{Always}
-use Rattle.bk_frames.proofs.Possible.{possible}
+use Rattle.bk_frames.proofs.Lemmas.{possible}
 
 -- the machine stops at none of these symbols
 abbrev Passes : List Symbol → State → Type 0

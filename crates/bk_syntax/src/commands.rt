@@ -92,7 +92,7 @@ fn headed(
 }
 
 /// A command is due, and this symbol comes.
-#[tactic(auto, using(bk_frames::proofs::Turns::command_cases))]
+#[tactic(auto, using(bk_frames::proofs::Lemmas::command_cases))]
 pub fn command(
     alloc: Global,
     frames: &mut Frames,
@@ -136,7 +136,7 @@ pub fn guarded(guard: Guard, line: Line, condition: Box<Expr>, command: Box<Comm
 }
 
 /// A destination is complete.
-#[tactic(auto, using(bk_frames::proofs::Turns::dests_cases, bk_tree::proofs::Trees::one_more, bk_tree::proofs::Trees::more_sizes))]
+#[tactic(auto, using(bk_frames::proofs::Lemmas::dests_cases, bk_tree::proofs::Lemmas::one_more, bk_tree::proofs::Lemmas::more_sizes))]
 fn further(
     alloc: Global,
     frames: &mut Frames,
@@ -229,7 +229,7 @@ fn line_of_list(exprs: &[Expr]) -> Line
 }
 
 /// Whether one value more makes as many as the destinations are.
-#[tactic(auto, using(bk_tree::proofs::Trees::expressions_count))]
+#[tactic(auto, using(bk_tree::proofs::Lemmas::expressions_count))]
 fn is_last(dests: &[Expr], values: &[Expr]) -> bool
     ensures { result ≡ (size (expressions_in dests.now) == size (expressions_in values.now) + 1) }
 {
@@ -237,7 +237,7 @@ fn is_last(dests: &[Expr], values: &[Expr]) -> bool
 }
 
 /// A value is complete.
-#[tactic(auto, using(bk_tree::proofs::Trees::one_more, bk_tree::proofs::Trees::more_sizes))]
+#[tactic(auto, using(bk_tree::proofs::Lemmas::one_more, bk_tree::proofs::Lemmas::more_sizes))]
 fn valued(
     frames: &mut Frames,
     now: &mut ParserState,
@@ -310,7 +310,7 @@ fn guards(
 
 /// The limit of a FOR is complete.
 #[inline(never)]
-#[tactic(auto, using(bk_frames::proofs::Turns::limit_cases))]
+#[tactic(auto, using(bk_frames::proofs::Lemmas::limit_cases))]
 fn limited(
     alloc: Global,
     frames: &mut Frames,
@@ -415,7 +415,7 @@ pub fn complete_phrase(
 
 /// The command goes on with REPEAT, REPEATWHILE or REPEATUNTIL.
 #[inline(never)]
-#[tactic(auto, using(bk_frames::proofs::Turns::again_cases))]
+#[tactic(auto, using(bk_frames::proofs::Lemmas::again_cases))]
 pub fn again(
     alloc: Global,
     frames: &mut Frames,
@@ -441,7 +441,7 @@ pub fn again(
 
 /// A command is complete, which the symbol after it does not repeat.
 #[inline(never)]
-#[tactic(auto, using(bk_frames::proofs::Turns::guarded_sizes))]
+#[tactic(auto, using(bk_frames::proofs::Lemmas::guarded_sizes))]
 pub fn complete_clause(
     alloc: Global,
     frames: &mut Frames,

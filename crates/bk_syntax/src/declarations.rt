@@ -38,7 +38,7 @@ use std::alloc::{AllocError, Global};
 use std::mem;
 
 /// Puts a declaration after those of the block that was on top.
-#[tactic(auto, using(bk_tree::proofs::Trees::one_more, bk_tree::proofs::Trees::more_sizes))]
+#[tactic(auto, using(bk_tree::proofs::Lemmas::one_more, bk_tree::proofs::Lemmas::more_sizes))]
 fn declare_in(
     frames: &mut Frames,
     place: Place,
@@ -63,7 +63,7 @@ fn declare_in(
 }
 
 /// Puts a declaration after those of the section or the block on top.
-#[tactic(auto, using(bk_frames::proofs::Stacks::frames_laws, bk_tree::proofs::Trees::one_more, bk_tree::proofs::Trees::more_sizes))]
+#[tactic(auto, using(bk_frames::proofs::Lemmas::frames_laws, bk_tree::proofs::Lemmas::one_more, bk_tree::proofs::Lemmas::more_sizes))]
 pub fn declare(frames: &mut Frames, decl: Decl, size: Size) -> Result<(), Stop>
     requires { size ≡ size_of_declaration (declaration decl) }
     ensures { Declares (stack_of frames.new) result (declared (stack_of frames.old) (declaration decl)) }
@@ -88,7 +88,7 @@ pub fn declare(frames: &mut Frames, decl: Decl, size: Size) -> Result<(), Stop>
 }
 
 /// The constant of an item is complete.
-#[tactic(auto, using(bk_frames::proofs::Turns::constants_cases, bk_tree::proofs::Trees::one_more, bk_tree::proofs::Trees::more_sizes))]
+#[tactic(auto, using(bk_frames::proofs::Lemmas::constants_cases, bk_tree::proofs::Lemmas::one_more, bk_tree::proofs::Lemmas::more_sizes))]
 pub fn constant(
     frames: &mut Frames,
     now: &mut ParserState,
@@ -141,7 +141,7 @@ fn declaration(
 }
 
 /// A symbol between the declarations of a section.
-#[tactic(auto, using(bk_frames::proofs::Turns::declaration_cases))]
+#[tactic(auto, using(bk_frames::proofs::Lemmas::declaration_cases))]
 fn in_section(
     alloc: Global,
     frames: &mut Frames,
@@ -175,7 +175,7 @@ fn in_head(commands: &[Command]) -> bool
 }
 
 /// A symbol in a block, where no command goes on.
-#[tactic(auto, using(bk_frames::proofs::Turns::declaration_cases))]
+#[tactic(auto, using(bk_frames::proofs::Lemmas::declaration_cases))]
 fn in_block(
     alloc: Global,
     frames: &mut Frames,
@@ -217,7 +217,7 @@ fn in_block(
 }
 
 /// A command of a block is complete, and the symbol after it does not repeat it.
-#[tactic(auto, using(bk_tree::proofs::Trees::one_more, bk_tree::proofs::Trees::more_sizes))]
+#[tactic(auto, using(bk_tree::proofs::Lemmas::one_more, bk_tree::proofs::Lemmas::more_sizes))]
 fn in_commands(
     frames: &mut Frames,
     now: &mut ParserState,
@@ -312,7 +312,7 @@ fn due_in(
 }
 
 /// Between the items of a declaration.
-#[tactic(auto, using(bk_frames::proofs::Turns::named_cases, bk_frames::proofs::Turns::items_cases))]
+#[tactic(auto, using(bk_frames::proofs::Lemmas::named_cases, bk_frames::proofs::Lemmas::items_cases))]
 fn between_items(
     alloc: Global,
     frames: &mut Frames,
@@ -351,7 +351,7 @@ fn between_items(
 }
 
 /// A place of a declaration with constants or of a command, where this symbol comes.
-#[tactic(auto, using(bk_frames::proofs::Turns::named_cases))]
+#[tactic(auto, using(bk_frames::proofs::Lemmas::named_cases))]
 fn due_within(
     alloc: Global,
     frames: &mut Frames,
@@ -415,7 +415,7 @@ fn due_within(
 }
 
 /// A symbol is due, and this one comes.
-#[tactic(auto, using(bk_frames::proofs::Stacks::frames_laws))]
+#[tactic(auto, using(bk_frames::proofs::Lemmas::frames_laws))]
 pub fn at_place(
     alloc: Global,
     frames: &mut Frames,

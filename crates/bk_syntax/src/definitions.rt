@@ -47,7 +47,7 @@ pub fn name_of(alloc: Global, token: &Token) -> Result<Option<Name>, AllocError>
 }
 
 /// Whether one item more makes as many as the names are.
-#[tactic(auto, using(bk_tree::proofs::Trees::counts))]
+#[tactic(auto, using(bk_tree::proofs::Lemmas::counts))]
 fn is_last(names: &[Name], inits: &[Init]) -> bool
     ensures { result ≡ (length (map mention names.now) == start_count (starts_in inits.now) + 1) }
 {
@@ -66,7 +66,7 @@ fn line_of_names(names: &[Name]) -> Line
 
 /// The items of a LET, one more.
 #[inline(never)]
-#[tactic(auto, using(bk_tree::proofs::Trees::one_more, bk_tree::proofs::Trees::more_sizes))]
+#[tactic(auto, using(bk_tree::proofs::Lemmas::one_more, bk_tree::proofs::Lemmas::more_sizes))]
 pub fn initialised(
     alloc: Global,
     frames: &mut Frames,
@@ -110,7 +110,7 @@ pub fn initialised(
 
 /// An expression of a definition or an item is complete, and the symbol after it does not go on with it.
 #[inline(never)]
-#[tactic(auto, using(bk_tree::proofs::Trees::more_sizes))]
+#[tactic(auto, using(bk_tree::proofs::Lemmas::more_sizes))]
 pub fn complete_member(
     alloc: Global,
     frames: &mut Frames,
@@ -176,7 +176,7 @@ pub fn complete_member(
 }
 
 /// A definition is complete in the construct that was on top, and a symbol comes after it.
-#[tactic(auto, using(bk_tree::proofs::Trees::one_more, bk_frames::proofs::Turns::declared_then, bk_tree::proofs::Trees::more_sizes))]
+#[tactic(auto, using(bk_tree::proofs::Lemmas::one_more, bk_frames::proofs::Lemmas::declared_then, bk_tree::proofs::Lemmas::more_sizes))]
 fn define_in(
     alloc: Global,
     frames: &mut Frames,
@@ -210,7 +210,7 @@ fn define_in(
 }
 
 /// A definition is complete, and a symbol comes after it: AND, or what follows the LET.
-#[tactic(auto, using(bk_frames::proofs::Stacks::frames_laws))]
+#[tactic(auto, using(bk_frames::proofs::Lemmas::frames_laws))]
 pub fn complete_definition(
     alloc: Global,
     frames: &mut Frames,
@@ -239,7 +239,7 @@ pub fn complete_definition(
 }
 
 /// After a name of variables.
-#[tactic(auto, using(bk_frames::proofs::Turns::names_cases))]
+#[tactic(auto, using(bk_frames::proofs::Lemmas::names_cases))]
 pub fn variables(
     alloc: Global,
     frames: &mut Frames,
@@ -325,7 +325,7 @@ pub fn named(
 }
 
 /// After the parenthesis of a procedure.
-#[tactic(auto, using(bk_frames::proofs::Turns::named_cases))]
+#[tactic(auto, using(bk_frames::proofs::Lemmas::named_cases))]
 pub fn formals(
     alloc: Global,
     frames: &mut Frames,
@@ -353,7 +353,7 @@ pub fn formals(
 }
 
 /// A formal is due.
-#[tactic(auto, using(bk_frames::proofs::Turns::named_cases, bk_tree::proofs::Trees::one_more))]
+#[tactic(auto, using(bk_frames::proofs::Lemmas::named_cases, bk_tree::proofs::Lemmas::one_more))]
 pub fn formal(
     alloc: Global,
     frames: &mut Frames,
@@ -377,7 +377,7 @@ pub fn formal(
 }
 
 /// After a formal.
-#[tactic(auto, using(bk_frames::proofs::Turns::formals_cases))]
+#[tactic(auto, using(bk_frames::proofs::Lemmas::formals_cases))]
 pub fn formal_end(
     frames: &mut Frames,
     now: &mut ParserState,
@@ -403,7 +403,7 @@ pub fn formal_end(
 }
 
 /// After the formals.
-#[tactic(auto, using(bk_frames::proofs::Turns::headed_cases))]
+#[tactic(auto, using(bk_frames::proofs::Lemmas::headed_cases))]
 pub fn headed(
     frames: &mut Frames,
     now: &mut ParserState,
@@ -425,7 +425,7 @@ pub fn headed(
 }
 
 /// A name of a further variable is due.
-#[tactic(auto, using(bk_frames::proofs::Turns::named_cases, bk_tree::proofs::Trees::one_more))]
+#[tactic(auto, using(bk_frames::proofs::Lemmas::named_cases, bk_tree::proofs::Lemmas::one_more))]
 pub fn variable(
     alloc: Global,
     frames: &mut Frames,
@@ -472,7 +472,7 @@ pub fn init(
 }
 
 /// The name of a definition is due.
-#[tactic(auto, using(bk_frames::proofs::Turns::named_cases))]
+#[tactic(auto, using(bk_frames::proofs::Lemmas::named_cases))]
 pub fn in_let(
     alloc: Global,
     frames: &mut Frames,

@@ -172,7 +172,7 @@ fn related(expr: &Expr) -> Option<&Expr>
 }
 
 /// The operand that a further relation shares, if the expression is a relation.
-#[tactic(auto, using(bk_frames::proofs::Turns::last_cases))]
+#[tactic(auto, using(bk_frames::proofs::Lemmas::last_cases))]
 fn shared(expr: &Expr) -> Option<&Expr>
     ensures { MatchOption result (last (expression expr.now) ≡ None) (λ right. last (expression expr.now) ≡ Some (expression right.now)) }
 {
@@ -236,7 +236,7 @@ fn go_on_infix(
 }
 
 /// The expression goes on with the symbol.
-#[tactic(auto, using(bk_frames::proofs::Turns::push_cases))]
+#[tactic(auto, using(bk_frames::proofs::Lemmas::push_cases))]
 pub fn go_on(
     alloc: Global,
     frames: &mut Frames,
@@ -320,7 +320,7 @@ fn owes(whole: usize, done: usize) -> bool
 }
 
 /// Whether a comma has to follow the construct on top of this one, where this one decides it.
-#[tactic(auto, using(bk_tree::proofs::Trees::counts))]
+#[tactic(auto, using(bk_tree::proofs::Lemmas::counts))]
 fn barring(unfinished: &Unfinished) -> Option<bool>
     ensures { (st : Stack) → bars (unfinished_on unfinished.now st) ≡ unwrap_or result (bars st) }
 {
@@ -341,7 +341,7 @@ fn barring(unfinished: &Unfinished) -> Option<bool>
 }
 
 /// Whether a comma has to follow the expression that is read now, so that no TABLE may end it.
-#[tactic(auto, using(bk_frames::proofs::Stacks::stack_none))]
+#[tactic(auto, using(bk_frames::proofs::Lemmas::stack_none))]
 fn is_barred(frames: &Frames) -> bool
     ensures { result ≡ bars (stack_of frames.now) }
 {
@@ -357,7 +357,7 @@ fn is_barred(frames: &Frames) -> bool
 }
 
 /// A `)` where an argument is due.
-#[tactic(auto, using(bk_frames::proofs::Stacks::frames_laws, bk_frames::proofs::Turns::no_args_cases))]
+#[tactic(auto, using(bk_frames::proofs::Lemmas::frames_laws, bk_frames::proofs::Lemmas::no_args_cases))]
 fn no_arguments(frames: &mut Frames, now: &mut ParserState) -> Result<(), Stop>
     ensures { Steps (stack_of frames.new) (reached result now.new) (no_args (stack_of frames.old)) }
 {
@@ -387,7 +387,7 @@ fn no_arguments(frames: &mut Frames, now: &mut ParserState) -> Result<(), Stop>
 
 /// An operand is due, and this symbol comes, which is no name and no number.
 #[inline(never)]
-#[tactic(auto, using(bk_frames::proofs::Turns::operand_cases))]
+#[tactic(auto, using(bk_frames::proofs::Lemmas::operand_cases))]
 fn other_operand(
     alloc: Global,
     frames: &mut Frames,
@@ -445,7 +445,7 @@ pub fn operand(
 }
 
 /// An argument is complete.
-#[tactic(auto, using(bk_tree::proofs::Trees::one_more, bk_tree::proofs::Trees::more_sizes))]
+#[tactic(auto, using(bk_tree::proofs::Lemmas::one_more, bk_tree::proofs::Lemmas::more_sizes))]
 fn argument(
     frames: &mut Frames,
     now: &mut ParserState,
@@ -478,7 +478,7 @@ fn argument(
 
 /// A number of a TABLE is complete.
 #[inline(never)]
-#[tactic(auto, using(bk_tree::proofs::Trees::one_more, bk_tree::proofs::Trees::more_sizes))]
+#[tactic(auto, using(bk_tree::proofs::Lemmas::one_more, bk_tree::proofs::Lemmas::more_sizes))]
 fn entry(
     frames: &mut Frames,
     now: &mut ParserState,
@@ -504,7 +504,7 @@ fn entry(
 }
 
 /// The size of the operand that a further relation would share with this right operand.
-#[tactic(auto, using(bk_frames::proofs::Turns::last_cases, bk_frames::proofs::Turns::related_last))]
+#[tactic(auto, using(bk_frames::proofs::Lemmas::last_cases, bk_frames::proofs::Lemmas::related_last))]
 fn shared_size(operator: Operator, right: &Sized) -> Size
     ensures { (l m : ℕ) (a : Expression) → result ≡ size_if (last (binary l operator m a (expression right.now.expr))) }
 {

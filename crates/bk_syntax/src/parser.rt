@@ -69,7 +69,7 @@ fn goes_on_with(frames: &Frames, kind: Kind) -> bool
 }
 
 /// An expression is complete so far, and a symbol comes after it.
-#[tactic(auto, using(bk_frames::proofs::Stacks::frames_laws))]
+#[tactic(auto, using(bk_frames::proofs::Lemmas::frames_laws))]
 fn after_expression(
     alloc: Global,
     frames: &mut Frames,
@@ -97,7 +97,7 @@ fn after_expression(
 }
 
 /// A command is complete so far, and a symbol comes after it.
-#[tactic(auto, using(bk_frames::proofs::Stacks::frames_laws))]
+#[tactic(auto, using(bk_frames::proofs::Lemmas::frames_laws))]
 fn after_command(
     alloc: Global,
     frames: &mut Frames,
@@ -171,7 +171,7 @@ fn settle(
 }
 
 /// There is no command after a colon, and this symbol begins none.
-#[tactic(auto, using(bk_frames::proofs::Stacks::frames_laws, bk_frames::proofs::Turns::guarded_sizes))]
+#[tactic(auto, using(bk_frames::proofs::Lemmas::frames_laws, bk_frames::proofs::Lemmas::guarded_sizes))]
 fn without_command(
     alloc: Global,
     frames: &mut Frames,

@@ -1,10 +1,9 @@
 -- The scheme's statements of a section without faults are an accepted section.
 use Rattle.bk_trans.proofs.Words.{arith, ◌≡◌, ℕ, suc, ◌+◌, ◌≤◌, List, [], ◌∷◌, ◌++◌, length, refl, ap, subst, OCODE_LABEL, OCODE_STATEMENTS, OCODE_WORDS, Declarations, Point, meaning, word, depth, wrong, claim, words_of, faults, told_of, meanings, words, SoundSection, joined, Use, times_set}
-use Rattle.bk_scope.proofs.Parts.{section_clean}
-use Rattle.bk_scope.proofs.Soundness.{section_sound}
+use Rattle.bk_scope.proofs.Lemmas.{section_clean, section_sound}
 use Rattle.bk_ocode.specs.Section.{IsSection}
 use Rattle.bk_ocode.specs.SectionData.{text_size}
-use Rattle.bk_ocode.proofs.TypedSections.{typed_is_section}
+use Rattle.bk_ocode.proofs.Lemmas.{typed_is_section}
 use Rattle.bk_trans.specs.declared.around.Target.{Target}
 use Rattle.bk_trans.specs.Program as p
 use Rattle.bk_trans.specs.Filling.{program_of}

@@ -5,7 +5,7 @@ use Rattle.bk_tree.specs.declared.tree.Prefix.TheVariants as sign
 use Rattle.bk_tree.specs.declared.tree.Simple.TheVariants as w
 use Rattle.bk_tree.specs.declared.tree.Sort.TheVariants as sort
 use Rattle.bk_scope.specs.Cases as chosen
-use Rattle.bk_scope.proofs.Repeated.{cases_differ}
+use Rattle.bk_scope.proofs.Lemmas.{cases_differ}
 use Rattle.bk_trans.specs.declared.around.Target.{Target}
 use Rattle.bk_trans.specs.Program as t
 use Rattle.bk_trans.specs.Naming.{meant, worth, term_named, terms_named, condition_named, lvalue_named, lvalues_named, command_named, commands_named, declarations_named, declaration_named, definitions_named, definition_named, starts_named}

@@ -10,7 +10,7 @@ mod Rows
 mod FormRows
 mod TreeNodes
 mod Few
-pub mod Once
+mod Once
 mod Named
 mod Counted
 mod Marks
@@ -20,9 +20,10 @@ mod Cases
 mod Forms
 mod Marked
 mod Sections
-pub mod Scopes
+mod Scopes
 mod Told
-pub mod Bodies
+mod Bodies
 mod Nested
 mod Numbered
-pub mod Accepted
+mod Accepted
+pub mod Lemmas

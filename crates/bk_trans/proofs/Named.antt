@@ -7,8 +7,7 @@ use Rattle.bk_tree.specs.declared.tree.Prefix.TheVariants as q
 use Rattle.bk_tree.specs.declared.tree.Simple.{Simple}
 use Rattle.bk_tree.specs.declared.tree.Simple.TheVariants as w
 use Rattle.bk_tree.specs.declared.tree.Sort.TheVariants as sort
-use Rattle.bk_scope.proofs.Constants.{constant_right}
-use Rattle.bk_scope.proofs.Soundness.{section_sound}
+use Rattle.bk_scope.proofs.Lemmas.{constant_right, section_sound}
 use Rattle.bk_trans.specs.Program as t
 use Rattle.bk_trans.specs.Filling as f
 use Rattle.bk_trans.specs.Filling.{Supply, Filled, filled}

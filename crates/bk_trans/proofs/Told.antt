@@ -3,7 +3,7 @@ use Rattle.bk_trans.proofs.Words.{arith, ◌+◌, ◌<◌, ◌≤◌, ◌^◌, O
 use Rattle.bk_tree.specs.declared.tree.Operator.TheVariants as o
 use Rattle.bk_tree.specs.declared.tree.Prefix.TheVariants as q
 use Rattle.bk_scope.specs.Laws.{Clean}
-use Rattle.bk_scope.proofs.Parts.{first_clean, second_clean}
+use Rattle.bk_scope.proofs.Lemmas.{first_clean, second_clean}
 
 abbrev pub IsFine : Point → Type 0
 IsFine (depth m) = m ≤ FRAME_WORDS

@@ -1,3 +1,4 @@
-pub mod Counts
-pub mod Trees
-pub mod Copies
+mod Counts
+mod Trees
+mod Copies
+pub mod Lemmas

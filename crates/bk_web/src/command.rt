@@ -101,7 +101,8 @@ pub extern "C" fn bk_serve<'a>(
     err: &mut [u8],
     answer: &mut Answer,
 )
-    ensures answers { Answers (HeldBy ⟦<Reader512<&'a [u8]> as ByteIn>⟧.held) words.now file.now ocode.now input.now answer.new.status answer.new.output answer.new.lines out.new err.new }
+    ensures answers { Answers (HeldBy ⟦<Reader512<&'a [u8]> as ByteIn>⟧.held) words.now file.now ocode.now input.now answer.new.status
+        answer.new.output answer.new.lines out.new err.new }
     ensures rooms { (length out.new ≡ length out.old) × (length err.new ≡ length err.old) }
 {
     let mut output = Kept::new(alloc, out.len());

@@ -155,7 +155,8 @@ pub extern "C" fn bk_step<'a>(
     store: &mut [u32],
     standing: &mut Standing,
 )
-    ensures stepped { Steps (HeldBy ⟦<Reader512<&'a [u8]> as ByteIn>⟧.held) code.now input.now steps words standing.new out.new store.new ⊎ RunsNothing code.now words standing.new }
+    ensures stepped { Steps (HeldBy ⟦<Reader512<&'a [u8]> as ByteIn>⟧.held) code.now input.now steps words standing.new out.new
+        store.new ⊎ RunsNothing code.now words standing.new }
     ensures rooms { (length out.new ≡ length out.old) × (length line.new ≡ length line.old) × (length store.new ≡ length store.old) }
 {
     if words < STORE_LEAST || words > STORE_MOST {

@@ -1,4 +1,4 @@
-pub mod Parts
-pub mod Takes
-pub mod NextWord
-pub mod HeldNumbers
+mod Parts
+mod Takes
+mod NextWord
+mod HeldNumbers

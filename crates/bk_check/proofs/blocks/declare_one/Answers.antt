@@ -3,7 +3,7 @@ use Rattle.bk_tree.specs.declared.tree.ConstItem.{ConstItem}
 use Rattle.bk_tree.specs.declared.tree.Def.{Def}
 use Rattle.bk_tree.specs.Tree as t
 use Rattle.bk_tree.specs.Tree.{Declaration, declaration, declarations_in, actions_in, items_in, definitions_in}
-use Rattle.bk_tree.proofs.Trees.{Constants_is, Let_is}
+use Rattle.bk_tree.proofs.Lemmas.{Constants_is, Let_is}
 use Rattle.bk_lasting.specs.Views.{env_in}
 use Rattle.bk_check.specs.Worlds.{world}
 use Rattle.bk_check.specs.Resume.{tag, done_tag, resumed, declared_then}

@@ -2,7 +2,7 @@ use Rattle.std.proofs.Common.{◌≡◌, ℕ, List, map, ap, sym, ◌∙◌}
 use Rattle.bk_tree.specs.declared.tree.Name.{Name}
 use Rattle.bk_tree.specs.declared.tree.Init.{Init}
 use Rattle.bk_tree.specs.Tree.{mention, definition, definitions_in, starts_in, variables}
-use Rattle.bk_tree.proofs.Trees.{Variables_is}
+use Rattle.bk_tree.proofs.Lemmas.{Variables_is}
 use Rattle.bk_meaning.specs.World.{Outcome, Done}
 use Rattle.bk_meaning.specs.Environment.{Environment, objects_of_definition, behind, past_definition}
 use Rattle.bk_lasting.specs.Views.{env_in}

@@ -5,7 +5,7 @@ use Rattle.bk_check.specs.Views.{letters_in}
 use Rattle.bk_lasting.specs.Views.{env_in}
 use Rattle.bk_check.specs.Worlds.{world}
 use Rattle.bk_check.specs.Resume.{tag, done_tag, resumed, variables_then}
-use Rattle.bk_meaning.proofs.NoDepth.{turn_left, turn_none}
+use Rattle.bk_meaning.proofs.Lemmas.{turn_left, turn_none}
 use Rattle.bk_check.proofs.blocks.variables.Goals as goal
 
 pub returns : goal.returns

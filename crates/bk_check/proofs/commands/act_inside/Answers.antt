@@ -1,7 +1,7 @@
 use Rattle.std.proofs.Common.{◌≡◌, ℕ, List, Result, Ok, Err, IfOk, ap, sym, ◌∙◌}
 use Rattle.bk_tree.specs.Tree as t
 use Rattle.bk_tree.specs.Tree.{Action, action, actions_in, expression, expressions_in, declarations_in, step_in, mention}
-use Rattle.bk_tree.proofs.Trees.{Assign_is, Call_is, For_is, Block_is}
+use Rattle.bk_tree.proofs.Lemmas.{Assign_is, Call_is, For_is, Block_is}
 use Rattle.bk_meaning.specs.World.{World, Outcome}
 use Rattle.bk_meaning.specs.Seeking.{Mode}
 use Rattle.bk_meaning.specs.Commands.{act_of}

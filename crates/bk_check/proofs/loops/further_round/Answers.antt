@@ -7,7 +7,7 @@ use Rattle.bk_lasting.specs.Views.{env_in}
 use Rattle.bk_check.specs.Worlds.{world}
 use Rattle.bk_check.specs.Resume.{tag, done_tag, resumed}
 use Rattle.bk_check.proofs.Resuming.{meets}
-use Rattle.bk_meaning.proofs.NoDepth.{full_rounds, turn_left}
+use Rattle.bk_meaning.proofs.Lemmas.{full_rounds, turn_left}
 use Rattle.bk_check.proofs.loops.further_round.Goals as goal
 
 pub returns : goal.returns

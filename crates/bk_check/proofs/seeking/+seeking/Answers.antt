@@ -1,6 +1,6 @@
 use Rattle.std.proofs.Common.{◌≡◌, ◌<◌, length, ap, ◌∙◌, arith}
 use Rattle.bk_tree.specs.Tree.{action, actions_in, declarations_in, block}
-use Rattle.bk_tree.proofs.Trees.{Block_is}
+use Rattle.bk_tree.proofs.Lemmas.{Block_is}
 use Rattle.bk_check.specs.Views.{sought_in}
 use Rattle.bk_lasting.specs.Views.{env_in}
 use Rattle.bk_check.proofs.Seeks.{no_head, a_head}

@@ -2,10 +2,9 @@ use Rattle.std.proofs.Common.{rules, arith, ◌≡◌, ◌<◌, [], ap, ◌∙�
 use Rattle.std.specs.Vec.{vec_len}
 use Rattle.std.proofs.lemmas.Grind.{common_steps}
 use Rattle.bk_tree.specs.Tree.{action, actions_in}
-use Rattle.bk_tree.proofs.Trees.{Block_is}
-use Rattle.bk_tree.proofs.Counts.{is_zero, is_more}
+use Rattle.bk_tree.proofs.Lemmas.{Block_is, is_zero, is_more}
 use Rattle.bk_scope.specs.Entering.{labels_of, labels_of_each}
-use Rattle.bk_scope.proofs.Entered.{labels_of_bare, labels_of_own}
+use Rattle.bk_scope.proofs.Lemmas.{labels_of_bare, labels_of_own}
 use Rattle.bk_lasting.proofs.scopes.+labels.Goals as goal
 
 pub bind_labels-returns-then-is_empty : goal.bind_labels-returns-then-is_empty

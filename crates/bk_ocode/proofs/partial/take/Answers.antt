@@ -4,7 +4,7 @@ use Rattle.bk_ocode.specs.PartialStmts.{IsUnfit}
 use Rattle.bk_ocode.specs.declared.partial.Partial.{Partial}
 use Rattle.bk_ocode.specs.declared.partial.Unfit.{Unfit}
 use Rattle.bk_ocode.specs.declared.partial.Unfit.TheVariants.{BadNumber}
-use Rattle.bk_ocode.proofs.begun.take.Goals as goal
+use Rattle.bk_ocode.proofs.partial.take.Goals as goal
 
 pub returns-in-CaseValue-clause-bad : goal.returns-in-CaseValue-clause-bad
 returns-in-CaseValue-clause-bad c =

@@ -4,7 +4,7 @@ use Rattle.bk_ocode.specs.StmtText.{natural_word, label_word}
 use Rattle.bk_ocode.specs.PartialStmts.{IsStep}
 use Rattle.bk_ocode.specs.declared.stmt.Case.{Case}
 use Rattle.bk_ocode.proofs.CaseLemmas.{values-push, AreCases-push, typed-push, case_words-push}
-use Rattle.bk_ocode.proofs.begun.with_case_label.Goals as goal
+use Rattle.bk_ocode.proofs.partial.with_case_label.Goals as goal
 
 pub cases_step-requires : goal.cases_step-requires
 cases_step-requires c =

@@ -2,7 +2,7 @@ use Rattle.std.proofs.Common.{◌≡◌, ℤ, true, false, w32, sym, ap, ◌∙�
 use Rattle.std.proofs.lemmas.Int.{to_z-of_z}
 use Rattle.bk_ocode.specs.PartialStmts.{has_value}
 use Rattle.bk_ocode.proofs.SameStmts.{number_same}
-use Rattle.bk_ocode.proofs.begun.with_value.Goals as goal
+use Rattle.bk_ocode.proofs.partial.with_value.Goals as goal
 
 pub returns-in_default-clause-bad : goal.returns-in_default-clause-bad
 returns-in_default-clause-bad c = λ is word held z fits free. c.in_default.ensures.none word held z fits

@@ -3,7 +3,7 @@ use Rattle.std.proofs.lemmas.List.{append-nil}
 use Rattle.std.proofs.lemmas.Grind.{common_steps}
 use Rattle.bk_tree.specs.declared.tree.Sort.TheVariants as s
 use Rattle.bk_tree.specs.Tree.{expression, expressions_in, action, actions_in, declaration, declarations_in, items_in, definition, definitions_in, starts_in, mention, constants, definitions, variables, apply, table, assign}
-use Rattle.bk_tree.proofs.Trees.{Constants_is, Let_is, Variables_is, Apply_is, Table_is, Assign_is, Call_is, Block_is}
+use Rattle.bk_tree.proofs.Lemmas.{Constants_is, Let_is, Variables_is, Apply_is, Table_is, Assign_is, Call_is, Block_is, is_zero, is_more}
 use Rattle.bk_scope.specs.Scope.{bind_all}
 use Rattle.bk_scope.specs.Found.{takes}
 use Rattle.bk_scope.specs.Entering.{labels_of, with_labels, with_formals, with_procedures, Stage, labels_of_each}
@@ -13,7 +13,6 @@ use Rattle.bk_scope.proofs.Definitions.{at, no_variables, no_items_behind, no_de
 use Rattle.bk_scope.proofs.nodes.+nodes.Goals as goal
 use Rattle.std.specs.Vec.{vec_len}
 use Rattle.bk_tree.specs.Parts.{size}
-use Rattle.bk_tree.proofs.Counts.{is_zero, is_more}
 use Rattle.bk_scope.specs.declared.role.Role.TheVariants.{Value}
 use Rattle.bk_scope.specs.Places.{deeper}
 use Rattle.bk_scope.proofs.Calls.{size_is_length, block_without_declarations, block_with_declarations, stage_in, block_behind, stage_by_parts}

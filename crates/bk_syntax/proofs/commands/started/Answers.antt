@@ -4,8 +4,8 @@ use Rattle.bk_grammar.specs.Rows.{assigns}
 use Rattle.bk_frames.specs.Sizes.{size_of, size_of_action}
 use Rattle.bk_grammar.specs.Machine.{give, finish, in_start}
 use Rattle.bk_frames.specs.Frames.{stack_of, after}
-use Rattle.bk_tree.proofs.Trees.{Apply_is}
-use Rattle.bk_frames.proofs.Turns.{call_done}
+use Rattle.bk_tree.proofs.Lemmas.{Apply_is}
+use Rattle.bk_frames.proofs.Lemmas.{call_done}
 use Rattle.bk_syntax.proofs.commands.started.Goals as goal
 
 pub returns-in-Apply-clause-answers : goal.returns-in-Apply-clause-answers

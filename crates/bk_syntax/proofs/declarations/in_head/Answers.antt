@@ -1,4 +1,4 @@
-use Rattle.bk_frames.proofs.Turns.{some_actions}
+use Rattle.bk_frames.proofs.Lemmas.{some_actions}
 use Rattle.bk_syntax.proofs.declarations.in_head.Goals as goal
 
 pub returns-in_default : goal.returns-in_default

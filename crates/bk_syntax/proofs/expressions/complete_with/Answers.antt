@@ -7,7 +7,7 @@ use Rattle.bk_frames.specs.Sizes.{size_if}
 use Rattle.bk_grammar.specs.Machine.{limit, give}
 use Rattle.bk_frames.specs.Unfinished.{operand_on}
 use Rattle.bk_frames.specs.Frames.{stack_of, after}
-use Rattle.bk_frames.proofs.Turns.{unary_done, binary_done}
+use Rattle.bk_frames.proofs.Lemmas.{unary_done, binary_done}
 use Rattle.bk_syntax.proofs.expressions.complete_with.Goals as goal
 
 pub returns-in_ok-operand-in-Unary-clause-flows : goal.returns-in_ok-operand-in-Unary-clause-flows

@@ -5,7 +5,7 @@ use Rattle.bk_tree.specs.Tree.{Declarations}
 use Rattle.bk_grammar.specs.Machine.{stepped_by, whole}
 use Rattle.bk_frames.specs.Frames.{stack_of, state}
 use Rattle.bk_syntax.specs.Parsing.{AnswersAtEnd}
-use Rattle.bk_frames.proofs.Finished.{ends_within}
+use Rattle.bk_frames.proofs.Lemmas.{ends_within}
 use Rattle.bk_syntax.proofs.Behind.{run_end, ends_wrong}
 use Rattle.bk_syntax.proofs.parser.at_end.Goals as goal
 

@@ -3,7 +3,7 @@ use Rattle.bk_grammar.specs.Rows.{goes}
 use Rattle.bk_grammar.specs.Machine.{limit}
 use Rattle.bk_frames.specs.Unfinished.{unfinished_on}
 use Rattle.bk_frames.specs.Frames.{stack_of}
-use Rattle.bk_frames.proofs.Insides.{limit_phrase, limit_member}
+use Rattle.bk_frames.proofs.Lemmas.{limit_phrase, limit_member}
 use Rattle.bk_syntax.proofs.parser.complete_part.Goals as goal
 
 pub complete-requires-clause-stops : goal.complete-requires-clause-stops

@@ -4,7 +4,7 @@ use Rattle.bk_frames.specs.Frames.{stack_of, state}
 use Rattle.bk_syntax.specs.Parsing.{tags, told}
 use Rattle.bk_syntax.proofs.Behind.{from_nothing, one_further, all_read}
 use Rattle.bk_syntax.proofs.Told.{behind_completes, told_of, ended, gives_only}
-use Rattle.bk_frames.proofs.Finished.{empty_bounded, within_limits}
+use Rattle.bk_frames.proofs.Lemmas.{empty_bounded, within_limits}
 use Rattle.bk_syntax.proofs.parser.parse.Goals as goal
 
 pub loop-token-init : goal.loop-token-init

@@ -4,8 +4,7 @@ use Rattle.std.specs.Vec.{vec_len}
 use Rattle.bk_tree.specs.Parts.{size}
 use Rattle.bk_tree.specs.declared.tree.Sort.TheVariants as sort
 use Rattle.bk_tree.specs.Tree.{expression, expressions_in, action, actions_in, declaration, declarations_in, items_in, definition, definitions_in, starts_in, step_in, mention, table, assign, call, constants, definitions, variables}
-use Rattle.bk_tree.proofs.Trees.{Constants_is, Let_is, Variables_is, Apply_is, Table_is, Assign_is, Call_is, Block_is, For_is, expressions_count}
-use Rattle.bk_tree.proofs.Counts.{is_zero, is_more}
+use Rattle.bk_tree.proofs.Lemmas.{Constants_is, Let_is, Variables_is, Apply_is, Table_is, Assign_is, Call_is, Block_is, For_is, expressions_count, is_zero, is_more}
 use Rattle.bk_ocode.specs.declared.stmt.Stmt.TheVariants.{Stack, Store, CallFunction}
 use Rattle.bk_trans.specs.declared.aim.Aim.TheVariants as aim
 use Rattle.bk_trans.specs.Filling.{step_of}

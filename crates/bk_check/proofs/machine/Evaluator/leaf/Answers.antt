@@ -5,7 +5,7 @@ use Rattle.bk_meaning.specs.Expressions.{value_of}
 use Rattle.bk_meaning.specs.Full.{full}
 use Rattle.bk_lasting.specs.Views.{env_in}
 use Rattle.bk_check.specs.Worlds.{world}
-use Rattle.bk_meaning.proofs.NoDepth.{full_value, turn_left}
+use Rattle.bk_meaning.proofs.Lemmas.{full_value, turn_left}
 use Rattle.bk_check.proofs.Resuming.{some_map}
 use Rattle.bk_check.proofs.machine.Evaluator.leaf.Goals as goal
 

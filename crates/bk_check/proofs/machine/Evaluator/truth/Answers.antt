@@ -8,7 +8,7 @@ use Rattle.bk_lasting.specs.Views.{env_in}
 use Rattle.bk_check.specs.Worlds.{world}
 use Rattle.bk_check.specs.Resume.{tag, a_truth, resumed}
 use Rattle.bk_check.proofs.Resuming.{meets}
-use Rattle.bk_meaning.proofs.NoDepth.{full_truth, turn_left, turn_none}
+use Rattle.bk_meaning.proofs.Lemmas.{full_truth, turn_left, turn_none}
 use Rattle.bk_check.proofs.machine.Evaluator.truth.Goals as goal
 
 pub returns : goal.returns

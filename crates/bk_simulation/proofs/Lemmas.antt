@@ -1,0 +1,3 @@
+-- The lemmas of this crate that the proofs of the crates above cite. They import no other file of this folder.
+pub use Rattle.bk_simulation.proofs.Constants.{constant_small}
+pub use Rattle.bk_simulation.proofs.LaidExpressions.{HasWords}
