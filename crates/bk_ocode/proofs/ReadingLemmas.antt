@@ -17,7 +17,7 @@ use Rattle.bk_ocode.specs.Faults.{stmt_fault}
 use Rattle.bk_ocode.specs.Section.{AreFaultless, IsSection}
 use Rattle.bk_ocode.specs.FirstFault.{IsPartial, IsStmt}
 use Rattle.bk_ocode.specs.SectionAnswer.{Takes, GivesSection, GivesNothing}
-use Rattle.bk_ocode.specs.declared.standing.Position.TheVariants.{Outside, Ended}
+use Rattle.bk_ocode.specs.declared.standing.Position.TheVariants.{Ended}
 use Rattle.bk_ocode.specs.declared.stmt.Stmt.{Stmt}
 use Rattle.bk_ocode.proofs.CaseLemmas.{at_push}
 use Rattle.bk_ocode.proofs.Rows.{joined-append}

@@ -1,5 +1,5 @@
 -- What the first word of a statement says of it.
-use Rattle.std.specs.Prelude.{ℕ, ◌==◌, nat_eq, Bool, true, false, List, [], ◌∷◌, codes, Option, Some, None, if◌then◌else◌}
+use Rattle.std.specs.Prelude.{ℕ, ◌==◌, nat_eq, true, false, List, [], ◌∷◌, codes, Option, Some, None, if◌then◌else◌}
 use lib.Pointwise.{pointwise}
 use Rattle.bk_ocode.specs.StmtText.{monadic_keyword, dyadic_keyword, jump_keyword}
 use Rattle.bk_ocode.specs.declared.standing.StmtPlace.{StmtPlace}

@@ -13,7 +13,7 @@ use crate::arguments::{Argument, argument_of, first_word};
 use crate::section::Ocode;
 use crate::stmt::{Case, GlobalEntry, Stmt};
 use bk_base::limit::NAME_BYTES;
-use bk_base::{ByteOut, Failed, put_all, word_text};
+use bk_base::{ByteOut, Failed, put_all, put_word};
 
 /// Writes a number after a blank.
 fn put_number<O: ByteOut>(number: i32, out: &mut O) -> Result<(), Failed>
@@ -25,7 +25,7 @@ fn put_number<O: ByteOut>(number: i32, out: &mut O) -> Result<(), Failed>
         × Keeps (O.passed out.old) (O.passed out.new) }
 {
     out.put(b' ')?;
-    put_all(out, word_text(number).as_bytes())?;
+    put_word(number, out)?;
     Ok(())
 }
 
@@ -53,7 +53,7 @@ fn put_label<O: ByteOut>(label: u32, out: &mut O) -> Result<(), Failed>
         × Keeps (O.passed out.old) (O.passed out.new) }
 {
     put_all(out, b" L")?;
-    put_all(out, word_text(label as i32).as_bytes())?;
+    put_word(label as i32, out)?;
     Ok(())
 }
 

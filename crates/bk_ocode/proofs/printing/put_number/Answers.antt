@@ -1,14 +1,14 @@
-use Rattle.std.proofs.Common.{rules, ◌≡◌, ◌++◌, [], ◌∷◌}
+use Rattle.std.proofs.Common.{rules, [], ◌∷◌, refl}
+use Rattle.bk_base.specs.Devices.{AppendsPart}
 use Rattle.bk_base.specs.DeviceLaws.{Begins-trans, AppendsPart-behind}
 use Rattle.bk_base.specs.Decimal.{spelling}
 use Rattle.bk_ocode.proofs.Parts.{on_err}
 use Rattle.bk_ocode.proofs.printing.put_number.Goals as goal
 
-pub returns-in_err-put_all-clause-part : goal.returns-in_err-put_all-clause-part
-returns-in_err-put_all-clause-part g c =
-    let same : 32 ∷ spelling c.args.number ≡ (32 ∷ []) ++ c.as_bytes.result.now = search rules in
-    on_err c.from_residual-in_err-put_all.result
-    (AppendsPart-behind _ _ _ (32 ∷ []) c.as_bytes.result.now _ same c.in_ok-put.ensures.takes c.in_err-put_all.ensures.part)
+pub returns-in_err-put_word-clause-part : goal.returns-in_err-put_word-clause-part
+returns-in_err-put_word-clause-part g c =
+    let part : AppendsPart (g.O.ByteOut.taken c.put.new.self) (g.O.ByteOut.taken c.put_word.new.out) (spelling c.args.number) = search rules in
+    on_err c.from_residual-in_err-put_word.result (AppendsPart-behind _ _ _ (32 ∷ []) (spelling c.args.number) _ refl c.in_ok-put.ensures.takes part)
 
-pub returns-in_err-put_all-clause-passes : goal.returns-in_err-put_all-clause-passes
-returns-in_err-put_all-clause-passes g c = Begins-trans _ _ _ c.in_ok-put.ensures.passes c.in_err-put_all.ensures.passes
+pub returns-in_err-put_word-clause-passes : goal.returns-in_err-put_word-clause-passes
+returns-in_err-put_word-clause-passes g c = Begins-trans _ _ _ c.in_ok-put.ensures.passes c.in_err-put_word.ensures.passes
