@@ -9,6 +9,9 @@ use std::alloc::{AllocError, Global};
 use std::collections::BTreeSet;
 use std::marker::Model;
 
+/// The number of claims for which memory is reserved at first: those of a header, and of a few declarations.
+const FIRST_CLAIMS: usize = 48;
+
 /// What may be claimed once in a section.
 #[derive(Clone, Copy, PartialEq, Eq, PartialOrd, Ord)]
 pub enum Claim<'a> {
@@ -105,13 +108,13 @@ impl<'a> Model for Claims<'a> {
 
 impl<'a> Claims<'a> {
     /// Nothing is claimed.
-    pub fn new(alloc: Global) -> Claims<'a>
-        ensures { result ≡ [] }
+    pub fn new(alloc: Global) -> Result<Claims<'a>, AllocError>
+        ensures { IfOk result (λ claims. claims ≡ []) }
     {
-        Claims {
+        Ok(Claims {
             claimed: ClaimSet::new(alloc),
-            in_turn: Vec::new(alloc),
-        }
+            in_turn: Vec::with_capacity(alloc, FIRST_CLAIMS)?,
+        })
     }
 
     /// Claims it; whether nothing had claimed it before.

@@ -38,6 +38,9 @@ pub struct Known {
     pub words: Vec<u32>,
 }
 
+/// The number of names that are used, and of constants, for which memory is reserved at first.
+const FIRST_NAMES: usize = 64;
+
 /// What was found so far in a section.
 #[derive(Drop)]
 pub struct Findings<'a> {
@@ -74,18 +77,18 @@ impl<'a> Model for Findings<'a> {
 
 impl<'a> Findings<'a> {
     /// Nothing yet.
-    pub fn new(alloc: Global) -> Findings<'a>
-        ensures { result ≡ nothing }
+    pub fn new(alloc: Global) -> Result<Findings<'a>, AllocError>
+        ensures { IfOk result (λ findings. findings ≡ nothing) }
     {
-        Findings {
+        Ok(Findings {
             alloc,
             first: FirstFault::new(),
-            claims: Claims::new(alloc),
-            meanings: Vec::new(alloc),
-            words: Vec::new(alloc),
+            claims: Claims::new(alloc)?,
+            meanings: Vec::with_capacity(alloc, FIRST_NAMES)?,
+            words: Vec::with_capacity(alloc, FIRST_NAMES)?,
             next: 1,
             deepest: 0,
-        }
+        })
     }
 
     /// Where more memory comes from.

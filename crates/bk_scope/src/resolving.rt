@@ -24,8 +24,8 @@ pub fn resolve(alloc: Global, section: &Section) -> Result<Resolved<'_>, Refused
 {
     let mut walk = Walk {
         alloc,
-        table: Table::new(alloc),
-        findings: Findings::new(alloc),
+        table: Table::new(alloc)?,
+        findings: Findings::new(alloc)?,
     };
     declare_each(&mut walk, Enclosing::outermost(), section.decls())?;
     let Walk { findings, .. } = walk;

@@ -1,5 +1,5 @@
 //! The declarations in scope, by name.
-ghost use Rattle.std.specs.Prelude.{◌≡◌, ◌-◌, ◌≤◌, ◌<◌, [], drop, length, OnOk, OnErr};
+ghost use Rattle.std.specs.Prelude.{◌≡◌, ◌-◌, ◌≤◌, ◌<◌, [], drop, length, IfOk, OnOk, OnErr};
 ghost use Rattle.bk_scope.specs.Scope.{bind, bound_in};
 ghost use Rattle.bk_scope.specs.TableView.{place_in};
 
@@ -8,6 +8,9 @@ use crate::name_key::NameKey;
 use std::alloc::{AllocError, Global};
 use std::collections::BTreeMap;
 use std::marker::Model;
+
+/// The number of bindings for which memory is reserved at first: those of a header, and of a few declarations.
+const FIRST_BINDINGS: usize = 48;
 
 /// The declarations in scope, which contracts see as the list of them, the innermost first.
 #[derive(Drop)]
@@ -42,13 +45,13 @@ impl<'a> Model for Table<'a> {
 
 impl<'a> Table<'a> {
     /// Nothing is in scope.
-    pub fn new(alloc: Global) -> Table<'a>
-        ensures { result ≡ [] }
+    pub fn new(alloc: Global) -> Result<Table<'a>, AllocError>
+        ensures { IfOk result (λ table. table ≡ []) }
     {
-        Table {
+        Ok(Table {
             innermost: BTreeMap::new(alloc),
-            bindings: Vec::new(alloc),
-        }
+            bindings: Vec::with_capacity(alloc, FIRST_BINDINGS)?,
+        })
     }
 
     /// A declaration inside those that are in scope.
