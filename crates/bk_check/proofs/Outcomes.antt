@@ -4,17 +4,12 @@ use Rattle.bk_meaning.specs.World.{World, Outcome, gives, leaves, ends, undefine
 
 pub with_with : {A B C : Type 0} (u : Outcome A) (f : A → World → Outcome B) (g : B → World → Outcome C) → with (with u f) g ≡ with u (λ a w. with (f a w) g)
 with_with (gives a w) f g = refl
-with_with (leaves x w) f g = refl
-with_with (ends e w) f g = refl
-with_with undefined f g = refl
-with_with (going w) f g = refl
+with_with _ f g = refl
 
 pub with_each : {A B : Type 0} (u : Outcome A) (f g : A → World → Outcome B) → ((a : A) (w : World) → f a w ≡ g a w) → with u f ≡ with u g
 with_each (gives a w) f g h = h a w
 with_each (leaves x w) f g h = refl
-with_each (ends e w) f g h = refl
-with_each undefined f g h = refl
-with_each (going w) f g h = refl
+with_each _ f g h = refl
 
 turned : {A B : Type 0} (n : ℕ) (w : World) (go : World → Outcome A) (f : A → World → Outcome B) → with (turn_of n w go) f ≡ turn_of n w (λ w. with (go w) f)
 turned zero w go f = refl
@@ -26,7 +21,4 @@ with_turn w go f = turned w.turns w go f
 -- nothing follows a command that is done
 pub with_done : (u : Outcome Done) → with u (λ _ w. done w) ≡ u
 with_done (gives d w) = refl
-with_done (leaves x w) = refl
-with_done (ends e w) = refl
-with_done undefined = refl
-with_done (going w) = refl
+with_done _ = refl

@@ -87,30 +87,21 @@ pushed_done p fs gs g u is = pushed p fs gs (f.Done g) _ _ is (by_done p g u)
 
 by_return : (p : Program) (c : Call) (u : Outcome Value) → resume p (f.Returned c) (tag a_value u) ≡ tag a_value (returned c.calls u)
 by_return p c (gives v w) = refl
-by_return p c (leaves x w) = refl
-by_return p c (ends e w) = refl
-by_return p c undefined = refl
-by_return p c (going w) = refl
+by_return p c _ = refl
 
 pub pushed_return : (p : Program) (fs gs : List Continuation) (c : Call) (u : Outcome Value) → gs ≡ fs ++ f.Returned c ∷ [] → resumed p gs (tag a_value u) ≡ resumed p fs (tag a_value (returned c.calls u))
 pushed_return p fs gs c u is = pushed p fs gs (f.Returned c) _ _ is (by_return p c u)
 
 value_closes : (p : Program) (n : ℕ) (u : Outcome Value) → resume p (f.Closing n) (tag a_value u) ≡ tag a_value (closing n u)
 value_closes p n (gives v w) = refl
-value_closes p n (leaves x w) = refl
-value_closes p n (ends e w) = refl
-value_closes p n undefined = refl
-value_closes p n (going w) = refl
+value_closes p n _ = refl
 
 pub pushed_closing_value : (p : Program) (fs gs : List Continuation) (n : ℕ) (u : Outcome Value) → gs ≡ fs ++ f.Closing n ∷ [] → resumed p gs (tag a_value u) ≡ resumed p fs (tag a_value (closing n u))
 pushed_closing_value p fs gs n u is = pushed p fs gs (f.Closing n) _ _ is (value_closes p n u)
 
 done_closes : (p : Program) (n : ℕ) (u : Outcome Done) → resume p (f.Closing n) (tag done_tag u) ≡ tag done_tag (closing n u)
 done_closes p n (gives v w) = refl
-done_closes p n (leaves x w) = refl
-done_closes p n (ends e w) = refl
-done_closes p n undefined = refl
-done_closes p n (going w) = refl
+done_closes p n _ = refl
 
 pub pushed_closing : (p : Program) (fs gs : List Continuation) (n : ℕ) (u : Outcome Done) → gs ≡ fs ++ f.Closing n ∷ [] → resumed p gs (tag done_tag u) ≡ resumed p fs (tag done_tag (closing n u))
 pushed_closing p fs gs n u is = pushed p fs gs (f.Closing n) _ _ is (done_closes p n u)

@@ -82,10 +82,7 @@ shows_verdict p fs next w is = absurd (cc is)
 
 run_given_value : (u : Outcome Value) → run_given (tag a_value u) ≡ run_of u
 run_given_value (gives x w) = refl
-run_given_value (leaves x w) = refl
-run_given_value (ends e w) = refl
-run_given_value undefined = refl
-run_given_value (going w) = refl
+run_given_value _ = refl
 
 -- ---- what is exchanged
 

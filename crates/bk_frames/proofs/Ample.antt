@@ -38,15 +38,7 @@ category_of _ = Closed
 category_back : (x : Category) → category_of (category_number x) ≡ x
 unfolding category_of
 category_back Expression = refl
-category_back Label = refl
-category_back Call = refl
-category_back Operated = refl
-category_back Command = refl
-category_back Missing = refl
-category_back Definition = refl
-category_back Declaration = refl
-category_back Due = refl
-category_back Closed = refl
+category_back _ = refl
 
 next_from : ℕ → Lookahead
 next_from zero = Closing
@@ -59,11 +51,7 @@ next_from _ = Operating
 next_back : (x : Lookahead) → next_from (next_number x) ≡ x
 unfolding next_from
 next_back Closing = refl
-next_back Assigning = refl
-next_back Listing = refl
-next_back Going = refl
-next_back Repeating = refl
-next_back Operating = refl
+next_back _ = refl
 
 category_is : (x y : Category) → category_number x ≡ category_number y → x ≡ y
 category_is x y e = sym (category_back x) ∙ ap category_of e ∙ category_back y

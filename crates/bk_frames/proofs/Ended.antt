@@ -210,12 +210,6 @@ inside_not false ds h = cc
 
 form_apart : (e : Expression) → Apart (form_of e) e
 form_apart (name l x) = tt
-form_apart (number l n) = tt
-form_apart (text l x) = tt
-form_apart (truth l b) = tt
-form_apart (query l) = tt
-form_apart (parens l e) = tt
-form_apart (valof l c) = tt
 form_apart _ = tt
 
 whole_has : (P : ℕ → ℕ → Type 0) (ds : Declarations) (F : Form → ℕ → ℕ → Lookahead → Type 0) (f : Form) (a b : ℕ) → NoLess P ds (F f) a b → NoLess P ds (F Call) a b → Whole F f a b → Has P ds

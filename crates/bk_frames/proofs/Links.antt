@@ -39,11 +39,7 @@ either_of false b p = inr p
 
 pub next_in : (c : w.Lookahead) → is_next c c ≡ true
 next_in w.closing = refl
-next_in w.assigning = refl
-next_in w.listing = refl
-next_in w.going = refl
-next_in w.repeating = refl
-next_in w.operating = refl
+next_in _ = refl
 
 pub next_is : (a c : w.Lookahead) → is_next a c ≡ true → a ≡ c
 next_is w.closing w.closing p = refl
@@ -112,11 +108,7 @@ from w.operating = Operating
 
 pub from_is : (c : w.Lookahead) → next_of (from c) ≡ c
 from_is w.closing = refl
-from_is w.assigning = refl
-from_is w.listing = refl
-from_is w.going = refl
-from_is w.repeating = refl
-from_is w.operating = refl
+from_is _ = refl
 
 -- ---- where a symbol comes
 

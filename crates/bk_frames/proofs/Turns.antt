@@ -179,18 +179,10 @@ call_done st m s f es l x kind stops other =
 
 pub guarded_depth : (k : Guard) (l : ℕ) (e : Expression) (c : Action) → depth_of_action (guarded k l e c) ≡ max (depth e) (depth_of_action c) + 1
 guarded_depth g.If l e c = refl
-guarded_depth g.Unless l e c = refl
-guarded_depth g.While l e c = refl
-guarded_depth g.Until l e c = refl
-guarded_depth g.SwitchOn l e c = refl
-guarded_depth g.Case l e c = refl
+guarded_depth _ l e c = refl
 
 pub guarded_nodes : (k : Guard) (l : ℕ) (e : Expression) (c : Action) → nodes_of_action (guarded k l e c) ≡ nodes e + nodes_of_action c + 1
 guarded_nodes g.If l e c = refl
-guarded_nodes g.Unless l e c = refl
-guarded_nodes g.While l e c = refl
-guarded_nodes g.Until l e c = refl
-guarded_nodes g.SwitchOn l e c = refl
-guarded_nodes g.Case l e c = refl
+guarded_nodes _ l e c = refl
 
 pub ruleset guarded_sizes = (guarded_depth, guarded_nodes)

@@ -35,12 +35,7 @@ length-operand labels f i (Label l) = refl
 length-item : (labels : ℕ → ℕ) (item : Item) → length (item_words labels item) ≡ item_size item
 length-item labels (Instruction f i operand) = length-operand labels f i operand
 length-item labels (SetLabel l) = refl
-length-item labels (Byte b) = refl
-length-item labels (Word w) = refl
-length-item labels (LabelWord l) = refl
-length-item labels (SetGlobal number l) = refl
-length-item labels (Frame n) = refl
-length-item labels End = refl
+length-item labels _ = refl
 
 -- the extent of words to which others are appended
 extent-append : (start : ℕ) (ws vs : List ℕ) (n filled : ℕ) → length vs ≡ n
@@ -88,12 +83,7 @@ next-byte next filled b false e = rw e (omega arith)
 next-reached : (e : Extent) (item : Item) → e.next ≤ (reached e item).next
 next-reached e (Byte b) = next-byte e.next e.filled b (eqb e.filled 0) refl
 next-reached e (Instruction f i operand) = omega arith
-next-reached e (SetLabel l) = omega arith
-next-reached e (Word w) = omega arith
-next-reached e (LabelWord l) = omega arith
-next-reached e (SetGlobal number l) = omega arith
-next-reached e (Frame n) = omega arith
-next-reached e End = omega arith
+next-reached e _ = omega arith
 
 next-fold : (e : Extent) (items : List Item) → e.next ≤ (fold reached e items).next
 next-fold e [] = omega arith

@@ -127,12 +127,7 @@ global-within items i number label d whole within is = (whole.in_range i (SetGlo
 pub settings-none : (labels : ℕ → ℕ) (item : Item) → ((number label : ℕ) → item ≡ SetGlobal number label → ⊥) → item_settings labels item ≡ []
 settings-none labels (SetGlobal number l) not = absurd (not number l refl)
 settings-none labels (Instruction f i operand) not = refl
-settings-none labels (SetLabel l) not = refl
-settings-none labels (Byte b) not = refl
-settings-none labels (Word w) not = refl
-settings-none labels (LabelWord l) not = refl
-settings-none labels (Frame n) not = refl
-settings-none labels End not = refl
+settings-none labels _ not = refl
 
 -- a segment that is read from those that are left
 pub stack-item : (start : ℕ) (segments : List Intcode) (i : ℕ) (s : Intcode) (items : List Item) → i < length segments

@@ -24,12 +24,7 @@ gives_frame-push (i ∷ items) item = ap (λ b. is_frame i || b) (gives_frame-pu
 no_set : (item : Item) → ((l : ℕ) → item ≢ SetLabel l) → (label : ℕ) → item_sets label item ≡ false
 no_set (SetLabel l) other label = absurd (other l refl)
 no_set (Instruction f i o) other label = refl
-no_set (LabelWord l) other label = refl
-no_set (SetGlobal n l) other label = refl
-no_set (Byte b) other label = refl
-no_set (Word w) other label = refl
-no_set (Frame n) other label = refl
-no_set End other label = refl
+no_set _ other label = refl
 
 -- an item that gives no frame
 no_frame : (item : Item) → ((n : ℕ) → item ≢ Frame n) → is_frame item ≡ false

@@ -31,13 +31,7 @@ function_of b =
 function_of-letter : (f : Function) → function_of (letter f) ≡ f
 unfolding function_of
 function_of-letter Load = refl
-function_of-letter Store = refl
-function_of-letter Add = refl
-function_of-letter Jump = refl
-function_of-letter JumpTrue = refl
-function_of-letter JumpFalse = refl
-function_of-letter Call = refl
-function_of-letter Operate = refl
+function_of-letter _ = refl
 
 letter_same : (f g : Function) → letter f ≡ letter g → f ≡ g
 letter_same f g is = sym (function_of-letter f) ∙ ap function_of is ∙ function_of-letter g

@@ -65,13 +65,7 @@ digit-begins b low high = each_digit (λ n. begins_item n ≡ true) refl refl re
 
 letter-begins : (f : Function) → begins_item (letter f) ≡ true
 letter-begins Load = refl
-letter-begins Store = refl
-letter-begins Add = refl
-letter-begins Jump = refl
-letter-begins JumpTrue = refl
-letter-begins JumpFalse = refl
-letter-begins Call = refl
-letter-begins Operate = refl
+letter-begins _ = refl
 
 numeral-begins : (l : ℕ) → l < 2 ^ 64 → (w : List ℕ) → spelling (pos l) ≡ w → w ≢ [] → begins_item (get_or w 0 0) ≡ true
 numeral-begins l small [] is some = absurd (some refl)
@@ -81,11 +75,7 @@ item-begins : (item : Item) → IsItem item → begins_item (get_or (item_text i
 item-begins (Instruction f i o) fits = letter-begins f
 item-begins (SetLabel l) fits = numeral-begins l (omega (arith, fits.0, fits.1)) (spelling (pos l)) refl (nothing-empty (SetLabel l) fits)
 item-begins (Byte b) fits = refl
-item-begins (Word w) fits = refl
-item-begins (LabelWord l) fits = refl
-item-begins (SetGlobal n l) fits = refl
-item-begins (Frame n) fits = refl
-item-begins End fits = refl
+item-begins _ fits = refl
 
 -- a byte over 255 is no item
 large_no_item : (n : ℕ) → 255 < n → n < 2 ^ 31 → (item : Item) → IsItem item → item_text item ≢ 67 ∷ spelling (pos n)
@@ -293,10 +283,7 @@ use-set-before front (Instruction f i o) each = operand-set-before front o each
 use-set-before front (LabelWord l) each = each l (eq-eqb l l refl)
 use-set-before front (SetGlobal n l) each = each l (eq-eqb l l refl)
 use-set-before front (SetLabel l) each = refl
-use-set-before front (Byte b) each = refl
-use-set-before front (Word w) each = refl
-use-set-before front (Frame n) each = refl
-use-set-before front End each = refl
+use-set-before front _ each = refl
 
 all_set-before : (items : List Item) → IsSegment items → (k : ℕ) → slice_get items k ≡ Some End → all_set (take k items) ≡ true
 all_set-before items whole k at = list_all-make (use_is_set (take k items)) (take k items) (λ j item here.

@@ -30,13 +30,7 @@ indirect-inside false = tt
 
 letter-inside : (f : Function) → is_blank (letter f) ≡ false
 letter-inside Load = refl
-letter-inside Store = refl
-letter-inside Add = refl
-letter-inside Jump = refl
-letter-inside JumpTrue = refl
-letter-inside JumpFalse = refl
-letter-inside Call = refl
-letter-inside Operate = refl
+letter-inside _ = refl
 
 -- no item's word has a blank
 pub item-inside : (item : Item) → IsItem item → AreInWord (item_text item)

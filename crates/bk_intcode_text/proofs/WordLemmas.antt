@@ -34,13 +34,7 @@ item_class End = 90
 
 pub letter-class : (f : Function) → byte_class (letter f) ≡ 0
 letter-class Load = refl
-letter-class Store = refl
-letter-class Add = refl
-letter-class Jump = refl
-letter-class JumpTrue = refl
-letter-class JumpFalse = refl
-letter-class Call = refl
-letter-class Operate = refl
+letter-class _ = refl
 
 -- each of the ten digits
 ten : (P : ℕ → Type 0) → P 48 → P 49 → P 50 → P 51 → P 52 → P 53 → P 54 → P 55 → P 56 → P 57 → (k : ℕ) → k ≤ 9 → P (k + 48)

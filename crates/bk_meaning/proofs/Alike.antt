@@ -99,10 +99,7 @@ module _ (d : ℕ) (m n : Meanings) (s : AllSpend d m) (g : AllSame d m n) where
       by : (x : Exit) (v : World) → v.turns + 1 ≤ d → Scopes.landing cs env go x v ≡ Scopes.landing cs env to x v
       by (goto x) v lt = chosen (stands_in_one (the_label x) env cs) x v lt
       by break v lt = refl
-      by loop v lt = refl
-      by endcase v lt = refl
-      by (result r) v lt = refl
-      by return v lt = refl
+      by _ v lt = refl
 
   pub scope_same : (cs : Actions) (mode : Mode) (env : Environment) → Same d (Scopes.scope_of m cs mode env) (Scopes.scope_of n cs mode env)
   scope_same cs mode env = same _ _ _ (λ w le. each_way_same w d _ _ _ _ _ _ le ((N.in_order_spends d m s cs mode (labelled cs env)).at w le) ((in_order_same cs mode (labelled cs env)).at w le) (λ _. it d done) (landing_same cs env _ _ (λ x. g.scope cs (seeking (the_label x)) env)))

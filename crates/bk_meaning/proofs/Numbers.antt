@@ -32,10 +32,7 @@ mutual
   expression_counted env (t.apply l m f es) = both (of_expression env f) _ _ _ (expression_counted env f) (each_counted (past f env) es)
   expression_counted env (t.valof l c) = action_counted (in_scope c env) c
   expression_counted env (t.table l es) = refl
-  expression_counted env (t.name l x) = refl
-  expression_counted env (t.number l n) = refl
-  expression_counted env (t.truth l b) = refl
-  expression_counted env (t.query l) = refl
+  expression_counted env _ = refl
 
   pub each_counted : (env : Environment) (es : Expressions) → length (of_each env es) ≡ objects_of_each es
   each_counted env t.none = refl

@@ -63,9 +63,7 @@ replaced_keeps m o i c (Some cells) is = if_allowed m _ (is_some (slice_get cell
 with_cell_keeps : (m : Memory) (a : Value) (c : Cell) → KeepsSizes m (with_cell m a c)
 with_cell_keeps m (address o i) c = replaced_keeps m o i c (cells_at m o) refl
 with_cell_keeps m (number n) c = tt
-with_cell_keeps m (procedure n) c = tt
-with_cell_keeps m (routine r) c = tt
-with_cell_keeps m unset c = tt
+with_cell_keeps m _ c = tt
 
 then_keeps : (m : Memory) (go : Cell → Option Memory) (c : Option Cell) → ((c : Cell) → KeepsSizes m (go c)) → KeepsSizes m (option_and_then go c)
 then_keeps m go None h = tt

@@ -134,9 +134,7 @@ mutual
   in_expression p env (t.valof l c) h = in_action p (in_scope c env) c (moved p env.next _ _ (in_scope-next c env) h)
   in_expression p env (t.table l es) h = first p env.next _ [] h
   in_expression p env (t.name l x) h = tt
-  in_expression p env (t.number l n) h = tt
-  in_expression p env (t.truth l b) h = tt
-  in_expression p env (t.query l) h = tt
+  in_expression p env _ h = tt
 
   pub in_each : (p : Program) (env : Environment) (es : Expressions) → Has p env.next (of_each env es) → InEach p env es
   in_each p env t.none h = tt

@@ -140,12 +140,7 @@ partial_some begun.EntryLabel = omega arith
 partial_some (begun.Length owner) = some_of owner
 partial_some (begun.Bytes owner bytes count) = owner_some owner _
 partial_some begun.CaseCount = omega arith
-partial_some (begun.Default count) = omega arith
-partial_some (begun.CaseValue draft) = omega arith
-partial_some (begun.CaseLabel draft value) = omega arith
-partial_some begun.GlobalCount = omega arith
-partial_some (begun.GlobalNumber draft) = omega arith
-partial_some (begun.GlobalLabel draft number) = omega arith
+partial_some _ = omega arith
 
 -- what begins with these words may stand there
 pub placed_more : (c : Context) (part : Option Partial) (next : List (List ℕ)) (w : List ℕ) → next ≡ part_words part ++ w ∷ [] →

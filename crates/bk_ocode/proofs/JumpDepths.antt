@@ -36,11 +36,7 @@ all_changed-same (l ∷ ls) change uses m keeps = all_changed-same ls change (ch
 followed-same : (p : Position) (s : Stmt) (uses : ℕ → LabelUse) (m : ℕ) → (label_followed p s uses m).setting ≡ (uses m).setting
 followed-same (position.BehindLabel l) s uses m = changed-same l (followed (what_stands s)) uses m (λ known. refl)
 followed-same position.Outside s uses m = refl
-followed-same position.InData s uses m = refl
-followed-same position.Opened s uses m = refl
-followed-same position.BehindReturn s uses m = refl
-followed-same position.Inside s uses m = refl
-followed-same position.Ended s uses m = refl
+followed-same _ s uses m = refl
 
 other : (b : Bool) (x y : LabelUse) → b ≡ false → (if b then x else y).setting ≡ y.setting
 other true x y e = absurd (let h : true ≡ false = e in cc)

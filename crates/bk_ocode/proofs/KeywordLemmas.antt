@@ -15,7 +15,7 @@ use Rattle.bk_ocode.specs.declared.stmt.Stmt.{Stmt}
 use Rattle.bk_ocode.specs.declared.stmt.Stmt.TheVariants as stmt
 use Rattle.bk_ocode.specs.declared.keyword.VariableKind.TheVariants as kinds
 use Rattle.bk_ocode.specs.declared.keyword.Keyword.{Keyword}
-use Rattle.bk_ocode.specs.declared.keyword.Keyword.TheVariants.{Number, True, False, Query, Text, LoadByte, AssignAt, AssignByte, Jump, Label, GiveResult, TakeResult, Stack, Store, Entry, Save, CallFunction, CallRoutine, ReturnItem, Return, EndProcedure, Switch, Finish, DataLabel, DataNumber, DataAddress, Globals, Load, Address, Assign, Monadic, Dyadic, JumpIf}
+use Rattle.bk_ocode.specs.declared.keyword.Keyword.TheVariants.{Number, Load, Address, Assign, Monadic, Dyadic, JumpIf}
 
 abbrev find : List ℕ → Option Keyword
 find word = find_keyword (keywords_of_length (length word)) word
@@ -23,32 +23,6 @@ find word = find_keyword (keywords_of_length (length word)) word
 -- each is found
 pub all_found : (k : Keyword) → find (keyword_text k) ≡ Some k
 all_found Number = refl
-all_found True = refl
-all_found False = refl
-all_found Query = refl
-all_found Text = refl
-all_found LoadByte = refl
-all_found AssignAt = refl
-all_found AssignByte = refl
-all_found Jump = refl
-all_found Label = refl
-all_found GiveResult = refl
-all_found TakeResult = refl
-all_found Stack = refl
-all_found Store = refl
-all_found Entry = refl
-all_found Save = refl
-all_found CallFunction = refl
-all_found CallRoutine = refl
-all_found ReturnItem = refl
-all_found Return = refl
-all_found EndProcedure = refl
-all_found Switch = refl
-all_found Finish = refl
-all_found DataLabel = refl
-all_found DataNumber = refl
-all_found DataAddress = refl
-all_found Globals = refl
 all_found (Load kinds.Local) = refl
 all_found (Load kinds.Global) = refl
 all_found (Load kinds.Static) = refl
@@ -80,6 +54,7 @@ all_found (Dyadic dyadic.Eqv) = refl
 all_found (Dyadic dyadic.Neqv) = refl
 all_found (JumpIf true) = refl
 all_found (JumpIf false) = refl
+all_found _ = refl
 
 pub none_found : (word : List ℕ) → find word ≡ None → (k : Keyword) → keyword_text k ≢ word
 none_found word none k is = let h : None ≡ Some k = sym none ∙ ap find (sym is) ∙ all_found k in cc
@@ -91,79 +66,20 @@ same_keyword j k is = let h : Some j ≡ Some k = sym (all_found j) ∙ ap find 
 -- a statement begins with the word of its keyword, and stands where it says
 pub begins_so : (s : Stmt) → keyword s ≡ keyword_text (keyword_of_stmt s)
 begins_so (stmt.Number value) = refl
-begins_so stmt.True = refl
-begins_so stmt.False = refl
-begins_so stmt.Query = refl
 begins_so (stmt.Load (variable.Local n)) = refl
 begins_so (stmt.Load (variable.Global n)) = refl
 begins_so (stmt.Load (variable.Static l)) = refl
 begins_so (stmt.Address (variable.Local n)) = refl
 begins_so (stmt.Address (variable.Global n)) = refl
 begins_so (stmt.Address (variable.Static l)) = refl
-begins_so (stmt.Text bytes) = refl
-begins_so (stmt.Monadic operator) = refl
-begins_so (stmt.Dyadic operator) = refl
-begins_so stmt.LoadByte = refl
 begins_so (stmt.Assign (variable.Local n)) = refl
 begins_so (stmt.Assign (variable.Global n)) = refl
 begins_so (stmt.Assign (variable.Static l)) = refl
-begins_so stmt.AssignAt = refl
-begins_so stmt.AssignByte = refl
-begins_so (stmt.Jump label) = refl
-begins_so (stmt.JumpIf truth label) = refl
-begins_so (stmt.Label label) = refl
-begins_so (stmt.GiveResult label) = refl
-begins_so (stmt.TakeResult depth) = refl
-begins_so (stmt.Stack depth) = refl
-begins_so stmt.Store = refl
-begins_so (stmt.Entry label name) = refl
-begins_so (stmt.Save depth) = refl
-begins_so (stmt.CallFunction frame) = refl
-begins_so (stmt.CallRoutine frame) = refl
-begins_so stmt.ReturnItem = refl
-begins_so stmt.Return = refl
-begins_so stmt.EndProcedure = refl
-begins_so (stmt.Switch default cases) = refl
-begins_so stmt.Finish = refl
-begins_so (stmt.DataLabel label) = refl
-begins_so (stmt.DataNumber value) = refl
-begins_so (stmt.DataAddress label) = refl
-begins_so (stmt.Globals entries) = refl
+begins_so _ = refl
 
 pub stands_so : (s : Stmt) → role s ≡ keyword_role (keyword_of_stmt s)
 stands_so (stmt.Number value) = refl
-stands_so stmt.True = refl
-stands_so stmt.False = refl
-stands_so stmt.Query = refl
-stands_so (stmt.Load from) = refl
-stands_so (stmt.Address of) = refl
-stands_so (stmt.Text bytes) = refl
-stands_so (stmt.Monadic operator) = refl
-stands_so (stmt.Dyadic operator) = refl
-stands_so stmt.LoadByte = refl
-stands_so (stmt.Assign to) = refl
-stands_so stmt.AssignAt = refl
-stands_so stmt.AssignByte = refl
-stands_so (stmt.Jump label) = refl
-stands_so (stmt.JumpIf truth label) = refl
-stands_so (stmt.Label label) = refl
-stands_so (stmt.GiveResult label) = refl
-stands_so (stmt.TakeResult depth) = refl
-stands_so (stmt.Stack depth) = refl
-stands_so stmt.Store = refl
-stands_so (stmt.Entry label name) = refl
-stands_so (stmt.Save depth) = refl
-stands_so (stmt.CallFunction frame) = refl
-stands_so (stmt.CallRoutine frame) = refl
-stands_so stmt.ReturnItem = refl
-stands_so stmt.Return = refl
-stands_so stmt.EndProcedure = refl
-stands_so (stmt.Switch default cases) = refl
-stands_so stmt.Finish = refl
-stands_so (stmt.DataLabel label) = refl
-stands_so (stmt.DataNumber value) = refl
-stands_so (stmt.DataAddress label) = refl
-stands_so (stmt.Globals entries) = refl
+stands_so _ = refl
 
 pub and_both : (a b : Bool) → (a && b) ≡ true → (a ≡ true) × (b ≡ true)
 and_both true b is = (refl, is)

@@ -13,7 +13,7 @@ use Rattle.bk_ocode.specs.SectionData.{text_size}
 use Rattle.bk_ocode.specs.SectionLaws.{IsAmong, DataFindsItsLabel, ItemFindsItsLabel, GlobalFindsItsEntry, GlobalStandsLast, TextIsShort}
 use Rattle.bk_ocode.specs.declared.standing.Position.TheVariants as position
 use Rattle.bk_ocode.specs.declared.standing.StmtPlace.{StmtPlace}
-use Rattle.bk_ocode.specs.declared.standing.StmtPlace.TheVariants.{Outer, First, Body, Taker, Last, Datum}
+use Rattle.bk_ocode.specs.declared.standing.StmtPlace.TheVariants.{Outer}
 use Rattle.bk_ocode.specs.declared.standing.Setting.{Setting}
 use Rattle.bk_ocode.specs.declared.standing.Setting.TheVariants as setting
 use Rattle.bk_ocode.specs.declared.stmt.GlobalEntry.{GlobalEntry}
@@ -174,11 +174,7 @@ item_finds_its_label stmts i l are at =
 -- nothing may stand behind GLOBAL
 no_role : (r : StmtPlace) → may_stand position.Ended r ≡ false
 no_role Outer = refl
-no_role First = refl
-no_role Body = refl
-no_role Taker = refl
-no_role Last = refl
-no_role Datum = refl
+no_role _ = refl
 
 position_at : (c : Context) (stmts : List Stmt) (j : ℕ) (s : Stmt) → slice_get stmts j ≡ Some s → (after_all c (take (suc j) stmts)).position ≡ position_behind s
 position_at c [] j s at = absurd (let h : None ≡ Some s = at in cc)

@@ -9,7 +9,7 @@ use Rattle.bk_ocode.specs.OcodeRun.{IsAtRest}
 use Rattle.bk_ocode.specs.SoundRuns.{statements_left, steps_left, StepsComeNearer}
 use Rattle.bk_ocode.specs.declared.stmt.Monadic.TheVariants.{Contents, Negate, Not}
 use Rattle.bk_ocode.specs.declared.stmt.Stmt.{Stmt}
-use Rattle.bk_ocode.specs.declared.stmt.Stmt.TheVariants.{Number, True, False, Query, Load, Address, Text, Monadic, Dyadic, LoadByte, Assign, AssignAt, AssignByte, Jump, JumpIf, Label, GiveResult, TakeResult, Stack, Store, Entry, Save, CallFunction, CallRoutine, ReturnItem, Return, EndProcedure, Switch, Finish, DataLabel, DataNumber, DataAddress, Globals}
+use Rattle.bk_ocode.specs.declared.stmt.Stmt.TheVariants.{Number, True, False, Query, Load, Address, Text, Monadic, Dyadic, LoadByte, Assign, AssignAt, AssignByte, Jump, JumpIf, Label, GiveResult, TakeResult, Stack, Store, Entry, Save, CallFunction, CallRoutine, ReturnItem, Return, Switch, Finish}
 use Rattle.bk_ocode.proofs.Chosen.{on_number-holds, on_some-holds, if-holds}
 use Rattle.bk_ocode.proofs.SoundRests.{steps_are_sound}
 
@@ -96,11 +96,7 @@ module _ (callables : Callables) (s : State) (own : Placed) (rest : List Stmt) w
   step-near k Return = return-near None
   step-near k (Switch default cases) = on_number-holds Near tt (slot s (k - 1)) _ (λ w ew. jump-near (k - 1) (case_label cases default w))
   step-near k Finish = tt
-  step-near k EndProcedure = tt
-  step-near k (DataLabel l) = tt
-  step-near k (DataNumber value) = tt
-  step-near k (DataAddress l) = tt
-  step-near k (Globals entries) = tt
+  step-near k _ = tt
 
 step_in-near : (callables : Callables) (s : State) (own : Placed) (k : ℕ) (rest : List Stmt) → Nearer (statements_left rest) (step_in callables s own k rest)
 step_in-near callables s own k [] = tt

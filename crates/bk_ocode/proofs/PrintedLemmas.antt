@@ -108,18 +108,7 @@ argument-words (stmt.Globals entries) fits = (
   row-words GlobalEntry global_row IsEntry (λ e own. (natural-word e.number (omega (arith, own.0)), (label-word e.label own.1, tt))) entries fits.0.in_range,
 )
 argument-words stmt.True fits = tt
-argument-words stmt.False fits = tt
-argument-words stmt.Query fits = tt
-argument-words (stmt.Monadic operator) fits = tt
-argument-words (stmt.Dyadic operator) fits = tt
-argument-words stmt.LoadByte fits = tt
-argument-words stmt.AssignAt fits = tt
-argument-words stmt.AssignByte fits = tt
-argument-words stmt.Store fits = tt
-argument-words stmt.ReturnItem fits = tt
-argument-words stmt.Return fits = tt
-argument-words stmt.EndProcedure fits = tt
-argument-words stmt.Finish fits = tt
+argument-words _ fits = tt
 
 -- words parted by blanks, in front of a line feed
 words_of-line : (word : List ℕ) (words : List (List ℕ)) (more : List ℕ) → IsWord word → AreWords words → words_of (word ++ (spaced words ++ 10 ∷ more)) ≡ word ∷ (words ++ words_of more)

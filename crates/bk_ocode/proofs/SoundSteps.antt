@@ -20,7 +20,7 @@ use Rattle.bk_ocode.specs.declared.stmt.Variable.{Variable as Named}
 use Rattle.bk_ocode.specs.declared.stmt.Variable.TheVariants.{Local, Global, Static}
 use Rattle.bk_ocode.specs.declared.stmt.Monadic.TheVariants.{Contents, Negate, Not}
 use Rattle.bk_ocode.specs.declared.stmt.Stmt.{Stmt}
-use Rattle.bk_ocode.specs.declared.stmt.Stmt.TheVariants.{Number, True, False, Query, Load, Address, Text, Monadic, Dyadic, LoadByte, Assign, AssignAt, AssignByte, Jump, JumpIf, Label, GiveResult, TakeResult, Stack, Store, Entry, Save, CallFunction, CallRoutine, ReturnItem, Return, EndProcedure, Switch, Finish, DataLabel, DataNumber, DataAddress, Globals}
+use Rattle.bk_ocode.specs.declared.stmt.Stmt.TheVariants.{Number, True, False, Query, Load, Address, Text, Monadic, Dyadic, LoadByte, Assign, AssignAt, AssignByte, Jump, JumpIf, Label, GiveResult, TakeResult, Stack, Store, Entry, Save, CallFunction, CallRoutine, ReturnItem, Return, Switch, Finish}
 use Rattle.bk_ocode.proofs.Chosen.{below-kept, write-kept, write-there, settle-kept, on_number-holds, on_some-holds, if-holds}
 use Rattle.bk_ocode.proofs.Depths.{depth_behind-append, depths_suffice}
 
@@ -578,8 +578,4 @@ module _ (program : Program) (first F : ℕ) where
           let h = hereof k (Switch default cases) rest stands (λ o. o) in
           on_number-holds (StaysNext s.frame) tt (slot s (k - 1)) _ (λ w ew. jump-stays own is_own (k - 1) (case_label cases default w) (omega (arith, h.least)))
       step-stays k Finish rest deep stands = tt
-      step-stays k EndProcedure rest deep stands = tt
-      step-stays k (DataLabel l) rest deep stands = tt
-      step-stays k (DataNumber value) rest deep stands = tt
-      step-stays k (DataAddress l) rest deep stands = tt
-      step-stays k (Globals entries) rest deep stands = tt
+      step-stays k _ rest deep stands = tt

@@ -9,7 +9,7 @@ use Rattle.bk_ocode.specs.StepLaws.{IsNotAmong, KeepsNext, StepKeepsBelow}
 use Rattle.bk_ocode.proofs.Chosen.{below-kept, write-kept, settle-kept}
 use Rattle.bk_ocode.specs.declared.stmt.Monadic.TheVariants.{Contents, Negate, Not}
 use Rattle.bk_ocode.specs.declared.stmt.Stmt.{Stmt}
-use Rattle.bk_ocode.specs.declared.stmt.Stmt.TheVariants.{Number, True, False, Query, Load, Address, Text, Monadic, Dyadic, LoadByte, Assign, AssignAt, AssignByte, Jump, JumpIf, Label, GiveResult, TakeResult, Stack, Store, Entry, Save, CallFunction, CallRoutine, ReturnItem, Return, EndProcedure, Switch, Finish, DataLabel, DataNumber, DataAddress, Globals}
+use Rattle.bk_ocode.specs.declared.stmt.Stmt.TheVariants.{Number, True, False, Query, Load, Address, Text, Monadic, Dyadic, LoadByte, Assign, AssignAt, AssignByte, Jump, JumpIf, Label, GiveResult, TakeResult, Stack, Store, Entry, Save, CallFunction, CallRoutine, ReturnItem, Return, EndProcedure, Switch, Finish}
 
 on_number-keeps : (s : State) (content : Content) (go : ℕ → Next) → ((w : ℕ) → KeepsNext s (go w)) → KeepsNext s (on_number content go)
 on_number-keeps s Unset go f = tt
@@ -139,10 +139,7 @@ step_by-keeps callables s own k (Switch default cases) rest =
     on_number-keeps s (slot s (k - 1)) _ (λ w. jump-keeps s own (k - 1) (case_label cases default w))
 step_by-keeps callables s own k Finish rest = refl
 step_by-keeps callables s own k EndProcedure rest = tt
-step_by-keeps callables s own k (DataLabel l) rest = tt
-step_by-keeps callables s own k (DataNumber value) rest = tt
-step_by-keeps callables s own k (DataAddress l) rest = tt
-step_by-keeps callables s own k (Globals entries) rest = tt
+step_by-keeps callables s own k _ rest = tt
 
 pub step_keeps_below : StepKeepsBelow
 step_keeps_below callables s own depth [] = tt

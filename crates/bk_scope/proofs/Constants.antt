@@ -108,9 +108,7 @@ mutual
       only_append (constant_wrongs bs k s f ++ at (behind_constant f s).place m not_constant) (constant_wrongs_each bs k (past 1 (behind_constant f s)) es)
       (only_append (constant_wrongs bs k s f) (at (behind_constant f s).place m not_constant) (constant_only f bs k s) tt) (constants_only es bs k (past 1 (behind_constant f s)))
   constant_only (text l x) bs k s = tt
-  constant_only (query l) bs k s = tt
-  constant_only (valof l c) bs k s = tt
-  constant_only (table l es) bs k s = tt
+  constant_only _ bs k s = tt
 
   pub constants_only : (es : Expressions) (bs : List Binding) (k : ℕ) (s : Spot) → OnlyWrong (constant_wrongs_each bs k s es)
   constants_only none bs k s = tt
@@ -301,9 +299,7 @@ mutual
       operator_first s.place t.place m (t.place + 1 + symbols_each es) (constant_wrongs bs k s f) (constant_wrongs_each bs k (past 1 t) es) (wrongs bs k f) r.0 (omega arith)
       (constant_spans f bs k s) (constants_spans es bs k (past 1 t)) (constant_first f bs k s) r.1 cs
   constant_first (text l x) bs k s cs = refl
-  constant_first (query l) bs k s cs = refl
-  constant_first (valof l c) bs k s cs = refl
-  constant_first (table l es) bs k s cs = refl
+  constant_first _ bs k s cs = refl
 
   constants_first : (es : Expressions) (bs : List Binding) (k : ℕ) (s : Spot) → (c : Option Breach) × FirstIs (constant_wrongs_each bs k s es) c
   constants_first none bs k s = (None, λ cs. refl)

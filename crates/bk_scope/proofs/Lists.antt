@@ -54,22 +54,7 @@ key f = 32 * f.place + number_of f.wrong
 
 pub below_32 : (w : Wrong) → number_of w < 32
 below_32 (not_declared x) = omega arith
-below_32 (declared_twice x) = omega arith
-below_32 (dynamic_name x) = omega arith
-below_32 not_constant = omega arith
-below_32 divided_by_zero = omega arith
-below_32 case_repeated = omega arith
-below_32 default_repeated = omega arith
-below_32 no_loop = omega arith
-below_32 no_switchon = omega arith
-below_32 no_result_or_return = omega arith
-below_32 (label_not_here x) = omega arith
-below_32 global_out_of_range = omega arith
-below_32 vec_out_of_range = omega arith
-below_32 frame_too_large = omega arith
-below_32 not_assignable = omega arith
-below_32 (two_procedures x) = omega arith
-below_32 elsewhere = omega arith
+below_32 _ = omega arith
 
 -- where the points stand that may be faults: from n on, below m
 abbrev pub Inside : ℕ → ℕ → List Point → Type 0

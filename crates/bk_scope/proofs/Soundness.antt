@@ -422,9 +422,7 @@ same_safe {xs = xs} z p e a = subst (λ k. Safe k xs) (sym e) a
 prefix_sound : (f : Prefix) (bs : List Binding) (s : Spot) (e : Expression) (k : ℕ) → Safe k (prefixed f bs s e) → PrefixSound f bs e
 prefix_sound q.Address bs s e k h = unless_true (addressed bs e) s.place (line_of e) not_assignable h
 prefix_sound q.Contents bs s e k h = tt
-prefix_sound q.Plus bs s e k h = tt
-prefix_sound q.Minus bs s e k h = tt
-prefix_sound q.Not bs s e k h = tt
+prefix_sound _ bs s e k h = tt
 
 stands : (p : Enclosing) (n l : ℕ) (f : Simple) (k : ℕ) → Safe k (single_at p n l f) → Stands p f
 stands p n l w.Break k h = unless_true p.in_loop n l no_loop h

@@ -32,17 +32,7 @@ use Rattle.bk_scope.proofs.Constants.{at_spans, unless_spans, when_spans, whole_
 -- an expression has a symbol
 pub has_symbol : (e : Expression) → 1 ≤ symbols e
 has_symbol (name l x) = omega arith
-has_symbol (number l n) = omega arith
-has_symbol (text l x) = omega arith
-has_symbol (truth l b) = omega arith
-has_symbol (query l) = omega arith
-has_symbol (parens l e) = omega arith
-has_symbol (unary l o e) = omega arith
-has_symbol (binary l o m a b) = omega arith
-has_symbol (choice l m c a b) = omega arith
-has_symbol (apply l m e es) = omega arith
-has_symbol (valof l c) = omega arith
-has_symbol (table l es) = omega arith
+has_symbol _ = omega arith
 
 -- nothing stands anywhere
 pub nothing_spans : (n m : ℕ) → n ≤ m → Spans n m []
