@@ -5,11 +5,13 @@ use Rattle.std.proofs.Math.Seq.{drop-append_seam}
 use Rattle.std.specs.Prelude.{slice_range}
 use Rattle.bk_lex.specs.Symbol.{Symbol, symbol}
 use Rattle.bk_lex.specs.Header.{header_symbols}
-use Rattle.bk_lex.specs.Counting.{start, step_of, finished}
+use Rattle.bk_lex.specs.Counting.{start, state, step_of, finished}
 use Rattle.bk_lex.specs.Lexing.{section, at, Reading, reading, run, end_as, lexed, placed_fault, put_on, place_after, inserted_symbols, is_dot}
 use Rattle.bk_lex.specs.Cutting.{goes_on_from, then_on, state_behind}
 use Rattle.bk_lex.specs.Found.{symbols_found, all_found, inserted_found, found_in, IsWithin, AreWithin}
-use Rattle.bk_lex.specs.Lexers.{marks, marked, Parts, parts, Goes, HasEnded, IsRefused}
+use Rattle.bk_lex.specs.Lexers.{marks, marked, Parts, parts, Goes, HasEnded, IsRefused, Progresses}
+use Rattle.bk_lex.specs.declared.lexer.Progress.{Progress}
+use Rattle.bk_lex.specs.declared.lexer.Progress.TheVariants.{Going, Ended, Refused, Stuck}
 use Rattle.bk_lex.specs.declared.token.Kind.{Kind}
 use Rattle.bk_lex.specs.declared.machine.Fault.{Fault}
 use Rattle.bk_lex.specs.declared.counting.State.{State}
@@ -24,6 +26,17 @@ use Rattle.bk_lex.specs.declared.lexer.Found.TheVariants as founds
 use Rattle.bk_lex.proofs.Sound.{within_bytes}
 use Rattle.bk_lex.proofs.Cuts.{behind_more}
 use Rattle.bk_lex.proofs.Steps.{behind, bad, stops, goes_on, joined_goes, joined_begins, joined_names, Before}
+
+-- a state with room for no byte
+abbrev pub with_no_room : State → State
+with_no_room s = state s.mode 0 s.symbols s.last s.fed s.get
+
+-- where it has room, the section may go on
+pub may_go_on : (p : Progress) (s : State) (l : Parts) → 0 < s.bytes → Progresses p s l → p ≡ Going
+may_go_on Going s l room h = refl
+may_go_on Ended s l room h = absurd (omega (arith, room, h.full))
+may_go_on (Refused f) s l room h = absurd (omega (arith, room, h.full))
+may_go_on Stuck s l room h = absurd (omega (arith, room, h))
 
 -- before the first byte
 pub goes_first : (from : ℕ) → Goes (parts [] from (marks [] 0 (at from from))) start
@@ -166,8 +179,9 @@ module _ (l : Parts) (s : State) (b : ℕ) (t : Step) (goes : Goes l s) (is : Ok
     same = λ rest. goes_on (reading (all_found (q.bytes ++ rest) q.marks.found) t.state (slice_range (q.bytes ++ rest) q.marks.piece (length q.bytes)) q.marks.place (length q.bytes)) rest _ e (h.same rest);
   }
 
-  pub has_ended : (q : Parts) → q.bytes ≡ l.bytes ++ b ∷ [] → Held l q t → true ≡ is_dot t.state.mode → HasEnded q
+  pub has_ended : (q : Parts) → q.bytes ≡ l.bytes ++ b ∷ [] → Held l q t → true ≡ is_dot t.state.mode → HasEnded q (with_no_room t.state)
   has_ended q same h e = record {
+    full = refl;
     state = ap (λ (xs : List ℕ). state_behind (Some start) xs) same ∙ at_byte None (ap (λ (x : Bool). if x then None else Some t.state) (sym e));
     within = h.within;
     same =
@@ -176,8 +190,9 @@ module _ (l : Parts) (s : State) (b : ℕ) (t : Step) (goes : Goes l s) (is : Ok
   }
 
 -- a byte that is a fault
-pub is_refused : (l : Parts) (s : State) (b : ℕ) (f : Fault) → Goes l s → Err f ≡ step_of s b → IsRefused (parts (l.bytes ++ b ∷ []) l.from l.marks) s f
+pub is_refused : (l : Parts) (s : State) (b : ℕ) (f : Fault) → Goes l s → Err f ≡ step_of s b → IsRefused (parts (l.bytes ++ b ∷ []) l.from l.marks) (with_no_room s) f
 is_refused l s b f goes is = record {
+  full = refl;
   state = behind_more (Some start) l.bytes b ∙ ap (λ (x : Option State). then_on x b) goes.state ∙ ap goes_on_from (sym is);
   same =
       bad (reading (all_found (l.bytes ++ b ∷ []) l.marks.found) s (slice_range (l.bytes ++ b ∷ []) l.marks.piece (length l.bytes)) l.marks.place (length l.bytes)) (l.bytes ++ b ∷ []) (length l.bytes) f _

@@ -1,5 +1,5 @@
 -- A lexer over bytes that come one after another: the invariant of its progress.
-use Rattle.std.specs.Prelude.{ℕ, ◌+◌, ◌≤◌, ◌≡◌, ⊤, true, List, [], ◌∷◌, ◌++◌, length, slice_range, Some, None, Ok, Err}
+use Rattle.std.specs.Prelude.{ℕ, ◌+◌, ◌≤◌, ◌≡◌, true, List, [], ◌∷◌, ◌++◌, length, slice_range, Some, None, Ok, Err}
 use Rattle.bk_lex.specs.Counting.{start}
 use Rattle.bk_lex.specs.Lexing.{section, reading, run, lexed, placed_fault, place_after}
 use Rattle.bk_lex.specs.Cutting.{state_behind}
@@ -51,18 +51,20 @@ pub record Goes (l : Parts) (s : State) : Type 0 where
   pub same : (rest : List ℕ) → run (reading (all_found (l.bytes ++ rest) l.marks.found) s (slice_range (l.bytes ++ rest) l.marks.piece (length l.bytes)) l.marks.place (length l.bytes)) rest
       ≡ lexed (l.bytes ++ rest) l.from
 
--- A `.` ended the section, or a fault.
-pub record HasEnded (l : Parts) : Type 0 where
+-- A `.` ended the section, or a fault. The state has room for no byte.
+pub record HasEnded (l : Parts) (s : State) : Type 0 where
   pub state : state_behind (Some start) l.bytes ≡ None
+  pub full : s.bytes ≡ 0
   pub within : AreWithin (length l.bytes) l.marks.found
   pub same : lexed l.bytes l.from ≡ Ok (section (all_found l.bytes l.marks.found) (length l.bytes) true l.marks.place.line)
 
 pub record IsRefused (l : Parts) (s : State) (f : Fault) : Type 0 where
   pub state : state_behind (Some start) l.bytes ≡ None
+  pub full : s.bytes ≡ 0
   pub same : lexed l.bytes l.from ≡ Err (placed_fault s l.marks.place f)
 
 abbrev pub Progresses : Progress → State → Parts → Type 0
 Progresses Going s l = Goes l s
-Progresses Ended s l = HasEnded l
+Progresses Ended s l = HasEnded l s
 Progresses (Refused f) s l = IsRefused l s f
-Progresses Stuck s l = ⊤
+Progresses Stuck s l = s.bytes ≡ 0

@@ -1,5 +1,5 @@
 //! The machine with its counts: bytes and symbols, what is inserted between neighbours, and GET.
-ghost use Rattle.std.specs.Prelude.{◌≡◌, nat_lt, true, false, Ok, Err, OnErr};
+ghost use Rattle.std.specs.Prelude.{◌≡◌, ◌<◌, nat_lt, true, false, Ok, Err, OnErr};
 ghost use Rattle.bk_lex.specs.Bytes.{is_blank};
 ghost use Rattle.bk_lex.specs.Insertion.{ends_operand, ends_command, begins_command, begins_statement, inserted};
 ghost use Rattle.bk_lex.specs.Machine.{next};
@@ -279,6 +279,7 @@ fn begin_piece(state: &mut State, mode: Mode, byte: u8) -> Result<(), Fault>
 }
 
 /// The piece that begins where the string of a GET is due.
+#[inline(always)]
 fn in_get(mode: Mode) -> Result<Mode, Fault>
     ensures { result ≡ in_get mode }
 {
@@ -426,6 +427,9 @@ fn moved(state: &mut State, byte: u8) -> Result<Act, Fault>
     if matches!(state.mode, Mode::Blank) && is_blank(byte) {
         return Ok(blank_again(state, byte));
     }
+    if matches!(state.mode, Mode::Comment) && byte != b'\n' {
+        return Ok(Act::Goes);
+    }
     match follow(state.mode, byte) {
         Next::Goes(mode) => {
             state.mode = mode;
@@ -440,7 +444,7 @@ fn moved(state: &mut State, byte: u8) -> Result<Act, Fault>
 /// The fault of a byte that exceeds the section's bytes.
 #[cold]
 #[inline(never)]
-fn past(state: State, byte: u8) -> Fault
+pub fn past(state: State, byte: u8) -> Fault
     ensures { Err result ≡ within 0 (moved state byte (next state.mode byte)) }
 {
     let mut after = state;
@@ -450,8 +454,21 @@ fn past(state: State, byte: u8) -> Fault
     }
 }
 
-/// The effect of a byte. The state is changed in place, so that only the fields that the byte changes are written. A fault leaves
-/// it as it was.
+/// The effect of a byte where the section may have one more. The state is changed in place, so that only the fields that the byte
+/// changes are written. A fault leaves it as it was.
+#[inline(always)]
+pub fn take_next(state: &mut State, byte: u8) -> Result<Act, Fault>
+    requires { 0 < state.old.bytes }
+    ensures answers { step_as result state.new ≡ step_of state.old byte }
+    ensures keeps { OnErr result (state.new ≡ state.old) }
+{
+    let bytes = state.bytes - 1;
+    let act = moved(state, byte)?;
+    state.bytes = bytes;
+    Ok(act)
+}
+
+/// The effect of a byte. A fault leaves the state as it was.
 #[inline(always)]
 pub fn take_byte(state: &mut State, byte: u8) -> Result<Act, Fault>
     ensures answers { step_as result state.new ≡ step_of state.old byte }
@@ -460,10 +477,7 @@ pub fn take_byte(state: &mut State, byte: u8) -> Result<Act, Fault>
     if state.bytes == 0 {
         return Err(past(*state, byte));
     }
-    let bytes = state.bytes - 1;
-    let act = moved(state, byte)?;
-    state.bytes = bytes;
-    Ok(act)
+    take_next(state, byte)
 }
 
 /// The result of the last piece of a text, or the fault that the text's end makes certain.

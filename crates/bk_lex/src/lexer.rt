@@ -10,7 +10,7 @@ ghost use Rattle.bk_lex.specs.Found.{symbols_found, all_found, found_in, AreWith
 ghost use Rattle.bk_lex.specs.Lexers.{marks_of, marked};
 
 use crate::adding::add;
-use crate::counting::{Act, Given, SECTION_SYMBOLS, State, finished, start, take_byte};
+use crate::counting::{Act, Given, SECTION_SYMBOLS, State, finished, past, start, take_next};
 use crate::cutter::Cut;
 use crate::header::put_header;
 use crate::machine::{Fault, Header};
@@ -76,7 +76,8 @@ pub struct Lexer {
     bytes: Vec<u8>,
     from: Line,
     pieces: Pieces,
-    /// The state of the machine after the bytes that it took. A byte that is a fault is not taken.
+    /// The state of the machine after the bytes that it took. A byte that is a fault is not taken. Once the section may not go on,
+    /// the state has room for no byte, so that a step looks at `progress` there alone.
     state: State,
     progress: Progress,
 }
@@ -170,6 +171,16 @@ fn tokens_of<'a>(
     Ok(tokens)
 }
 
+/// Adds a byte past the section's bytes.
+#[cold]
+#[inline(never)]
+fn push_last(bytes: &mut Vec<u8>, byte: u8) -> Result<(), AllocError>
+    ensures { OnOk result (bytes.new.items ≡ bytes.old.items ++ byte ∷ []) }
+{
+    bytes.push(byte)?;
+    Ok(())
+}
+
 impl Pieces {
     /// Records the result of the piece before a byte that begins one. The byte has this number of bytes before it.
     #[inline(always)]
@@ -258,20 +269,30 @@ impl Lexer {
         // After `End` it takes no byte.
         ensures stays { cut_behind self.old.bytes ≡ End → IfOk result (λ _. self.new ≡ self.old) }
     {
-        match self.progress {
-            Progress::Going => {}
-            Progress::Stuck => return Err(AllocError),
-            Progress::Ended | Progress::Refused(_) => return Ok(Cut::End),
+        if self.state.bytes == 0 {
+            match self.progress {
+                Progress::Going => {}
+                Progress::Stuck => return Err(AllocError),
+                Progress::Ended | Progress::Refused(_) => return Ok(Cut::End),
+            }
+            let Ok(()) = push_last(&mut self.bytes, byte) else {
+                self.progress = Progress::Stuck;
+                return Err(AllocError);
+            };
+            self.progress = Progress::Refused(past(self.state, byte));
+            return Ok(Cut::End);
         }
         let before = self.bytes.len();
         let Ok(()) = self.bytes.push(byte) else {
             self.progress = Progress::Stuck;
+            self.state.bytes = 0;
             return Err(AllocError);
         };
-        let act = match take_byte(&mut self.state, byte) {
+        let act = match take_next(&mut self.state, byte) {
             Ok(act) => act,
             Err(fault) => {
                 self.progress = Progress::Refused(fault);
+                self.state.bytes = 0;
                 return Ok(Cut::End);
             }
         };
@@ -281,10 +302,12 @@ impl Lexer {
         }
         let Ok(()) = self.pieces.take(act, byte, before) else {
             self.progress = Progress::Stuck;
+            self.state.bytes = 0;
             return Err(AllocError);
         };
         if is_dot(self.state.mode) {
             self.progress = Progress::Ended;
+            self.state.bytes = 0;
             return Ok(Cut::End);
         }
         Ok(Cut::More)
