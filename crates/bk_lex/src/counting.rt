@@ -1,5 +1,5 @@
 //! The machine with its counts: bytes and symbols, what is inserted between neighbours, and GET.
-ghost use Rattle.std.specs.Prelude.{◌≡◌, ◌<◌, nat_lt, true, false, Ok, Err, OnErr};
+ghost use Rattle.std.specs.Prelude.{◌≡◌, ◌<◌, nat_lt, true, false, Ok, Err, OnErr, IfOk};
 ghost use Rattle.bk_lex.specs.Bytes.{is_blank};
 ghost use Rattle.bk_lex.specs.Insertion.{ends_operand, ends_command, begins_command, begins_statement, inserted};
 ghost use Rattle.bk_lex.specs.Machine.{next};
@@ -202,7 +202,8 @@ pub fn end_piece(state: State) -> Result<Ended, Fault>
 
 /// The state after the word GET. Where the string of another GET was due, the word is a fault.
 fn ended_get(state: State) -> Result<State, Fault>
-    ensures { ended_get_as result ≡ ended_what state Get }
+    ensures answers { ended_get_as result ≡ ended_what state Get }
+    ensures bytes { IfOk result (λ after. after.bytes ≡ state.bytes) }
 {
     match state.symbols.checked_sub(1) {
         None => Err(Fault::SectionTooLong),
@@ -269,6 +270,7 @@ fn has_no_room(state: State, mode: Mode) -> bool
 fn begin_piece(state: &mut State, mode: Mode, byte: u8) -> Result<(), Fault>
     ensures answers { begun_as result state.new ≡ begun state.old mode byte }
     ensures keeps { OnErr result (state.new ≡ state.old) }
+    ensures bytes { state.new.bytes ≡ state.old.bytes }
 {
     if has_no_room(*state, mode) {
         return Err(Fault::SectionTooLong);
@@ -304,6 +306,7 @@ fn header_rest(header: Header) -> u32
 fn named(state: &mut State, header: Header) -> Result<Act, Fault>
     ensures answers { step_as result state.new ≡ named state.old header }
     ensures keeps { OnErr result (state.new ≡ state.old) }
+    ensures bytes { state.new.bytes ≡ state.old.bytes }
 {
     let Some(symbols) = state.symbols.checked_sub(header_rest(header)) else {
         return Err(Fault::HeaderTooLong);
@@ -320,6 +323,7 @@ fn named(state: &mut State, header: Header) -> Result<Act, Fault>
 fn after_gap(state: &mut State, mode: Mode, byte: u8) -> Result<Act, Fault>
     ensures answers { step_as result state.new ≡ opened_by (ended_what state.old Gap) mode byte }
     ensures keeps { OnErr result (state.new ≡ state.old) }
+    ensures bytes { state.new.bytes ≡ state.old.bytes }
 {
     begin_piece(state, mode, byte)?;
     Ok(Act::Begins(Given::Nothing))
@@ -330,6 +334,7 @@ fn after_gap(state: &mut State, mode: Mode, byte: u8) -> Result<Act, Fault>
 fn after_symbol(state: &mut State, kind: Kind, mode: Mode, byte: u8) -> Result<Act, Fault>
     ensures answers { step_as result state.new ≡ opened_by (ended_symbol state.old kind) mode byte }
     ensures keeps { OnErr result (state.new ≡ state.old) }
+    ensures bytes { state.new.bytes ≡ state.old.bytes }
 {
     let insertion = inserted(state.last, kind, state.fed);
     let Some(symbols) = state.symbols.checked_sub(room_for(insertion)) else {
@@ -359,6 +364,7 @@ fn after_symbol(state: &mut State, kind: Kind, mode: Mode, byte: u8) -> Result<A
 fn after_get(state: &mut State, mode: Mode, byte: u8) -> Result<Act, Fault>
     ensures answers { step_as result state.new ≡ opened_by (ended_what state.old Get) mode byte }
     ensures keeps { OnErr result (state.new ≡ state.old) }
+    ensures bytes { state.new.bytes ≡ state.old.bytes }
 {
     let mut after = ended_get(*state)?;
     begin_piece(&mut after, mode, byte)?;
@@ -371,6 +377,7 @@ fn after_get(state: &mut State, mode: Mode, byte: u8) -> Result<Act, Fault>
 fn opened(state: &mut State, byte: u8) -> Result<Act, Fault>
     ensures answers { step_as result state.new ≡ opened state.old byte }
     ensures keeps { OnErr result (state.new ≡ state.old) }
+    ensures bytes { state.new.bytes ≡ state.old.bytes }
 {
     let what = what_of(state.mode);
     let mode = begin(byte).ok_or(Fault::BadByte)?;
@@ -394,7 +401,8 @@ fn is_blank(byte: u8) -> bool
 fn blank_again(state: &mut State, byte: u8) -> Act
     requires after { state.old.mode ≡ Blank }
     requires blank { is_blank byte ≡ true }
-    ensures { step_as (Ok result) state.new ≡ moved state.old byte (next state.old.mode byte) }
+    ensures answers { step_as (Ok result) state.new ≡ moved state.old byte (next state.old.mode byte) }
+    ensures bytes { state.new.bytes ≡ state.old.bytes }
 {
     state.fed = state.fed || byte == b'\n';
     Act::Begins(Given::Nothing)
@@ -405,6 +413,7 @@ fn blank_again(state: &mut State, byte: u8) -> Act
 fn goes_on_with_word(state: &mut State, byte: u8) -> bool
     ensures goes { result ≡ true → step_as (Ok Goes) state.new ≡ moved state.old byte (next state.old.mode byte) }
     ensures stays { result ≡ false → state.new ≡ state.old }
+    ensures bytes { state.new.bytes ≡ state.old.bytes }
 {
     if let Mode::Word(length, code) = state.mode {
         if byte.is_ascii_alphabetic() && length < LONGEST {
@@ -420,6 +429,7 @@ fn goes_on_with_word(state: &mut State, byte: u8) -> bool
 fn moved(state: &mut State, byte: u8) -> Result<Act, Fault>
     ensures answers { step_as result state.new ≡ moved state.old byte (next state.old.mode byte) }
     ensures keeps { OnErr result (state.new ≡ state.old) }
+    ensures bytes { state.new.bytes ≡ state.old.bytes }
 {
     if goes_on_with_word(state, byte) {
         return Ok(Act::Goes);
@@ -462,9 +472,8 @@ pub fn take_next(state: &mut State, byte: u8) -> Result<Act, Fault>
     ensures answers { step_as result state.new ≡ step_of state.old byte }
     ensures keeps { OnErr result (state.new ≡ state.old) }
 {
-    let bytes = state.bytes - 1;
     let act = moved(state, byte)?;
-    state.bytes = bytes;
+    state.bytes -= 1;
     Ok(act)
 }
 
