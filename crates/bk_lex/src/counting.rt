@@ -276,7 +276,9 @@ fn begin_piece(state: &mut State, mode: Mode, byte: u8) -> Result<(), Fault>
         return Err(Fault::SectionTooLong);
     }
     state.mode = if state.get { in_get(mode)? } else { mode };
-    state.fed = state.fed || byte == b'\n';
+    if byte == b'\n' {
+        state.fed = true;
+    }
     Ok(())
 }
 
@@ -404,7 +406,9 @@ fn blank_again(state: &mut State, byte: u8) -> Act
     ensures answers { step_as (Ok result) state.new ≡ moved state.old byte (next state.old.mode byte) }
     ensures bytes { state.new.bytes ≡ state.old.bytes }
 {
-    state.fed = state.fed || byte == b'\n';
+    if byte == b'\n' {
+        state.fed = true;
+    }
     Act::Begins(Given::Nothing)
 }
 
