@@ -7,11 +7,15 @@ ghost use Rattle.bk_grammar.specs.Brackets.{same_tag};
 
 use std::alloc::{AllocError, Global};
 
-/// A name in upper case.
+/// A name in upper case. Most names are short: their letters are put one by one, with no call that copies them first.
 pub fn name(alloc: Global, text: &[u8]) -> Result<Vec<u8>, AllocError>
     ensures { IfOk result (λ letters. letters.items ≡ upper_name text.now) }
 {
-    text.to_ascii_uppercase(alloc)
+    let mut letters = Vec::with_capacity(alloc, text.len())?;
+    for letter in text {
+        letters.push_reserved(letter.to_ascii_uppercase());
+    }
+    Ok(letters)
 }
 
 /// The tag of a section bracket as it is spelled, empty if it has none.

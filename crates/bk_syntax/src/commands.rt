@@ -1,5 +1,5 @@
 //! Reading commands.
-ghost use Rattle.std.specs.Prelude.{◌≡◌, ◌+◌, ◌==◌, IfOk, Some, None, Option, false, ℕ};
+ghost use Rattle.std.specs.Prelude.{◌≡◌, ◌+◌, ◌==◌, IfOk, Some, None, Option, false, true, ℕ};
 ghost use Rattle.bk_tree.specs.Tree.{expression, expressions_in, action, mention, more, none};
 ghost use Rattle.bk_grammar.specs.Rows.{goes, repeats};
 ghost use Rattle.bk_frames.specs.declared.frame.Unfinished.TheVariants as Unfinished;
@@ -165,18 +165,43 @@ fn further(
     Err(Stop::Unexpected)
 }
 
-/// The first expression of a command is complete.
-fn started(
+/// A destination is complete, of a command with several.
+#[inline(never)]
+fn complete_dest(
     alloc: Global,
     frames: &mut Frames,
     now: &mut ParserState,
-    sized: Sized,
+    before: Vec<Expr>,
+    held: Size,
     token: &Token,
 ) -> Result<Flow, Stop>
-    requires { goes 12 token.now.kind ≡ false }
-    ensures answers { Answers frames.new now.new result token.now (give (in_start (stack_of frames.old)) (expression sized.expr)) }
+    requires stops { goes 12 token.now.kind ≡ false }
+    requires held { held ≡ held_in (Unfinished.Phrase (p.Dests before)) }
+    ensures answers { Answers frames.new now.new result token.now (given (phrase_on (p.Dests before) (stack_of frames.old)) now.old) }
     ensures lowers { Lowers frames.old frames.new result }
 {
+    let ParserState::Have(sized) = mem::replace(now, ParserState::Due) else {
+        return Err(refuse(before));
+    };
+    let parts = both(held, sized.size);
+    further(alloc, frames, now, before, parts, sized.expr, token)
+}
+
+/// The first expression of a command is complete.
+#[inline(never)]
+fn complete_start(
+    alloc: Global,
+    frames: &mut Frames,
+    now: &mut ParserState,
+    token: &Token,
+) -> Result<Flow, Stop>
+    requires stops { goes 12 token.now.kind ≡ false }
+    ensures answers { Answers frames.new now.new result token.now (given (phrase_on p.Start (stack_of frames.old)) now.old) }
+    ensures lowers { Lowers frames.old frames.new result }
+{
+    let ParserState::Have(sized) = mem::replace(now, ParserState::Due) else {
+        return Err(Stop::Unexpected);
+    };
     let Sized {
         expr,
         size,
@@ -237,25 +262,28 @@ fn is_last(dests: &[Expr], values: &[Expr]) -> bool
 }
 
 /// A value is complete.
+#[inline(never)]
 #[tactic(auto, using(bk_tree::proofs::Lemmas::one_more, bk_tree::proofs::Lemmas::more_sizes))]
-fn valued(
+fn complete_value(
     frames: &mut Frames,
     now: &mut ParserState,
     dests: Vec<Expr>,
     values: Vec<Expr>,
-    parts: Size,
-    last: Expr,
+    held: Size,
     token: &Token,
 ) -> Result<Flow, Stop>
     requires stops { goes 12 token.now.kind ≡ false }
-    requires parts { parts ≡ both_of (held_in (Unfinished.Phrase (p.Values dests values))) (size_of (expression last)) }
-    ensures answers { Answers frames.new now.new result token.now (give (in_values (expressions_in dests.items) (expressions_in values.items)
-        (stack_of frames.old)) (expression last)) }
+    requires held { held ≡ held_in (Unfinished.Phrase (p.Values dests values)) }
+    ensures answers { Answers frames.new now.new result token.now (given (phrase_on (p.Values dests values) (stack_of frames.old)) now.old) }
     ensures lowers { Lowers frames.old frames.new result }
 {
+    let ParserState::Have(sized) = mem::replace(now, ParserState::Due) else {
+        return Err(refuse((dests, values)));
+    };
+    let parts = both(held, sized.size);
     let complete = is_last(&dests, &values);
     let mut values = values;
-    values.push(last)?;
+    values.push(sized.expr)?;
     if complete {
         let line = line_of_list(&dests);
         now.set(ParserState::Did(did(assign(line, dests, values), parts)));
@@ -280,25 +308,26 @@ fn behind_sign(guard: Guard) -> ParserState
 
 /// The expression after a guard is complete.
 #[inline(never)]
-fn guards(
+fn complete_guard(
     alloc: Global,
     frames: &mut Frames,
     now: &mut ParserState,
     guard: Guard,
     line: Line,
-    parts: Size,
-    condition: Expr,
     token: &Token,
 ) -> Result<Flow, Stop>
     requires stops { goes 12 token.now.kind ≡ false }
-    requires parts { parts ≡ size_of (expression condition) }
-    ensures answers { Answers frames.new now.new result token.now (give (in_guard guard line (stack_of frames.old)) (expression condition)) }
+    ensures answers { Answers frames.new now.new result token.now (given (phrase_on (p.Guard guard line) (stack_of frames.old)) now.old) }
     ensures lowers { Lowers frames.old frames.new result }
 {
-    if !is_sign(guard, token.kind) {
+    let ParserState::Have(sized) = mem::replace(now, ParserState::Due) else {
         return Err(Stop::Unexpected);
+    };
+    if !is_sign(guard, token.kind) {
+        return Err(refuse(sized));
     }
-    let condition = Box::new(alloc, condition)?;
+    let parts = sized.size;
+    let condition = Box::new(alloc, sized.expr)?;
     unfinished(
         frames,
         Unfinished::Clause(Clause::Guarded(guard, line, condition)),
@@ -308,27 +337,135 @@ fn guards(
     Ok(Flow::Taken)
 }
 
+/// The condition of a TEST is complete.
+#[inline(never)]
+fn complete_test(
+    alloc: Global,
+    frames: &mut Frames,
+    now: &mut ParserState,
+    line: Line,
+    held: Size,
+    token: &Token,
+) -> Result<Flow, Stop>
+    requires stops { goes 12 token.now.kind ≡ false }
+    requires held { held ≡ held_in (Unfinished.Phrase (p.Test line)) }
+    ensures answers { Answers frames.new now.new result token.now (given (phrase_on (p.Test line) (stack_of frames.old)) now.old) }
+    ensures lowers { Lowers frames.old frames.new result }
+{
+    let ParserState::Have(sized) = mem::replace(now, ParserState::Due) else {
+        return Err(Stop::Unexpected);
+    };
+    if !is_do(token.kind) {
+        return Err(refuse(sized));
+    }
+    let parts = both(held, sized.size);
+    let condition = Box::new(alloc, sized.expr)?;
+    now.set(wants_command(frames, Clause::Then(line, condition), parts)?);
+    Ok(Flow::Taken)
+}
+
+/// The expression of a RESULTIS is complete.
+#[inline(never)]
+fn complete_result(
+    alloc: Global,
+    frames: &mut Frames,
+    now: &mut ParserState,
+    line: Line,
+    held: Size,
+    token: &Token,
+) -> Result<Flow, Stop>
+    requires stops { goes 12 token.now.kind ≡ false }
+    requires held { held ≡ held_in (Unfinished.Phrase (p.ResultIs line)) }
+    ensures answers { Answers frames.new now.new result token.now (given (phrase_on (p.ResultIs line) (stack_of frames.old)) now.old) }
+    ensures lowers { Lowers frames.old frames.new result }
+{
+    let ParserState::Have(sized) = mem::replace(now, ParserState::Due) else {
+        return Err(Stop::Unexpected);
+    };
+    let parts = both(held, sized.size);
+    let result = Box::new(alloc, sized.expr)?;
+    now.set(ParserState::Did(did(Command::ResultIs(line, result), parts)));
+    Ok(Flow::Comes)
+}
+
+/// The condition of a REPEATWHILE or REPEATUNTIL is complete.
+#[inline(never)]
+fn complete_repeat(
+    alloc: Global,
+    frames: &mut Frames,
+    now: &mut ParserState,
+    truth: bool,
+    body: Box<Command>,
+    held: Size,
+    token: &Token,
+) -> Result<Flow, Stop>
+    requires stops { goes 12 token.now.kind ≡ false }
+    requires held { held ≡ held_in (Unfinished.Phrase (p.RepeatWhile truth body)) }
+    ensures answers { Answers frames.new now.new result token.now (given (phrase_on (p.RepeatWhile truth body) (stack_of frames.old)) now.old) }
+    ensures lowers { Lowers frames.old frames.new result }
+{
+    let ParserState::Have(sized) = mem::replace(now, ParserState::Due) else {
+        return Err(refuse(body));
+    };
+    let parts = both(held, sized.size);
+    let line = line_of_command(&body);
+    let condition = Box::new(alloc, sized.expr)?;
+    let repeat = Command::RepeatWhile(line, truth, body, condition);
+    now.set(ParserState::Did(did(repeat, parts)));
+    Ok(Flow::Comes)
+}
+
+/// The start of a FOR is complete.
+#[inline(never)]
+fn complete_from(
+    alloc: Global,
+    frames: &mut Frames,
+    now: &mut ParserState,
+    line: Line,
+    name: Name,
+    held: Size,
+    token: &Token,
+) -> Result<Flow, Stop>
+    requires stops { goes 12 token.now.kind ≡ false }
+    requires held { held ≡ held_in (Unfinished.Phrase (p.From line name)) }
+    ensures answers { Answers frames.new now.new result token.now (given (phrase_on (p.From line name) (stack_of frames.old)) now.old) }
+    ensures lowers { Lowers frames.old frames.new result }
+{
+    let ParserState::Have(sized) = mem::replace(now, ParserState::Due) else {
+        return Err(refuse(name));
+    };
+    if !is_to(token.kind) {
+        return Err(refuse((name, sized)));
+    }
+    let parts = both(held, sized.size);
+    let from = Box::new(alloc, sized.expr)?;
+    now.set(want_in(frames, Phrase::To(line, name, from), parts)?);
+    Ok(Flow::Taken)
+}
+
 /// The limit of a FOR is complete.
 #[inline(never)]
 #[tactic(auto, using(bk_frames::proofs::Lemmas::limit_cases))]
-fn limited(
+fn complete_to(
     alloc: Global,
     frames: &mut Frames,
     now: &mut ParserState,
     line: Line,
     name: Name,
     from: Box<Expr>,
-    parts: Size,
-    limit: Expr,
+    held: Size,
     token: &Token,
 ) -> Result<Flow, Stop>
     requires stops { goes 12 token.now.kind ≡ false }
-    requires parts { parts ≡ both_of (held_in (Unfinished.Phrase (p.To line name from))) (size_of (expression limit)) }
-    ensures answers { Answers frames.new now.new result token.now (give (in_to line (mention name) (expression from.value) (stack_of frames.old))
-        (expression limit)) }
+    requires held { held ≡ held_in (Unfinished.Phrase (p.To line name from)) }
+    ensures answers { Answers frames.new now.new result token.now (given (phrase_on (p.To line name from) (stack_of frames.old)) now.old) }
     ensures lowers { Lowers frames.old frames.new result }
 {
-    let limit = Box::new(alloc, limit)?;
+    let ParserState::Have(sized) = mem::replace(now, ParserState::Due) else {
+        return Err(refuse((name, from)));
+    };
+    let parts = both(held, sized.size);
+    let limit = Box::new(alloc, sized.expr)?;
     if is_by(token.kind) {
         let by = Phrase::By(line, name, from, limit);
         now.set(want_in(frames, by, parts)?);
@@ -339,11 +476,42 @@ fn limited(
         now.set(wants_command(frames, body, parts)?);
         return Ok(Flow::Taken);
     }
-    Err(Stop::Unexpected)
+    Err(refuse((name, from, limit)))
+}
+
+/// The step of a FOR is complete.
+#[inline(never)]
+fn complete_by(
+    alloc: Global,
+    frames: &mut Frames,
+    now: &mut ParserState,
+    line: Line,
+    name: Name,
+    from: Box<Expr>,
+    to: Box<Expr>,
+    held: Size,
+    token: &Token,
+) -> Result<Flow, Stop>
+    requires stops { goes 12 token.now.kind ≡ false }
+    requires held { held ≡ held_in (Unfinished.Phrase (p.By line name from to)) }
+    ensures answers { Answers frames.new now.new result token.now (given (phrase_on (p.By line name from to) (stack_of frames.old)) now.old) }
+    ensures lowers { Lowers frames.old frames.new result }
+{
+    let ParserState::Have(sized) = mem::replace(now, ParserState::Due) else {
+        return Err(refuse((name, from, to)));
+    };
+    if !is_do(token.kind) {
+        return Err(refuse((name, from, to, sized)));
+    }
+    let parts = both(held, sized.size);
+    let by = Box::new(alloc, sized.expr)?;
+    let body = Clause::For(line, name, from, to, Some(by));
+    now.set(wants_command(frames, body, parts)?);
+    Ok(Flow::Taken)
 }
 
 /// An expression of a command is complete, with which the symbol after it does not go on.
-#[inline(never)]
+#[inline(always)]
 pub fn complete_phrase(
     alloc: Global,
     frames: &mut Frames,
@@ -357,58 +525,22 @@ pub fn complete_phrase(
     ensures answers { Answers frames.new now.new result token.now (given (phrase_on unfinished (stack_of frames.old)) now.old) }
     ensures lowers { Lowers frames.old frames.new result }
 {
-    let ParserState::Have(sized) = mem::replace(now, ParserState::Due) else {
-        return Err(refuse(unfinished));
-    };
-    let parts = both(held, sized.size);
     match unfinished {
-        Phrase::Start => started(alloc, frames, now, sized, token),
-        Phrase::Dests(dests) => further(alloc, frames, now, dests, parts, sized.expr, token),
-        Phrase::Values(dests, values) => {
-            valued(frames, now, dests, values, parts, sized.expr, token)
-        }
-        Phrase::Guard(guard, line) => guards(
-            alloc, frames, now, guard, line, sized.size, sized.expr, token,
-        ),
-        Phrase::Test(line) => {
-            if !is_do(token.kind) {
-                return Err(Stop::Unexpected);
-            }
-            let condition = Box::new(alloc, sized.expr)?;
-            now.set(wants_command(frames, Clause::Then(line, condition), parts)?);
-            Ok(Flow::Taken)
-        }
-        Phrase::ResultIs(line) => {
-            let result = Box::new(alloc, sized.expr)?;
-            now.set(ParserState::Did(did(Command::ResultIs(line, result), parts)));
-            Ok(Flow::Comes)
-        }
+        Phrase::Start => complete_start(alloc, frames, now, token),
+        Phrase::Dests(before) => complete_dest(alloc, frames, now, before, held, token),
+        Phrase::Values(dests, values) => complete_value(frames, now, dests, values, held, token),
+        Phrase::Guard(guard, line) => complete_guard(alloc, frames, now, guard, line, token),
+        Phrase::Test(line) => complete_test(alloc, frames, now, line, held, token),
+        Phrase::ResultIs(line) => complete_result(alloc, frames, now, line, held, token),
         Phrase::RepeatWhile(truth, body) => {
-            let line = line_of_command(&body);
-            let condition = Box::new(alloc, sized.expr)?;
-            let repeat = Command::RepeatWhile(line, truth, body, condition);
-            now.set(ParserState::Did(did(repeat, parts)));
-            Ok(Flow::Comes)
+            complete_repeat(alloc, frames, now, truth, body, held, token)
         }
-        Phrase::From(line, name) => {
-            if !is_to(token.kind) {
-                return Err(Stop::Unexpected);
-            }
-            let from = Box::new(alloc, sized.expr)?;
-            now.set(want_in(frames, Phrase::To(line, name, from), parts)?);
-            Ok(Flow::Taken)
+        Phrase::From(line, name) => complete_from(alloc, frames, now, line, name, held, token),
+        Phrase::To(line, name, from) => {
+            complete_to(alloc, frames, now, line, name, from, held, token)
         }
-        Phrase::To(line, name, from) => limited(
-            alloc, frames, now, line, name, from, parts, sized.expr, token,
-        ),
         Phrase::By(line, name, from, to) => {
-            if !is_do(token.kind) {
-                return Err(Stop::Unexpected);
-            }
-            let by = Box::new(alloc, sized.expr)?;
-            let body = Clause::For(line, name, from, to, Some(by));
-            now.set(wants_command(frames, body, parts)?);
-            Ok(Flow::Taken)
+            complete_by(alloc, frames, now, line, name, from, to, held, token)
         }
     }
 }
@@ -420,12 +552,15 @@ pub fn again(
     alloc: Global,
     frames: &mut Frames,
     now: &mut ParserState,
-    done: Done,
     token: &Token,
 ) -> Result<Flow, Stop>
-    ensures answers { Answers frames.new now.new result token.now (λ l x. again (stack_of frames.old) (action done.command)) }
+    requires { repeats token.now.kind ≡ true }
+    ensures answers { Answers frames.new now.new result token.now (finished (stack_of frames.old) now.old) }
     ensures falls { Falls frames.old frames.new result }
 {
+    let ParserState::Did(done) = mem::replace(now, ParserState::Due) else {
+        return Err(Stop::Unexpected);
+    };
     let Done { command, size } = done;
     let line = line_of_command(&command);
     let body = Box::new(alloc, command)?;

@@ -1,5 +1,5 @@
 //! Reading declarations and blocks, and the symbols that are due in them.
-ghost use Rattle.std.specs.Prelude.{◌≡◌, [], ◌∷◌, IfOk, false, true};
+ghost use Rattle.std.specs.Prelude.{◌≡◌, [], ◌∷◌, IfOk, false, true, List, ℕ};
 ghost use Rattle.bk_tree.specs.Tree.{action, actions_in, declaration, declarations_in, items_in, also, no_actions};
 ghost use Rattle.bk_grammar.specs.Rows.{repeats};
 ghost use Rattle.bk_frames.specs.declared.frame.Unfinished.TheVariants as Unfinished;
@@ -8,9 +8,9 @@ ghost use Rattle.bk_frames.specs.declared.frame.Point.TheVariants as t;
 ghost use Rattle.bk_frames.specs.Unfinished.{held_in};
 ghost use Rattle.bk_frames.specs.Sizes.{size_of_action, size_of_declaration, both_of, kept_size};
 ghost use Rattle.bk_tree.specs.Limits.{depth_of_items, nodes_of_items};
-ghost use Rattle.bk_grammar.specs.Machine.{declared, in_constants, in_commands, in_head, in_section, take_in_block, take_in_section, take_item, take_due};
+ghost use Rattle.bk_grammar.specs.Machine.{declared, in_constants, in_commands, in_head, in_section, take_in_block, take_in_section, take_item, take_due, take_command, Stack};
 ghost use Rattle.bk_tree.specs.Parts.{actions_then, items_then};
-ghost use Rattle.bk_frames.specs.Unfinished.{place_on, point_on};
+ghost use Rattle.bk_frames.specs.Unfinished.{unfinished_on, place_on, point_on};
 ghost use Rattle.bk_frames.specs.Frames.{stack_of, HasBudgetsFor, state, finished, Steps, Answers, Lowers, Declares, declaring};
 ghost use Rattle.bk_syntax.specs.Parsing.{reached};
 
@@ -31,7 +31,7 @@ use bk_grammar::spelling::name;
 use bk_grammar::symbols::{
     Declaring, closes, declares_with, is_colon, is_equal, is_semicolon, opens,
 };
-use bk_lex::Token;
+use bk_lex::{Kind, Token};
 use bk_tree::make::{block, constants};
 use bk_tree::{Command, ConstItem, Decl, Sort};
 use std::alloc::{AllocError, Global};
@@ -414,7 +414,33 @@ fn due_within(
     }
 }
 
-/// A symbol is due, and this one comes.
+/// Whether this symbol, which is due in this construct, begins a command.
+fn begins_command(unfinished: &Unfinished, kind: Kind) -> bool
+    ensures { result ≡ true → (st : Stack) (l : ℕ) (x : List ℕ)
+        → take_due (unfinished_on unfinished.now st) l x kind ≡ take_command (unfinished_on unfinished.now st) l x kind }
+{
+    match unfinished {
+        Unfinished::Place(Place::Block(_, true, _, commands)) => {
+            if is_semicolon(kind) || closes(kind) {
+                return false;
+            }
+            !in_head(commands) || declares_with(kind).is_none()
+        }
+        _ => false,
+    }
+}
+
+/// Whether this symbol, which is due, begins a command of the block on top.
+fn begins_command_of_block(frames: &Frames, kind: Kind) -> bool
+    ensures { result ≡ true → (l : ℕ) (x : List ℕ) → take_due (stack_of frames.now) l x kind ≡ take_command (stack_of frames.now) l x kind }
+{
+    match frames.above.last() {
+        Some(top) => begins_command(&top.unfinished, kind),
+        None => false,
+    }
+}
+
+/// A symbol is due, and this one comes. Where it begins a command of a block, the block stays on top.
 #[tactic(auto, using(bk_frames::proofs::Lemmas::frames_laws))]
 pub fn at_place(
     alloc: Global,
@@ -424,6 +450,9 @@ pub fn at_place(
 ) -> Result<(), Stop>
     ensures { Steps (stack_of frames.new) (reached result now.new) (take_due (stack_of frames.old) token.now.line token.now.text.now token.now.kind) }
 {
+    if begins_command_of_block(frames, token.kind) {
+        return command(alloc, frames, now, token);
+    }
     let Some(top) = pop(frames) else {
         return in_section(alloc, frames, now, token);
     };

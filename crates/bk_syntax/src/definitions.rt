@@ -4,6 +4,7 @@ ghost use Rattle.bk_tree.specs.Tree.{definition, definitions_in, starts_in, ment
 ghost use Rattle.bk_grammar.specs.Rows.{goes};
 ghost use Rattle.bk_frames.specs.declared.frame.Unfinished.TheVariants as Unfinished;
 ghost use Rattle.bk_frames.specs.declared.frame.Place.TheVariants as p;
+ghost use Rattle.bk_frames.specs.declared.frame.Member.TheVariants as m;
 ghost use Rattle.bk_frames.specs.Unfinished.{held_in};
 ghost use Rattle.bk_frames.specs.Sizes.{both_of, kept_size};
 ghost use Rattle.bk_tree.specs.Limits.{depth_of_starts, nodes_of_starts};
@@ -28,7 +29,7 @@ use bk_grammar::spelling::name;
 use bk_grammar::symbols::{is_and, is_be, is_close, is_comma, is_equal, is_name, is_open, is_vec};
 use bk_lex::Token;
 use bk_tree::make::{self, let_of};
-use bk_tree::{ConstItem, Def, Init, Name};
+use bk_tree::{ConstItem, Def, Init, Name, Sort};
 use std::alloc::{AllocError, Global};
 use std::mem;
 
@@ -108,9 +109,128 @@ pub fn initialised(
     Ok(Flow::Taken)
 }
 
-/// An expression of a definition or an item is complete, and the symbol after it does not go on with it.
+/// The constant of an item is complete.
 #[inline(never)]
 #[tactic(auto, using(bk_tree::proofs::Lemmas::more_sizes))]
+fn complete_item(
+    frames: &mut Frames,
+    now: &mut ParserState,
+    line: Line,
+    sort: Sort,
+    items: Vec<ConstItem>,
+    name: Name,
+    held: Size,
+    token: &Token,
+) -> Result<Flow, Stop>
+    requires stops { goes 12 token.now.kind ≡ false }
+    requires held { held ≡ held_in (Unfinished.Member (m.Item line sort items name)) }
+    ensures answers { Answers frames.new now.new result token.now (given (member_on (m.Item line sort items name) (stack_of frames.old)) now.old) }
+    ensures lowers { Lowers frames.old frames.new result }
+{
+    let ParserState::Have(sized) = mem::replace(now, ParserState::Due) else {
+        return Err(refuse((items, name)));
+    };
+    let held = both(held, of_node(sized.size));
+    let Name { line: at, letters } = name;
+    constant(
+        frames,
+        now,
+        line,
+        sort,
+        items,
+        held,
+        ConstItem::Item(at, letters, sized.expr),
+        token,
+    )
+}
+
+/// The body of a function is complete.
+#[inline(never)]
+#[tactic(auto, using(bk_tree::proofs::Lemmas::more_sizes))]
+fn complete_function(
+    alloc: Global,
+    frames: &mut Frames,
+    now: &mut ParserState,
+    name: Name,
+    formals: Vec<Name>,
+    held: Size,
+    token: &Token,
+) -> Result<Flow, Stop>
+    requires stops { goes 12 token.now.kind ≡ false }
+    requires held { held ≡ held_in (Unfinished.Member (m.Function name formals)) }
+    ensures answers { Answers frames.new now.new result token.now (given (member_on (m.Function name formals) (stack_of frames.old)) now.old) }
+    ensures lowers { Lowers frames.old frames.new result }
+{
+    let ParserState::Have(sized) = mem::replace(now, ParserState::Due) else {
+        return Err(refuse((name, formals)));
+    };
+    let parts = both(held, sized.size);
+    let body = Box::new(alloc, sized.expr)?;
+    let Name { line, letters } = name;
+    let function = Defined {
+        def: Def::Function(line, letters, formals, body),
+        size: of_node(parts),
+    };
+    match complete_definition(alloc, frames, now, function, token) {
+        Ok(()) => Ok(Flow::Taken),
+        Err(Stop::Memory) => Err(Stop::Memory),
+        Err(Stop::Unexpected) => Err(Stop::Unexpected),
+    }
+}
+
+/// An item of a LET is complete.
+#[inline(never)]
+#[tactic(auto, using(bk_tree::proofs::Lemmas::more_sizes))]
+fn complete_init(
+    alloc: Global,
+    frames: &mut Frames,
+    now: &mut ParserState,
+    names: Vec<Name>,
+    inits: Vec<Init>,
+    held: Size,
+    token: &Token,
+) -> Result<Flow, Stop>
+    requires stops { goes 12 token.now.kind ≡ false }
+    requires held { held ≡ held_in (Unfinished.Member (m.Value names inits)) }
+    ensures answers { Answers frames.new now.new result token.now (given (member_on (m.Value names inits) (stack_of frames.old)) now.old) }
+    ensures lowers { Lowers frames.old frames.new result }
+{
+    let ParserState::Have(sized) = mem::replace(now, ParserState::Due) else {
+        return Err(refuse((names, inits)));
+    };
+    let parts = both(held, sized.size);
+    let value = Init::Value(sized.expr);
+    initialised(alloc, frames, now, names, inits, parts, value, token)
+}
+
+/// The length of a VEC is complete.
+#[inline(never)]
+#[tactic(auto, using(bk_tree::proofs::Lemmas::more_sizes))]
+fn complete_vector(
+    alloc: Global,
+    frames: &mut Frames,
+    now: &mut ParserState,
+    line: Line,
+    names: Vec<Name>,
+    inits: Vec<Init>,
+    held: Size,
+    token: &Token,
+) -> Result<Flow, Stop>
+    requires stops { goes 12 token.now.kind ≡ false }
+    requires held { held ≡ held_in (Unfinished.Member (m.Vector line names inits)) }
+    ensures answers { Answers frames.new now.new result token.now (given (member_on (m.Vector line names inits) (stack_of frames.old)) now.old) }
+    ensures lowers { Lowers frames.old frames.new result }
+{
+    let ParserState::Have(sized) = mem::replace(now, ParserState::Due) else {
+        return Err(refuse((names, inits)));
+    };
+    let parts = both(held, sized.size);
+    let vector = Init::Vector(line, sized.expr);
+    initialised(alloc, frames, now, names, inits, parts, vector, token)
+}
+
+/// An expression of a definition or an item is complete, and the symbol after it does not go on with it.
+#[inline(always)]
 pub fn complete_member(
     alloc: Global,
     frames: &mut Frames,
@@ -124,53 +244,18 @@ pub fn complete_member(
     ensures answers { Answers frames.new now.new result token.now (given (member_on unfinished (stack_of frames.old)) now.old) }
     ensures lowers { Lowers frames.old frames.new result }
 {
-    let ParserState::Have(sized) = mem::replace(now, ParserState::Due) else {
-        return Err(refuse(unfinished));
-    };
-    let parts = both(held, sized.size);
     match unfinished {
         Member::Item(line, sort, items, name) => {
-            let held = both(held, of_node(sized.size));
-            let Name { line: at, letters } = name;
-            constant(
-                frames,
-                now,
-                line,
-                sort,
-                items,
-                held,
-                ConstItem::Item(at, letters, sized.expr),
-                token,
-            )
+            complete_item(frames, now, line, sort, items, name, held, token)
         }
         Member::Function(name, formals) => {
-            let body = Box::new(alloc, sized.expr)?;
-            let Name { line, letters } = name;
-            let function = Defined {
-                def: Def::Function(line, letters, formals, body),
-                size: of_node(parts),
-            };
-            match complete_definition(alloc, frames, now, function, token) {
-                Ok(()) => Ok(Flow::Taken),
-                Err(Stop::Memory) => Err(Stop::Memory),
-                Err(Stop::Unexpected) => Err(Stop::Unexpected),
-            }
+            complete_function(alloc, frames, now, name, formals, held, token)
         }
         Member::Value(names, inits) => {
-            initialised(
-                alloc,
-                frames,
-                now,
-                names,
-                inits,
-                parts,
-                Init::Value(sized.expr),
-                token,
-            )
+            complete_init(alloc, frames, now, names, inits, held, token)
         }
         Member::Vector(line, names, inits) => {
-            let vector = Init::Vector(line, sized.expr);
-            initialised(alloc, frames, now, names, inits, parts, vector, token)
+            complete_vector(alloc, frames, now, line, names, inits, held, token)
         }
     }
 }

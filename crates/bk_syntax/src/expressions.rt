@@ -33,7 +33,7 @@ use bk_grammar::symbols::{
 };
 use bk_lex::{Kind, Token, character_byte, number_word, string_bytes};
 use bk_tree::make::{apply, table};
-use bk_tree::{Expr, Operator, copy};
+use bk_tree::{Expr, Operator, Prefix, copy};
 use std::alloc::{AllocError, Global};
 use std::mem;
 
@@ -444,65 +444,6 @@ pub fn operand(
     Ok(())
 }
 
-/// An argument is complete.
-#[tactic(auto, using(bk_tree::proofs::Lemmas::one_more, bk_tree::proofs::Lemmas::more_sizes))]
-fn argument(
-    frames: &mut Frames,
-    now: &mut ParserState,
-    sign: Line,
-    callee: Box<Expr>,
-    items: Vec<Expr>,
-    parts: Size,
-    last: Expr,
-    token: &Token,
-) -> Result<Flow, Stop>
-    requires stops { goes 12 token.now.kind ≡ false }
-    requires parts { parts ≡ both_of (held_in (Unfinished.OpenExpression (o.Args sign callee items))) (size_of (expression last)) }
-    ensures flows { Answers frames.new now.new result token.now (give (in_args sign (expression callee.value) (expressions_in items.items)
-        (stack_of frames.old)) (expression last)) }
-    ensures lowers { Lowers frames.old frames.new result }
-{
-    let mut items = items;
-    items.push(last)?;
-    if is_comma(token.kind) {
-        now.set(want(frames, OpenExpression::Args(sign, callee, items), parts)?);
-        return Ok(Flow::Taken);
-    }
-    if is_close(token.kind) {
-        let apply = apply(line_of(&callee), sign, callee, items);
-        now.set(ParserState::Have(whole(apply, parts)));
-        return Ok(Flow::Taken);
-    }
-    Err(Stop::Unexpected)
-}
-
-/// A number of a TABLE is complete.
-#[inline(never)]
-#[tactic(auto, using(bk_tree::proofs::Lemmas::one_more, bk_tree::proofs::Lemmas::more_sizes))]
-fn entry(
-    frames: &mut Frames,
-    now: &mut ParserState,
-    line: Line,
-    items: Vec<Expr>,
-    parts: Size,
-    last: Expr,
-    token: &Token,
-) -> Result<Flow, Stop>
-    requires stops { goes 12 token.now.kind ≡ false }
-    requires parts { parts ≡ both_of (held_in (Unfinished.OpenExpression (o.Table line items))) (size_of (expression last)) }
-    ensures flows { Answers frames.new now.new result token.now (give (in_table line (expressions_in items.items) (stack_of frames.old)) (expression last)) }
-    ensures lowers { Lowers frames.old frames.new result }
-{
-    let mut items = items;
-    items.push(last)?;
-    if is_comma(token.kind) {
-        now.set(want(frames, OpenExpression::Table(line, items), parts)?);
-        return Ok(Flow::Taken);
-    }
-    now.set(ParserState::Have(whole(table(line, items), parts)));
-    Ok(Flow::Comes)
-}
-
 /// The size of the operand that a further relation would share with this right operand.
 #[tactic(auto, using(bk_frames::proofs::Lemmas::last_cases, bk_frames::proofs::Lemmas::related_last))]
 fn shared_size(operator: Operator, right: &Sized) -> Size
@@ -552,80 +493,238 @@ fn chained(
     })
 }
 
-/// An operand is complete, which is this: the symbol after it does not continue it.
-#[inline(always)]
-fn complete_with(
+/// An expression in parentheses is complete.
+#[inline(never)]
+fn complete_parens(
     alloc: Global,
     frames: &mut Frames,
     now: &mut ParserState,
-    unfinished: OpenExpression,
+    line: Line,
     held: Size,
-    sized: Sized,
     token: &Token,
 ) -> Result<Flow, Stop>
-    requires stops { goes (limit (operand_on unfinished (stack_of frames.old))) token.now.kind ≡ false }
-    requires held { held ≡ held_in (Unfinished.OpenExpression unfinished) }
-    ensures flows { Answers frames.new now.new result token.now (give (operand_on unfinished (stack_of frames.old)) (expression sized.expr)) }
+    requires stops { goes (limit (operand_on (o.Parens line) (stack_of frames.old))) token.now.kind ≡ false }
+    requires held { held ≡ held_in (Unfinished.OpenExpression (o.Parens line)) }
+    ensures flows { Answers frames.new now.new result token.now (given (operand_on (o.Parens line) (stack_of frames.old)) now.old) }
     ensures lowers { Lowers frames.old frames.new result }
 {
-    let parts = both(held, sized.size);
-    match unfinished {
-        OpenExpression::Parens(line) => {
-            if !is_close(token.kind) {
-                return Err(Stop::Unexpected);
-            }
-            let inner = Box::new(alloc, sized.expr)?;
-            now.set(ParserState::Have(whole(Expr::Parens(line, inner), parts)));
-            Ok(Flow::Taken)
-        }
-        OpenExpression::Unary(line, prefix) => {
-            let operand = Box::new(alloc, sized.expr)?;
-            now.set(ParserState::Have(whole(Expr::Unary(line, prefix, operand), parts)));
-            Ok(Flow::Comes)
-        }
-        OpenExpression::Binary(operator, sign, left) => {
-            let line = line_of(&left);
-            let shared = shared_size(operator, &sized);
-            let right = Box::new(alloc, sized.expr)?;
-            let pair = Sized {
-                expr: Expr::Binary(line, operator, sign, left, right),
-                size: of_node(parts),
-                right: shared,
-            };
-            now.set(ParserState::Have(pair));
-            Ok(Flow::Comes)
-        }
-        OpenExpression::Chain(operator, sign, before, shared) => {
-            now.set(ParserState::Have(chained(
-                alloc, operator, sign, before, shared, held, sized,
-            )?));
-            Ok(Flow::Comes)
-        }
-        OpenExpression::Then(sign, condition) => {
-            if !is_comma(token.kind) {
-                return Err(Stop::Unexpected);
-            }
-            let yes = Box::new(alloc, sized.expr)?;
-            now.set(want(frames, OpenExpression::Else(sign, condition, yes), parts)?);
-            Ok(Flow::Taken)
-        }
-        OpenExpression::Else(sign, condition, yes) => {
-            let line = line_of(&condition);
-            let no = Box::new(alloc, sized.expr)?;
-            now.set(ParserState::Have(whole(Expr::Choice(line, sign, condition, yes, no), parts)));
-            Ok(Flow::Comes)
-        }
-        OpenExpression::Args(sign, callee, items) => argument(
-            frames, now, sign, callee, items, parts, sized.expr, token,
-        ),
-        OpenExpression::Table(line, items) => entry(
-            frames, now, line, items, parts, sized.expr, token,
-        ),
+    let ParserState::Have(sized) = mem::replace(now, ParserState::Due) else {
+        return Err(Stop::Unexpected);
+    };
+    if !is_close(token.kind) {
+        return Err(refuse(sized));
     }
+    let parts = both(held, sized.size);
+    let inner = Box::new(alloc, sized.expr)?;
+    now.set(ParserState::Have(whole(Expr::Parens(line, inner), parts)));
+    Ok(Flow::Taken)
+}
+
+/// The operand of a prefix is complete.
+#[inline(never)]
+fn complete_unary(
+    alloc: Global,
+    frames: &mut Frames,
+    now: &mut ParserState,
+    line: Line,
+    prefix: Prefix,
+    held: Size,
+    token: &Token,
+) -> Result<Flow, Stop>
+    requires stops { goes (limit (operand_on (o.Unary line prefix) (stack_of frames.old))) token.now.kind ≡ false }
+    requires held { held ≡ held_in (Unfinished.OpenExpression (o.Unary line prefix)) }
+    ensures flows { Answers frames.new now.new result token.now (given (operand_on (o.Unary line prefix) (stack_of frames.old)) now.old) }
+    ensures lowers { Lowers frames.old frames.new result }
+{
+    let ParserState::Have(sized) = mem::replace(now, ParserState::Due) else {
+        return Err(Stop::Unexpected);
+    };
+    let parts = both(held, sized.size);
+    let operand = Box::new(alloc, sized.expr)?;
+    now.set(ParserState::Have(whole(Expr::Unary(line, prefix, operand), parts)));
+    Ok(Flow::Comes)
+}
+
+/// The right operand of an operator is complete.
+#[inline(never)]
+fn complete_binary(
+    alloc: Global,
+    frames: &mut Frames,
+    now: &mut ParserState,
+    operator: Operator,
+    sign: Line,
+    left: Box<Expr>,
+    held: Size,
+    token: &Token,
+) -> Result<Flow, Stop>
+    requires stops { goes (limit (operand_on (o.Binary operator sign left) (stack_of frames.old))) token.now.kind ≡ false }
+    requires held { held ≡ held_in (Unfinished.OpenExpression (o.Binary operator sign left)) }
+    ensures flows { Answers frames.new now.new result token.now (given (operand_on (o.Binary operator sign left) (stack_of frames.old)) now.old) }
+    ensures lowers { Lowers frames.old frames.new result }
+{
+    let ParserState::Have(sized) = mem::replace(now, ParserState::Due) else {
+        return Err(refuse(left));
+    };
+    let parts = both(held, sized.size);
+    let shared = shared_size(operator, &sized);
+    let line = line_of(&left);
+    let right = Box::new(alloc, sized.expr)?;
+    let pair = Sized {
+        expr: Expr::Binary(line, operator, sign, left, right),
+        size: of_node(parts),
+        right: shared,
+    };
+    now.set(ParserState::Have(pair));
+    Ok(Flow::Comes)
+}
+
+/// The right operand of a further relation is complete.
+#[inline(never)]
+fn complete_chain(
+    alloc: Global,
+    frames: &mut Frames,
+    now: &mut ParserState,
+    operator: Operator,
+    sign: Line,
+    before: Box<Expr>,
+    shared: Box<Expr>,
+    held: Size,
+    token: &Token,
+) -> Result<Flow, Stop>
+    requires stops { goes (limit (operand_on (o.Chain operator sign before shared) (stack_of frames.old))) token.now.kind ≡ false }
+    requires held { held ≡ held_in (Unfinished.OpenExpression (o.Chain operator sign before shared)) }
+    ensures flows { Answers frames.new now.new result token.now (given (operand_on (o.Chain operator sign before shared) (stack_of frames.old)) now.old) }
+    ensures lowers { Lowers frames.old frames.new result }
+{
+    let ParserState::Have(sized) = mem::replace(now, ParserState::Due) else {
+        return Err(refuse((before, shared)));
+    };
+    now.set(ParserState::Have(chained(alloc, operator, sign, before, shared, held, sized)?));
+    Ok(Flow::Comes)
+}
+
+/// The expression between `->` and the comma is complete.
+#[inline(never)]
+fn complete_then(
+    alloc: Global,
+    frames: &mut Frames,
+    now: &mut ParserState,
+    sign: Line,
+    condition: Box<Expr>,
+    held: Size,
+    token: &Token,
+) -> Result<Flow, Stop>
+    requires stops { goes (limit (operand_on (o.Then sign condition) (stack_of frames.old))) token.now.kind ≡ false }
+    requires held { held ≡ held_in (Unfinished.OpenExpression (o.Then sign condition)) }
+    ensures flows { Answers frames.new now.new result token.now (given (operand_on (o.Then sign condition) (stack_of frames.old)) now.old) }
+    ensures lowers { Lowers frames.old frames.new result }
+{
+    let ParserState::Have(sized) = mem::replace(now, ParserState::Due) else {
+        return Err(refuse(condition));
+    };
+    if !is_comma(token.kind) {
+        return Err(refuse((condition, sized)));
+    }
+    let parts = both(held, sized.size);
+    let yes = Box::new(alloc, sized.expr)?;
+    now.set(want(frames, OpenExpression::Else(sign, condition, yes), parts)?);
+    Ok(Flow::Taken)
+}
+
+/// The expression after the comma of a conditional is complete.
+#[inline(never)]
+fn complete_else(
+    alloc: Global,
+    frames: &mut Frames,
+    now: &mut ParserState,
+    sign: Line,
+    condition: Box<Expr>,
+    yes: Box<Expr>,
+    held: Size,
+    token: &Token,
+) -> Result<Flow, Stop>
+    requires stops { goes (limit (operand_on (o.Else sign condition yes) (stack_of frames.old))) token.now.kind ≡ false }
+    requires held { held ≡ held_in (Unfinished.OpenExpression (o.Else sign condition yes)) }
+    ensures flows { Answers frames.new now.new result token.now (given (operand_on (o.Else sign condition yes) (stack_of frames.old)) now.old) }
+    ensures lowers { Lowers frames.old frames.new result }
+{
+    let ParserState::Have(sized) = mem::replace(now, ParserState::Due) else {
+        return Err(refuse((condition, yes)));
+    };
+    let parts = both(held, sized.size);
+    let line = line_of(&condition);
+    let no = Box::new(alloc, sized.expr)?;
+    now.set(ParserState::Have(whole(Expr::Choice(line, sign, condition, yes, no), parts)));
+    Ok(Flow::Comes)
+}
+
+/// An argument is complete.
+#[inline(never)]
+#[tactic(auto, using(bk_tree::proofs::Lemmas::one_more, bk_tree::proofs::Lemmas::more_sizes))]
+fn complete_argument(
+    frames: &mut Frames,
+    now: &mut ParserState,
+    sign: Line,
+    callee: Box<Expr>,
+    items: Vec<Expr>,
+    held: Size,
+    token: &Token,
+) -> Result<Flow, Stop>
+    requires stops { goes (limit (operand_on (o.Args sign callee items) (stack_of frames.old))) token.now.kind ≡ false }
+    requires held { held ≡ held_in (Unfinished.OpenExpression (o.Args sign callee items)) }
+    ensures flows { Answers frames.new now.new result token.now (given (operand_on (o.Args sign callee items) (stack_of frames.old)) now.old) }
+    ensures lowers { Lowers frames.old frames.new result }
+{
+    let ParserState::Have(sized) = mem::replace(now, ParserState::Due) else {
+        return Err(refuse(OpenExpression::Args(sign, callee, items)));
+    };
+    let parts = both(held, sized.size);
+    let mut items = items;
+    items.push(sized.expr)?;
+    if is_comma(token.kind) {
+        now.set(want(frames, OpenExpression::Args(sign, callee, items), parts)?);
+        return Ok(Flow::Taken);
+    }
+    if is_close(token.kind) {
+        let apply = apply(line_of(&callee), sign, callee, items);
+        now.set(ParserState::Have(whole(apply, parts)));
+        return Ok(Flow::Taken);
+    }
+    Err(Stop::Unexpected)
+}
+
+/// A number of a TABLE is complete.
+#[inline(never)]
+#[tactic(auto, using(bk_tree::proofs::Lemmas::one_more, bk_tree::proofs::Lemmas::more_sizes))]
+fn complete_entry(
+    frames: &mut Frames,
+    now: &mut ParserState,
+    line: Line,
+    items: Vec<Expr>,
+    held: Size,
+    token: &Token,
+) -> Result<Flow, Stop>
+    requires stops { goes (limit (operand_on (o.Table line items) (stack_of frames.old))) token.now.kind ≡ false }
+    requires held { held ≡ held_in (Unfinished.OpenExpression (o.Table line items)) }
+    ensures flows { Answers frames.new now.new result token.now (given (operand_on (o.Table line items) (stack_of frames.old)) now.old) }
+    ensures lowers { Lowers frames.old frames.new result }
+{
+    let ParserState::Have(sized) = mem::replace(now, ParserState::Due) else {
+        return Err(refuse(items));
+    };
+    let parts = both(held, sized.size);
+    let mut items = items;
+    items.push(sized.expr)?;
+    if is_comma(token.kind) {
+        now.set(want(frames, OpenExpression::Table(line, items), parts)?);
+        return Ok(Flow::Taken);
+    }
+    now.set(ParserState::Have(whole(table(line, items), parts)));
+    Ok(Flow::Comes)
 }
 
 /// An operand is complete: the symbol after it does not continue it.
-#[inline(never)]
+#[inline(always)]
 pub fn complete(
     alloc: Global,
     frames: &mut Frames,
@@ -639,8 +738,28 @@ pub fn complete(
     ensures flows { Answers frames.new now.new result token.now (given (operand_on unfinished (stack_of frames.old)) now.old) }
     ensures lowers { Lowers frames.old frames.new result }
 {
-    let ParserState::Have(sized) = mem::replace(now, ParserState::Due) else {
-        return Err(refuse(unfinished));
-    };
-    complete_with(alloc, frames, now, unfinished, held, sized, token)
+    match unfinished {
+        OpenExpression::Parens(line) => complete_parens(alloc, frames, now, line, held, token),
+        OpenExpression::Unary(line, prefix) => {
+            complete_unary(alloc, frames, now, line, prefix, held, token)
+        }
+        OpenExpression::Binary(operator, sign, left) => {
+            complete_binary(alloc, frames, now, operator, sign, left, held, token)
+        }
+        OpenExpression::Chain(operator, sign, before, shared) => complete_chain(
+            alloc, frames, now, operator, sign, before, shared, held, token,
+        ),
+        OpenExpression::Then(sign, condition) => {
+            complete_then(alloc, frames, now, sign, condition, held, token)
+        }
+        OpenExpression::Else(sign, condition, yes) => {
+            complete_else(alloc, frames, now, sign, condition, yes, held, token)
+        }
+        OpenExpression::Args(sign, callee, items) => {
+            complete_argument(frames, now, sign, callee, items, held, token)
+        }
+        OpenExpression::Table(line, items) => {
+            complete_entry(frames, now, line, items, held, token)
+        }
+    }
 }

@@ -108,10 +108,7 @@ fn after_command(
     ensures falls { Falls frames.old frames.new result }
 {
     if repeats(token.kind) {
-        let ParserState::Did(done) = mem::replace(now, ParserState::Due) else {
-            return Err(Stop::Unexpected);
-        };
-        return again(alloc, frames, now, done, token);
+        return again(alloc, frames, now, token);
     }
     let Some(top) = pop(frames) else {
         return Err(Stop::Unexpected);

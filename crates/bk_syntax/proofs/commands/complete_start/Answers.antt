@@ -3,25 +3,28 @@ use Rattle.bk_tree.specs.Tree.{expression}
 use Rattle.bk_grammar.specs.Rows.{assigns}
 use Rattle.bk_frames.specs.Sizes.{size_of, size_of_action}
 use Rattle.bk_grammar.specs.Machine.{give, finish, in_start}
-use Rattle.bk_frames.specs.Frames.{stack_of, after}
+use Rattle.bk_frames.specs.declared.frame.ParserState.TheVariants as n
+use Rattle.bk_frames.specs.Frames.{stack_of, given, after}
 use Rattle.bk_tree.proofs.Lemmas.{Apply_is}
 use Rattle.bk_frames.proofs.Lemmas.{call_done}
-use Rattle.bk_syntax.proofs.commands.started.Goals as goal
+use Rattle.bk_syntax.proofs.commands.complete_start.Goals as goal
 
 pub returns-in-Apply-clause-answers : goal.returns-in-Apply-clause-answers
 returns-in-Apply-clause-answers c =
     let st = stack_of c.args.frames.now in
     let t = c.args.token.now in
     let other : assigns t.kind ≡ false = search rules in
-    ap (λ x. give (in_start st) x t.line t.text.now t.kind) (ap expression c.in-Apply.is ∙ Apply_is _ _ c.in-Apply.callee c.in-Apply.items)
-    ∙ call_done st _ _ _ _ t.line t.text.now t.kind c.requires other
+    let had : c.args.now.now ≡ n.Have c.in-Have.sized = search rules in
+    ap (λ z. given (in_start st) z t.line t.text.now t.kind) had
+    ∙ ap (λ x. give (in_start st) x t.line t.text.now t.kind) (ap expression c.in-Apply.is ∙ Apply_is _ _ c.in-Apply.callee c.in-Apply.items)
+    ∙ call_done st _ _ _ _ t.line t.text.now t.kind c.requires.stops other
     ∙ ap (λ y. finish st y t.line t.text.now t.kind) (sym c.call.ensures)
-    ∙ ap (λ n. after st n t.line t.text.now t.kind) (sym c.set.ensures)
+    ∙ ap (λ m. after st m t.line t.text.now t.kind) (sym c.set.ensures)
 
 pub invariant_of-done : goal.invariant_of-done
 invariant_of-done c = record {
   sizes =
-      c.args.sized.sizes
+      c.in-Have.sized.sizes
       ∙ ap size_of (ap expression c.in-Apply.is ∙ Apply_is _ _ c.in-Apply.callee c.in-Apply.items)
       ∙ ap size_of_action (sym c.call.ensures);
 }

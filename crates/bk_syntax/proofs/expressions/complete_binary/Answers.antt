@@ -1,0 +1,12 @@
+use Rattle.std.proofs.Common.{◌≡◌, rules, ap, ◌∙◌}
+use Rattle.bk_tree.specs.Tree.{expression, binary}
+use Rattle.bk_grammar.specs.Grammar.{last}
+use Rattle.bk_frames.specs.Sizes.{size_if}
+use Rattle.bk_syntax.proofs.expressions.complete_binary.Goals as goal
+
+pub invariant_of-pair-clause-shares : goal.invariant_of-pair-clause-shares
+invariant_of-pair-clause-shares c =
+    let a = expression c.args.left.value in
+    let o = c.args.operator in
+    let same : expression c.in-Have.sized.expr ≡ expression c.in_ok-right.right.value = search rules in
+    c.shared_size-shared.ensures c.line_of-line.result c.args.sign a ∙ ap (λ y. size_if (last (binary c.line_of-line.result o c.args.sign a y))) same
