@@ -1,5 +1,5 @@
 //! Bindings that come into scope later, all together.
-ghost use Rattle.std.specs.Prelude.{◌≡◌, ◌++◌, [], ◌∷◌, OnOk};
+ghost use Rattle.std.specs.Prelude.{◌≡◌, ◌++◌, [], ◌∷◌, IfOk, OnOk};
 ghost use Rattle.bk_scope.specs.Scope.{bind_all};
 
 use crate::bound::Bound;
@@ -38,6 +38,15 @@ impl<'a> Fresh<'a> {
         Fresh {
             bindings: Vec::new(alloc),
         }
+    }
+
+    /// None, with memory for this many.
+    pub fn with_capacity(alloc: Global, capacity: usize) -> Result<Fresh<'a>, AllocError>
+        ensures { IfOk result (λ fresh. fresh ≡ []) }
+    {
+        Ok(Fresh {
+            bindings: Vec::with_capacity(alloc, capacity)?,
+        })
     }
 
     /// One more.

@@ -112,7 +112,7 @@ fn fresh_statics<'a>(
         through_statics table.now list procedure (items_in items.now) (record { scope = scope; found = findings.old })
         ≡ record { scope = bind_all fresh scope; found = findings.new }) }
 {
-    let mut fresh = Fresh::new(findings.alloc());
+    let mut fresh = Fresh::with_capacity(findings.alloc(), items.len())?;
     for ConstItem::Item(line, name, expr) in items {
         let bound = static_of(findings, table, list, procedure, *line, name, expr)?;
         fresh.add(name, bound)?;
@@ -155,7 +155,7 @@ fn fresh_globals<'a>(
         through_globals table.now list procedure (items_in items.now) (record { scope = scope; found = findings.old })
         ≡ record { scope = bind_all fresh scope; found = findings.new }) }
 {
-    let mut fresh = Fresh::new(findings.alloc());
+    let mut fresh = Fresh::with_capacity(findings.alloc(), items.len())?;
     for ConstItem::Item(line, name, expr) in items {
         let bound = named_global(findings, table, list, procedure, *line, name, expr)?;
         fresh.add(name, bound)?;
