@@ -7,7 +7,7 @@ use Rattle.bk_base.specs.declared.limit.TheConstants.{SECTION_BYTES}
 use Rattle.bk_lex.specs.declared.machine.Fault.{Fault}
 use Rattle.bk_lex.specs.declared.counting.State.{State}
 use Rattle.bk_lex.specs.Counting.{Step}
-use Rattle.bk_lex.specs.declared.counting.Given.{Given}
+use Rattle.bk_lex.specs.declared.counting.PieceResult.{PieceResult}
 use Rattle.bk_lex.specs.declared.counting.Act.{Act}
 use Rattle.bk_lex.specs.declared.counting.Act.TheVariants as acts
 use Rattle.bk_lex.specs.declared.cutter.Cut.{Cut}
@@ -95,7 +95,7 @@ differ t s is open_ closed = let same : t ≡ s = cc in let both = ap (λ (x : S
 same_used : (t s : Section) → answered t ≡ answered s → s.used ≡ t.used
 same_used t s is = let same : t ≡ s = cc in ap (λ (x : Section). x.used) (sym same)
 
-not_by_end : (r : Reading) (x : Result Given Fault) (s : Section) → end_as r x ≡ Ok s → s.ended ≡ true → ⊥
+not_by_end : (r : Reading) (x : Result PieceResult Fault) (s : Section) → end_as r x ≡ Ok s → s.ended ≡ true → ⊥
 not_by_end r (Ok g) s is ended = differ _ s is refl ended
 not_by_end r (Err f) s is ended = cc
 

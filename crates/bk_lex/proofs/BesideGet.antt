@@ -12,9 +12,9 @@ use Rattle.bk_lex.specs.declared.machine.Fault.TheVariants.{BadByte, BadString, 
 use Rattle.bk_lex.specs.declared.machine.Header.{Header}
 use Rattle.bk_lex.specs.declared.machine.Mode.{Mode}
 use Rattle.bk_lex.specs.declared.machine.Mode.TheVariants.{Blank, Comment, Dot, Word, Hash, HashX, Number, Dollar, Bracket, Text, TextEscape, TextEnd, Quote, QuoteEscape, QuoteFull, QuoteEnd, Mark, Name}
-use Rattle.bk_lex.specs.declared.machine.Next.{Next}
-use Rattle.bk_lex.specs.declared.machine.Next.TheVariants as nexts
-use Rattle.bk_lex.specs.declared.scan.Place.{Place}
+use Rattle.bk_lex.specs.declared.machine.Effect.{Effect}
+use Rattle.bk_lex.specs.declared.machine.Effect.TheVariants as nexts
+use Rattle.bk_lex.specs.declared.scan.Lines.{Lines}
 use Rattle.bk_lex.specs.declared.counting.State.{State}
 use Rattle.bk_lex.specs.declared.counting.Act.TheVariants as acts
 use Rattle.bk_lex.specs.Counting.{Step}
@@ -130,7 +130,7 @@ first_stays q line c m g s light f e bad = look m (fresh_reads c m e) (begun_wal
 heads : (b c : ℕ) (xs ys : List ℕ) → b ∷ xs ≡ c ∷ ys → b ≡ c
 heads b c xs ys e = cc
 
-begun_fits : {used : ℕ} (q : Putting) (out : List Symbol) (x : State) (place : Place) (c : ℕ) (m : Mode) → Agrees q out x place used → fresh c ≡ Some m → least_room x m ≤ x.symbols → FirstFits q (c ∷ [])
+begun_fits : {used : ℕ} (q : Putting) (out : List Symbol) (x : State) (place : Lines) (c : ℕ) (m : Mode) → Agrees q out x place used → fresh c ≡ Some m → least_room x m ≤ x.symbols → FirstFits q (c ∷ [])
 begun_fits q out x place c m a f le b rest n e g =
     let mode : m ≡ n = some_same m n (sym f ∙ ap fresh (heads c b [] rest e) ∙ g) in
     let least = ap (λ (k : Mode). asks x.last x.fed k) mode in
@@ -194,7 +194,7 @@ pending_first q t m p w = look p.1
     look (inl e) = absurd (let z : nexts.Ends ≡ nexts.Goes m = ap walk_piece (sym e) ∙ w in cc)
     look (inr h) = h.3
 
-some_due : {used : ℕ} (q : Putting) (t : List ℕ) (out : List Symbol) (x : State) (place : Place) → Agrees (seen q t) out x place used → x.get ≡ true → (g : ℕ) × (q.get ≡ Some g)
+some_due : {used : ℕ} (q : Putting) (t : List ℕ) (out : List Symbol) (x : State) (place : Lines) → Agrees (seen q t) out x place used → x.get ≡ true → (g : ℕ) × (q.get ≡ Some g)
 some_due q t out x place a on = let g = get_due (seen q t).get x.get place.get_line a.get on in (g.0, sym (seen_get q t) ∙ g.1)
 
 -- a `/` where the string is due
@@ -269,7 +269,7 @@ named_stays {A = A} n st h e = look (ltb st.symbols (header_rest h)) e
     look true z = absurd (let y : HeaderTooLong ≡ BadGet = only_get n HeaderTooLong z in cc)
     look false z = within_good n u z
 
-step_stays : (x : Next) (q : Putting) (t : List ℕ) (r : Reading) (c : ℕ) → Here t r.state.mode r.held q.get → Agrees (seen q t) r.out r.state r.place r.used → Pending q t → next r.state.mode c ≡ x → within r.state.bytes (moved r.state c x) ≡ Err BadGet → Stays q (t ++ c ∷ [])
+step_stays : (x : Effect) (q : Putting) (t : List ℕ) (r : Reading) (c : ℕ) → Here t r.state.mode r.held q.get → Agrees (seen q t) r.out r.state r.place r.used → Pending q t → next r.state.mode c ≡ x → within r.state.bytes (moved r.state c x) ≡ Err BadGet → Stays q (t ++ c ∷ [])
 step_stays (nexts.Goes n) q t r c here a p x e = within_good r.state.bytes (stepped (with_mode r.state n) acts.Goes) e
 step_stays nexts.Ends q t r c here a p x e = ends_stays (fresh c) q t r c here a p x refl e
 step_stays (nexts.Names h) q t r c here a p x e = named_stays r.state.bytes r.state h e

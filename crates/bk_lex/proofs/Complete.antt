@@ -16,10 +16,10 @@ use Rattle.bk_lex.specs.declared.machine.Header.{Header}
 use Rattle.bk_lex.specs.declared.machine.Header.TheVariants.{Plain, Formatted}
 use Rattle.bk_lex.specs.declared.machine.Mode.{Mode}
 use Rattle.bk_lex.specs.declared.machine.Mode.TheVariants.{Blank, Dot, Text, Name}
-use Rattle.bk_lex.specs.declared.machine.Next.TheVariants as nexts
-use Rattle.bk_lex.specs.declared.scan.Place.{Place}
+use Rattle.bk_lex.specs.declared.machine.Effect.TheVariants as nexts
+use Rattle.bk_lex.specs.declared.scan.Lines.{Lines}
 use Rattle.bk_lex.specs.declared.counting.State.{State}
-use Rattle.bk_lex.specs.declared.counting.Given.TheVariants as givens
+use Rattle.bk_lex.specs.declared.counting.PieceResult.TheVariants as givens
 use Rattle.bk_lex.specs.declared.counting.Ended.{Ended}
 use Rattle.bk_lex.specs.Insertion.{inserted}
 use Rattle.bk_lex.specs.Header.{header_symbols}
@@ -62,10 +62,10 @@ put_room q q2 t whats.Get None e o h =
     omega (arith, same, wait)
 put_room q q2 t whats.Get (Some g) e o h = absurd o
 
-pub rooms_same : {used : ℕ} (q : Putting) (out : List Symbol) (x : State) (place : Place) (w : What) (f g : Bool) → Agrees q out x place used → f ≡ g → room x.last f w ≡ room q.last g w
+pub rooms_same : {used : ℕ} (q : Putting) (out : List Symbol) (x : State) (place : Lines) (w : What) (f g : Bool) → Agrees q out x place used → f ≡ g → room x.last f w ≡ room q.last g w
 rooms_same q out x place w f g a e = ap (λ (y : Bool). room x.last y w) e ∙ ap (λ y. room y g w) a.last
 
-off : {used : ℕ} (q : Putting) (out : List Symbol) (x : State) (place : Place) (get : Option ℕ) → q.get ≡ get → Agrees q out x place used → GetAgrees get x.get place.get_line
+off : {used : ℕ} (q : Putting) (out : List Symbol) (x : State) (place : Lines) (get : Option ℕ) → q.get ≡ get → Agrees q out x place used → GetAgrees get x.get place.get_line
 off q out x place get e a = subst (λ (o : Option ℕ). GetAgrees o x.get place.get_line) e a.get
 
 abbrev pub EndsWell : State → What → Type 0
@@ -91,7 +91,7 @@ mode_well whats.Get (Some g) x line m o a h = absurd o
 
 -- what the run gives between pieces, behind these tokens
 abbrev pub Comes : Putting → List ℕ → ℕ → Section → Type 0
-Comes q rest used s = (out : List Symbol) (x : State) (place : Place) → Agrees q out x place used → x.bytes + used ≡ 1048576 → run (resting out x place used) rest ≡ Ok s
+Comes q rest used s = (out : List Symbol) (x : State) (place : Lines) → Agrees q out x place used → x.bytes + used ≡ 1048576 → run (resting out x place used) rest ≡ Ok s
 
 same_mode : (m n : Mode) → (let o : Option Mode = Some m in o) ≡ Some n → m ≡ n
 same_mode m n e = cc

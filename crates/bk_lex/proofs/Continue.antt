@@ -23,8 +23,8 @@ use Rattle.bk_lex.specs.declared.machine.Header.{Header}
 use Rattle.bk_lex.specs.declared.machine.Header.TheVariants.{Plain, Formatted}
 use Rattle.bk_lex.specs.declared.machine.Mode.{Mode}
 use Rattle.bk_lex.specs.declared.machine.Mode.TheVariants.{Blank, Comment, Dot, Word, Hash, HashX, Number, Dollar, Bracket, Text, TextEscape, TextEnd, Quote, QuoteEscape, QuoteFull, QuoteEnd, Mark, Name}
-use Rattle.bk_lex.specs.declared.machine.Next.{Next}
-use Rattle.bk_lex.specs.declared.machine.Next.TheVariants.{Goes, Ends, Bad}
+use Rattle.bk_lex.specs.declared.machine.Effect.{Effect}
+use Rattle.bk_lex.specs.declared.machine.Effect.TheVariants.{Goes, Ends, Bad}
 use Rattle.bk_lex.specs.Bytes.{is_name_byte}
 use Rattle.bk_lex.specs.Signs.{spelling, sign_kind, is_slash}
 use Rattle.bk_lex.specs.Insertion.{inserted, begins_command, begins_statement}
@@ -118,7 +118,7 @@ closes (Name n) t r w = absurd r
 
 -- ---- a text that goes on without a fault of a byte, string, number, name or tag
 
-no_good : (text : List ℕ) (x : Next) → walk_piece text ≡ x → (Good x → ⊥) → NoCut text
+no_good : (text : List ℕ) (x : Effect) → walk_piece text ≡ x → (Good x → ⊥) → NoCut text
 no_good text x w n p after c d = n (subst Good w (cut_good p text after c))
 
 escape_open : Good (Goes (TextEscape 255)) → ⊥
@@ -150,12 +150,12 @@ StandsNot kind t = (more : List ℕ) × NoCut (t ++ more) × (Begins kind (t ++ 
 ends_escape : (kind : SourceKind) (t : List ℕ) → FullEscape t → (kind ≡ source_kinds.BadByte → ⊥) → (source_kinds.BadString ≡ kind → ⊥) → StandsNot kind t
 ends_escape kind t h n s =
     let w : walk_piece (t ++ []) ≡ Goes (TextEscape 255) = ap walk_piece (append-nil t) ∙ h.2 in
-    ([], no_good (t ++ []) _ w escape_open, λ b. s (open_string kind (subst (λ (x : Next). Faults kind x) w (begins_faults kind (t ++ []) n b))))
+    ([], no_good (t ++ []) _ w escape_open, λ b. s (open_string kind (subst (λ (x : Effect). Faults kind x) w (begins_faults kind (t ++ []) n b))))
 
 escape_not : (kind : SourceKind) (t : List ℕ) → FullEscape t → StandsNot kind t
 escape_not source_kinds.BadString t h =
     let w : walk_piece (t ++ 81 ∷ []) ≡ Bad BadEscape = walk_piece-append (TextEscape 255) t (81 ∷ []) h.2 ∙ step_bad (TextEscape 255) 81 [] BadEscape refl in
-    (81 ∷ [], no_good (t ++ 81 ∷ []) _ w (λ g. g), λ b. only_escape (subst (λ (x : Next). Faults source_kinds.BadString x) w (begins_faults source_kinds.BadString (t ++ 81 ∷ []) (λ e. cc) b)))
+    (81 ∷ [], no_good (t ++ 81 ∷ []) _ w (λ g. g), λ b. only_escape (subst (λ (x : Effect). Faults source_kinds.BadString x) w (begins_faults source_kinds.BadString (t ++ 81 ∷ []) (λ e. cc) b)))
 escape_not source_kinds.BadByte t h =
     let w : walk_piece (t ++ []) ≡ Goes (TextEscape 255) = ap walk_piece (append-nil t) ∙ h.2 in
     ([], no_good (t ++ []) _ w escape_open, λ b. no_byte b.0 b.1 b.2 b.3)
@@ -228,12 +228,7 @@ then_done q q1 k t m g is w x e f =
 
 feed_sign : (s : Sign) → sign_next s 10 ≡ Ends
 feed_sign signs.Slash = refl
-feed_sign signs.Tilde = refl
-feed_sign signs.Less = refl
-feed_sign signs.Greater = refl
-feed_sign signs.Minus = refl
-feed_sign signs.Colon = refl
-feed_sign s = refl
+feed_sign _ = refl
 
 feed_digit : (base : Base) (v : ℕ) → next (Number base v) 10 ≡ Ends
 feed_digit Octal v = refl

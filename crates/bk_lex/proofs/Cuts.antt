@@ -4,7 +4,7 @@ use Rattle.std.proofs.lemmas.Bool.{ltb-false}
 use Rattle.bk_lex.specs.declared.machine.Fault.{Fault}
 use Rattle.bk_lex.specs.declared.counting.State.{State}
 use Rattle.bk_lex.specs.Counting.{Step}
-use Rattle.bk_lex.specs.declared.counting.Given.{Given}
+use Rattle.bk_lex.specs.declared.counting.PieceResult.{PieceResult}
 use Rattle.bk_lex.specs.declared.counting.Act.{Act}
 use Rattle.bk_lex.specs.declared.counting.Act.TheVariants as acts
 use Rattle.bk_lex.specs.Machine.{next}
@@ -57,7 +57,7 @@ settled bytes e from more = settled_from bytes (begin from) more e
 abbrev GoesFrom : List ℕ → Type 0
 GoesFrom u = (r : Reading) (s : State) → state_behind (Some r.state) u ≡ Some s → NotEnded (run r u)
 
-not_ended : (r : Reading) (x : Result Given Fault) → NotEnded (end_as r x)
+not_ended : (r : Reading) (x : Result PieceResult Fault) → NotEnded (end_as r x)
 not_ended r (Ok g) = refl
 not_ended r (Err f) = tt
 

@@ -16,8 +16,8 @@ use Rattle.bk_lex.specs.declared.machine.Header.{Header}
 use Rattle.bk_lex.specs.declared.machine.Header.TheVariants.{Plain, Formatted}
 use Rattle.bk_lex.specs.declared.machine.Mode.{Mode}
 use Rattle.bk_lex.specs.declared.machine.Mode.TheVariants.{Blank, Comment, Dot, Word, Hash, HashX, Number, Dollar, Bracket, Text, TextEscape, TextEnd, Quote, QuoteEscape, QuoteFull, QuoteEnd, Mark, Name}
-use Rattle.bk_lex.specs.declared.machine.Next.{Next}
-use Rattle.bk_lex.specs.declared.machine.Next.TheVariants.{Goes, Ends, Names, Bad}
+use Rattle.bk_lex.specs.declared.machine.Effect.{Effect}
+use Rattle.bk_lex.specs.declared.machine.Effect.TheVariants.{Goes, Ends, Names, Bad}
 use Rattle.bk_lex.specs.Machine.{fresh, next, is_digit_of, digits_in, digits_with, first_digit, one_more, grows, end_fault}
 use Rattle.bk_lex.specs.Lexing.{told_kind}
 use Rattle.bk_lex.specs.Pieces.{Sort, IsLead, value_from, Holds, plain, escape, IsOne, Spelled}
@@ -32,7 +32,7 @@ use Rattle.bk_lex.proofs.Stops.{stays_whole}
 
 -- ---- from a whole piece the machine comes to whole pieces, and to faults of what is too long
 
-abbrev OnlyLong : Next → Type 0
+abbrev OnlyLong : Effect → Type 0
 OnlyLong x = (f : Fault) → x ≡ Bad f → is_long f ≡ true
 
 goes_long : (m : Mode) → OnlyLong (Goes m)
@@ -71,7 +71,7 @@ whole_long QuoteEscape k c e = absurd cc
 whole_long QuoteFull k c e = absurd cc
 whole_long (Name n) k c e = absurd cc
 
-abbrev pub FromWhole : Next → Type 0
+abbrev pub FromWhole : Effect → Type 0
 FromWhole (Goes n) = IsWhole n
 FromWhole Ends = Unit {0}
 FromWhole (Names h) = Unit {0}
@@ -82,7 +82,7 @@ unfolding walk
 from_whole [] m h = h
 from_whole (c ∷ cs) m h = step (next m c) refl (λ n w. from_whole cs n w)
   where
-    step : (x : Next) → next m c ≡ x → ((n : Mode) → IsWhole n → FromWhole (walk n cs)) → FromWhole (and_then x (λ n. walk n cs))
+    step : (x : Effect) → next m c ≡ x → ((n : Mode) → IsWhole n → FromWhole (walk n cs)) → FromWhole (and_then x (λ n. walk n cs))
     step (Goes n) e ih = ih n (stays_whole m h.0 c h.1 n e)
     step Ends e ih = tt
     step (Names n) e ih = tt
@@ -135,7 +135,7 @@ at_text f x y e h = subst (λ (w : List ℕ). Begins (told_kind f) w) (sym e) h
 bad_byte : (b : ℕ) (bs : List ℕ) (c : ℕ) (more : List ℕ) (m : Mode) → eqb b 34 ≡ false → eqb b 39 ≡ false → walk_piece (b ∷ bs) ≡ Goes m → next m c ≡ Bad BadByte → Begins (told_kind BadByte) (b ∷ bs ++ c ∷ more)
 unfolding walk
 bad_byte b bs c more m q r w e =
-    let walked : walk m (c ∷ more) ≡ Bad BadByte = ap (λ (x : Next). and_then x (λ n. walk n more)) e in
+    let walked : walk m (c ∷ more) ≡ Bad BadByte = ap (λ (x : Effect). and_then x (λ n. walk n more)) e in
     (b, bs ++ c ∷ more, refl, q, r, bad_no_piece (b ∷ bs ++ c ∷ more) (walk_piece-append m (b ∷ bs) (c ∷ more) w ∙ walked))
 
 word_bad : (n code c : ℕ) (t more : List ℕ) (f : Fault) → Reads (Word n code) t → next (Word n code) c ≡ Bad f → Begins (told_kind f) (t ++ c ∷ more)
@@ -274,7 +274,7 @@ quote_full_bad inside c more f one e =
 
 -- ---- all modes
 
-abbrev NotBad : Next → Type 0
+abbrev NotBad : Effect → Type 0
 NotBad x = (f : Fault) → x ≡ Bad f → ⊥
 
 grown_bad : (o : Option Sign) → NotBad (grows o)

@@ -10,8 +10,8 @@ use Rattle.bk_lex.specs.declared.machine.Base.{Base}
 use Rattle.bk_lex.specs.declared.machine.Side.{Side}
 use Rattle.bk_lex.specs.declared.machine.Mode.{Mode}
 use Rattle.bk_lex.specs.declared.machine.Mode.TheVariants.{Number, Bracket, Text, TextEscape, Quote, QuoteEscape, QuoteFull}
-use Rattle.bk_lex.specs.declared.machine.Next.{Next}
-use Rattle.bk_lex.specs.declared.machine.Next.TheVariants.{Goes, Bad}
+use Rattle.bk_lex.specs.declared.machine.Effect.{Effect}
+use Rattle.bk_lex.specs.declared.machine.Effect.TheVariants.{Goes, Bad}
 use Rattle.bk_lex.specs.Machine.{next, is_digit_of, end_fault}
 use Rattle.bk_lex.specs.Lexing.{told_kind}
 use Rattle.bk_lex.specs.Pieces.{IsWord, AreDigits, value_from, bracket_byte, IsTag, Holds, IsOne}
@@ -23,13 +23,13 @@ use Rattle.bk_lex.proofs.Wholes.{number_walk, bracket_walk, tag_first}
 use Rattle.bk_lex.proofs.FaultBegins.{piece_bad}
 
 -- the machine comes to a fault of this kind, or is where the text's end would be one
-abbrev pub Faults : SourceKind → Next → Type 0
+abbrev pub Faults : SourceKind → Effect → Type 0
 Faults kind x = ((f : Fault) × (x ≡ Bad f) × (told_kind f ≡ kind)) ⊎ ((m : Mode) × (f : Fault) × (x ≡ Goes m) × (end_fault m ≡ Some f) × (told_kind f ≡ kind))
 
-faults_as : (kind : SourceKind) (x y : Next) → x ≡ y → Faults kind y → Faults kind x
-faults_as kind x y e h = subst (λ (z : Next). Faults kind z) (sym e) h
+faults_as : (kind : SourceKind) (x y : Effect) → x ≡ y → Faults kind y → Faults kind x
+faults_as kind x y e h = subst (λ (z : Effect). Faults kind z) (sym e) h
 
-faults_at : (f : Fault) (x : Next) → x ≡ Bad f → Faults (told_kind f) x
+faults_at : (f : Fault) (x : Effect) → x ≡ Bad f → Faults (told_kind f) x
 faults_at f x e = inl (f, e, refl)
 
 pub step_bad : (m : Mode) (c : ℕ) (cs : List ℕ) (f : Fault) → next m c ≡ Bad f → walk m (c ∷ cs) ≡ Bad f

@@ -17,8 +17,8 @@ use Rattle.bk_lex.specs.declared.machine.Header.{Header}
 use Rattle.bk_lex.specs.declared.machine.Header.TheVariants.{Plain, Formatted}
 use Rattle.bk_lex.specs.declared.machine.Mode.{Mode}
 use Rattle.bk_lex.specs.declared.machine.Mode.TheVariants.{Blank, Dot, Mark}
-use Rattle.bk_lex.specs.declared.machine.Next.{Next}
-use Rattle.bk_lex.specs.declared.machine.Next.TheVariants.{Goes, Ends, Names, Bad}
+use Rattle.bk_lex.specs.declared.machine.Effect.{Effect}
+use Rattle.bk_lex.specs.declared.machine.Effect.TheVariants.{Goes, Ends, Names, Bad}
 use Rattle.bk_lex.specs.declared.counting.State.{State}
 use Rattle.bk_lex.specs.Bytes.{is_letter, is_digit, is_blank}
 use Rattle.bk_lex.specs.Signs.{spelling, sign_kind}
@@ -48,7 +48,7 @@ use Rattle.bk_lex.proofs.FaultWalks.{Faults, begins_faults}
 -- ---- a piece within its bounds, and what follows it
 
 -- what the machine comes to over a text that begins with such a piece
-abbrev pub Good : Next → Type 0
+abbrev pub Good : Effect → Type 0
 Good (Goes m) = IsWhole m
 Good Ends = Unit {0}
 Good (Names h) = ⊥
@@ -70,7 +70,7 @@ open_whole m k f e h = none_some f (sym (whole_ends m k e) ∙ h)
     none_some : (f : Fault) → (let o : Option Fault = None in o) ≡ Some f → ⊥
     none_some f z = cc
 
-pub faults_good : (kind : SourceKind) (x : Next) → Faults kind x → Good x → ⊥
+pub faults_good : (kind : SourceKind) (x : Effect) → Faults kind x → Good x → ⊥
 faults_good kind x (inl p) g = subst Good p.1 g
 faults_good kind x (inr p) g = let w : IsWhole p.0 = subst Good p.2 g in open_whole p.0 w.0 p.1 w.1 p.3
 

@@ -6,7 +6,7 @@ use Rattle.bk_base.specs.declared.source_fault.SourceFault.{SourceFault}
 use Rattle.bk_base.specs.declared.source_fault.SourceKind.{SourceKind}
 use Rattle.bk_base.specs.declared.source_fault.SourceKind.TheVariants as source_kinds
 use Rattle.bk_lex.specs.Symbol.{Symbol}
-use Rattle.bk_lex.specs.declared.scan.Place.{Place}
+use Rattle.bk_lex.specs.declared.scan.Lines.{Lines}
 use Rattle.bk_lex.specs.declared.reserved.What.{What}
 use Rattle.bk_lex.specs.declared.reserved.What.TheVariants as whats
 use Rattle.bk_lex.specs.declared.machine.Fault.{Fault}
@@ -14,10 +14,10 @@ use Rattle.bk_lex.specs.declared.machine.Fault.TheVariants.{BadByte, BadString, 
 use Rattle.bk_lex.specs.declared.machine.Header.{Header}
 use Rattle.bk_lex.specs.declared.machine.Mode.{Mode}
 use Rattle.bk_lex.specs.declared.machine.Mode.TheVariants.{Blank, Text, Quote}
-use Rattle.bk_lex.specs.declared.machine.Next.{Next}
-use Rattle.bk_lex.specs.declared.machine.Next.TheVariants as nexts
+use Rattle.bk_lex.specs.declared.machine.Effect.{Effect}
+use Rattle.bk_lex.specs.declared.machine.Effect.TheVariants as nexts
 use Rattle.bk_lex.specs.declared.counting.State.{State}
-use Rattle.bk_lex.specs.declared.counting.Given.{Given}
+use Rattle.bk_lex.specs.declared.counting.PieceResult.{PieceResult}
 use Rattle.bk_lex.specs.declared.counting.Act.TheVariants as acts
 use Rattle.bk_lex.specs.Counting.{Step}
 use Rattle.bk_lex.specs.declared.counting.Ended.{Ended}
@@ -147,20 +147,20 @@ concludes_fault f total = record {
 
 -- ---- what a fault of the machine means
 
-abbrev pub Found : Fault → ℕ → Putting → State → Place → List ℕ → Type 0
+abbrev pub Found : Fault → ℕ → Putting → State → Lines → List ℕ → Type 0
 Found SectionTooLong total q s p text = PassesBytes q.line total p.line text ⊎ PassesSymbols q p.line text
 Found HeaderTooLong total q s p text = PassesSymbols q (placed_fault s p BadGet).line text
 Found BadGet total q s p text = Misnames q (placed_fault s p BadGet).line text
 Found f total q s p text = Stands (told_kind f) q.line p.line text
 
-pub stays_here : (g : Bool) (p : Place) → cond (g && false) p.get_line p.line ≡ p.line
+pub stays_here : (g : Bool) (p : Lines) → cond (g && false) p.get_line p.line ≡ p.line
 stays_here true p = refl
 stays_here false p = refl
 
 at_line : (kind : SourceKind) (from line line2 : ℕ) (text : List ℕ) → line2 ≡ line → Stands kind from line text → Stands kind from line2 text
 at_line kind from line line2 text e h = subst (λ (l : ℕ). Stands kind from l text) (sym e) h
 
-pub found_told : (total : ℕ) (f : Fault) (s : State) (p : Place) (q : Putting) (text : List ℕ) → Found f total q s p text → Has (placed_fault s p f) total q text
+pub found_told : (total : ℕ) (f : Fault) (s : State) (p : Lines) (q : Putting) (text : List ℕ) → Found f total q s p text → Has (placed_fault s p f) total q text
 found_told total SectionTooLong s p q text h = subst (λ (l : ℕ). PassesBytes q.line total l text ⊎ PassesSymbols q l text) (sym (stays_here s.get p)) h
 found_told total HeaderTooLong s p q text h = inr h
 found_told total BadGet s p q text h = h
@@ -171,7 +171,7 @@ found_told total NumberOver32Bits s p q text h = at_line source_kinds.NumberOver
 found_told total NameTooLong s p q text h = at_line source_kinds.NameTooLong q.line p.line _ text (stays_here s.get p) h
 found_told total TagTooLong s p q text h = at_line source_kinds.TagTooLong q.line p.line _ text (stays_here s.get p) h
 
-found_past : (total : ℕ) (f : Fault) (q : Putting) (s : State) (p : Place) (text : List ℕ) → PassesBytes q.line total p.line text → Found f total q s p text → Found (past f) total q s p text
+found_past : (total : ℕ) (f : Fault) (q : Putting) (s : State) (p : Lines) (text : List ℕ) → PassesBytes q.line total p.line text → Found f total q s p text → Found (past f) total q s p text
 found_past total SectionTooLong q s p text b h = inl b
 found_past total HeaderTooLong q s p text b h = inl b
 found_past total BadGet q s p text b h = inl b
@@ -182,7 +182,7 @@ found_past total NumberOver32Bits q s p text b h = h
 found_past total NameTooLong q s p text b h = h
 found_past total TagTooLong q s p text b h = h
 
-found_begins : (total : ℕ) (f : Fault) (q : Putting) (s : State) (p : Place) (text : List ℕ) → Begins (told_kind f) text → p.line ≡ q.line → Found f total q s p text
+found_begins : (total : ℕ) (f : Fault) (q : Putting) (s : State) (p : Lines) (text : List ℕ) → Begins (told_kind f) text → p.line ≡ q.line → Found f total q s p text
 found_begins total SectionTooLong q s p text h e = absurd h
 found_begins total HeaderTooLong q s p text h e = absurd h
 found_begins total BadGet q s p text h e = absurd h
@@ -216,7 +216,7 @@ quote_line f t line e = ap (λ (x : List ℕ). line_behind x line) e
 
 -- ---- the fault of a byte
 
-found_as : (total : ℕ) (g f : Fault) (q : Putting) (s : State) (p : Place) (text : List ℕ) → g ≡ f → Found g total q s p text → Found f total q s p text
+found_as : (total : ℕ) (g f : Fault) (q : Putting) (s : State) (p : Lines) (text : List ℕ) → g ≡ f → Found g total q s p text → Found f total q s p text
 found_as total g f q s p text e h = subst (λ (x : Fault). Found x total q s p text) e h
 
 no_byte : (c : ℕ) (more : List ℕ) → fresh c ≡ None → Begins source_kinds.BadByte (c ∷ more)
@@ -235,7 +235,7 @@ no_byte c more e = (c, more, refl, no_quote 34 (Text 0) refl, no_quote 39 Quote 
 
 -- a bad byte behind a piece, or behind none
 -- the line of the GET whose string is due
-agreed : {used : ℕ} (q : Putting) (out : List Symbol) (x : State) (p : Place) → Agrees q out x p used → x.get ≡ true → q.get ≡ Some p.get_line
+agreed : {used : ℕ} (q : Putting) (out : List Symbol) (x : State) (p : Lines) → Agrees q out x p used → x.get ≡ true → q.get ≡ Some p.get_line
 agreed q out x p a on =
     let get = a.get in
     let g = get_due q.get x.get p.get_line get on in
@@ -354,7 +354,7 @@ bad_found total c more q t r g (inr (inr d)) a line x =
       | inr p ↦ found_as total BadString g q r.state r.place (t ++ c ∷ more) (sym p.0) (found_begins total BadString q r.state r.place (t ++ c ∷ more) p.1 (line ∙ quote_line d.0.0 t q.line d.0.1))
     ]
 
-pub moved_found : (total : ℕ) (x : Next) (c : ℕ) (more : List ℕ) (q : Putting) (t : List ℕ) (r : Reading) (g : Fault) → Here t r.state.mode r.held q.get → Agrees (seen q t) r.out r.state r.place r.used → r.place.line ≡ line_behind t q.line → next r.state.mode c ≡ x → moved r.state c x ≡ Err g → Found g total q r.state r.place (t ++ c ∷ more)
+pub moved_found : (total : ℕ) (x : Effect) (c : ℕ) (more : List ℕ) (q : Putting) (t : List ℕ) (r : Reading) (g : Fault) → Here t r.state.mode r.held q.get → Agrees (seen q t) r.out r.state r.place r.used → r.place.line ≡ line_behind t q.line → next r.state.mode c ≡ x → moved r.state c x ≡ Err g → Found g total q r.state r.place (t ++ c ∷ more)
 moved_found total (nexts.Goes n) c more q t r g here a line x e = no_err _ g e
 moved_found total nexts.Ends c more q t r g here a line x e = opens_found total (fresh c) c more q t r g here a line x refl e
 moved_found total (nexts.Names h) c more q t r g here a line x e = named_found total c more q t r h g here a x e
@@ -382,7 +382,7 @@ bytes_here total c more q t r (inr (inl d)) line l = look (next r.state.mode c) 
     on : (next r.state.mode c ≡ nexts.Ends → ⊥) → PassesBytes q.line total r.place.line (t ++ c ∷ more)
     on n = passes_piece q.line r.place.line total t c more r.state.mode l (line ∙ same_line t r.state.mode q.line d.1 (λ e. n (ap (λ (k : Mode). next k c) e))) d.1 n
 
-    look : (x : Next) → next r.state.mode c ≡ x → PassesBytes q.line total r.place.line (t ++ c ∷ more)
+    look : (x : Effect) → next r.state.mode c ≡ x → PassesBytes q.line total r.place.line (t ++ c ∷ more)
     look nexts.Ends x =
         let w = whole_at_end r.state.mode c t (piece_reads t r.state.mode d.1) x in
         passes_behind q.line r.place.line total t c more r.state.mode l line d.1 x w.0 w.1 (no_dot_sort r.state.mode w.0 d.2 w.1)
@@ -408,7 +408,7 @@ byte_faulty f total c more ih q t r here a h l = step_faulty (moved r.state c (n
 end_not_blank : (m : Mode) (g : Fault) → end_fault m ≡ Some g → m ≡ Blank → ⊥
 end_not_blank m g e h = let z : (let o : Option Fault = None in o) ≡ Some g = sym (ap end_fault h) ∙ e in cc
 
-nil_text : (total : ℕ) (g : Fault) (q : Putting) (s : State) (p : Place) (t : List ℕ) → Found g total q s p t → Found g total q s p (t ++ [])
+nil_text : (total : ℕ) (g : Fault) (q : Putting) (s : State) (p : Lines) (t : List ℕ) → Found g total q s p t → Found g total q s p (t ++ [])
 nil_text total g q s p t h = subst (λ (x : List ℕ). Found g total q s p x) (sym (append-nil t)) h
 
 some_is : (f g : Fault) → Some f ≡ Some g → f ≡ g
@@ -451,7 +451,7 @@ last_found : (total : ℕ) (o : Option Fault) (q : Putting) (t : List ℕ) (r : 
 last_found total (Some f) q t r g here a line x e = found_as total f g q r.state r.place (t ++ []) (err_is f g e) (end_found total q t r f here line x)
 last_found total None q t r g here a line x e = finished_found total q t r g here a line x e
 
-end_says : (total : ℕ) (y : Result Given Fault) (f : SourceFault) (q : Putting) (t : List ℕ) (r : Reading) → Here t r.state.mode r.held q.get → Agrees (seen q t) r.out r.state r.place r.used → r.place.line ≡ line_behind t q.line → finished r.state ≡ y → end_as r y ≡ Err f → Has f total q (t ++ [])
+end_says : (total : ℕ) (y : Result PieceResult Fault) (f : SourceFault) (q : Putting) (t : List ℕ) (r : Reading) → Here t r.state.mode r.held q.get → Agrees (seen q t) r.out r.state r.place r.used → r.place.line ≡ line_behind t q.line → finished r.state ≡ y → end_as r y ≡ Err f → Has f total q (t ++ [])
 end_says total (Err g) f q t r here a line x e = told_has total _ f q (t ++ []) e (found_told total g r.state r.place q (t ++ []) (last_found total (end_fault r.state.mode) q t r g here a line refl x))
 end_says total (Ok g) f q t r here a line x e = no_answer e
   where

@@ -12,12 +12,12 @@ use Rattle.bk_lex.specs.declared.machine.Fault.TheVariants.{SectionTooLong, BadG
 use Rattle.bk_lex.specs.declared.machine.Header.{Header}
 use Rattle.bk_lex.specs.declared.machine.Mode.{Mode}
 use Rattle.bk_lex.specs.declared.machine.Mode.TheVariants.{Blank, Comment, Dot, Word, Hash, HashX, Number, Dollar, Bracket, Text, TextEscape, TextEnd, Quote, QuoteEscape, QuoteFull, QuoteEnd, Mark, Name}
-use Rattle.bk_lex.specs.declared.machine.Next.{Next}
-use Rattle.bk_lex.specs.declared.machine.Next.TheVariants.{Goes, Ends, Names, Bad}
+use Rattle.bk_lex.specs.declared.machine.Effect.{Effect}
+use Rattle.bk_lex.specs.declared.machine.Effect.TheVariants.{Goes, Ends, Names, Bad}
 use Rattle.bk_lex.specs.declared.counting.State.{State}
 use Rattle.bk_lex.specs.declared.counting.Ended.{Ended}
-use Rattle.bk_lex.specs.declared.counting.Given.TheVariants as givens
-use Rattle.bk_lex.specs.declared.scan.Place.{Place}
+use Rattle.bk_lex.specs.declared.counting.PieceResult.TheVariants as givens
+use Rattle.bk_lex.specs.declared.scan.Lines.{Lines}
 use Rattle.bk_lex.specs.Insertion.{inserted}
 use Rattle.bk_lex.specs.Machine.{fresh, next, piece}
 use Rattle.bk_lex.specs.Counting.{ended_what, ended_as, state, begun, mode_begun, in_get, least_room, room_for, ◌>>=◌}
@@ -108,7 +108,7 @@ begun_err s m b g e =
     ]
 
 -- the line of the GET is told
-pub told_line : (w : What) (s : State) (p : Place) (e : Ended) → ended_what s w ≡ Ok e → e.state.get ≡ true → (placed_fault s p BadGet).line ≡ get_line_after p e.given
+pub told_line : (w : What) (s : State) (p : Lines) (e : Ended) → ended_what s w ≡ Ok e → e.state.get ≡ true → (placed_fault s p BadGet).line ≡ get_line_after p e.given
 told_line whats.Gap s p e h g = by_gap (done_is _ e h)
   where
     by_gap : ended_as s givens.Nothing ≡ e → (placed_fault s p BadGet).line ≡ get_line_after p e.given
@@ -217,11 +217,11 @@ slash_misnames q line t rest e is n = stuck_misnames q line (t ++ rest) e (slash
 -- a string that names no header
 names_on : (u tail : List ℕ) (n : ℕ) (h : Header) → walk (Name 0) u ≡ Goes (Name n) → next (Name n) 34 ≡ Names h → walk (Name 0) (u ++ 34 ∷ tail) ≡ Names h
 unfolding walk
-names_on u tail n h w x = walk-append (Name 0) (Name n) u (34 ∷ tail) w ∙ ap (λ (y : Next). and_then y (λ k. walk k tail)) x
+names_on u tail n h w x = walk-append (Name 0) (Name n) u (34 ∷ tail) w ∙ ap (λ (y : Effect). and_then y (λ k. walk k tail)) x
 
 bad_on : (f more : List ℕ) (c n : ℕ) → walk (Name 0) f ≡ Goes (Name n) → next (Name n) c ≡ Bad BadGet → walk (Name 0) (f ++ c ∷ more) ≡ Bad BadGet
 unfolding walk
-bad_on f more c n w x = walk-append (Name 0) (Name n) f (c ∷ more) w ∙ ap (λ (y : Next). and_then y (λ k. walk k more)) x
+bad_on f more c n w x = walk-append (Name 0) (Name n) f (c ∷ more) w ∙ ap (λ (y : Effect). and_then y (λ k. walk k more)) x
 
 pub string_stuck : (t : List ℕ) (m : Mode) (c : ℕ) (more : List ℕ) → Naming t m → next m c ≡ Bad BadGet → Stuck (t ++ c ∷ more)
 string_stuck t m c more d x =

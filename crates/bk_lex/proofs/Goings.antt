@@ -12,8 +12,8 @@ use Rattle.bk_lex.specs.declared.machine.Base.TheVariants.{Octal, Decimal, Hexad
 use Rattle.bk_lex.specs.declared.machine.Side.{Side}
 use Rattle.bk_lex.specs.declared.machine.Mode.{Mode}
 use Rattle.bk_lex.specs.declared.machine.Mode.TheVariants.{Blank, Comment, Dot, Word, Hash, HashX, Number, Dollar, Bracket, Text, TextEscape, TextEnd, Quote, QuoteEscape, QuoteFull, QuoteEnd, Mark, Name}
-use Rattle.bk_lex.specs.declared.machine.Next.{Next}
-use Rattle.bk_lex.specs.declared.machine.Next.TheVariants.{Goes, Bad}
+use Rattle.bk_lex.specs.declared.machine.Effect.{Effect}
+use Rattle.bk_lex.specs.declared.machine.Effect.TheVariants.{Goes, Bad}
 use Rattle.bk_lex.specs.Machine.{fresh, next, is_digit_of, digits_in, one_more}
 use Rattle.bk_lex.specs.Pieces.{Sort, blank, comment, dot, word, number, bracket, string, character, sign, IsWord, AreDigits, value_from, IsPlain, Holds, nothing, plain, escape, is_no_line_feed, Spelled, IsBounded}
 use Rattle.bk_lex.proofs.Walk.{walk, walk_piece, walk-append, walk_bad, one_walk}
@@ -146,7 +146,7 @@ comment_go (c ∷ cs) e =
     not_feed true f h ih = absurd (let z : not (eqb c 10) ≡ false = ap not f in cc)
     not_feed false f h ih = rw f ih
 
-abbrev pub GoesFull : ℕ → Next → Type 0
+abbrev pub GoesFull : ℕ → Effect → Type 0
 GoesFull n x = ((n ≤ 255) × (x ≡ Goes (Text n))) ⊎ ((255 < n) × (x ≡ Bad BadString))
 
 one_more_full : (b : Bool) (n : ℕ) → n ≤ 255 → leb 255 n ≡ b → GoesFull (n + 1) (one_more n)
@@ -168,12 +168,12 @@ unfolding walk
 holds_go _ _ nothing = inl (omega arith, refl)
 holds_go _ _ (plain front n b h p) =
     elim (holds_go front n h) [
-      | inl q ↦ subst (λ (x : Next). GoesFull (n + 1) x) (sym (walk-append (Text 0) (Text n) front (b ∷ []) q.1 ∙ one_walk (Text n) b ∙ text_next n b p)) (one_more_full (leb 255 n) n q.0 refl)
+      | inl q ↦ subst (λ (x : Effect). GoesFull (n + 1) x) (sym (walk-append (Text 0) (Text n) front (b ∷ []) q.1 ∙ one_walk (Text n) b ∙ text_next n b p)) (one_more_full (leb 255 n) n q.0 refl)
       | inr q ↦ inr (omega (arith, q.0), walk_bad (Text 0) front (b ∷ []) BadString q.1)
     ]
 holds_go _ _ (escape front n c h e f) =
     elim (holds_go front n h) [
-      | inl q ↦ subst (λ (x : Next). GoesFull (n + 1) x) (sym (walk-append (Text 0) (Text n) front (42 ∷ c ∷ []) q.1 ∙ escape_walk n c ∙ escape_next n c e f)) (one_more_full (leb 255 n) n q.0 refl)
+      | inl q ↦ subst (λ (x : Effect). GoesFull (n + 1) x) (sym (walk-append (Text 0) (Text n) front (42 ∷ c ∷ []) q.1 ∙ escape_walk n c ∙ escape_next n c e f)) (one_more_full (leb 255 n) n q.0 refl)
       | inr q ↦ inr (omega (arith, q.0), walk_bad (Text 0) front (42 ∷ c ∷ []) BadString q.1)
     ]
 
@@ -218,7 +218,7 @@ is_long TagTooLong = true
 is_long _ = false
 
 -- a whole piece is gone over, or refused as too long
-abbrev pub Gone : Sort → Next → Type 0
+abbrev pub Gone : Sort → Effect → Type 0
 Gone k x = ((m : Mode) × (x ≡ Goes m) × (sort_of m ≡ Some k)) ⊎ ((f : Fault) × (x ≡ Bad f) × (is_long f ≡ true))
 
 pub word_gone : (t : List ℕ) → IsWord t → Gone word (walk_piece t)

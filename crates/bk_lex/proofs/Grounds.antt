@@ -5,7 +5,7 @@ use Rattle.std.proofs.lemmas.List.{length-append}
 use Rattle.bk_base.specs.declared.source_fault.SourceFault.{SourceFault}
 use Rattle.bk_base.specs.declared.source_fault.SourceKind.{SourceKind}
 use Rattle.bk_base.specs.declared.source_fault.SourceKind.TheVariants as source_kinds
-use Rattle.bk_lex.specs.declared.scan.Place.{Place}
+use Rattle.bk_lex.specs.declared.scan.Lines.{Lines}
 use Rattle.bk_lex.specs.declared.machine.Fault.{Fault}
 use Rattle.bk_lex.specs.declared.machine.Fault.TheVariants.{BadByte, BadString, BadEscape, NumberOver32Bits, NameTooLong, TagTooLong, SectionTooLong, HeaderTooLong, BadGet}
 use Rattle.bk_lex.specs.declared.counting.State.{State}
@@ -51,7 +51,7 @@ concludes_ground f total = record {
     no_answer s e = absurd cc
 
 -- past the count of bytes, a fault stands on the line of its byte
-past_line : (g : Fault) (s : State) (p : Place) → (placed_fault s p (past g)).line ≡ p.line
+past_line : (g : Fault) (s : State) (p : Lines) → (placed_fault s p (past g)).line ≡ p.line
 past_line SectionTooLong s p = stays_here s.get p
 past_line HeaderTooLong s p = stays_here s.get p
 past_line BadGet s p = stays_here s.get p

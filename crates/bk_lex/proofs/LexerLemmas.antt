@@ -18,9 +18,9 @@ use Rattle.bk_lex.specs.declared.counting.State.{State}
 use Rattle.bk_lex.specs.Counting.{Step}
 use Rattle.bk_lex.specs.declared.counting.Act.{Act}
 use Rattle.bk_lex.specs.declared.counting.Act.TheVariants as acts
-use Rattle.bk_lex.specs.declared.counting.Given.{Given}
-use Rattle.bk_lex.specs.declared.counting.Given.TheVariants.{Nothing, Symbol as IsSymbol, Get}
-use Rattle.bk_lex.specs.declared.scan.Place.{Place}
+use Rattle.bk_lex.specs.declared.counting.PieceResult.{PieceResult}
+use Rattle.bk_lex.specs.declared.counting.PieceResult.TheVariants.{Nothing, Symbol as IsSymbol, Get}
+use Rattle.bk_lex.specs.declared.scan.Lines.{Lines}
 use Rattle.bk_lex.specs.declared.lexer.Found.{Found}
 use Rattle.bk_lex.specs.declared.lexer.Found.TheVariants as founds
 use Rattle.bk_lex.proofs.Sound.{within_bytes}
@@ -62,7 +62,7 @@ pub within_append : (n : ℕ) (fs gs : List Found) → AreWithin n fs → AreWit
 within_append n [] gs h k = k
 within_append n (f ∷ fs) gs h k = (h.0, within_append n fs gs h.1 k)
 
-pub given_within : (n : ℕ) (g : Given) (line first end : ℕ) → first ≤ end → end ≤ n → AreWithin n (found_in g line first end)
+pub given_within : (n : ℕ) (g : PieceResult) (line first end : ℕ) → first ≤ end → end ≤ n → AreWithin n (found_in g line first end)
 given_within n Nothing line first end a b = tt
 given_within n (IsSymbol None kind) line first end a b = ((a, b), tt)
 given_within n (IsSymbol (Some i) kind) line first end a b = (tt, ((a, b), tt))
@@ -76,7 +76,7 @@ range_length : (text : List ℕ) (first end : ℕ) → first ≤ end → end ≤
 range_length text first end a b = length-take-le (end - first) (drop first text) (omega (arith, a, b, length-drop first text))
 
 -- what a piece gives is found in it
-pub found_so : (text : List ℕ) (fs : List Found) (g : Given) (line first end : ℕ) → first ≤ end → end ≤ length text
+pub found_so : (text : List ℕ) (fs : List Found) (g : PieceResult) (line first end : ℕ) → first ≤ end → end ≤ length text
     → put_on (all_found text fs) g line end (slice_range text first end) ≡ all_found text (fs ++ found_in g line first end)
 found_so text fs Nothing line first end a b = ap (λ xs. all_found text xs) (sym (append-nil fs))
 found_so text fs (IsSymbol i kind) line first end a b =
@@ -127,10 +127,10 @@ module _ (l : Parts) (s : State) (b : ℕ) (t : Step) (goes : Goes l s) (is : Ok
   longer = omega (arith, length-append l.bytes (b ∷ []))
 
   -- the same, said of the bytes with the one more
-  abbrev Whole : List Found → ℕ → Place → List ℕ → ℕ → Type 0
+  abbrev Whole : List Found → ℕ → Lines → List ℕ → ℕ → Type 0
   Whole fs piece place whole n = behind (reading (all_found whole fs) t.state (slice_range whole piece n) place n) (drop n whole) ≡ lexed whole l.from
 
-  moved : (fs : List Found) (piece : ℕ) (place : Place) (rest : List ℕ) → Whole fs piece place (text rest) (i + 1)
+  moved : (fs : List Found) (piece : ℕ) (place : Lines) (rest : List ℕ) → Whole fs piece place (text rest) (i + 1)
       → behind (reading (all_found ((l.bytes ++ b ∷ []) ++ rest) fs) t.state (slice_range ((l.bytes ++ b ∷ []) ++ rest) piece (length (l.bytes ++ b ∷ []))) place (length (l.bytes ++ b ∷ []))) rest ≡ lexed ((l.bytes ++ b ∷ []) ++ rest) l.from
   moved fs piece place rest h =
       let k = subst (λ n. Whole fs piece place (text rest) n) (sym longer) h in
@@ -212,9 +212,9 @@ module _ (l : Parts) (s : State) (goes : Goes l s) where
 
   pub ends_bad : (f : Fault) → finished s ≡ Err f → lexed l.bytes l.from ≡ Err (placed_fault s l.marks.place f)
   unfolding run
-  ends_bad f e = sym whole ∙ ap (λ (x : Result Given Fault). end_as (at_end l.bytes) x) e
+  ends_bad f e = sym whole ∙ ap (λ (x : Result PieceResult Fault). end_as (at_end l.bytes) x) e
 
-  pub ends_good : (g : Given) → finished s ≡ Ok g
+  pub ends_good : (g : PieceResult) → finished s ≡ Ok g
       → lexed l.bytes l.from ≡ Ok (section (put_on (all_found l.bytes l.marks.found) g l.marks.place.line (length l.bytes) (slice_range l.bytes l.marks.piece (length l.bytes))) (length l.bytes) false l.marks.place.line)
   unfolding run
-  ends_good g e = sym whole ∙ ap (λ (x : Result Given Fault). end_as (at_end l.bytes) x) e
+  ends_good g e = sym whole ∙ ap (λ (x : Result PieceResult Fault). end_as (at_end l.bytes) x) e

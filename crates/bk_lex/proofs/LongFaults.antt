@@ -10,9 +10,9 @@ use Rattle.bk_lex.specs.declared.machine.Header.{Header}
 use Rattle.bk_lex.specs.declared.machine.Base.TheVariants.{Decimal}
 use Rattle.bk_lex.specs.declared.machine.Mode.{Mode}
 use Rattle.bk_lex.specs.declared.machine.Mode.TheVariants.{Blank, Dot, Word, Hash, Number, Dollar, Text, Quote, Mark}
-use Rattle.bk_lex.specs.declared.machine.Next.TheVariants as nexts
+use Rattle.bk_lex.specs.declared.machine.Effect.TheVariants as nexts
 use Rattle.bk_lex.specs.declared.counting.State.{State}
-use Rattle.bk_lex.specs.declared.scan.Place.{Place}
+use Rattle.bk_lex.specs.declared.scan.Lines.{Lines}
 use Rattle.bk_lex.specs.Insertion.{inserted}
 use Rattle.bk_lex.specs.Machine.{fresh, next, piece, marked}
 use Rattle.bk_lex.specs.Counting.{least_room, room_for, header_rest}
@@ -138,7 +138,7 @@ seen_last : (q : Putting) (t : List ℕ) → (seen q t).last ≡ q.last
 seen_last q [] = refl
 seen_last q (b ∷ bs) = refl
 
-pub passes_ended : {used : ℕ} (q : Putting) (line : ℕ) (out : List Symbol) (s : State) (place : Place) (t rest : List ℕ) (m : Mode) (k : Sort) → Agrees (seen q t) out s place used → walk_piece t ≡ nexts.Goes m → sort_of m ≡ Some k → NoLonger t rest → line ≡ q.line → s.symbols < room s.last s.fed (piece m)
+pub passes_ended : {used : ℕ} (q : Putting) (line : ℕ) (out : List Symbol) (s : State) (place : Lines) (t rest : List ℕ) (m : Mode) (k : Sort) → Agrees (seen q t) out s place used → walk_piece t ≡ nexts.Goes m → sort_of m ≡ Some k → NoLonger t rest → line ≡ q.line → s.symbols < room s.last s.fed (piece m)
     → PassesSymbols q line (t ++ rest)
 passes_ended q line out s place t rest m k a w sort longest e lt =
     let reads = piece_reads t m w in
@@ -156,7 +156,7 @@ passes_ended q line out s place t rest m k a w sort longest e lt =
       next = inl (record { sort = k; text = t }, rest, record { parts = refl; is = is.0; longest = longest; bounded = is.1 }, omega (arith, lt, what, rooms, lasts, weighs, a.count), e);
     }
 
-pub passes_named : {used : ℕ} (q : Putting) (line : ℕ) (out : List Symbol) (s : State) (place : Place) (t : List ℕ) (c : ℕ) (more : List ℕ) (h : Header) → Agrees (seen q t) out s place used → q.get ≡ Some line → NamesWhole (t ++ c ∷ []) h → s.symbols < header_rest h → PassesSymbols q line (t ++ c ∷ more)
+pub passes_named : {used : ℕ} (q : Putting) (line : ℕ) (out : List Symbol) (s : State) (place : Lines) (t : List ℕ) (c : ℕ) (more : List ℕ) (h : Header) → Agrees (seen q t) out s place used → q.get ≡ Some line → NamesWhole (t ++ c ∷ []) h → s.symbols < header_rest h → PassesSymbols q line (t ++ c ∷ more)
 passes_named q line out s place t c more h a e w lt =
     let weighs = seen_weight q t in
     record {
@@ -223,7 +223,7 @@ first_of c m e0 =
       ])
     ]
 
-pub passes_begun : {used : ℕ} (q : Putting) (out : List Symbol) (x : State) (place : Place) (c : ℕ) (more : List ℕ) (m : Mode) → Agrees q out x place used → fresh c ≡ Some m → x.symbols < least_room x m → PassesSymbols q place.line (c ∷ more)
+pub passes_begun : {used : ℕ} (q : Putting) (out : List Symbol) (x : State) (place : Lines) (c : ℕ) (more : List ℕ) (m : Mode) → Agrees q out x place used → fresh c ≡ Some m → x.symbols < least_room x m → PassesSymbols q place.line (c ∷ more)
 passes_begun q out x place c more m a f lt =
     elim (first_of c m f) [
       | inl p ↦ absurd (omega (arith, p x, lt))

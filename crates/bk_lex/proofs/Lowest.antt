@@ -11,10 +11,10 @@ use Rattle.bk_lex.specs.declared.machine.Fault.TheVariants.{BadByte, BadString, 
 use Rattle.bk_lex.specs.declared.machine.Header.{Header}
 use Rattle.bk_lex.specs.declared.machine.Mode.{Mode}
 use Rattle.bk_lex.specs.declared.machine.Mode.TheVariants.{Blank, Text, TextEscape, TextEnd, Name}
-use Rattle.bk_lex.specs.declared.machine.Next.{Next}
-use Rattle.bk_lex.specs.declared.machine.Next.TheVariants as nexts
+use Rattle.bk_lex.specs.declared.machine.Effect.{Effect}
+use Rattle.bk_lex.specs.declared.machine.Effect.TheVariants as nexts
 use Rattle.bk_lex.specs.declared.counting.State.{State}
-use Rattle.bk_lex.specs.declared.counting.Given.{Given}
+use Rattle.bk_lex.specs.declared.counting.PieceResult.{PieceResult}
 use Rattle.bk_lex.specs.Counting.{Step}
 use Rattle.bk_lex.specs.Bytes.{is_feed}
 use Rattle.bk_lex.specs.Machine.{fresh, next, end_fault}
@@ -111,7 +111,7 @@ end_fault_of text from f s e h =
     no_answer : (x : Section) → (let r : Result Section SourceFault = Ok x in r) ≡ Err f → EndFault s f
     no_answer x z = absurd cc
 
-    look : (r : Reading) → r.state ≡ s → (y : Result Given Fault) → finished r.state ≡ y → end_as r y ≡ Err f → EndFault s f
+    look : (r : Reading) → r.state ≡ s → (y : Result PieceResult Fault) → finished r.state ≡ y → end_as r y ≡ Err f → EndFault s f
     look r same (Err g) o z = (g, ap finished (sym same) ∙ o, told_is r g f z)
     look r same (Ok g) o z = no_answer _ z
 
@@ -138,7 +138,7 @@ byte_alone source_kinds.NameTooLong text n h b = b.5 word h.0 h.1 h.2 h.3
 byte_alone source_kinds.TagTooLong text n h b = b.5 (bracket h.0) (36 ∷ bracket_byte h.0 ∷ h.1) h.2 h.3 (h.1, refl, h.4)
 byte_alone kind text n h b = absurd h
 
-faults_same : (k j : SourceKind) (x : Next) → Faults k x → Faults j x → k ≡ j
+faults_same : (k j : SourceKind) (x : Effect) → Faults k x → Faults j x → k ≡ j
 faults_same k j x (inl p) (inl q) = sym p.2 ∙ ap told_kind (bad_is p.0 q.0 (sym p.1 ∙ q.1)) ∙ q.2
 faults_same k j x (inl p) (inr q) = absurd (let z : nexts.Bad p.0 ≡ nexts.Goes q.0 = sym p.1 ∙ q.2 in cc)
 faults_same k j x (inr p) (inl q) = absurd (let z : nexts.Bad q.0 ≡ nexts.Goes p.0 = sym q.1 ∙ p.2 in cc)
@@ -183,7 +183,7 @@ begins_behind t r c m get (inr (inl d)) x f =
     (c ∷ [], m, begun_walks c m f, λ more. (record { sort = w.0; text = t } ∷ [], (c ∷ more, record { parts = refl; is = is.0; longest = ends_longest r.state.mode t c more d.1 x; bounded = is.1 }, refl)))
 begins_behind t r c m get (inr (inr d)) x f = absurd (naming_step t r.state.mode c d.0 nexts.Ends x)
 
-blank_no : {A : Type 0} (m : Mode) (c : ℕ) (x : Next) → m ≡ Blank → next m c ≡ x → (nexts.Ends ≡ x → ⊥) → A
+blank_no : {A : Type 0} (m : Mode) (c : ℕ) (x : Effect) → m ≡ Blank → next m c ≡ x → (nexts.Ends ≡ x → ⊥) → A
 blank_no m c x e f n = absurd (n (ap (λ (k : Mode). next k c) (sym e) ∙ f))
 
 goes_behind : (t : List ℕ) (r : Reading) (c : ℕ) (n : Mode) (get : Option ℕ) → Here t r.state.mode r.held get → next r.state.mode c ≡ nexts.Goes n → CutBehind t c
@@ -272,7 +272,7 @@ ends_fault : (o : Option Mode) (g : Fault) (t : List ℕ) (r : Reading) (c : ℕ
 ends_fault None g t r c get here x f e = inl (same_fault r.state.bytes BadByte g refl e)
 ends_fault (Some m) g t r c get here x f e = inr (inr (begins_behind t r c m get here x f))
 
-step_fault : (x : Next) (g : Fault) (t : List ℕ) (r : Reading) (c : ℕ) (get : Option ℕ) → Here t r.state.mode r.held get → next r.state.mode c ≡ x → within r.state.bytes (moved r.state c x) ≡ Err g → StepFault t c g
+step_fault : (x : Effect) (g : Fault) (t : List ℕ) (r : Reading) (c : ℕ) (get : Option ℕ) → Here t r.state.mode r.held get → next r.state.mode c ≡ x → within r.state.bytes (moved r.state c x) ≡ Err g → StepFault t c g
 step_fault (nexts.Goes n) g t r c get here x e = inr (inr (goes_behind t r c n get here x))
 step_fault nexts.Ends g t r c get here x e = ends_fault (fresh c) g t r c get here x refl e
 step_fault (nexts.Names h) g t r c get here x e = inr (inr (names_behind t r c h get here x))

@@ -16,7 +16,7 @@ use Rattle.bk_lex.specs.declared.machine.Side.{Side}
 use Rattle.bk_lex.specs.declared.machine.Side.TheVariants.{Opening, Closing}
 use Rattle.bk_lex.specs.declared.machine.Mode.{Mode}
 use Rattle.bk_lex.specs.declared.machine.Mode.TheVariants.{Blank, Comment, Dot, Word, Hash, HashX, Number, Dollar, Bracket, Text, TextEscape, TextEnd, Quote, QuoteEscape, QuoteFull, QuoteEnd, Mark, Name}
-use Rattle.bk_lex.specs.declared.machine.Next.TheVariants.{Goes, Ends, Bad}
+use Rattle.bk_lex.specs.declared.machine.Effect.TheVariants.{Goes, Ends, Bad}
 use Rattle.bk_lex.specs.Machine.{fresh, next, marked, is_digit_of, digits_in, digits_with, first_digit, one_more, grows}
 use Rattle.bk_lex.specs.Pieces.{IsWord, IsLead, AreDigits, value_from, bracket_byte, IsTag, Holds, nothing, plain, escape, IsOne, is_no_line_feed}
 use Rattle.bk_lex.proofs.SignLemmas.{picks, first_spells, longer_spells, slash_spells}

@@ -11,8 +11,8 @@ use Rattle.bk_lex.specs.declared.machine.Header.{Header}
 use Rattle.bk_lex.specs.declared.machine.Header.TheVariants.{Plain, Formatted}
 use Rattle.bk_lex.specs.declared.machine.Mode.{Mode}
 use Rattle.bk_lex.specs.declared.machine.Mode.TheVariants.{Text, TextEnd, Name}
-use Rattle.bk_lex.specs.declared.machine.Next.{Next}
-use Rattle.bk_lex.specs.declared.machine.Next.TheVariants.{Goes, Ends, Names, Bad}
+use Rattle.bk_lex.specs.declared.machine.Effect.{Effect}
+use Rattle.bk_lex.specs.declared.machine.Effect.TheVariants.{Goes, Ends, Names, Bad}
 use Rattle.bk_lex.specs.Machine.{next}
 use Rattle.bk_lex.specs.Pieces.{Holds, nothing, plain, IsPlain}
 use Rattle.bk_lex.specs.Tokens.{header_named, header_spelled}
@@ -80,21 +80,21 @@ whole_named f n h e g u =
     ap header_spelled same ∙ g
 
 -- what a byte does there
-abbrev pub NamingStep : List ℕ → ℕ → Next → Type 0
+abbrev pub NamingStep : List ℕ → ℕ → Effect → Type 0
 NamingStep t c (Goes m) = Naming (t ++ c ∷ []) m
 NamingStep t c Ends = ⊥
 NamingStep t c (Names h) = NamesWhole (t ++ c ∷ []) h
 NamingStep t c (Bad f) = Unit {0}
 
-step_at : (t : List ℕ) (c : ℕ) (x y : Next) → x ≡ y → NamingStep t c x → NamingStep t c y
-step_at t c x y e h = subst (λ (z : Next). NamingStep t c z) e h
+step_at : (t : List ℕ) (c : ℕ) (x y : Effect) → x ≡ y → NamingStep t c x → NamingStep t c y
+step_at t c x y e h = subst (λ (z : Effect). NamingStep t c z) e h
 
 names_at : (t f : List ℕ) (c k : ℕ) (h : Header) → t ≡ 34 ∷ f → c ≡ 34 → length f ≡ k → k ≤ 7 → Holds f (length f) → header_named (34 ∷ f ++ 34 ∷ []) ≡ Some h → NamesWhole (t ++ c ∷ []) h
 names_at t f c k h e q n le holds is =
     let whole : t ++ c ∷ [] ≡ 34 ∷ f ++ 34 ∷ [] = ap (λ (x : List ℕ). x ++ c ∷ []) e ∙ ap (λ (x : ℕ). 34 ∷ f ++ x ∷ []) q in
     (f, whole, holds, omega (arith, n, le), ap header_named whole ∙ is)
 
-name_step : (t f : List ℕ) (c : ℕ) → t ≡ 34 ∷ f → length f ≤ 7 → map to_ascii_uppercase f ≡ take (length f) (codes "LIBHDR2") → Holds f (length f) → walk (Name 0) f ≡ Goes (Name (length f)) → (x : Next) → next (Name (length f)) c ≡ x → NamingStep t c x
+name_step : (t f : List ℕ) (c : ℕ) → t ≡ 34 ∷ f → length f ≤ 7 → map to_ascii_uppercase f ≡ take (length f) (codes "LIBHDR2") → Holds f (length f) → walk (Name 0) f ≡ Goes (Name (length f)) → (x : Effect) → next (Name (length f)) c ≡ x → NamingStep t c x
 name_step t f c e le u h w x s =
     elim (picks (is_feed c) (Bad BadString) _ x s) [
       | inl p ↦ step_at t c (Bad BadString) x p.1 tt
@@ -115,7 +115,7 @@ name_step t f c e le u h w x s =
       ]
     ]
 
-pub naming_step : (t : List ℕ) (m : Mode) (c : ℕ) → Naming t m → (x : Next) → next m c ≡ x → NamingStep t c x
+pub naming_step : (t : List ℕ) (m : Mode) (c : ℕ) → Naming t m → (x : Effect) → next m c ≡ x → NamingStep t c x
 naming_step t m c h x e = name_step t h.0 c h.1 h.3 h.4 h.5 h.6 x (ap (λ (k : Mode). next k c) (sym h.2) ∙ e)
 
 -- and it is a string that the machine would go over

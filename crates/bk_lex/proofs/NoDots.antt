@@ -13,21 +13,21 @@ use Rattle.bk_lex.specs.declared.machine.Base.TheVariants.{Octal, Hexadecimal}
 use Rattle.bk_lex.specs.declared.machine.Header.{Header}
 use Rattle.bk_lex.specs.declared.machine.Mode.{Mode}
 use Rattle.bk_lex.specs.declared.machine.Mode.TheVariants.{Blank, Comment, Dot, Word, Hash, HashX, Number, Dollar, Bracket, Text, TextEscape, TextEnd, Quote, QuoteEscape, QuoteFull, QuoteEnd, Mark, Name}
-use Rattle.bk_lex.specs.declared.machine.Next.{Next}
-use Rattle.bk_lex.specs.declared.machine.Next.TheVariants as nexts
+use Rattle.bk_lex.specs.declared.machine.Effect.{Effect}
+use Rattle.bk_lex.specs.declared.machine.Effect.TheVariants as nexts
 use Rattle.bk_lex.specs.declared.counting.State.{State}
 use Rattle.bk_lex.specs.declared.counting.Ended.{Ended}
-use Rattle.bk_lex.specs.declared.counting.Given.{Given}
+use Rattle.bk_lex.specs.declared.counting.PieceResult.{PieceResult}
 use Rattle.bk_lex.specs.declared.counting.Act.TheVariants as acts
 use Rattle.bk_lex.specs.Machine.{fresh, next, digits_with, digits_in, first_digit, one_more, star_next, grows, is_digit_of}
 use Rattle.bk_lex.specs.Counting.{Step, stepped, state, ended, begun, opened_by, opened_as, header_rest, named, moved, past, within, step_of, ◌>>=◌}
 use Rattle.bk_lex.specs.Lexing.{is_dot}
 
-abbrev NoDot : Next → Type 0
+abbrev NoDot : Effect → Type 0
 NoDot (nexts.Goes m) = false ≡ is_dot m
 NoDot x = Unit {0}
 
-either : (c : Bool) (x y : Next) → NoDot x → NoDot y → NoDot (cond c x y)
+either : (c : Bool) (x y : Effect) → NoDot x → NoDot y → NoDot (cond c x y)
 either true x y h k = h
 either false x y h k = k
 
@@ -40,7 +40,7 @@ first_no_dot base b = either (is_digit_of base b) _ _ (digits_no_dot base 0 b) t
 more_no_dot : (n : ℕ) → NoDot (one_more n)
 more_no_dot n = either (leb 255 n) _ _ tt refl
 
-star_no_dot : (b : ℕ) (x : Next) → NoDot x → NoDot (star_next b x)
+star_no_dot : (b : ℕ) (x : Effect) → NoDot x → NoDot (star_next b x)
 star_no_dot b x h = either (is_feed b) _ _ tt (either (is_escape b) _ _ h tt)
 
 grows_no_dot : (o : Option Sign) → NoDot (grows o)
@@ -87,7 +87,7 @@ within_no_dot n (Err f) h = by_room (ltb n 1)
     by_room true = tt
     by_room false = tt
 
-begun_no_dot : (g : Given) (x : Result State Fault) → GoesNoDot (x >>= λ t. Ok (stepped t (acts.Begins g)))
+begun_no_dot : (g : PieceResult) (x : Result State Fault) → GoesNoDot (x >>= λ t. Ok (stepped t (acts.Begins g)))
 begun_no_dot g (Ok t) = λ is. let other : acts.Begins g ≡ acts.Goes = is in cc
 begun_no_dot g (Err f) = tt
 
@@ -106,7 +106,7 @@ named_no_dot s h = by_room (ltb s.symbols (header_rest h))
     by_room true = tt
     by_room false = λ is. let other : acts.Names h ≡ acts.Goes = is in cc
 
-moved_no_dot : (s : State) (b : ℕ) (x : Next) → NoDot x → GoesNoDot (moved s b x)
+moved_no_dot : (s : State) (b : ℕ) (x : Effect) → NoDot x → GoesNoDot (moved s b x)
 moved_no_dot s b (nexts.Goes m) h = λ is. h
 moved_no_dot s b nexts.Ends h = fresh_no_dot s b (fresh b)
 moved_no_dot s b (nexts.Names n) h = named_no_dot s n

@@ -19,8 +19,8 @@ use Rattle.bk_lex.specs.declared.machine.Header.TheVariants.{Plain, Formatted}
 use Rattle.bk_lex.specs.declared.machine.Header.{Header}
 use Rattle.bk_lex.specs.declared.machine.Mode.{Mode}
 use Rattle.bk_lex.specs.declared.machine.Mode.TheVariants.{Blank, Comment, Dot, Word, Hash, HashX, Number, Dollar, Bracket, Text, TextEscape, TextEnd, Quote, QuoteEscape, QuoteFull, QuoteEnd, Mark, Name}
-use Rattle.bk_lex.specs.declared.machine.Next.{Next}
-use Rattle.bk_lex.specs.declared.machine.Next.TheVariants as nexts
+use Rattle.bk_lex.specs.declared.machine.Effect.{Effect}
+use Rattle.bk_lex.specs.declared.machine.Effect.TheVariants as nexts
 use Rattle.bk_lex.specs.declared.counting.State.{State}
 use Rattle.bk_lex.specs.declared.counting.Act.TheVariants as acts
 use Rattle.bk_lex.specs.Counting.{Step}
@@ -388,7 +388,7 @@ goes_sound C G B total g0 c more ih q t r n here a x h l =
     subst (λ (y : List ℕ). C q y) (append_assoc t (c ∷ []) more) (ih q (t ++ c ∷ []) p g.0 a3 run_on l)
 
 -- the last byte of the string of a GET
-abbrev NotNames : Header → Next → Type 0
+abbrev NotNames : Header → Effect → Type 0
 NotNames h x = x ≡ nexts.Names h → ⊥
 
 with_names : (h : Header) (base : Base) (v c : ℕ) → NotNames h (digits_with base v c)
@@ -471,7 +471,7 @@ names_sound C G B total g0 c more ih q t r h u (inr (inr d)) a x n g l =
 
 -- ---- one byte, whatever it does
 
-pub step_sound : (C : Putting → List ℕ → Type 0) (G B : Reading → List ℕ → Type 0) (total : ℕ) (g0 : Concludes C G B total) (x : Next) (c : ℕ) (more : List ℕ) (ih : Follows C G total more) (q : Putting) (t : List ℕ) (r : Reading) (u : Step) → Here t r.state.mode r.held q.get → Agrees (seen q t) r.out r.state r.place r.used → next r.state.mode c ≡ x
+pub step_sound : (C : Putting → List ℕ → Type 0) (G B : Reading → List ℕ → Type 0) (total : ℕ) (g0 : Concludes C G B total) (x : Effect) (c : ℕ) (more : List ℕ) (ih : Follows C G total more) (q : Putting) (t : List ℕ) (r : Reading) (u : Step) → Here t r.state.mode r.held q.get → Agrees (seen q t) r.out r.state r.place r.used → next r.state.mode c ≡ x
     → moved r.state c x ≡ Ok u → StepGives r c more u B → Counted (r.state.bytes - 1) (r.used + 1) more total → C q (t ++ c ∷ more)
 step_sound C G B total g0 (nexts.Goes n) c more ih q t r u here a x m g l = goes_sound C G B total g0 c more ih q t r n here a x (subst (λ (y : Step). StepGives r c more y B) (sym (done_is _ u m)) g) l
 step_sound C G B total g0 nexts.Ends c more ih q t r u here a x m g l = ends_sound C G B total g0 c more ih q t r u here a x m g l

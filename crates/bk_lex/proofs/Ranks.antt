@@ -35,14 +35,7 @@ first from = putting [] None false from None 0
 
 all_numbers : (g : Fault) → source_number (told_kind g) ≤ 8
 all_numbers BadByte = omega arith
-all_numbers BadString = omega arith
-all_numbers BadEscape = omega arith
-all_numbers NumberOver32Bits = omega arith
-all_numbers NameTooLong = omega arith
-all_numbers TagTooLong = omega arith
-all_numbers SectionTooLong = omega arith
-all_numbers HeaderTooLong = omega arith
-all_numbers BadGet = omega arith
+all_numbers _ = omega arith
 
 but_get : (g : Fault) → (g ≡ BadGet) ⊎ (source_number (told_kind g) ≤ 7)
 but_get BadByte = inr (omega arith)

@@ -6,8 +6,8 @@ use Rattle.bk_lex.specs.declared.token.Kind.{Kind}
 use Rattle.bk_lex.specs.declared.machine.Fault.{Fault}
 use Rattle.bk_lex.specs.declared.machine.Mode.{Mode}
 use Rattle.bk_lex.specs.declared.machine.Mode.TheVariants.{Blank, Comment, Dot, Word, Hash, HashX, Number, Dollar, Bracket, Text, TextEscape, TextEnd, Quote, QuoteEscape, QuoteFull, QuoteEnd, Mark, Name}
-use Rattle.bk_lex.specs.declared.machine.Next.{Next}
-use Rattle.bk_lex.specs.declared.machine.Next.TheVariants as nexts
+use Rattle.bk_lex.specs.declared.machine.Effect.{Effect}
+use Rattle.bk_lex.specs.declared.machine.Effect.TheVariants as nexts
 use Rattle.bk_lex.specs.declared.counting.State.{State}
 use Rattle.bk_lex.specs.declared.counting.Act.TheVariants as acts
 use Rattle.bk_lex.specs.Counting.{Step}
@@ -38,23 +38,7 @@ asks last fed m = least_room (state Blank 0 0 last fed false) m
 
 pub same_asks : (x : State) (m : Mode) → least_room x m ≡ asks x.last x.fed m
 same_asks x Blank = refl
-same_asks x Comment = refl
-same_asks x Dot = refl
-same_asks x (Word n code) = refl
-same_asks x Hash = refl
-same_asks x HashX = refl
-same_asks x (Number base v) = refl
-same_asks x Dollar = refl
-same_asks x (Bracket side n) = refl
-same_asks x (Text n) = refl
-same_asks x (TextEscape n) = refl
-same_asks x TextEnd = refl
-same_asks x Quote = refl
-same_asks x QuoteEscape = refl
-same_asks x QuoteFull = refl
-same_asks x QuoteEnd = refl
-same_asks x (Mark s) = refl
-same_asks x (Name n) = refl
+same_asks x _ = refl
 
 abbrev FirstHeld : Reading → Type 0
 FirstHeld r = (r.state.mode ≡ Blank) ⊎ ((b : ℕ) × (bs : List ℕ) × (m : Mode) × (r.held ≡ b ∷ bs) × (fresh b ≡ Some m) × (asks r.state.last r.state.fed m ≤ r.state.symbols))
@@ -85,7 +69,7 @@ blank_begun get m n e h = look get (ap (mode_begun get) (sym e) ∙ h)
 abbrev ReachedBehind : Reading → ℕ → Step → Reading
 ReachedBehind r c u = read r c (fewer r.state.bytes u).state (fewer r.state.bytes u).act
 
-first_step : (x : Next) (r : Reading) (c : ℕ) (u : Step) → next r.state.mode c ≡ x → moved r.state c x ≡ Ok u → FirstHeld r → FirstHeld (ReachedBehind r c u)
+first_step : (x : Effect) (r : Reading) (c : ℕ) (u : Step) → next r.state.mode c ≡ x → moved r.state c x ≡ Ok u → FirstHeld r → FirstHeld (ReachedBehind r c u)
 first_step (nexts.Goes n) r c u e m (inl h) = absurd (blank_ends r.state.mode c n h e)
 first_step (nexts.Goes n) r c u e m (inr h) =
     subst (λ (y : Step). FirstHeld (ReachedBehind r c y)) (done_is (stepped (with_mode r.state n) acts.Goes) u m) (inr (h.0, h.1 ++ c ∷ [], h.2, ap (λ (x : List ℕ). x ++ c ∷ []) h.3, h.4, h.5))

@@ -17,12 +17,12 @@ use Rattle.bk_lex.specs.declared.machine.Header.{Header}
 use Rattle.bk_lex.specs.declared.machine.Header.TheVariants.{Plain, Formatted}
 use Rattle.bk_lex.specs.declared.machine.Mode.{Mode}
 use Rattle.bk_lex.specs.declared.machine.Mode.TheVariants.{Blank, Comment, Dot, Word, Hash, HashX, Number, Dollar, Bracket, Text, TextEscape, TextEnd, Quote, QuoteEscape, QuoteFull, QuoteEnd, Mark, Name}
-use Rattle.bk_lex.specs.declared.machine.Next.{Next}
-use Rattle.bk_lex.specs.declared.machine.Next.TheVariants.{Goes, Ends, Names, Bad}
-use Rattle.bk_lex.specs.declared.scan.Place.{Place}
+use Rattle.bk_lex.specs.declared.machine.Effect.{Effect}
+use Rattle.bk_lex.specs.declared.machine.Effect.TheVariants.{Goes, Ends, Names, Bad}
+use Rattle.bk_lex.specs.declared.scan.Lines.{Lines}
 use Rattle.bk_lex.specs.declared.token.Kind.TheVariants as kinds
 use Rattle.bk_lex.specs.declared.counting.State.{State}
-use Rattle.bk_lex.specs.declared.counting.Given.TheVariants as givens
+use Rattle.bk_lex.specs.declared.counting.PieceResult.TheVariants as givens
 use Rattle.bk_lex.specs.declared.counting.Act.TheVariants as acts
 use Rattle.bk_lex.specs.Counting.{Step}
 use Rattle.bk_lex.specs.declared.counting.Ended.{Ended}
@@ -37,7 +37,7 @@ use Rattle.bk_lex.proofs.Stops.{Stops}
 
 -- ---- no byte goes on to a `.` that ends the section
 
-abbrev DotLess : Next → Type 0
+abbrev DotLess : Effect → Type 0
 DotLess x = (n : Mode) → x ≡ Goes n → is_dot n ≡ false
 
 goes_less : (m : Mode) → is_dot m ≡ false → DotLess (Goes m)
@@ -111,7 +111,7 @@ after r c rest x = read_on r c x >>= λ q. behind q rest
 one_goes : (r : Reading) (c : ℕ) (n : Mode) (rest : List ℕ) → next r.state.mode c ≡ Goes n → 1 ≤ r.state.bytes → run r (c ∷ rest) ≡ run (stepped_on r c n) rest
 unfolding run
 one_goes r c n rest e h =
-    ap (λ (x : Next). after r c rest (within r.state.bytes (moved r.state c x))) e
+    ap (λ (x : Effect). after r c rest (within r.state.bytes (moved r.state c x))) e
     ∙ ap (λ (b : Bool). after r c rest (cond b (Err SectionTooLong) (Ok (stepped (stepped_on r c n).state acts.Goes)))) (has_room r.state.bytes 1 h)
     ∙ ap (λ (b : Bool). cond b (Ok (section r.out (r.used + 1) true r.place.line)) (run (stepped_on r c n) rest)) (goes_dotless r.state.mode c n e)
 
@@ -139,14 +139,14 @@ run_goes (c ∷ cs) r n rest e h =
 
 -- ---- between pieces
 
-abbrev pub resting : List Symbol → State → Place → ℕ → Reading
+abbrev pub resting : List Symbol → State → Lines → ℕ → Reading
 resting out x place used = reading out (with_mode x Blank) [] place used
 
 -- behind the first byte of a piece
-abbrev pub first_on : List Symbol → State → Place → ℕ → ℕ → Mode → Reading
+abbrev pub first_on : List Symbol → State → Lines → ℕ → ℕ → Mode → Reading
 first_on out x place used b n = reading out (state n (x.bytes - 1) x.symbols x.last (x.fed || eqb b 10) x.get) (b ∷ []) (at (line_after b place.line) place.get_line) (used + 1)
 
-pub run_first : (out : List Symbol) (x : State) (place : Place) (used b : ℕ) (m n : Mode) (rest : List ℕ) → fresh b ≡ Some m → mode_begun x.get m ≡ Ok n → least_room (with_mode x Blank) m ≤ x.symbols → 1 ≤ x.bytes
+pub run_first : (out : List Symbol) (x : State) (place : Lines) (used b : ℕ) (m n : Mode) (rest : List ℕ) → fresh b ≡ Some m → mode_begun x.get m ≡ Ok n → least_room (with_mode x Blank) m ≤ x.symbols → 1 ≤ x.bytes
     → run (resting out x place used) (b ∷ rest) ≡ behind (first_on out x place used b n) rest
 unfolding run
 run_first out x place used b m n rest f g h k =
@@ -218,7 +218,7 @@ run_ends [] r e s stop x same h =
     ∙ ap (λ (y : Result Ended Fault). end_as r (y >>= λ e. no_get e)) x
     ∙ end_get e.state.get r e s h
 run_ends (c ∷ more) r e s stop x same h =
-    ap (λ (y : Next). after r c more (within r.state.bytes (moved r.state c y))) stop
+    ap (λ (y : Effect). after r c more (within r.state.bytes (moved r.state c y))) stop
     ∙ opens_step (fresh c) r.state.bytes r e c more s x (ap (λ (k : ℕ). after (ended_on r e) c more (within k (opened_as (with_mode e.state Blank) c (fresh c)))) (sym same) ∙ h)
 
 -- ---- the string of a GET
@@ -230,6 +230,6 @@ named_on r c h = reading (r.out ++ header_symbols h r.place.get_line) (state Bla
 pub run_named : (r : Reading) (c : ℕ) (h : Header) (rest : List ℕ) → next r.state.mode c ≡ Names h → header_rest h ≤ r.state.symbols → 1 ≤ r.state.bytes → run r (c ∷ rest) ≡ run (named_on r c h) rest
 unfolding run
 run_named r c h rest e room k =
-    ap (λ (x : Next). after r c rest (within r.state.bytes (moved r.state c x))) e
+    ap (λ (x : Effect). after r c rest (within r.state.bytes (moved r.state c x))) e
     ∙ ap (λ (d : Bool). after r c rest (within r.state.bytes (cond d (Err Fault.HeaderTooLong) (Ok (stepped (state Blank r.state.bytes (r.state.symbols - header_rest h) (Some kinds.SectionClose) r.state.fed false) (acts.Names h)))))) (has_room r.state.symbols (header_rest h) room)
     ∙ ap (λ (d : Bool). after r c rest (cond d (Err SectionTooLong) (Ok (stepped (named_on r c h).state (acts.Names h))))) (has_room r.state.bytes 1 k)

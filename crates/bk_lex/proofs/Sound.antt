@@ -8,9 +8,9 @@ use Rattle.bk_base.specs.declared.refused.Refused.{Refused}
 use Rattle.bk_lex.specs.declared.scan.Lexed.{Lexed}
 use Rattle.bk_lex.specs.declared.machine.Fault.{Fault}
 use Rattle.bk_lex.specs.declared.machine.Fault.TheVariants.{SectionTooLong, BadGet}
-use Rattle.bk_lex.specs.declared.scan.Place.{Place}
+use Rattle.bk_lex.specs.declared.scan.Lines.{Lines}
 use Rattle.bk_lex.specs.declared.counting.State.{State}
-use Rattle.bk_lex.specs.declared.counting.Given.{Given}
+use Rattle.bk_lex.specs.declared.counting.PieceResult.{PieceResult}
 use Rattle.bk_lex.specs.declared.counting.Act.{Act}
 use Rattle.bk_lex.specs.declared.counting.Act.TheVariants as acts
 use Rattle.bk_lex.specs.Counting.{Step}
@@ -29,7 +29,7 @@ same_section a b e = cc
 
 -- ---- what is left is empty
 
-nothing_left : (q : Putting) (s : Section) (total used : ℕ) (out : List Symbol) (st : State) (place : Place) → Agrees q out st place used → st.get ≡ false → section out used false place.line ≡ s → used ≡ total → CutFrom q [] total s
+nothing_left : (q : Putting) (s : Section) (total used : ℕ) (out : List Symbol) (st : State) (place : Lines) → Agrees q out st place used → st.get ≡ false → section out used false place.line ≡ s → used ≡ total → CutFrom q [] total s
 nothing_left q s total used out st place a g e u =
     subst (λ (x : Section). CutFrom q [] total x) e record {
       pieces = [];
@@ -78,15 +78,15 @@ concludes_cut total s = record {
 
 -- ---- the text's end
 
-end_ok : (r : Reading) (x : Result Given Fault) (s : Section) → end_as r x ≡ Ok s → (g : Given) × (x ≡ Ok g) × (section (put_on r.out g r.place.line r.used r.held) r.used false r.place.line ≡ s)
+end_ok : (r : Reading) (x : Result PieceResult Fault) (s : Section) → end_as r x ≡ Ok s → (g : PieceResult) × (x ≡ Ok g) × (section (put_on r.out g r.place.line r.used r.held) r.used false r.place.line ≡ s)
 end_ok r (Ok g) s e = (g, refl, cc)
 end_ok r (Err f) s e = absurd cc
 
-finished_ok : (st : State) (o : Option Fault) (g : Given) → finished_as st o ≡ Ok g → (o ≡ None) × ((ended st >>= λ e. no_get e) ≡ Ok g)
+finished_ok : (st : State) (o : Option Fault) (g : PieceResult) → finished_as st o ≡ Ok g → (o ≡ None) × ((ended st >>= λ e. no_get e) ≡ Ok g)
 finished_ok st None g e = (refl, e)
 finished_ok st (Some f) g e = absurd cc
 
-no_get_ok : (e : Ended) (g : Given) → no_get e ≡ Ok g → (e.state.get ≡ false) × (e.given ≡ g)
+no_get_ok : (e : Ended) (g : PieceResult) → no_get e ≡ Ok g → (e.state.get ≡ false) × (e.given ≡ g)
 no_get_ok e g h =
     elim (picks e.state.get (Err BadGet) (done e.given) (done g) h) [
       | inl p ↦ absurd (no_done BadGet g p.1)
@@ -105,7 +105,7 @@ sound_end total s q t r here a h u =
     let z = ok_bind (ended r.state) (λ e. no_get e) x.0 y.1 in
     let w = no_get_ok z.0 x.0 z.2 in
     let after = ended_agrees (piece r.state.mode) (seen q t) r.out r.state r.place r.held z.0 a z.1 in
-    end_here q t r s total z.0 here y.0 after w.0 (ap (λ (g : Given). section (put_on r.out g r.place.line r.used r.held) r.used false r.place.line) w.1 ∙ x.2) (omega (arith, u.0))
+    end_here q t r s total z.0 here y.0 after w.0 (ap (λ (g : PieceResult). section (put_on r.out g r.place.line r.used r.held) r.used false r.place.line) w.1 ∙ x.2) (omega (arith, u.0))
 
 pub within_bytes : (n : ℕ) (y : Result Step Fault) (t : Step) → within n y ≡ Ok t → (t.state.bytes + 1 ≡ n)
 within_bytes n (Ok u) t e =

@@ -10,9 +10,9 @@ use Rattle.bk_lex.specs.declared.machine.Fault.{Fault}
 use Rattle.bk_lex.specs.declared.machine.Fault.TheVariants.{SectionTooLong, BadGet}
 use Rattle.bk_lex.specs.declared.machine.Mode.{Mode}
 use Rattle.bk_lex.specs.declared.machine.Mode.TheVariants.{Blank, Comment, Dot, Word, Hash, HashX, Number, Dollar, Bracket, Text, TextEscape, TextEnd, Quote, QuoteEscape, QuoteFull, QuoteEnd, Mark, Name}
-use Rattle.bk_lex.specs.declared.scan.Place.{Place}
+use Rattle.bk_lex.specs.declared.scan.Lines.{Lines}
 use Rattle.bk_lex.specs.declared.counting.State.{State}
-use Rattle.bk_lex.specs.declared.counting.Given.TheVariants as givens
+use Rattle.bk_lex.specs.declared.counting.PieceResult.TheVariants as givens
 use Rattle.bk_lex.specs.Counting.{Step}
 use Rattle.bk_lex.specs.declared.counting.Ended.{Ended}
 use Rattle.bk_lex.specs.Insertion.{inserted}
@@ -68,7 +68,7 @@ abbrev pub GetAgrees : Option ℕ → Bool → ℕ → Type 0
 GetAgrees None get line = get ≡ false
 GetAgrees (Some g) get line = (get ≡ true) × (line ≡ g)
 
-pub record Agrees (q : Putting) (out : List Symbol) (s : State) (place : Place) (used : ℕ) : Type 0 where
+pub record Agrees (q : Putting) (out : List Symbol) (s : State) (place : Lines) (used : ℕ) : Type 0 where
   pub same : out ≡ q.out
   pub last : s.last ≡ q.last
   pub fed : s.fed ≡ q.fed
@@ -81,10 +81,10 @@ insertion_length : (o : Option Kind) (out : List Symbol) (line : ℕ) (x : Symbo
 insertion_length None out line x = omega (arith, length-append (out ++ []) (x ∷ []), length-append out [])
 insertion_length (Some k) out line x = omega (arith, length-append (out ++ symbol k line None [] ∷ []) (x ∷ []), length-append out (symbol k line None [] ∷ []))
 
-abbrev pub AfterPiece : Putting → List ℕ → What → List Symbol → Place → ℕ → Ended → Type 0
+abbrev pub AfterPiece : Putting → List ℕ → What → List Symbol → Lines → ℕ → Ended → Type 0
 AfterPiece q t w out place used e = (q2 : Putting) × (put_as q t w q.get ≡ Some q2) × Agrees q2 (put_on out e.given place.line used t) e.state (at place.line (get_line_after place e.given)) used
 
-symbol_agrees : {used : ℕ} (g : Option ℕ) (q : Putting) (out : List Symbol) (s : State) (place : Place) (t : List ℕ) (k : Kind) → q.get ≡ g → Agrees q out s place used → s.get ≡ false → room_for (inserted s.last k s.fed) ≤ s.symbols
+symbol_agrees : {used : ℕ} (g : Option ℕ) (q : Putting) (out : List Symbol) (s : State) (place : Lines) (t : List ℕ) (k : Kind) → q.get ≡ g → Agrees q out s place used → s.get ≡ false → room_for (inserted s.last k s.fed) ≤ s.symbols
     → (q2 : Putting) × (put_as q t (whats.Symbol k) g ≡ Some q2) × Agrees q2 (put_on out (givens.Symbol (inserted s.last k s.fed) k) place.line used t) (state s.mode s.bytes (s.symbols - room_for (inserted s.last k s.fed)) (Some k) false s.get) (at place.line place.get_line) used
 symbol_agrees {used} None q out s place t k none a off room =
     let ins : inserted s.last k s.fed ≡ inserted q.last k q.fed = let x = a.last in let y = a.fed in rw (x, y) refl in
@@ -110,7 +110,7 @@ symbol_agrees (Some g) q out s place t k some a off room =
     let get : GetAgrees (Some g) s.get place.get_line = subst (λ (x : Option ℕ). GetAgrees x s.get place.get_line) some a.get in
     absurd (let z : true ≡ false = sym get.0 ∙ off in cc)
 
-get_agrees : {used : ℕ} (g : Option ℕ) (q : Putting) (out : List Symbol) (s : State) (place : Place) (t : List ℕ) → q.get ≡ g → Agrees q out s place used → s.get ≡ false → 1 ≤ s.symbols
+get_agrees : {used : ℕ} (g : Option ℕ) (q : Putting) (out : List Symbol) (s : State) (place : Lines) (t : List ℕ) → q.get ≡ g → Agrees q out s place used → s.get ≡ false → 1 ≤ s.symbols
     → (q2 : Putting) × (put_as q t whats.Get g ≡ Some q2) × Agrees q2 out (state s.mode s.bytes (s.symbols - 1) s.last false true) (at place.line place.line) used
 get_agrees None q out s place t none a off room =
     let wait : waiting q.get ≡ 0 = ap waiting none in
@@ -119,10 +119,10 @@ get_agrees (Some g) q out s place t some a off room =
     let get : GetAgrees (Some g) s.get place.get_line = subst (λ (x : Option ℕ). GetAgrees x s.get place.get_line) some a.get in
     absurd (let z : true ≡ false = sym get.0 ∙ off in cc)
 
-after_as : {used : ℕ} (q : Putting) (t : List ℕ) (w : What) (out : List Symbol) (place : Place) (d e : Ended) → done d ≡ done e → AfterPiece q t w out place used d → AfterPiece q t w out place used e
+after_as : {used : ℕ} (q : Putting) (t : List ℕ) (w : What) (out : List Symbol) (place : Lines) (d e : Ended) → done d ≡ done e → AfterPiece q t w out place used d → AfterPiece q t w out place used e
 after_as {used} q t w out place d e same h = subst (λ (x : Ended). AfterPiece q t w out place used x) (done_is d e same) h
 
-pub ended_agrees : {used : ℕ} (w : What) (q : Putting) (out : List Symbol) (s : State) (place : Place) (t : List ℕ) (e : Ended) → Agrees q out s place used → ended_what s w ≡ Ok e → AfterPiece q t w out place used e
+pub ended_agrees : {used : ℕ} (w : What) (q : Putting) (out : List Symbol) (s : State) (place : Lines) (t : List ℕ) (e : Ended) → Agrees q out s place used → ended_what s w ≡ Ok e → AfterPiece q t w out place used e
 ended_agrees whats.Gap q out s place t e a h = after_as q t whats.Gap out place (ended_as s givens.Nothing) e h (q, refl, record { same = a.same; last = a.last; fed = a.fed; line = a.line; get = a.get; count = a.count; bytes = a.bytes })
 ended_agrees whats.Get q out s place t e a h =
     elim (picks (ltb s.symbols 1) (Err SectionTooLong) _ (done e) h) [

@@ -5,12 +5,12 @@ use Rattle.std.specs.Prelude.{slice_range, ◌-◌}
 use Rattle.bk_base.specs.declared.source_fault.SourceFault.{SourceFault}
 use Rattle.bk_lex.specs.declared.machine.Fault.{Fault}
 use Rattle.bk_lex.specs.Counting.{Step}
-use Rattle.bk_lex.specs.declared.counting.Given.{Given}
+use Rattle.bk_lex.specs.declared.counting.PieceResult.{PieceResult}
 use Rattle.bk_lex.specs.declared.counting.State.{State}
 use Rattle.bk_lex.specs.declared.counting.Act.{Act}
 use Rattle.bk_lex.specs.declared.counting.Act.TheVariants.{Goes, Begins, Names}
 use Rattle.bk_lex.specs.declared.machine.Header.{Header}
-use Rattle.bk_lex.specs.declared.scan.Place.{Place}
+use Rattle.bk_lex.specs.declared.scan.Lines.{Lines}
 use Rattle.bk_lex.specs.Symbol.{Symbol}
 use Rattle.bk_lex.specs.Header.{header_symbols}
 use Rattle.bk_lex.specs.Counting.{step_of, finished, ◌>>=◌}
@@ -44,10 +44,10 @@ unfolding run
 is_done r text i total le e = sym e ∙ at_drop_all (run r) text i le
 
 pub end_bad : (r : Reading) (text : List ℕ) (i : ℕ) (f : Fault) (total : Result Section SourceFault) → length text ≤ i → run r (drop i text) ≡ total → Err f ≡ finished r.state → total ≡ Err (placed_fault r.state r.place f)
-end_bad r text i f total le e h = is_done r text i total le e ∙ ap (λ (x : Result Given Fault). end_as r x) (sym h)
+end_bad r text i f total le e h = is_done r text i total le e ∙ ap (λ (x : Result PieceResult Fault). end_as r x) (sym h)
 
-pub end_good : (r : Reading) (text : List ℕ) (i : ℕ) (g : Given) (total : Result Section SourceFault) → length text ≤ i → run r (drop i text) ≡ total → Ok g ≡ finished r.state → total ≡ end_as r (Ok g)
-end_good r text i g total le e h = is_done r text i total le e ∙ ap (λ (x : Result Given Fault). end_as r x) (sym h)
+pub end_good : (r : Reading) (text : List ℕ) (i : ℕ) (g : PieceResult) (total : Result Section SourceFault) → length text ≤ i → run r (drop i text) ≡ total → Ok g ≡ finished r.state → total ≡ end_as r (Ok g)
+end_good r text i g total le e h = is_done r text i total le e ∙ ap (λ (x : Result PieceResult Fault). end_as r x) (sym h)
 
 pub grows : (text : List ℕ) (start i : ℕ) → start ≤ i → i < length text → slice_range text start i ++ get_or text i 0 ∷ [] ≡ slice_range text start (i + 1)
 grows text start i le lt =
@@ -65,25 +65,25 @@ single text i lt =
 
 -- ---- the three things that a byte may do, with what the loop holds behind it
 
-abbrev pub Joined : List ℕ → ℕ → List Symbol → ℕ → Place → Step → Result Section SourceFault → Type 0
+abbrev pub Joined : List ℕ → ℕ → List Symbol → ℕ → Lines → Step → Result Section SourceFault → Type 0
 Joined text i out start place t total = (start ≤ i + 1) × (behind (reading out t.state (slice_range text start (i + 1)) place (i + 1)) (drop (i + 1) text) ≡ total)
 
-abbrev pub Before : List ℕ → ℕ → List Symbol → State → ℕ → Place → Step → Result Section SourceFault → Type 0
+abbrev pub Before : List ℕ → ℕ → List Symbol → State → ℕ → Lines → Step → Result Section SourceFault → Type 0
 Before text i out s start place t total = (start ≤ i) × (i < length text) × (run (reading out s (slice_range text start i) place i) (drop i text) ≡ total) × (Ok t ≡ step_of s (get_or text i 0))
 
-acted : (text : List ℕ) (i : ℕ) (out : List Symbol) (s : State) (start : ℕ) (place : Place) (t : Step) (act : Act) (total : Result Section SourceFault) → Before text i out s start place t total → t.act ≡ act
+acted : (text : List ℕ) (i : ℕ) (out : List Symbol) (s : State) (start : ℕ) (place : Lines) (t : Step) (act : Act) (total : Result Section SourceFault) → Before text i out s start place t total → t.act ≡ act
     → behind (read (reading out s (slice_range text start i) place i) (get_or text i 0) t.state act) (drop (i + 1) text) ≡ total
 acted text i out s start place t act total h e =
     ap (λ (a : Act). behind (read (reading out s (slice_range text start i) place i) (get_or text i 0) t.state a) (drop (i + 1) text)) (sym e) ∙ good (reading out s (slice_range text start i) place i) text i t total h.1 h.2 h.3
 
-pub joined_goes : (text : List ℕ) (i : ℕ) (out : List Symbol) (s : State) (start : ℕ) (place : Place) (t : Step) (total : Result Section SourceFault) → Before text i out s start place t total → t.act ≡ Goes
+pub joined_goes : (text : List ℕ) (i : ℕ) (out : List Symbol) (s : State) (start : ℕ) (place : Lines) (t : Step) (total : Result Section SourceFault) → Before text i out s start place t total → t.act ≡ Goes
     → Joined text i out start place t total
 joined_goes text i out s start place t total h e = (omega (arith, h.0), rw (← (grows text start i h.0 h.1)) (acted text i out s start place t Goes total h e))
 
-pub joined_begins : (text : List ℕ) (i : ℕ) (out : List Symbol) (s : State) (start : ℕ) (place : Place) (t : Step) (total : Result Section SourceFault) (g : Given) → Before text i out s start place t total → t.act ≡ Begins g
+pub joined_begins : (text : List ℕ) (i : ℕ) (out : List Symbol) (s : State) (start : ℕ) (place : Lines) (t : Step) (total : Result Section SourceFault) (g : PieceResult) → Before text i out s start place t total → t.act ≡ Begins g
     → Joined text i (put_on out g place.line i (slice_range text start i)) i (place_after place g (get_or text i 0)) t total
 joined_begins text i out s start place t total g h e = (omega arith, rw (← (single text i h.1)) (acted text i out s start place t (Begins g) total h e))
 
-pub joined_names : (text : List ℕ) (i : ℕ) (out : List Symbol) (s : State) (start : ℕ) (place : Place) (t : Step) (total : Result Section SourceFault) (n : Header) → Before text i out s start place t total → t.act ≡ Names n
+pub joined_names : (text : List ℕ) (i : ℕ) (out : List Symbol) (s : State) (start : ℕ) (place : Lines) (t : Step) (total : Result Section SourceFault) (n : Header) → Before text i out s start place t total → t.act ≡ Names n
     → Joined text i (out ++ header_symbols n place.get_line) start place t total
 joined_names text i out s start place t total n h e = (omega (arith, h.0), rw (← (grows text start i h.0 h.1)) (acted text i out s start place t (Names n) total h e))

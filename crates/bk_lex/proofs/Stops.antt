@@ -11,8 +11,8 @@ use Rattle.bk_lex.specs.declared.machine.Base.{Base}
 use Rattle.bk_lex.specs.declared.machine.Side.{Side}
 use Rattle.bk_lex.specs.declared.machine.Mode.{Mode}
 use Rattle.bk_lex.specs.declared.machine.Mode.TheVariants.{Blank, Comment, Dot, Word, Hash, HashX, Number, Dollar, Bracket, Text, TextEscape, TextEnd, Quote, QuoteEscape, QuoteFull, QuoteEnd, Mark, Name}
-use Rattle.bk_lex.specs.declared.machine.Next.{Next}
-use Rattle.bk_lex.specs.declared.machine.Next.TheVariants.{Goes, Ends, Names, Bad}
+use Rattle.bk_lex.specs.declared.machine.Effect.{Effect}
+use Rattle.bk_lex.specs.declared.machine.Effect.TheVariants.{Goes, Ends, Names, Bad}
 use Rattle.bk_lex.specs.Machine.{next, is_digit_of, digits_in, digits_with, grows, end_fault}
 use Rattle.bk_lex.specs.Pieces.{Sort, blank, comment, dot, word, number, bracket, string, character, sign, AreDigits, value_from, IsTag, Spelled, IsBounded, NoLonger}
 use Rattle.bk_lex.proofs.SignLemmas.{picks}
@@ -24,7 +24,7 @@ use Rattle.bk_lex.proofs.Onward.{no_names}
 
 -- ---- a byte more of a whole piece
 
-abbrev pub StaysWhole : Next → Type 0
+abbrev pub StaysWhole : Effect → Type 0
 StaysWhole x = (n : Mode) → x ≡ Goes n → IsWhole n
 
 whole_goes : (m : Mode) → IsWhole m → StaysWhole (Goes m)
@@ -64,7 +64,7 @@ stays_whole QuoteFull k c e = absurd cc
 stays_whole (Name n) k c e = absurd cc
 
 -- a byte too many is still of the same sort
-abbrev NotBad : Next → Type 0
+abbrev NotBad : Effect → Type 0
 NotBad x = (f : Fault) → x ≡ Bad f → ⊥
 
 grown_bad : (o : Option Sign) → NotBad (grows o)
@@ -115,7 +115,7 @@ longer_at (Name n) k t c f s h e = absurd cc
 no_more : (c : ℕ) → c ∷ [] ≡ [] → ⊥
 no_more c e = cc
 
-stops_at : (x : Next) (m : Mode) (k : Sort) (t : List ℕ) (c : ℕ) (more : List ℕ) → next m c ≡ x → walk_piece t ≡ Goes m → sort_of m ≡ Some k → NoLonger t (c ∷ more) → x ≡ Ends
+stops_at : (x : Effect) (m : Mode) (k : Sort) (t : List ℕ) (c : ℕ) (more : List ℕ) → next m c ≡ x → walk_piece t ≡ Goes m → sort_of m ≡ Some k → NoLonger t (c ∷ more) → x ≡ Ends
 stops_at Ends m k t c more e w s longest = refl
 stops_at (Goes n) m k t c more e w s longest =
     let whole = stays_whole m k c s n e in
@@ -157,11 +157,11 @@ longest_stops m k t (c ∷ more) w s longest = stops_at (next m c) m k t c more 
 
 -- ---- a piece within its bounds is gone over
 
-abbrev pub GoneOver : Sort → Next → Type 0
+abbrev pub GoneOver : Sort → Effect → Type 0
 GoneOver k x = (m : Mode) × (x ≡ Goes m) × (sort_of m ≡ Some k)
 
-gone_as : (k : Sort) (x y : Next) → x ≡ y → GoneOver k y → GoneOver k x
-gone_as k x y e h = subst (λ (z : Next). GoneOver k z) (sym e) h
+gone_as : (k : Sort) (x y : Effect) → x ≡ y → GoneOver k y → GoneOver k x
+gone_as k x y e h = subst (λ (z : Effect). GoneOver k z) (sym e) h
 
 word_over : (t : List ℕ) → Spelled word t → length t ≤ 255 → GoneOver word (walk_piece t)
 unfolding walk_piece

@@ -15,8 +15,8 @@ use Rattle.bk_lex.specs.declared.machine.Side.{Side}
 use Rattle.bk_lex.specs.declared.machine.Side.TheVariants.{Opening, Closing}
 use Rattle.bk_lex.specs.declared.machine.Mode.{Mode}
 use Rattle.bk_lex.specs.declared.machine.Mode.TheVariants.{Blank, Comment, Dot, Word, Hash, HashX, Number, Dollar, Bracket, Text, TextEscape, TextEnd, Quote, QuoteEscape, QuoteFull, QuoteEnd, Mark, Name}
-use Rattle.bk_lex.specs.declared.machine.Next.{Next}
-use Rattle.bk_lex.specs.declared.machine.Next.TheVariants.{Goes, Ends, Bad}
+use Rattle.bk_lex.specs.declared.machine.Effect.{Effect}
+use Rattle.bk_lex.specs.declared.machine.Effect.TheVariants.{Goes, Ends, Bad}
 use Rattle.bk_lex.specs.Machine.{next, is_digit_of, digits_in, digits_with, first_digit, one_more, end_fault}
 use Rattle.bk_lex.specs.Pieces.{Sort, blank, comment, dot, word, number, bracket, string, character, sign, IsLead, AreDigits, bracket_byte, IsTag, Holds, IsOne, is_no_line_feed, Spelled, NoLonger}
 use Rattle.bk_lex.proofs.Walk.{walk, walk_piece, walk-append, walk_piece-append, walk_bad}
@@ -74,7 +74,7 @@ bracket_gone : (side : Side) (tag : List ℕ) → IsTag tag → Gone (bracket si
 unfolding walk
 bracket_gone side [] h = inl (Bracket side 0, refl, refl)
 bracket_gone side (b ∷ bs) h =
-    subst (λ (x : Next). Gone (bracket side) x) (sym (tag_first side b bs h)) (
+    subst (λ (x : Effect). Gone (bracket side) x) (sym (tag_first side b bs h)) (
     elim (tag_go bs side 1 (omega arith) (omega arith) h.2) [
       | inl p ↦ inl (_, p.1, refl)
       | inr p ↦ inr (_, p.1, refl)
@@ -102,34 +102,10 @@ character_walk (a ∷ c ∷ d ∷ rest) h = absurd h
 pub sign_walk : (s : Sign) → walk_piece (spelling s) ≡ Goes (Mark s)
 unfolding walk walk_piece
 sign_walk signs.Open = refl
-sign_walk signs.Close = refl
-sign_walk signs.Plus = refl
-sign_walk signs.Minus = refl
-sign_walk signs.Star = refl
-sign_walk signs.Slash = refl
-sign_walk signs.Bang = refl
-sign_walk signs.Percent = refl
-sign_walk signs.At = refl
-sign_walk signs.Equal = refl
-sign_walk signs.NotEqual = refl
-sign_walk signs.Less = refl
-sign_walk signs.Greater = refl
-sign_walk signs.LessEqual = refl
-sign_walk signs.GreaterEqual = refl
-sign_walk signs.ShiftLeft = refl
-sign_walk signs.ShiftRight = refl
-sign_walk signs.Tilde = refl
-sign_walk signs.Ampersand = refl
-sign_walk signs.Bar = refl
-sign_walk signs.Arrow = refl
-sign_walk signs.Comma = refl
-sign_walk signs.Semicolon = refl
-sign_walk signs.Colon = refl
-sign_walk signs.Assign = refl
-sign_walk signs.Query = refl
+sign_walk _ = refl
 
-gone_as : (k : Sort) (x y : Next) → x ≡ y → Gone k y → Gone k x
-gone_as k x y e h = subst (λ (z : Next). Gone k z) (sym e) h
+gone_as : (k : Sort) (x y : Effect) → x ≡ y → Gone k y → Gone k x
+gone_as k x y e h = subst (λ (z : Effect). Gone k z) (sym e) h
 
 pub blank_walk : (b : ℕ) → is_blank b ≡ true → walk_piece (b ∷ []) ≡ Goes Blank
 unfolding walk walk_piece
@@ -148,10 +124,10 @@ spelled_gone string t h = gone_as string _ _ (ap walk_piece h.2) (string_gone h.
 spelled_gone character t h = inl (QuoteEnd, ap walk_piece h.1 ∙ character_walk h.0 h.2, refl)
 spelled_gone (sign s) t h = inl (Mark s, ap walk_piece h ∙ sign_walk s, refl)
 
-goes_ends : (m : Mode) (x : Next) → x ≡ Goes m → x ≢ Ends
+goes_ends : (m : Mode) (x : Effect) → x ≡ Goes m → x ≢ Ends
 goes_ends m x e h = cc
 
-bad_ends : (f : Fault) (x : Next) → x ≡ Bad f → x ≢ Ends
+bad_ends : (f : Fault) (x : Effect) → x ≡ Bad f → x ≢ Ends
 bad_ends f x e h = cc
 
 pub spelled_no_end : (k : Sort) (t : List ℕ) → Spelled k t → walk_piece t ≢ Ends
@@ -185,7 +161,7 @@ pub cond_all : {A : Type 0} (P : A → Type 0) (b : Bool) (x y : A) → P x → 
 cond_all P true x y p q = p
 cond_all P false x y p q = q
 
-abbrev NotEnds : Next → Type 0
+abbrev NotEnds : Effect → Type 0
 NotEnds x = x ≡ Ends → ⊥
 
 abbrev pub IsWhole : Mode → Type 0

@@ -13,15 +13,15 @@ use Rattle.bk_lex.specs.declared.counting.Act.TheVariants as acts
 use Rattle.bk_lex.specs.declared.lexer.Found.{Found}
 use Rattle.bk_lex.specs.declared.lexer.Found.TheVariants as founds
 use Rattle.bk_lex.specs.declared.lexer.Pieces.{Pieces}
-use Rattle.bk_lex.specs.declared.scan.Place.{Place}
+use Rattle.bk_lex.specs.declared.scan.Lines.{Lines}
 
 -- the symbols in the bytes, the place where the incomplete piece begins, and the lines there
 pub record Marks : Type 0 where
   pub found : List Found
   pub piece : ℕ
-  pub place : Place
+  pub place : Lines
 
-abbrev pub marks : List Found → ℕ → Place → Marks
+abbrev pub marks : List Found → ℕ → Lines → Marks
 marks found piece place = record { found = found; piece = piece; place = place }
 
 abbrev pub marks_of : Pieces → Marks

@@ -8,16 +8,11 @@ ghost use Rattle.bk_lex.specs.declared.reserved.What.TheVariants.{Gap, Get};
 ghost use Rattle.bk_lex.specs.declared.counting.Act.TheVariants.{Goes};
 ghost use Rattle.bk_lex.specs.Counting.{step_of, step_as, within, ended, ended_what, ended_symbol, ended_get_as, opened_by, begun, begun_as, finished, start, moved, header_rest, in_get, room_for, least_room, named, opened};
 
-use crate::machine::{Fault, Header, LONGEST, Mode, Next, begin, end_fault, follow, what_of};
+use crate::machine::{Effect, Fault, Header, LONGEST, Mode, begin, end_fault, follow, what_of};
 use crate::reserved::{What, longer_code};
 use crate::sign::Sign;
 use crate::token::Kind;
-
-/// The most bytes of a section.
-pub const SECTION_BYTES: u32 = 1_048_576;
-
-/// The most symbols of a section, those of the header and the inserted ones counted.
-pub const SECTION_SYMBOLS: u32 = 262_144;
+use bk_base::limit::{SECTION_BYTES, SECTION_SYMBOLS};
 
 /// The state of the machine in a section.
 ///
@@ -41,7 +36,7 @@ pub struct State {
 
 /// The result of a piece.
 #[derive(Clone, Copy, Debug, PartialEq, Eq)]
-pub enum Given {
+pub enum PieceResult {
     /// Nothing.
     Nothing,
     /// A symbol, and what is inserted before it.
@@ -56,7 +51,7 @@ pub enum Act {
     /// It goes on with the piece.
     Goes,
     /// It begins a piece. This is the result of the piece before it.
-    Begins(Given),
+    Begins(PieceResult),
     /// It is the last byte of the string of a GET.
     Names(Header),
 }
@@ -65,7 +60,7 @@ pub enum Act {
 #[derive(Clone, Copy, Debug, PartialEq, Eq)]
 pub struct Ended {
     pub state: State,
-    pub given: Given,
+    pub given: PieceResult,
 }
 
 /// The state before a section.
@@ -74,7 +69,7 @@ pub fn start() -> State
 {
     State {
         mode: Mode::Blank,
-        bytes: SECTION_BYTES,
+        bytes: SECTION_BYTES as u32,
         symbols: SECTION_SYMBOLS,
         last: None,
         fed: false,
@@ -190,11 +185,11 @@ pub fn end_piece(state: State) -> Result<Ended, Fault>
     match what_of(state.mode) {
         What::Gap => Ok(Ended {
             state,
-            given: Given::Nothing,
+            given: PieceResult::Nothing,
         }),
         What::Get => Ok(Ended {
             state: ended_get(state)?,
-            given: Given::Get,
+            given: PieceResult::Get,
         }),
         What::Symbol(kind) => ended_symbol(state, kind),
     }
@@ -233,7 +228,7 @@ fn ended_symbol(state: State, kind: Kind) -> Result<Ended, Fault>
                 fed: false,
                 ..state
             },
-            given: Given::Symbol(insertion, kind),
+            given: PieceResult::Symbol(insertion, kind),
         }),
     }
 }
@@ -328,7 +323,7 @@ fn after_gap(state: &mut State, mode: Mode, byte: u8) -> Result<Act, Fault>
     ensures bytes { state.new.bytes ≡ state.old.bytes }
 {
     begin_piece(state, mode, byte)?;
-    Ok(Act::Begins(Given::Nothing))
+    Ok(Act::Begins(PieceResult::Nothing))
 }
 
 /// A byte that begins a piece after a symbol.
@@ -358,7 +353,7 @@ fn after_symbol(state: &mut State, kind: Kind, mode: Mode, byte: u8) -> Result<A
     state.symbols = symbols;
     state.last = Some(kind);
     state.fed = byte == b'\n';
-    Ok(Act::Begins(Given::Symbol(insertion, kind)))
+    Ok(Act::Begins(PieceResult::Symbol(insertion, kind)))
 }
 
 /// A byte that begins a piece after the word GET.
@@ -371,7 +366,7 @@ fn after_get(state: &mut State, mode: Mode, byte: u8) -> Result<Act, Fault>
     let mut after = ended_get(*state)?;
     begin_piece(&mut after, mode, byte)?;
     *state = after;
-    Ok(Act::Begins(Given::Get))
+    Ok(Act::Begins(PieceResult::Get))
 }
 
 /// A byte that begins a piece, and ends the one before it.
@@ -409,7 +404,7 @@ fn blank_again(state: &mut State, byte: u8) -> Act
     if byte == b'\n' {
         state.fed = true;
     }
-    Act::Begins(Given::Nothing)
+    Act::Begins(PieceResult::Nothing)
 }
 
 /// Whether a letter goes on with a word. Most bytes are such letters, so they come before all others.
@@ -445,13 +440,13 @@ fn moved(state: &mut State, byte: u8) -> Result<Act, Fault>
         return Ok(Act::Goes);
     }
     match follow(state.mode, byte) {
-        Next::Goes(mode) => {
+        Effect::Goes(mode) => {
             state.mode = mode;
             Ok(Act::Goes)
         }
-        Next::Ends => opened(state, byte),
-        Next::Names(header) => named(state, header),
-        Next::Bad(fault) => Err(fault),
+        Effect::Ends => opened(state, byte),
+        Effect::Names(header) => named(state, header),
+        Effect::Bad(fault) => Err(fault),
     }
 }
 
@@ -494,7 +489,7 @@ pub fn take_byte(state: &mut State, byte: u8) -> Result<Act, Fault>
 }
 
 /// The result of the last piece of a text, or the fault that the text's end makes certain.
-pub fn finished(state: State) -> Result<Given, Fault>
+pub fn finished(state: State) -> Result<PieceResult, Fault>
     ensures { result ≡ finished state }
 {
     if let Some(fault) = end_fault(state.mode) {

@@ -1,7 +1,7 @@
 //! The lexer of a section whose bytes come one after another.
 ghost use Rattle.std.specs.Prelude.{◌≡◌, ◌<◌, ◌≤◌, ◌^◌, ◌++◌, ◌∷◌, [], length, OnOk, IfOk};
 ghost use Rattle.bk_lex.specs.declared.cutter.Cut.TheVariants.{More, End};
-ghost use Rattle.bk_lex.specs.declared.counting.Given.TheVariants.{Symbol};
+ghost use Rattle.bk_lex.specs.declared.counting.PieceResult.TheVariants.{Symbol};
 ghost use Rattle.bk_lex.specs.declared.counting.Act.TheVariants.{Begins};
 ghost use Rattle.bk_lex.specs.Symbol.{symbols_of};
 ghost use Rattle.bk_lex.specs.Cutting.{Means};
@@ -10,12 +10,13 @@ ghost use Rattle.bk_lex.specs.Found.{symbols_found, all_found, found_in, AreWith
 ghost use Rattle.bk_lex.specs.Lexers.{marks_of, marked};
 
 use crate::adding::add;
-use crate::counting::{Act, Given, SECTION_SYMBOLS, State, finished, past, start, take_next};
+use crate::counting::{Act, PieceResult, State, finished, past, start, take_next};
 use crate::cutter::Cut;
 use crate::header::put_header;
 use crate::machine::{Fault, Header};
-use crate::scan::{Lexed, Place, is_dot, placed_fault, put};
+use crate::scan::{Lexed, Lines, is_dot, placed_fault, put};
 use crate::token::{Kind, Token};
+use bk_base::limit::SECTION_SYMBOLS;
 use bk_base::{Line, Refused, SourceFault};
 use std::alloc::{AllocError, Global};
 use std::marker::Model;
@@ -67,7 +68,7 @@ pub(crate) struct Pieces {
     found: Vec<Found>,
     /// The place where the incomplete piece begins.
     piece: usize,
-    place: Place,
+    place: Lines,
 }
 
 /// The bytes of a section so far, and the symbols in them. Contracts see the bytes, and the line of the first.
@@ -184,14 +185,14 @@ fn push_last(bytes: &mut Vec<u8>, byte: u8) -> Result<(), AllocError>
 impl Pieces {
     /// Records the result of the piece before a byte that begins one. The byte has this number of bytes before it.
     #[inline(always)]
-    fn begin(&mut self, given: Given, byte: u8, before: usize) -> Result<(), AllocError>
+    fn begin(&mut self, given: PieceResult, byte: u8, before: usize) -> Result<(), AllocError>
         requires order { self.old.piece ≤ before }
         requires small { before < 2 ^ 32 }
         ensures { OnOk result (marks_of self.new ≡ marked (marks_of self.old) (Begins given) byte before) }
     {
         match given {
-            Given::Nothing => {}
-            Given::Symbol(insertion, kind) => find(
+            PieceResult::Nothing => {}
+            PieceResult::Symbol(insertion, kind) => find(
                 &mut self.found,
                 insertion,
                 kind,
@@ -199,7 +200,7 @@ impl Pieces {
                 self.piece,
                 before,
             )?,
-            Given::Get => self.place.get_line = self.place.line,
+            PieceResult::Get => self.place.get_line = self.place.line,
         }
         if byte == b'\n' {
             self.place.line = self.place.line.next();
@@ -234,7 +235,7 @@ impl Lexer {
             pieces: Pieces {
                 found: Vec::with_capacity(alloc, FIRST_FOUND)?,
                 piece: 0,
-                place: Place {
+                place: Lines {
                     line: from,
                     get_line: from,
                 },

@@ -4,8 +4,8 @@ use Rattle.bk_lex.specs.Counting.{Step, stepped}
 use Rattle.bk_lex.specs.Lexing.{reading, lexed}
 use Rattle.bk_lex.proofs.Sound.{within_bytes}
 use Rattle.bk_lex.proofs.Steps.{bad, stops, goes_on, end_bad, end_good, joined_goes, joined_begins, joined_names, Joined, Before}
-use Rattle.bk_lex.proofs.scan.read_section.Goals as goal
-use Rattle.bk_lex.proofs.scan.read_section.Goals.{in-Goes, in-Begins+in_ok-put-in-Begins, in-Names+in_ok-put_header-in-Names}
+use Rattle.bk_lex.proofs.scan.scan_section.Goals as goal
+use Rattle.bk_lex.proofs.scan.scan_section.Goals.{in-Goes, in-Begins+in_ok-put-in-Begins, in-Names+in_ok-put_header-in-Names}
 
 pub returns-in-Err : goal.returns-in-Err
 returns-in-Err c =
