@@ -17,9 +17,9 @@ use std::alloc::Global;
 /// the number of the kind.
 #[tactic(auto, using(crate::proofs::Whole::first_found, crate::proofs::Whole::none_found, crate::proofs::Whole::meanings_found, crate::proofs::Whole::words_found, crate::proofs::Whole::numbers_fit))]
 pub fn resolve(alloc: Global, section: &Section) -> Result<Resolved<'_>, Refused<SourceFault>>
-    // What is answered is what the section says, or the first of its faults.
+    // The meanings and words are those of the section; else the first of its faults is returned.
     ensures resolves { Resolves result (declarations_of section.now) }
-    // It is answered of this section.
+    // The result is of this section.
     ensures section { IfOk result (λ resolved. resolved.section.now ≡ section.now) }
 {
     let mut walk = Walk {
