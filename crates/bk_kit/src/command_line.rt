@@ -509,7 +509,7 @@ fn fault_of(error: clap::Error) -> LineFault
 
 /// What the words of a command line ask for. The first word is the name of the program.
 ///
-/// `Help` is answered where help or the version is asked for, `Bad` where the words are no command of the kit, a number
+/// `Help` is returned where help or the version is asked for, `Bad` where the words are no command of the kit, a number
 /// outside the limits included.
 pub fn order<S: AsStr>(alloc: Global, words: &[S]) -> Result<Order, LineFault>
     // The values are those that the command of `kit_command` reads from the words.
