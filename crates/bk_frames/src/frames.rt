@@ -11,8 +11,8 @@ use crate::frame::{Frame, Size};
 use bk_tree::Decl;
 use std::alloc::Global;
 
-/// The unfinished constructs: the section, with its declarations and their size, and above it the others, the last one on top. The budgets of
-/// the lowest of these are kept, of so many as were asked for.
+/// The unfinished constructs: the section, with its declarations and their size, and above it the others, the last one on top. The
+/// budgets of the lowest frames are kept, of as many as were computed.
 #[derive(Drop)]
 pub struct Frames {
     pub decls: Vec<Decl>,
@@ -23,5 +23,5 @@ pub struct Frames {
     ghost holds: { held ≡ size_of_declarations (declarations_in decls.items) },
     ghost spared: { Spared (spare_of_section held) above.items },
     ghost ample: { Ample decls.items above.items budgets.items },
-    ghost budget: { vec_len above < vec_capacity above },
+    ghost reserved: { vec_len above < vec_capacity above },
 }

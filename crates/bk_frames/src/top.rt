@@ -22,12 +22,12 @@ fn forget_budgets(frames: &mut Frames)
 /// Reserves memory for one frame more, or takes the last one away.
 #[cold]
 #[inline(never)]
-fn make_budget(above: &mut Vec<Frame>) -> Result<(), AllocError>
+fn reserve_frame(above: &mut Vec<Frame>) -> Result<(), AllocError>
     requires some { 0 < vec_len above.old }
     requires within { vec_len above.old ≤ vec_capacity above.old }
     ensures items { above.new.items ≡ (if is_ok result then above.old.items else take (vec_len above.old - 1) above.old.items) }
     ensures same { OnOk result (vec_len above.new ≡ vec_len above.old) }
-    ensures budget { vec_len above.new < vec_capacity above.new }
+    ensures reserved { vec_len above.new < vec_capacity above.new }
 {
     let Ok(()) = above.reserve(1) else {
         let _refused = above.pop();
@@ -38,15 +38,15 @@ fn make_budget(above: &mut Vec<Frame>) -> Result<(), AllocError>
 
 /// Puts a frame on top. Memory for it is there, and after it memory for one more: so no step has the code that drops a refused frame.
 #[inline(always)]
-fn push(above: &mut Vec<Frame>, frame: Frame) -> Result<(), AllocError>
+fn push_frame(above: &mut Vec<Frame>, frame: Frame) -> Result<(), AllocError>
     requires { vec_len above.old < vec_capacity above.old }
     ensures items { above.new.items ≡ (if is_ok result then above.old.items ++ frame ∷ [] else above.old.items) }
     ensures more { OnOk result (vec_len above.new ≡ vec_len above.old + 1) }
-    ensures budget { vec_len above.new < vec_capacity above.new }
+    ensures reserved { vec_len above.new < vec_capacity above.new }
 {
     above.push_reserved(frame);
     if above.len() == above.capacity() {
-        return make_budget(above);
+        return reserve_frame(above);
     }
     Ok(())
 }
@@ -54,7 +54,7 @@ fn push(above: &mut Vec<Frame>, frame: Frame) -> Result<(), AllocError>
 /// Puts an unfinished construct with these parts on top.
 #[inline(always)]
 #[tactic(auto, using(crate::proofs::Stacks::stack_push))]
-pub fn unfinished(frames: &mut Frames, unfinished: Unfinished, held: Size) -> Result<(), AllocError>
+pub fn push(frames: &mut Frames, unfinished: Unfinished, held: Size) -> Result<(), AllocError>
     requires { held ≡ held_in unfinished }
     ensures stack { IfOk result (λ _. stack_of frames.new ≡ unfinished_on unfinished (stack_of frames.old)) }
     ensures length { IfOk result (λ _. vec_len frames.new.above ≡ vec_len frames.old.above + 1) }
@@ -62,13 +62,13 @@ pub fn unfinished(frames: &mut Frames, unfinished: Unfinished, held: Size) -> Re
     if frames.budgets.len() > frames.above.len() {
         forget_budgets(frames);
     }
-    unfinished_still(frames, unfinished, held)
+    push_in_place(frames, unfinished, held)
 }
 
 /// Puts an unfinished construct with these parts on top, in place of one that had the same budgets.
 #[inline(always)]
 #[tactic(auto, using(crate::proofs::Stacks::stack_push))]
-pub fn unfinished_still(
+pub fn push_in_place(
     frames: &mut Frames,
     unfinished: Unfinished,
     held: Size,
@@ -79,7 +79,7 @@ pub fn unfinished_still(
     ensures length { IfOk result (λ _. vec_len frames.new.above ≡ vec_len frames.old.above + 1) }
 {
     let spare = spare_above(spare_of(frames), &unfinished, held);
-    push(
+    push_frame(
         &mut frames.above,
         Frame {
             unfinished,

@@ -22,7 +22,7 @@ use bk_frames::frame::{
 };
 use bk_frames::frames::Frames;
 use bk_frames::size::{LEAF, NOTHING, both, of_node};
-use bk_frames::top::unfinished;
+use bk_frames::top::push;
 use bk_grammar::symbols::{
     Guard, Heading, Repetition, assigns, guard_begun, heads_with, is_assign, is_by, is_colon,
     is_comma, is_do, is_or, is_sign, is_to, repetition_begun, simple,
@@ -115,7 +115,7 @@ pub fn command(
             Ok(())
         }
         None => {
-            unfinished(frames, Unfinished::Phrase(Phrase::Start), NOTHING)?;
+            push(frames, Unfinished::Phrase(Phrase::Start), NOTHING)?;
             operand(alloc, frames, now, token)
         }
     }
@@ -165,7 +165,7 @@ fn further(
     Err(Stop::Unexpected)
 }
 
-/// A destination is complete, of a command with several.
+/// A destination after the first is complete.
 #[inline(never)]
 fn complete_dest(
     alloc: Global,
@@ -231,7 +231,7 @@ fn complete_start(
             if !is_colon(token.kind) {
                 return Err(Stop::Unexpected);
             }
-            unfinished(
+            push(
                 frames,
                 Unfinished::Clause(Clause::Label(line, letters)),
                 NOTHING,
@@ -328,7 +328,7 @@ fn complete_guard(
     }
     let parts = sized.size;
     let condition = Box::new(alloc, sized.expr)?;
-    unfinished(
+    push(
         frames,
         Unfinished::Clause(Clause::Guarded(guard, line, condition)),
         parts,

@@ -26,7 +26,7 @@ use bk_frames::frame::{
 };
 use bk_frames::frames::Frames;
 use bk_frames::size::{NOTHING, are_no_items, both};
-use bk_frames::top::{pop, unfinished, unfinished_still};
+use bk_frames::top::{pop, push, push_in_place};
 use bk_grammar::spelling::name;
 use bk_grammar::symbols::{
     Declaring, closes, declares_with, is_colon, is_equal, is_semicolon, opens,
@@ -55,7 +55,7 @@ fn declare_in(
             let mut decls = decls;
             decls.push(decl)?;
             let block = Place::Block(line, false, decls, commands);
-            unfinished(frames, Unfinished::Place(block), both(held, size))?;
+            push(frames, Unfinished::Place(block), both(held, size))?;
             Ok(())
         }
         _ => Err(Stop::Unexpected),
@@ -203,7 +203,7 @@ fn in_block(
     }
     let head = in_head(&commands);
     let block = Place::Block(line, free, decls, commands);
-    unfinished_still(frames, Unfinished::Place(block), held)?;
+    push_in_place(frames, Unfinished::Place(block), held)?;
     if head {
         if let Some(what) = declares_with(token.kind) {
             now.set(declaration(alloc, frames, what, token.line)?);
@@ -407,7 +407,7 @@ fn due_within(
             if !is_colon(token.kind) {
                 return Err(Stop::Unexpected);
             }
-            unfinished(frames, Unfinished::Clause(Clause::Default(line)), NOTHING)?;
+            push(frames, Unfinished::Clause(Clause::Default(line)), NOTHING)?;
             now.set(ParserState::Maybe);
             Ok(())
         }

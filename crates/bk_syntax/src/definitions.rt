@@ -24,7 +24,7 @@ use bk_frames::frame::{
 };
 use bk_frames::frames::Frames;
 use bk_frames::size::{NOTHING, both, of_node};
-use bk_frames::top::{pop, unfinished, unfinished_still};
+use bk_frames::top::{pop, push, push_in_place};
 use bk_grammar::spelling::name;
 use bk_grammar::symbols::{is_and, is_be, is_close, is_comma, is_equal, is_name, is_open, is_vec};
 use bk_lex::Token;
@@ -548,7 +548,7 @@ pub fn init(
         now.set(want_for(frames, Member::Vector(token.line, names, inits), held)?);
         return Ok(());
     }
-    unfinished(
+    push(
         frames,
         Unfinished::Member(Member::Value(names, inits)),
         held,
@@ -575,7 +575,7 @@ pub fn in_let(
     let Some(name) = name_of(alloc, token)? else {
         return Err(Stop::Unexpected);
     };
-    unfinished_still(frames, Unfinished::Place(Place::Let(line, defs)), held)?;
+    push_in_place(frames, Unfinished::Place(Place::Let(line, defs)), held)?;
     now.set(due(frames, Place::Named(name), NOTHING)?);
     Ok(())
 }

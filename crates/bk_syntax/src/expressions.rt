@@ -25,7 +25,7 @@ use bk_frames::frame::{
 };
 use bk_frames::frames::Frames;
 use bk_frames::size::{LEAF, NOTHING, are_none, both, of_node};
-use bk_frames::top::{pop, unfinished, unfinished_still};
+use bk_frames::top::{pop, push, push_in_place};
 use bk_grammar::spelling::name;
 use bk_grammar::symbols::{
     Opening, goes_on, infix, inner_row, is_arrow, is_both, is_close, is_comma, is_open, opens_with,
@@ -47,7 +47,7 @@ pub fn want(
     requires { held ≡ held_in (Unfinished.OpenExpression operand) }
     ensures { IfOk result (λ now. state (stack_of frames.new) now ≡ want (operand_on operand (stack_of frames.old))) }
 {
-    unfinished(frames, Unfinished::OpenExpression(operand), held)?;
+    push(frames, Unfinished::OpenExpression(operand), held)?;
     Ok(ParserState::Want)
 }
 
@@ -57,7 +57,7 @@ pub fn want_in(frames: &mut Frames, phrase: Phrase, held: Size) -> Result<Parser
     requires { held ≡ held_in (Unfinished.Phrase phrase) }
     ensures { IfOk result (λ now. state (stack_of frames.new) now ≡ want (phrase_on phrase (stack_of frames.old))) }
 {
-    unfinished(frames, Unfinished::Phrase(phrase), held)?;
+    push(frames, Unfinished::Phrase(phrase), held)?;
     Ok(ParserState::Want)
 }
 
@@ -67,7 +67,7 @@ pub fn want_for(frames: &mut Frames, member: Member, held: Size) -> Result<Parse
     requires { held ≡ held_in (Unfinished.Member member) }
     ensures { IfOk result (λ now. state (stack_of frames.new) now ≡ want (member_on member (stack_of frames.old))) }
 {
-    unfinished(frames, Unfinished::Member(member), held)?;
+    push(frames, Unfinished::Member(member), held)?;
     Ok(ParserState::Want)
 }
 
@@ -81,7 +81,7 @@ pub fn wants_command(
     requires { held ≡ held_in (Unfinished.Clause clause) }
     ensures { IfOk result (λ now. state (stack_of frames.new) now ≡ begin (clause_on clause (stack_of frames.old))) }
 {
-    unfinished(frames, Unfinished::Clause(clause), held)?;
+    push(frames, Unfinished::Clause(clause), held)?;
     Ok(ParserState::Begin)
 }
 
@@ -91,7 +91,7 @@ pub fn due_at(frames: &mut Frames, point: Point, held: Size) -> Result<ParserSta
     requires { held ≡ held_in (Unfinished.Point point) }
     ensures { IfOk result (λ now. state (stack_of frames.new) now ≡ due (point_on point (stack_of frames.old))) }
 {
-    unfinished(frames, Unfinished::Point(point), held)?;
+    push(frames, Unfinished::Point(point), held)?;
     Ok(ParserState::Due)
 }
 
@@ -101,7 +101,7 @@ pub fn due(frames: &mut Frames, place: Place, held: Size) -> Result<ParserState,
     requires { held ≡ held_in (Unfinished.Place place) }
     ensures { IfOk result (λ now. state (stack_of frames.new) now ≡ due (place_on place (stack_of frames.old))) }
 {
-    unfinished(frames, Unfinished::Place(place), held)?;
+    push(frames, Unfinished::Place(place), held)?;
     Ok(ParserState::Due)
 }
 
@@ -112,7 +112,7 @@ pub fn due_still(frames: &mut Frames, place: Place, held: Size) -> Result<Parser
     requires budgets { HasBudgetsFor frames.old (place_on place (stack_of frames.old)) }
     ensures { IfOk result (λ now. state (stack_of frames.new) now ≡ due (place_on place (stack_of frames.old))) }
 {
-    unfinished_still(frames, Unfinished::Place(place), held)?;
+    push_in_place(frames, Unfinished::Place(place), held)?;
     Ok(ParserState::Due)
 }
 

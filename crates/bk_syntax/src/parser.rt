@@ -474,12 +474,12 @@ const FIRST_FRAMES: usize = 16;
 /// The section that these symbols are, with its end on line `end`, or the fault at a symbol: the first symbol such
 /// that no section within the limits begins with the symbols up to it.
 pub fn parse(alloc: Global, tokens: &[Token], end: Line) -> Result<Section, Refused<SourceFault>>
-    // What is answered is a tree of the symbols, or the first fault: a section within the limits begins with the symbols
-    // before it.
+    // The result is a tree of the symbols, or the first fault: a section within the limits begins with the symbols before
+    // it.
     ensures parses { Parses result (symbols_of tokens.now) end }
     // The tree is within the limits.
     ensures within { IfOk result (λ section. Within (declarations_of section)) }
-    // Where the symbols are a section within the limits, its tree is answered, unless memory keeps it back.
+    // Where the symbols are a section within the limits, the result is its tree, unless memory is refused.
     ensures only { (ds : Declarations) → IsSection ds (symbols_of tokens.now) → Gives result ds }
 {
     let above = Vec::with_capacity(alloc, FIRST_FRAMES)?;
