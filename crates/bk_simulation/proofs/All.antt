@@ -27,16 +27,16 @@ use Rattle.bk_simulation.proofs.Blocks.{block_runs}
 use Rattle.bk_meaning.proofs.Lemmas.{only_grows}
 
 -- what scopes add
-pub scope_after : (g : Setting) (m : Meanings) → Simulates g m → (cs : Actions) (mode : Mode) (env : Environment) (v : World) → After (history v) (scope_of m cs mode env v)
-scope_after g m sim cs mode env v =
-    each_way_after (history v) (in_order m cs mode (labelled cs env) v) (λ _ w. done w) (landing cs env (λ x w. m.scope cs (seeking (the_label x)) env w)) ((order_adds g m sim cs mode (labelled cs env)).at v)
-    (λ _. adds _ (λ w1. stays (history w1))) (λ x. landing_adds g m sim cs env x)
+pub scope_after : (setting : Setting) (inner : Meanings) → Simulates setting inner → (cs : Actions) (mode : Mode) (env : Environment) (v : World) → After (history v) (scope_of inner cs mode env v)
+scope_after setting inner sim cs mode env v =
+    each_way_after (history v) (in_order inner cs mode (labelled cs env) v) (λ _ w. done w) (landing cs env (λ x w. inner.scope cs (seeking (the_label x)) env w)) ((order_adds setting inner sim cs mode (labelled cs env)).at v)
+    (λ _. adds _ (λ w1. stays (history w1))) (λ x. landing_adds setting inner sim cs env x)
 
-pub alone_adds : (g : Setting) (m : Meanings) → Simulates g m → AloneAdds m
-alone_adds g m sim x env v = scope_after g m sim (alone x) forwards env v
+pub alone_adds : (setting : Setting) (inner : Meanings) → Simulates setting inner → AloneAdds inner
+alone_adds setting inner sim x env v = scope_after setting inner sim (alone x) forwards env v
 
-pub alone_runs : (g : Setting) (m : Meanings) → Simulates g m → AloneRuns g m
-alone_runs g m sim x z j c rest v l r = scope_runs g m sim (alone x) forwards z j l.0 c rest c v (l.1, l.2, l.3) refl r
+pub alone_runs : (setting : Setting) (inner : Meanings) → Simulates setting inner → AloneRuns setting inner
+alone_runs setting inner sim x z j c rest v l r = scope_runs setting inner sim (alone x) forwards z j l.0 c rest c v (l.1, l.2, l.3) refl r
 
 -- what operators add
 prefix_adds : (f : Prefix) (u : Value) → Adds (operate_prefix f u)
@@ -64,233 +64,233 @@ combined_adds o.Differ x y = numbers_add o.Differ x y
 combined_adds _ x y = adds _ (λ v. given_after _ v)
 
 -- a turn less
-ready_ticked : (g : Setting) (z : Configuration) (v : World) (n : ℕ) → Ready g z v → Ready g z (record v { turns = n })
-ready_ticked g z v n r =
+ready_ticked : (setting : Setting) (z : Configuration) (v : World) (n : ℕ) → Ready setting z v → Ready setting z (record v { turns = n })
+ready_ticked setting z v n r =
     record { named = r.named; fits = r.fits; low = r.low; high = r.high; deep = r.deep; frames = r.frames; room = r.room; lasts = r.lasts; words = r.words; in_hand = r.in_hand }
 
 -- places within larger accounts
-larger_address : (g : Setting) (s : State) (A B : Account) (z : Configuration) (rest : List Stmt) (v : World) (u : Target) (w1 : World) → A.most ≤ B.most → B.least ≤ A.least → HasAddress g s A z rest v u w1 → HasAddress g s B z rest v u w1
-larger_address g s A B z rest v (at a) w1 le ll y = record { arr = completed_more le ll y.arr; stands = y.stands }
-larger_address g s A B z rest v (byte_at a i) w1 le ll y = tt
+larger_address : (setting : Setting) (s : State) (A B : Account) (z : Configuration) (rest : List Stmt) (v : World) (u : Target) (w1 : World) → A.most ≤ B.most → B.least ≤ A.least → HasAddress setting s A z rest v u w1 → HasAddress setting s B z rest v u w1
+larger_address setting s A B z rest v (at a) w1 le ll y = record { arr = completed_more le ll y.arr; stands = y.stands }
+larger_address setting s A B z rest v (byte_at a i) w1 le ll y = tt
 
-larger_store : (g : Setting) (s : State) (A B : Account) (z : Configuration) (rest : List Stmt) (v : World) (u : Target) (w1 : World) → A.most ≤ B.most → B.least ≤ A.least → Destined g s A z rest v u w1 → Destined g s B z rest v u w1
-larger_store g s A B z rest v _ _ le ll (word x ob i b w1 a eb ep) = word x ob i b w1 (completed_more le ll a) eb ep
-larger_store g s A B z rest v _ _ le ll (through a w1 y) = through a w1 (record { arr = completed_more le ll y.arr; stands = y.stands })
-larger_store g s A B z rest v _ _ le ll (byte a i w1 y sa si) = byte a i w1 (completed_more le ll y) sa si
+larger_store : (setting : Setting) (s : State) (A B : Account) (z : Configuration) (rest : List Stmt) (v : World) (u : Target) (w1 : World) → A.most ≤ B.most → B.least ≤ A.least → Destined setting s A z rest v u w1 → Destined setting s B z rest v u w1
+larger_store setting s A B z rest v _ _ le ll (word x ob i b w1 a eb ep) = word x ob i b w1 (completed_more le ll a) eb ep
+larger_store setting s A B z rest v _ _ le ll (through a w1 y) = through a w1 (record { arr = completed_more le ll y.arr; stands = y.stands })
+larger_store setting s A B z rest v _ _ le ll (byte a i w1 y sa si) = byte a i w1 (completed_more le ll y) sa si
 
 -- and where a turn less was left
-ticked_address : (g : Setting) (s : State) (B : Account) (z : Configuration) (rest : List Stmt) (v : World) (n : ℕ) (u : Target) (w1 : World) → HasAddress g s B z rest (record v { turns = n }) u w1 → HasAddress g s B z rest v u w1
-ticked_address g s B z rest v n (at a) w1 y = record { arr = y.arr; stands = y.stands }
-ticked_address g s B z rest v n (byte_at a i) w1 y = tt
+ticked_address : (setting : Setting) (s : State) (B : Account) (z : Configuration) (rest : List Stmt) (v : World) (n : ℕ) (u : Target) (w1 : World) → HasAddress setting s B z rest (record v { turns = n }) u w1 → HasAddress setting s B z rest v u w1
+ticked_address setting s B z rest v n (at a) w1 y = record { arr = y.arr; stands = y.stands }
+ticked_address setting s B z rest v n (byte_at a i) w1 y = tt
 
-ticked_store : (g : Setting) (s : State) (B : Account) (z : Configuration) (rest : List Stmt) (v : World) (n : ℕ) (u : Target) (w1 : World) → Destined g s B z rest (record v { turns = n }) u w1 → Destined g s B z rest v u w1
-ticked_store g s B z rest v n _ _ (word x ob i b w1 a eb ep) = word x ob i b w1 a eb ep
-ticked_store g s B z rest v n _ _ (through a w1 y) = through a w1 (record { arr = y.arr; stands = y.stands })
-ticked_store g s B z rest v n _ _ (byte a i w1 y sa si) = byte a i w1 y sa si
+ticked_store : (setting : Setting) (s : State) (B : Account) (z : Configuration) (rest : List Stmt) (v : World) (n : ℕ) (u : Target) (w1 : World) → Destined setting s B z rest (record v { turns = n }) u w1 → Destined setting s B z rest v u w1
+ticked_store setting s B z rest v n _ _ (word x ob i b w1 a eb ep) = word x ob i b w1 a eb ep
+ticked_store setting s B z rest v n _ _ (through a w1 y) = through a w1 (record { arr = y.arr; stands = y.stands })
+ticked_store setting s B z rest v n _ _ (byte a i w1 y sa si) = byte a i w1 y sa si
 
-module _ (g : Setting) (p : Program) (m : Meanings) (procs : Procedures g p) (known : KnowsLibrary g) (sim : Simulates g m) where
+module _ (setting : Setting) (p : Program) (inner : Meanings) (procs : Procedures setting p) (known : KnowsLibrary setting) (simulated : Simulates setting inner) where
   -- ---- values
-  value_of_runs : (B : Account) (e : Expression) (z : Configuration) (c rest : List Stmt) (v : World) → 16 * v.turns + 12 ≤ B.most → B.least ≤ suc v.turns - turns_of false e → IsValue g z.scene z.depth z.env e c rest → Ready g z v
-      → RanValue g (start z c v) B z rest v (value_of p m e z.env v)
-  value_of_runs B (t.name l x) z c rest v le ll a r = name_runs g B z c x rest v (omega arith) (omega arith) a r
-  value_of_runs B (t.number l n) z c rest v le ll a r = number_runs g B z c n rest v (omega arith) (omega arith) a.0 a.1 r
-  value_of_runs B (t.text l x) z c rest v le ll a r = text_runs g B z c _ rest v z.env.next (omega arith) (omega arith) a.0 a.1 r
-  value_of_runs B (t.truth l x) z c rest v le ll a r = truth_runs g B z c x rest v (omega arith) (omega arith) a r
-  value_of_runs B (t.query l) z c rest v le ll a r = query_runs g B z c rest v (omega arith) (omega arith) a r
+  value_of_runs : (B : Account) (e : Expression) (z : Configuration) (c rest : List Stmt) (v : World) → 16 * v.turns + 12 ≤ B.most → B.least ≤ suc v.turns - turns_of false e → IsValue setting z.scene z.depth z.env e c rest → Ready setting z v
+      → RanValue setting (start z c v) B z rest v (value_of p inner e z.env v)
+  value_of_runs B (t.name l x) z c rest v le ll a r = name_runs setting B z c x rest v (omega arith) (omega arith) a r
+  value_of_runs B (t.number l n) z c rest v le ll a r = number_runs setting B z c n rest v (omega arith) (omega arith) a.0 a.1 r
+  value_of_runs B (t.text l x) z c rest v le ll a r = text_runs setting B z c _ rest v z.env.next (omega arith) (omega arith) a.0 a.1 r
+  value_of_runs B (t.truth l x) z c rest v le ll a r = truth_runs setting B z c x rest v (omega arith) (omega arith) a r
+  value_of_runs B (t.query l) z c rest v le ll a r = query_runs setting B z c rest v (omega arith) (omega arith) a r
   value_of_runs B (t.parens l e) z c rest v le ll a r =
       ran_first (omega arith) (omega arith) (λ u w1 y. record { arr = completed_more (omega arith) (omega arith) y.0.arr; stands = y.0.stands })
-      (sim.value e z c rest v a r)
+      (simulated.value e z c rest v a r)
   value_of_runs B (t.unary l q.Address e) z c rest v le ll a r =
       with_ran address_adds
-      (ran_more (omega arith) (omega arith) (sim.address e z c rest v a r)) addressed
+      (ran_more (omega arith) (omega arith) (simulated.address e z c rest v a r)) addressed
     where
       address_adds : (u : Target) → Adds (address_in u)
       address_adds (at a) = adds _ (λ w1. stays (history w1))
       address_adds (byte_at a i) = adds _ (λ w1. tt)
 
-      addressed : (u : Target) (w1 : World) → HasAddress g (start z c v) (for_value e v) z rest v u w1 → RanValue g (start z c v) B z rest v (address_in u w1)
+      addressed : (u : Target) (w1 : World) → HasAddress setting (start z c v) (for_value e v) z rest v u w1 → RanValue setting (start z c v) B z rest v (address_in u w1)
       addressed (at u) w1 y = went (record { arr = completed_more (omega arith) (omega arith) y.arr; stands = y.stands })
       addressed (byte_at u i) w1 y = went tt
   value_of_runs B (t.unary l q.Contents e) z c rest v le ll a r =
-      one_run g m sim B e z c (Monadic w.Contents ∷ rest) v _ _ (λ u. adds _ (λ w1. given_after _ w1)) (omega arith) (omega arith) a r (λ u w1 y pos. contents_run g (start z c v) (for_value e v) B z rest v w1 u (omega arith) (omega arith) r.deep y)
+      one_run setting inner simulated B e z c (Monadic w.Contents ∷ rest) v _ _ (λ u. adds _ (λ w1. given_after _ w1)) (omega arith) (omega arith) a r (λ u w1 y pos. contents_run setting (start z c v) (for_value e v) B z rest v w1 u (omega arith) (omega arith) r.deep y)
   value_of_runs B (t.unary l q.Plus e) z c rest v le ll a r =
-      one_run g m sim B e z c rest v _ _ (λ u. prefix_adds q.Plus u) (omega arith) (omega arith) a r (λ u w1 y pos. plus_run g (start z c v) (for_value e v) B z rest v w1 u (omega arith) (omega arith) y)
+      one_run setting inner simulated B e z c rest v _ _ (λ u. prefix_adds q.Plus u) (omega arith) (omega arith) a r (λ u w1 y pos. plus_run setting (start z c v) (for_value e v) B z rest v w1 u (omega arith) (omega arith) y)
   value_of_runs B (t.unary l q.Minus e) z c rest v le ll a r =
-      one_run g m sim B e z c (Monadic w.Negate ∷ rest) v _ _ (λ u. prefix_adds q.Minus u) (omega arith) (omega arith) a r (λ u w1 y pos. minus_run g (start z c v) (for_value e v) B z rest v w1 u (omega arith) (omega arith) r.deep y)
+      one_run setting inner simulated B e z c (Monadic w.Negate ∷ rest) v _ _ (λ u. prefix_adds q.Minus u) (omega arith) (omega arith) a r (λ u w1 y pos. minus_run setting (start z c v) (for_value e v) B z rest v w1 u (omega arith) (omega arith) r.deep y)
   value_of_runs B (t.unary l q.Not e) z c rest v le ll a r =
-      one_run g m sim B e z c (Monadic w.Not ∷ rest) v _ _ (λ u. prefix_adds q.Not u) (omega arith) (omega arith) a r (λ u w1 y pos. not_run g (start z c v) (for_value e v) B z rest v w1 u (omega arith) (omega arith) r.deep y)
+      one_run setting inner simulated B e z c (Monadic w.Not ∷ rest) v _ _ (λ u. prefix_adds q.Not u) (omega arith) (omega arith) a r (λ u w1 y pos. not_run setting (start z c v) (for_value e v) B z rest v w1 u (omega arith) (omega arith) r.deep y)
   value_of_runs B (t.binary l f i x y) z c rest v le ll a r =
-      two_run g m sim B x y z c a.0 (infix_code f ++ rest) v _ _ (λ u1 u2. combined_adds f u1 u2) (omega arith) (omega arith) a.1 a.2 r (λ u1 u2 w2 d pos. combined_run g (start z c v) (for_two x y v) B z f rest v w2 u1 u2 (omega arith) (omega arith) r.deep d)
-  value_of_runs B (t.choice l i e x y) z c rest v le ll a r = choice_run g m sim B e x y z a.0 a.1 c a.2 a.3 rest v le (omega arith) a.4 a.5 a.6 a.7 a.8 r
-  value_of_runs B (t.apply l i f es) z c rest v le ll a r = apply_runs true g p m procs known sim (alone_runs g m sim) (alone_adds g m sim) B f es z c a.0 a.1 rest v (omega arith) (omega arith) a.2 a.3 a.4 a.5 a.6 r
-  value_of_runs B (t.valof l x) z c rest v le ll a r = valof_run g m sim B x z a.0 a.1 c rest v le (omega arith) (a.2.0, (a.2.1, a.2.2, a.2.3)) a.3 r
-  value_of_runs B (t.table l es) z c rest v le ll a r = table_runs g B z c a.0 rest v z.env.next (omega arith) (omega arith) a.1 a.2 r
+      two_run setting inner simulated B x y z c a.0 (infix_code f ++ rest) v _ _ (λ u1 u2. combined_adds f u1 u2) (omega arith) (omega arith) a.1 a.2 r (λ u1 u2 w2 d pos. combined_run setting (start z c v) (for_two x y v) B z f rest v w2 u1 u2 (omega arith) (omega arith) r.deep d)
+  value_of_runs B (t.choice l i e x y) z c rest v le ll a r = choice_run setting inner simulated B e x y z a.0 a.1 c a.2 a.3 rest v le (omega arith) a.4 a.5 a.6 a.7 a.8 r
+  value_of_runs B (t.apply l i f es) z c rest v le ll a r = apply_runs true setting p inner procs known simulated (alone_runs setting inner simulated) (alone_adds setting inner simulated) B f es z c a.0 a.1 rest v (omega arith) (omega arith) a.2 a.3 a.4 a.5 a.6 r
+  value_of_runs B (t.valof l x) z c rest v le ll a r = valof_run setting inner simulated B x z a.0 a.1 c rest v le (omega arith) (a.2.0, (a.2.1, a.2.2, a.2.3)) a.3 r
+  value_of_runs B (t.table l es) z c rest v le ll a r = table_runs setting B z c a.0 rest v z.env.next (omega arith) (omega arith) a.1 a.2 r
 
   -- ---- truth
   -- of a value
-  plain_truth : (B : Account) (e : Expression) (z : Configuration) (u : Bool) (n : ℕ) (to c rest : List Stmt) (v : World) → 16 * v.turns + 13 ≤ B.most → B.least ≤ suc v.turns - turns_of false e → IsValue g z.scene z.depth z.env e c (JumpIf u n ∷ rest)
-      → from_label z.scene.own.stmts n ≡ Some to → Ready g z v → Ran g (start z c v) B (HasTruth g (start z c v) B z u to rest v) (Out g (start z c v) B z v) (with (value_of p m e z.env v) judged)
+  plain_truth : (B : Account) (e : Expression) (z : Configuration) (u : Bool) (n : ℕ) (to c rest : List Stmt) (v : World) → 16 * v.turns + 13 ≤ B.most → B.least ≤ suc v.turns - turns_of false e → IsValue setting z.scene z.depth z.env e c (JumpIf u n ∷ rest)
+      → from_label z.scene.own.stmts n ≡ Some to → Ready setting z v → Ran setting (start z c v) B (HasTruth setting (start z c v) B z u to rest v) (Out setting (start z c v) B z v) (with (value_of p inner e z.env v) judged)
   plain_truth B e z u n to c rest v le ll a f r =
       let A : Account = record { most = 16 * v.turns + 12; least = suc v.turns - turns_of false e } in
       with_ran (λ x. adds _ (λ w1. given_after _ w1))
       (ran_more (omega arith) (omega arith) (value_of_runs A e z c (JumpIf u n ∷ rest) v (omega arith) (omega arith) a r))
       (λ x w1 y. tested (omega arith) (omega arith) r f y)
 
-  truth_of_runs : (B : Account) (e : Expression) (z : Configuration) (u : Bool) (n : ℕ) (to c rest : List Stmt) (v : World) → 16 * v.turns + 13 ≤ B.most → B.least ≤ suc v.turns - turns_of false e → IsJump g z.scene z.depth z.env e u n c rest
-      → from_label z.scene.own.stmts n ≡ Some to → Ready g z v → Ran g (start z c v) B (HasTruth g (start z c v) B z u to rest v) (Out g (start z c v) B z v) (truth_of p m e z.env v)
+  truth_of_runs : (B : Account) (e : Expression) (z : Configuration) (u : Bool) (n : ℕ) (to c rest : List Stmt) (v : World) → 16 * v.turns + 13 ≤ B.most → B.least ≤ suc v.turns - turns_of false e → IsJump setting z.scene z.depth z.env e u n c rest
+      → from_label z.scene.own.stmts n ≡ Some to → Ready setting z v → Ran setting (start z c v) B (HasTruth setting (start z c v) B z u to rest v) (Out setting (start z c v) B z v) (truth_of p inner e z.env v)
   truth_of_runs B (t.parens l e) z u n to c rest v le ll a f r =
       ran_first (omega arith) (omega arith)
-      (λ x w1 y. completed_more (omega arith) (omega arith) y) (sim.truth e z u n to c rest v a f r)
-  truth_of_runs B (t.unary l q.Not e) z u n to c rest v le ll a f r = denied_run g m sim B e z u n to c rest v (omega arith) (omega arith) a f r
+      (λ x w1 y. completed_more (omega arith) (omega arith) y) (simulated.truth e z u n to c rest v a f r)
+  truth_of_runs B (t.unary l q.Not e) z u n to c rest v le ll a f r = denied_run setting inner simulated B e z u n to c rest v (omega arith) (omega arith) a f r
   truth_of_runs B (t.binary l o.Both i x y) z true n to c rest v le ll a f r =
-      over_run g m sim B x y z true n a.0 to c a.1 rest v (omega arith) (omega arith) a.2 a.3 a.4 f r
+      over_run setting inner simulated B x y z true n a.0 to c a.1 rest v (omega arith) (omega arith) a.2 a.3 a.4 f r
   truth_of_runs B (t.binary l o.Both i x y) z false n to c rest v le ll a f r =
-      straight_run g m sim B x y z false n to c a.0 rest v (omega arith) (omega arith) a.1 a.2 f r
+      straight_run setting inner simulated B x y z false n to c a.0 rest v (omega arith) (omega arith) a.1 a.2 f r
   truth_of_runs B (t.binary l o.Either i x y) z true n to c rest v le ll a f r =
-      straight_run g m sim B x y z true n to c a.0 rest v (omega arith) (omega arith) a.1 a.2 f r
+      straight_run setting inner simulated B x y z true n to c a.0 rest v (omega arith) (omega arith) a.1 a.2 f r
   truth_of_runs B (t.binary l o.Either i x y) z false n to c rest v le ll a f r =
-      over_run g m sim B x y z false n a.0 to c a.1 rest v (omega arith) (omega arith) a.2 a.3 a.4 f r
+      over_run setting inner simulated B x y z false n a.0 to c a.1 rest v (omega arith) (omega arith) a.2 a.3 a.4 f r
   truth_of_runs B (t.binary l o.Byte i x y) z u n to c rest v le ll a f r = plain_truth B (t.binary l o.Byte i x y) z u n to c rest v le ll a f r
   truth_of_runs B y z u n to c rest v le ll a f r = plain_truth B y z u n to c rest v le ll a f r
 
   -- ---- places
-  address_of_runs : (B : Account) (e : Expression) (z : Configuration) (c rest : List Stmt) (v : World) → 16 * v.turns + 12 ≤ B.most → B.least ≤ suc v.turns - turns_of false e → IsAddress g z.scene z.depth z.env e c rest → Ready g z v
-      → RanAddress g (start z c v) B z rest v (target_of m e z.env v)
-  address_of_runs B (t.name l x) z c rest v le ll a r = address_runs g B z c x rest v (omega arith) (omega arith) a r
+  address_of_runs : (B : Account) (e : Expression) (z : Configuration) (c rest : List Stmt) (v : World) → 16 * v.turns + 12 ≤ B.most → B.least ≤ suc v.turns - turns_of false e → IsAddress setting z.scene z.depth z.env e c rest → Ready setting z v
+      → RanAddress setting (start z c v) B z rest v (target_of inner e z.env v)
+  address_of_runs B (t.name l x) z c rest v le ll a r = address_runs setting B z c x rest v (omega arith) (omega arith) a r
   address_of_runs B (t.parens l e) z c rest v le ll a r =
-      ran_first (omega arith) (omega arith) (λ u w1 y. larger_address g (start z c v) (for_value e v) B z rest v u w1 (omega arith) (omega arith) y)
-      (sim.address e z c rest v a r)
-  address_of_runs B (t.unary l q.Contents e) z c rest v le ll a r = contents_address g m sim B e z c rest v (omega arith) (omega arith) a r
-  address_of_runs B (t.binary l o.Subscript i x y) z c rest v le ll a r = subscript_address g m sim B x y z c a.0 rest v (omega arith) (omega arith) a.1 a.2 r
+      ran_first (omega arith) (omega arith) (λ u w1 y. larger_address setting (start z c v) (for_value e v) B z rest v u w1 (omega arith) (omega arith) y)
+      (simulated.address e z c rest v a r)
+  address_of_runs B (t.unary l q.Contents e) z c rest v le ll a r = contents_address setting inner simulated B e z c rest v (omega arith) (omega arith) a r
+  address_of_runs B (t.binary l o.Subscript i x y) z c rest v le ll a r = subscript_address setting inner simulated B x y z c a.0 rest v (omega arith) (omega arith) a.1 a.2 r
   address_of_runs B (t.binary l o.Byte i x y) z c rest v le ll a r = absurd a
   address_of_runs B _ z c rest v le ll a r = went tt
 
-  store_of_runs : (B : Account) (e : Expression) (z : Configuration) (c rest : List Stmt) (v : World) → 16 * v.turns + 12 ≤ B.most → B.least ≤ suc v.turns - turns_of false e → IsStore g z.scene z.depth z.env e c rest → Ready g z v
-      → RanStore g (start z c v) B z rest v (target_of m e z.env v)
-  store_of_runs B (t.name l x) z c rest v le ll a r = word_runs g B z c x rest v (omega arith) (omega arith) a r
+  store_of_runs : (B : Account) (e : Expression) (z : Configuration) (c rest : List Stmt) (v : World) → 16 * v.turns + 12 ≤ B.most → B.least ≤ suc v.turns - turns_of false e → IsStore setting z.scene z.depth z.env e c rest → Ready setting z v
+      → RanStore setting (start z c v) B z rest v (target_of inner e z.env v)
+  store_of_runs B (t.name l x) z c rest v le ll a r = word_runs setting B z c x rest v (omega arith) (omega arith) a r
   store_of_runs B (t.parens l e) z c rest v le ll a r =
-      ran_first (omega arith) (omega arith) (λ u w1 y. larger_store g (start z c v) (for_value e v) B z rest v u w1 (omega arith) (omega arith) y)
-      (sim.destination e z c rest v a r)
-  store_of_runs B (t.unary l q.Contents e) z c rest v le ll a r = contents_store g m sim B e z c rest v (omega arith) (omega arith) a r
-  store_of_runs B (t.binary l o.Subscript i x y) z c rest v le ll a r = subscript_store g m sim B x y z c a.0 rest v (omega arith) (omega arith) a.1 a.2 r
-  store_of_runs B (t.binary l o.Byte i x y) z c rest v le ll a r = byte_store g m sim B x y z c a.0 rest v (omega arith) (omega arith) a.1 a.2 r
+      ran_first (omega arith) (omega arith) (λ u w1 y. larger_store setting (start z c v) (for_value e v) B z rest v u w1 (omega arith) (omega arith) y)
+      (simulated.destination e z c rest v a r)
+  store_of_runs B (t.unary l q.Contents e) z c rest v le ll a r = contents_store setting inner simulated B e z c rest v (omega arith) (omega arith) a r
+  store_of_runs B (t.binary l o.Subscript i x y) z c rest v le ll a r = subscript_store setting inner simulated B x y z c a.0 rest v (omega arith) (omega arith) a.1 a.2 r
+  store_of_runs B (t.binary l o.Byte i x y) z c rest v le ll a r = byte_store setting inner simulated B x y z c a.0 rest v (omega arith) (omega arith) a.1 a.2 r
   store_of_runs B _ z c rest v le ll a r = went tt
 
   -- ---- commands
   -- commands made of parts, within their account
   assigned_more : (B : Account) (xs es : Expressions) (z : Configuration) (c rest : List Stmt) (v : World) → 16 * v.turns + 16 ≤ B.most → B.least ≤ suc v.turns - (1 + (turns_among false xs + turns_among false es))
-      → (vs ss : List Stretch) × AreFrom g z.scene z.depth (past_each xs z.env) es vs × AreStores g z.scene (z.depth + 1) z.env xs ss × ByTurns xs es vs ss c rest → Ready g z v → RanDid g (start z c v) B z rest v (assigned m xs z.env es (past_each xs z.env) v)
+      → (vs ss : List Stretch) × AreFrom setting z.scene z.depth (past_each xs z.env) es vs × AreStores setting z.scene (z.depth + 1) z.env xs ss × ByTurns xs es vs ss c rest → Ready setting z v → RanDid setting (start z c v) B z rest v (assigned inner xs z.env es (past_each xs z.env) v)
   assigned_more B xs es z c rest v le ll a r =
       ran_first (omega arith) (omega arith)
       (λ _ w1 y. completed_more (omega arith) (omega arith) y)
-      (assigned_run g m sim xs es a.0 a.1 z.env (past_each xs z.env) z c rest v a.2 a.3 a.4 refl refl r)
+      (assigned_run setting inner simulated xs es a.0 a.1 z.env (past_each xs z.env) z c rest v a.2 a.3 a.4 refl refl r)
 
   call_more : (B : Account) (f : Expression) (es : Expressions) (z : Configuration) (c rest : List Stmt) (v : World) → 16 * v.turns + 16 ≤ B.most → B.least ≤ suc v.turns - (1 + (turns_among false es + turns_of false f))
-      → (c1 c2 : List Stmt) × (c ≡ Stack (z.depth + 2) ∷ c1) × AreValues g z.scene (z.depth + 2) (past f z.env) es c1 c2 × IsValue g z.scene (z.depth + 2 + count es) z.env f c2 (CallRoutine z.depth ∷ rest) × CallAt g z.scene (CallRoutine z.depth) rest
-      × (z.depth + 2 + count es + 1 ≤ FRAME_WORDS) → Ready g z v → RanDid g (start z c v) B z rest v (with (applied p m f es z.env v) (λ _ w. done w))
+      → (c1 c2 : List Stmt) × (c ≡ Stack (z.depth + 2) ∷ c1) × AreValues setting z.scene (z.depth + 2) (past f z.env) es c1 c2 × IsValue setting z.scene (z.depth + 2 + count es) z.env f c2 (CallRoutine z.depth ∷ rest) × CallAt setting z.scene (CallRoutine z.depth) rest
+      × (z.depth + 2 + count es + 1 ≤ FRAME_WORDS) → Ready setting z v → RanDid setting (start z c v) B z rest v (with (applied p inner f es z.env v) (λ _ w. done w))
   call_more B f es z c rest v le ll a r =
       with_ran (λ _. adds _ (λ w1. stays (history w1)))
-      (apply_runs false g p m procs known sim (alone_runs g m sim) (alone_adds g m sim) B f es z c a.0 a.1 rest v (omega arith) (omega arith) a.2 a.3 a.4 a.5 a.6 r) (λ x w1 y. went y)
+      (apply_runs false setting p inner procs known simulated (alone_runs setting inner simulated) (alone_adds setting inner simulated) B f es z c a.0 a.1 rest v (omega arith) (omega arith) a.2 a.3 a.4 a.5 a.6 r) (λ x w1 y. went y)
 
-  order_more : (B : Account) (cs : Actions) (mode : Mode) (z : Configuration) (there : Sought → List Stmt) (c rest e : List Stmt) (v : World) → 16 * v.turns + 16 ≤ B.most → B.least ≤ v.turns - turns_through false cs → AreActs g z.scene z.depth z.env cs there c rest
-      → EnteredAny mode z.env cs there c e → Ready g z v → RanDid g (start z e v) B z rest v (in_order m cs mode z.env v)
+  order_more : (B : Account) (cs : Actions) (mode : Mode) (z : Configuration) (there : Sought → List Stmt) (c rest e : List Stmt) (v : World) → 16 * v.turns + 16 ≤ B.most → B.least ≤ v.turns - turns_through false cs → AreActs setting z.scene z.depth z.env cs there c rest
+      → EnteredAny mode z.env cs there c e → Ready setting z v → RanDid setting (start z e v) B z rest v (in_order inner cs mode z.env v)
   order_more B cs mode z there c rest e v le ll a en r =
       ran_first (omega arith) (omega arith)
-      (λ _ w1 y. completed_more (omega arith) (omega arith) y) (order_run g m sim cs mode z there c rest e v a en r)
+      (λ _ w1 y. completed_more (omega arith) (omega arith) y) (order_run setting inner simulated cs mode z there c rest e v a en r)
 
-  act_of_runs : (B : Account) (x : Action) (mode : Mode) (z : Configuration) (there : Sought → List Stmt) (c rest e : List Stmt) (v : World) → 16 * v.turns + 16 ≤ B.most → B.least ≤ suc v.turns - turns_in false x → B.least ≤ v.turns → IsAct g z.scene z.depth z.env x there c rest
-      → Entered mode z.env x there c e → Ready g z v → RanDid g (start z e v) B z rest v (act_of p m x mode z.env v)
+  act_of_runs : (B : Account) (x : Action) (mode : Mode) (z : Configuration) (there : Sought → List Stmt) (c rest e : List Stmt) (v : World) → 16 * v.turns + 16 ≤ B.most → B.least ≤ suc v.turns - turns_in false x → B.least ≤ v.turns → IsAct setting z.scene z.depth z.env x there c rest
+      → Entered mode z.env x there c e → Ready setting z v → RanDid setting (start z e v) B z rest v (act_of p inner x mode z.env v)
   act_of_runs B (t.empty) forwards z there c rest e v le ll lb a en r =
-      subst (λ code. RanDid g (start z code v) B z rest v (act_of p m (t.empty) forwards z.env v)) (sym en)
-      (went (subst (λ y. CompletedAt g (start z c v) B z y z.depth v v) a (stay g B z c v (omega arith) lb r)))
-  act_of_runs B (t.assign l xs es) forwards z there c rest e v le ll lb a en r = subst (λ code. RanDid g (start z code v) B z rest v (act_of p m (t.assign l xs es) forwards z.env v)) (sym en) (assigned_more B xs es z c rest v le ll a r)
-  act_of_runs B (t.call l f es) forwards z there c rest e v le ll lb a en r = subst (λ code. RanDid g (start z code v) B z rest v (act_of p m (t.call l f es) forwards z.env v)) (sym en) (call_more B f es z c rest v le ll a r)
-  act_of_runs B (t.goto l x) forwards z there c rest e v le ll lb a en r = subst (λ code. RanDid g (start z code v) B z rest v (act_of p m (t.goto l x) forwards z.env v)) (sym en) (goto_runs g B z x.letters c rest v (omega arith) (omega arith) a.0 a.1 r)
-  act_of_runs B (t.label l x y) forwards z there c rest e v le ll lb a en r = place_run g m sim B (the_label x) y forwards z there c rest e v (omega arith) (omega arith) a en r
-  act_of_runs B (t.label l x y) (seeking s) z there c rest e v le ll lb a en r = place_run g m sim B (the_label x) y (seeking s) z there c rest e v (omega arith) (omega arith) a en r
-  act_of_runs B (t.case_of l i y) forwards z there c rest e v le ll lb a en r = place_run g m sim B (the_case (constant_in z.env i)) y forwards z there c rest e v (omega arith) (omega arith) a en r
-  act_of_runs B (t.case_of l i y) (seeking s) z there c rest e v le ll lb a en r = place_run g m sim B (the_case (constant_in z.env i)) y (seeking s) z there c rest e v (omega arith) (omega arith) a en r
-  act_of_runs B (t.default l y) forwards z there c rest e v le ll lb a en r = place_run g m sim B (the_default) y forwards z there c rest e v (omega arith) (omega arith) a en r
-  act_of_runs B (t.default l y) (seeking s) z there c rest e v le ll lb a en r = place_run g m sim B (the_default) y (seeking s) z there c rest e v (omega arith) (omega arith) a en r
-  act_of_runs B (t.when l b i y) forwards z there c rest e v le ll lb a en r = subst (λ code. RanDid g (start z code v) B z rest v (act_of p m (t.when l b i y) forwards z.env v)) (sym en) (when_run g m sim B b i y z a.0 there c a.1 rest v (omega arith) (omega arith) a.2 a.3 a.4 r)
-  act_of_runs B (t.when l b i y) (seeking s) z there c rest e v le ll lb a en r = when_sought g m sim B i y s z a.0 there a.1 e rest v (omega arith) (omega arith) a.3 a.4 en r
-  act_of_runs B (t.test l i x y) forwards z there c rest e v le ll lb a en r = subst (λ code. RanDid g (start z code v) B z rest v (act_of p m (t.test l i x y) forwards z.env v)) (sym en) (test_run g m sim B i x y z a.0 a.1 a.4 a.5 c a.2 a.3 rest v (omega arith) (omega arith) a.6 a.7 a.8 a.9 a.10 r)
-  act_of_runs B (t.test l i x y) (seeking s) z there c rest e v le ll lb a en r = test_sought g m sim B i x y s z a.0 a.1 there a.4 a.5 a.2 a.3 e rest v (omega arith) (omega arith) a.7 a.8 a.10 a.11 en r
-  act_of_runs B (t.while l b i y) forwards z there c rest e v le ll lb a en r = subst (λ code. RanDid g (start z code v) B z rest v (act_of p m (t.while l b i y) forwards z.env v)) (sym en) (while_run g m sim B l b i y z there c rest v (omega arith) (omega arith) a r)
-  act_of_runs B (t.while l b i y) (seeking s) z there c rest e v le ll lb a en r = while_sought g m sim B l b i y s z there c rest e v (omega arith) (omega arith) a en r
-  act_of_runs B (t.for_loop l x i j h y) forwards z there c rest e v le ll lb a en r = subst (λ code. RanDid g (start z code v) B z rest v (act_of p m (t.for_loop l x i j h y) forwards z.env v)) (sym en) (for_run g m sim B l x i j h y z there c rest v le (omega arith) a (λ o v k env. rounds_adds g m sim y o v k env (adds _ (λ w1. scope_after g m sim (alone y) forwards env w1))) r)
-  act_of_runs B (t.switch l i y) forwards z there c rest e v le ll lb a en r = subst (λ code. RanDid g (start z code v) B z rest v (act_of p m (t.switch l i y) forwards z.env v)) (sym en) (switch_run g m sim B l i y z there c rest v (omega arith) (omega arith) a r)
-  act_of_runs B (t.switch l i y) (seeking s) z there c rest e v le ll lb a en r = switch_sought g m sim B l i y s z there c rest e v (omega arith) (omega arith) a en r
-  act_of_runs B (t.result l i) forwards z there c rest e v le ll lb a en r = subst (λ code. RanDid g (start z code v) B z rest v (act_of p m (t.result l i) forwards z.env v)) (sym en) (resultis_runs g m sim B i z a.0 c rest v (omega arith) (omega arith) a.1 a.2 r)
-  act_of_runs B (t.simple l k.Break) forwards z there c rest e v le ll lb a en r = subst (λ code. RanDid g (start z code v) B z rest v (act_of p m (t.simple l k.Break) forwards z.env v)) (sym en) (break_runs g B z c rest v (omega arith) (omega arith) a.0 a.1 r)
-  act_of_runs B (t.simple l k.Loop) forwards z there c rest e v le ll lb a en r = subst (λ code. RanDid g (start z code v) B z rest v (act_of p m (t.simple l k.Loop) forwards z.env v)) (sym en) (loop_runs g B z c rest v (omega arith) (omega arith) a.0 a.1 r)
-  act_of_runs B (t.simple l k.EndCase) forwards z there c rest e v le ll lb a en r = subst (λ code. RanDid g (start z code v) B z rest v (act_of p m (t.simple l k.EndCase) forwards z.env v)) (sym en) (endcase_runs g B z c rest v (omega arith) (omega arith) a.0 a.1 r)
-  act_of_runs B (t.simple l k.Return) forwards z there c rest e v le ll lb a en r = subst (λ code. RanDid g (start z code v) B z rest v (act_of p m (t.simple l k.Return) forwards z.env v)) (sym en) (return_runs g B z c rest v (omega arith) (omega arith) a r)
-  act_of_runs B (t.simple l k.Finish) forwards z there c rest e v le ll lb a en r = subst (λ code. RanDid g (start z code v) B z rest v (act_of p m (t.simple l k.Finish) forwards z.env v)) (sym en) (finish_runs g B z c rest v (omega arith) a)
+      subst (λ code. RanDid setting (start z code v) B z rest v (act_of p inner (t.empty) forwards z.env v)) (sym en)
+      (went (subst (λ y. CompletedAt setting (start z c v) B z y z.depth v v) a (stay setting B z c v (omega arith) lb r)))
+  act_of_runs B (t.assign l xs es) forwards z there c rest e v le ll lb a en r = subst (λ code. RanDid setting (start z code v) B z rest v (act_of p inner (t.assign l xs es) forwards z.env v)) (sym en) (assigned_more B xs es z c rest v le ll a r)
+  act_of_runs B (t.call l f es) forwards z there c rest e v le ll lb a en r = subst (λ code. RanDid setting (start z code v) B z rest v (act_of p inner (t.call l f es) forwards z.env v)) (sym en) (call_more B f es z c rest v le ll a r)
+  act_of_runs B (t.goto l x) forwards z there c rest e v le ll lb a en r = subst (λ code. RanDid setting (start z code v) B z rest v (act_of p inner (t.goto l x) forwards z.env v)) (sym en) (goto_runs setting B z x.letters c rest v (omega arith) (omega arith) a.0 a.1 r)
+  act_of_runs B (t.label l x y) forwards z there c rest e v le ll lb a en r = place_run setting inner simulated B (the_label x) y forwards z there c rest e v (omega arith) (omega arith) a en r
+  act_of_runs B (t.label l x y) (seeking s) z there c rest e v le ll lb a en r = place_run setting inner simulated B (the_label x) y (seeking s) z there c rest e v (omega arith) (omega arith) a en r
+  act_of_runs B (t.case_of l i y) forwards z there c rest e v le ll lb a en r = place_run setting inner simulated B (the_case (constant_in z.env i)) y forwards z there c rest e v (omega arith) (omega arith) a en r
+  act_of_runs B (t.case_of l i y) (seeking s) z there c rest e v le ll lb a en r = place_run setting inner simulated B (the_case (constant_in z.env i)) y (seeking s) z there c rest e v (omega arith) (omega arith) a en r
+  act_of_runs B (t.default l y) forwards z there c rest e v le ll lb a en r = place_run setting inner simulated B (the_default) y forwards z there c rest e v (omega arith) (omega arith) a en r
+  act_of_runs B (t.default l y) (seeking s) z there c rest e v le ll lb a en r = place_run setting inner simulated B (the_default) y (seeking s) z there c rest e v (omega arith) (omega arith) a en r
+  act_of_runs B (t.when l b i y) forwards z there c rest e v le ll lb a en r = subst (λ code. RanDid setting (start z code v) B z rest v (act_of p inner (t.when l b i y) forwards z.env v)) (sym en) (when_run setting inner simulated B b i y z a.0 there c a.1 rest v (omega arith) (omega arith) a.2 a.3 a.4 r)
+  act_of_runs B (t.when l b i y) (seeking s) z there c rest e v le ll lb a en r = when_sought setting inner simulated B i y s z a.0 there a.1 e rest v (omega arith) (omega arith) a.3 a.4 en r
+  act_of_runs B (t.test l i x y) forwards z there c rest e v le ll lb a en r = subst (λ code. RanDid setting (start z code v) B z rest v (act_of p inner (t.test l i x y) forwards z.env v)) (sym en) (test_run setting inner simulated B i x y z a.0 a.1 a.4 a.5 c a.2 a.3 rest v (omega arith) (omega arith) a.6 a.7 a.8 a.9 a.10 r)
+  act_of_runs B (t.test l i x y) (seeking s) z there c rest e v le ll lb a en r = test_sought setting inner simulated B i x y s z a.0 a.1 there a.4 a.5 a.2 a.3 e rest v (omega arith) (omega arith) a.7 a.8 a.10 a.11 en r
+  act_of_runs B (t.while l b i y) forwards z there c rest e v le ll lb a en r = subst (λ code. RanDid setting (start z code v) B z rest v (act_of p inner (t.while l b i y) forwards z.env v)) (sym en) (while_run setting inner simulated B l b i y z there c rest v (omega arith) (omega arith) a r)
+  act_of_runs B (t.while l b i y) (seeking s) z there c rest e v le ll lb a en r = while_sought setting inner simulated B l b i y s z there c rest e v (omega arith) (omega arith) a en r
+  act_of_runs B (t.for_loop l x i j h y) forwards z there c rest e v le ll lb a en r = subst (λ code. RanDid setting (start z code v) B z rest v (act_of p inner (t.for_loop l x i j h y) forwards z.env v)) (sym en) (for_run setting inner simulated B l x i j h y z there c rest v le (omega arith) a (λ o v k env. rounds_adds setting inner simulated y o v k env (adds _ (λ w1. scope_after setting inner simulated (alone y) forwards env w1))) r)
+  act_of_runs B (t.switch l i y) forwards z there c rest e v le ll lb a en r = subst (λ code. RanDid setting (start z code v) B z rest v (act_of p inner (t.switch l i y) forwards z.env v)) (sym en) (switch_run setting inner simulated B l i y z there c rest v (omega arith) (omega arith) a r)
+  act_of_runs B (t.switch l i y) (seeking s) z there c rest e v le ll lb a en r = switch_sought setting inner simulated B l i y s z there c rest e v (omega arith) (omega arith) a en r
+  act_of_runs B (t.result l i) forwards z there c rest e v le ll lb a en r = subst (λ code. RanDid setting (start z code v) B z rest v (act_of p inner (t.result l i) forwards z.env v)) (sym en) (resultis_runs setting inner simulated B i z a.0 c rest v (omega arith) (omega arith) a.1 a.2 r)
+  act_of_runs B (t.simple l k.Break) forwards z there c rest e v le ll lb a en r = subst (λ code. RanDid setting (start z code v) B z rest v (act_of p inner (t.simple l k.Break) forwards z.env v)) (sym en) (break_runs setting B z c rest v (omega arith) (omega arith) a.0 a.1 r)
+  act_of_runs B (t.simple l k.Loop) forwards z there c rest e v le ll lb a en r = subst (λ code. RanDid setting (start z code v) B z rest v (act_of p inner (t.simple l k.Loop) forwards z.env v)) (sym en) (loop_runs setting B z c rest v (omega arith) (omega arith) a.0 a.1 r)
+  act_of_runs B (t.simple l k.EndCase) forwards z there c rest e v le ll lb a en r = subst (λ code. RanDid setting (start z code v) B z rest v (act_of p inner (t.simple l k.EndCase) forwards z.env v)) (sym en) (endcase_runs setting B z c rest v (omega arith) (omega arith) a.0 a.1 r)
+  act_of_runs B (t.simple l k.Return) forwards z there c rest e v le ll lb a en r = subst (λ code. RanDid setting (start z code v) B z rest v (act_of p inner (t.simple l k.Return) forwards z.env v)) (sym en) (return_runs setting B z c rest v (omega arith) (omega arith) a r)
+  act_of_runs B (t.simple l k.Finish) forwards z there c rest e v le ll lb a en r = subst (λ code. RanDid setting (start z code v) B z rest v (act_of p inner (t.simple l k.Finish) forwards z.env v)) (sym en) (finish_runs setting B z c rest v (omega arith) a)
   act_of_runs B (t.block l t.no_declarations cs) forwards z there c rest e v le ll lb a en r = order_more B cs forwards z there c rest e v le (omega arith) a en r
   act_of_runs B (t.block l t.no_declarations cs) (seeking s) z there c rest e v le ll lb a en r = order_more B cs (seeking s) z there c rest e v le (omega arith) a en r
-  act_of_runs B (t.block l (t.declare h hs) cs) forwards z there c rest e v le ll lb a en r = subst (λ code. RanDid g (start z code v) B z rest v (act_of p m (t.block l (t.declare h hs) cs) forwards z.env v)) (sym en) (block_runs g m sim (λ env w1 ds. scope_after g m sim ds forwards env w1) B l h hs cs z there c rest v (omega arith) (omega arith) a r)
-  act_of_runs B (t.repeat l y) mode z there c rest e v le ll lb a en r = repeat_run g m sim B l y mode z there c rest e v (omega arith) (omega arith) a en r
+  act_of_runs B (t.block l (t.declare h hs) cs) forwards z there c rest e v le ll lb a en r = subst (λ code. RanDid setting (start z code v) B z rest v (act_of p inner (t.block l (t.declare h hs) cs) forwards z.env v)) (sym en) (block_runs setting inner simulated (λ env w1 ds. scope_after setting inner simulated ds forwards env w1) B l h hs cs z there c rest v (omega arith) (omega arith) a r)
+  act_of_runs B (t.repeat l y) mode z there c rest e v le ll lb a en r = repeat_run setting inner simulated B l y mode z there c rest e v (omega arith) (omega arith) a en r
   act_of_runs B (t.repeat_while l b y i) mode z there c rest e v le ll lb a en r =
-      repeat_while_run g m sim B l b y i mode z there c rest e v (omega arith) (omega arith) a en r
+      repeat_while_run setting inner simulated B l b y i mode z there c rest e v (omega arith) (omega arith) a en r
   act_of_runs B _ (seeking s) z there c rest e v le ll lb a en r = not_true en.0
 
   -- ---- with their turns
-  value_turn : (e : Expression) (z : Configuration) (c rest : List Stmt) (v : World) → IsValue g z.scene z.depth z.env e c rest → Ready g z v
-      → Ran g (start z c v) (for_value e v) (λ u w1. Has g (start z c v) (for_value e v) z rest (z.depth + 1) v u w1 × (1 ≤ v.turns)) (Out g (start z c v) (for_value e v) z v) (turn v (λ w. value_of p m e z.env w))
+  value_turn : (e : Expression) (z : Configuration) (c rest : List Stmt) (v : World) → IsValue setting z.scene z.depth z.env e c rest → Ready setting z v
+      → Ran setting (start z c v) (for_value e v) (λ u w1. Has setting (start z c v) (for_value e v) z rest (z.depth + 1) v u w1 × (1 ≤ v.turns)) (Out setting (start z c v) (for_value e v) z v) (turn v (λ w. value_of p inner e z.env w))
   value_turn e z c rest v a r =
       turn_behind 0 0 v _ (here _) (omega arith) (omega arith) refl refl (λ n en.
       let v1 : World = record v { turns = n } in
       let B : Account = for_value e v in
       ran_first (omega arith) (omega arith)
-      (λ u w1 y. (record { arr = y.arr; stands = y.stands }, omega arith)) (value_of_runs B e z c rest v1 (omega arith) (omega arith) a (ready_ticked g z v n r)))
+      (λ u w1 y. (record { arr = y.arr; stands = y.stands }, omega arith)) (value_of_runs B e z c rest v1 (omega arith) (omega arith) a (ready_ticked setting z v n r)))
 
-  truth_turn : (e : Expression) (z : Configuration) (u : Bool) (n : ℕ) (to c rest : List Stmt) (v : World) → IsJump g z.scene z.depth z.env e u n c rest → from_label z.scene.own.stmts n ≡ Some to → Ready g z v
-      → Ran g (start z c v) (for_truth e v) (HasTruth g (start z c v) (for_truth e v) z u to rest v) (Out g (start z c v) (for_truth e v) z v) (turn v (λ w. truth_of p m e z.env w))
+  truth_turn : (e : Expression) (z : Configuration) (u : Bool) (n : ℕ) (to c rest : List Stmt) (v : World) → IsJump setting z.scene z.depth z.env e u n c rest → from_label z.scene.own.stmts n ≡ Some to → Ready setting z v
+      → Ran setting (start z c v) (for_truth e v) (HasTruth setting (start z c v) (for_truth e v) z u to rest v) (Out setting (start z c v) (for_truth e v) z v) (turn v (λ w. truth_of p inner e z.env w))
   truth_turn e z u n to c rest v a f r =
       turn_behind 0 0 v _ (here _) (omega arith) (omega arith) refl refl (λ k en.
-      truth_of_runs (for_truth e v) e z u n to c rest (record v { turns = k }) (omega arith) (omega arith) a f (ready_ticked g z v k r))
+      truth_of_runs (for_truth e v) e z u n to c rest (record v { turns = k }) (omega arith) (omega arith) a f (ready_ticked setting z v k r))
 
-  address_turn : (e : Expression) (z : Configuration) (c rest : List Stmt) (v : World) → IsAddress g z.scene z.depth z.env e c rest → Ready g z v
-      → Ran g (start z c v) (for_value e v) (HasAddress g (start z c v) (for_value e v) z rest v) (Out g (start z c v) (for_value e v) z v) (turn v (λ w. target_of m e z.env w))
+  address_turn : (e : Expression) (z : Configuration) (c rest : List Stmt) (v : World) → IsAddress setting z.scene z.depth z.env e c rest → Ready setting z v
+      → Ran setting (start z c v) (for_value e v) (HasAddress setting (start z c v) (for_value e v) z rest v) (Out setting (start z c v) (for_value e v) z v) (turn v (λ w. target_of inner e z.env w))
   address_turn e z c rest v a r =
       turn_behind 0 0 v _ (here _) (omega arith) (omega arith) refl refl (λ n en.
       let v1 : World = record v { turns = n } in
       let B : Account = for_value e v in
       ran_first (omega arith) (omega arith)
-      (λ u w1 y. ticked_address g (start z c v) B z rest v n u w1 y) (address_of_runs B e z c rest v1 (omega arith) (omega arith) a (ready_ticked g z v n r)))
+      (λ u w1 y. ticked_address setting (start z c v) B z rest v n u w1 y) (address_of_runs B e z c rest v1 (omega arith) (omega arith) a (ready_ticked setting z v n r)))
 
-  store_turn : (e : Expression) (z : Configuration) (c rest : List Stmt) (v : World) → IsStore g z.scene z.depth z.env e c rest → Ready g z v
-      → Ran g (start z c v) (for_value e v) (λ u w1. Destined g (start z c v) (for_value e v) z rest v u w1) (Out g (start z c v) (for_value e v) z v) (turn v (λ w. target_of m e z.env w))
+  store_turn : (e : Expression) (z : Configuration) (c rest : List Stmt) (v : World) → IsStore setting z.scene z.depth z.env e c rest → Ready setting z v
+      → Ran setting (start z c v) (for_value e v) (λ u w1. Destined setting (start z c v) (for_value e v) z rest v u w1) (Out setting (start z c v) (for_value e v) z v) (turn v (λ w. target_of inner e z.env w))
   store_turn e z c rest v a r =
       turn_behind 0 0 v _ (here _) (omega arith) (omega arith) refl refl (λ n en.
       let v1 : World = record v { turns = n } in
       let B : Account = for_value e v in
       ran_first (omega arith) (omega arith)
-      (λ u w1 y. ticked_store g (start z c v) B z rest v n u w1 y) (store_of_runs B e z c rest v1 (omega arith) (omega arith) a (ready_ticked g z v n r)))
+      (λ u w1 y. ticked_store setting (start z c v) B z rest v n u w1 y) (store_of_runs B e z c rest v1 (omega arith) (omega arith) a (ready_ticked setting z v n r)))
 
-  act_turn : (x : Action) (mode : Mode) (z : Configuration) (there : Sought → List Stmt) (c rest e : List Stmt) (v : World) → 1 ≤ turns_in false x → IsAct g z.scene z.depth z.env x there c rest → Entered mode z.env x there c e → Ready g z v
-      → RanDid g (start z e v) (for_act x v) z rest v (turn v (λ w. act_of p m x mode z.env w))
+  act_turn : (x : Action) (mode : Mode) (z : Configuration) (there : Sought → List Stmt) (c rest e : List Stmt) (v : World) → 1 ≤ turns_in false x → IsAct setting z.scene z.depth z.env x there c rest → Entered mode z.env x there c e → Ready setting z v
+      → RanDid setting (start z e v) (for_act x v) z rest v (turn v (λ w. act_of p inner x mode z.env w))
   act_turn x mode z there c rest e v pos a en r =
       turn_behind 0 0 v _ (here _) (omega arith) (omega arith) refl refl (λ n ev.
-      act_of_runs (for_act x v) x mode z there c rest e (record v { turns = n }) (omega arith) (omega arith) (omega arith) a en (ready_ticked g z v n r))
+      act_of_runs (for_act x v) x mode z there c rest e (record v { turns = n }) (omega arith) (omega arith) (omega arith) a en (ready_ticked setting z v n r))
 
-  act_run : (x : Action) (mode : Mode) (z : Configuration) (there : Sought → List Stmt) (c rest e : List Stmt) (v : World) → IsAct g z.scene z.depth z.env x there c rest → Entered mode z.env x there c e → Ready g z v
-      → RanDid g (start z e v) (for_act x v) z rest v (turn_for x v (λ w. act_of p m x mode z.env w))
+  act_run : (x : Action) (mode : Mode) (z : Configuration) (there : Sought → List Stmt) (c rest e : List Stmt) (v : World) → IsAct setting z.scene z.depth z.env x there c rest → Entered mode z.env x there c e → Ready setting z v
+      → RanDid setting (start z e v) (for_act x v) z rest v (turn_for x v (λ w. act_of p inner x mode z.env w))
   act_run t.empty forwards z there c rest e v a en r =
-      went (subst (λ code. Did g (start z e v) (for_act t.empty v) z code v v) (en ∙ a) (stay g (for_act t.empty v) z e v (omega arith) (omega arith) r))
+      went (subst (λ code. Did setting (start z e v) (for_act t.empty v) z code v v) (en ∙ a) (stay setting (for_act t.empty v) z e v (omega arith) (omega arith) r))
   act_run t.empty (seeking s) z there c rest e v a en r = not_true en.0
   act_run x mode z there c rest e v a en r = act_turn x mode z there c rest e v (omega arith) a en r
 
-  loop_run : (x : Action) (mode : Mode) (z : Configuration) (there : Sought → List Stmt) (body rest e : List Stmt) (v : World) → IsLoop g z.scene z.depth z.env x there body rest → EnteredBody mode z.env x there body e → Ready g z v
-      → RanDid g (start z e v) (for_rounds x v) z rest v (rounds_of m x mode z.env v)
-  loop_run (t.while l b i y) mode z there body rest e v a en r = while_rounds g m sim l b i y mode z there body rest e v a en r
-  loop_run (t.repeat l y) mode z there body rest e v a en r = repeat_rounds g m sim l y mode z there body rest e v a en r
-  loop_run (t.repeat_while l b y i) mode z there body rest e v a en r = repeat_while_rounds g m sim l b y i mode z there body rest e v a en r
+  loop_run : (x : Action) (mode : Mode) (z : Configuration) (there : Sought → List Stmt) (body rest e : List Stmt) (v : World) → IsLoop setting z.scene z.depth z.env x there body rest → EnteredBody mode z.env x there body e → Ready setting z v
+      → RanDid setting (start z e v) (for_rounds x v) z rest v (rounds_of inner x mode z.env v)
+  loop_run (t.while l b i y) mode z there body rest e v a en r = while_rounds setting inner simulated l b i y mode z there body rest e v a en r
+  loop_run (t.repeat l y) mode z there body rest e v a en r = repeat_rounds setting inner simulated l y mode z there body rest e v a en r
+  loop_run (t.repeat_while l b y i) mode z there body rest e v a en r = repeat_while_rounds setting inner simulated l b y i mode z there body rest e v a en r
   loop_run _ mode z there body rest e v a en r = absurd a
 
   -- WHAT HOLDS OF THE NODES INSIDE HOLDS OF EACH NODE
-  pub simulates_next : Throughout (λ A w u. After (history w) u) (means_with p m) → Simulates g (means_with p m)
+  pub simulates_next : Throughout (λ A w u. After (history w) u) (means_with p inner) → Simulates setting (means_with p inner)
   simulates_next grows = record {
     grows = grows;
     value = value_turn;
@@ -299,38 +299,38 @@ module _ (g : Setting) (p : Program) (m : Meanings) (procs : Procedures g p) (kn
     destination = store_turn;
     act = act_run;
     rounds = loop_run;
-    scope = λ cs mode z j there c rest e v a en r. scope_runs g m sim cs mode z j there c rest e v a en r;
-    for_rounds = λ x ob u i d z body rest v ed lf lim r. for_rounds_run g m sim x ob u i d z body rest v ed lf lim r;
+    scope = λ cs mode z j there c rest e v a en r. scope_runs setting inner simulated cs mode z j there c rest e v a en r;
+    for_rounds = λ x ob u i d z body rest v ed lf lim r. for_rounds_run setting inner simulated x ob u i d z body rest v ed lf lim r;
   }
 
 -- ---- With any number of turns each form does what it means.
 
 -- where no turn is left a run goes on from where it is
-still_going : {A : Type 0} {K : A → World → Type 0} {X : Exit → World → Type 0} (g : Setting) (B : Account) (z : Configuration) (c : List Stmt) (w : World)
-    → B.least ≤ w.turns → Ran g (start z c w) B K X (going w)
-still_going g B z c w le = went (record { to = start z c w; steps = 0; paid = 0; comes = here _; most = omega arith; least = omega arith; wrote = refl; left = refl })
+still_going : {A : Type 0} {K : A → World → Type 0} {X : Exit → World → Type 0} (setting : Setting) (B : Account) (z : Configuration) (c : List Stmt) (w : World)
+    → B.least ≤ w.turns → Ran setting (start z c w) B K X (going w)
+still_going setting B z c w le = went (record { to = start z c w; steps = 0; paid = 0; comes = here _; most = omega arith; least = omega arith; wrote = refl; left = refl })
 
-act_without : (g : Setting) (x : Action) (mode : Mode) (z : Configuration) (there : Sought → List Stmt) (c rest e : List Stmt) (w : World) → IsAct g z.scene z.depth z.env x there c rest → Entered mode z.env x there c e → Ready g z w
-    → RanDid g (start z e w) (for_act x w) z rest w (no_turn_for x w)
-act_without g t.empty forwards z there c rest e w a en r =
-    went (subst (λ code. Did g (start z e w) (for_act t.empty w) z code w w) (en ∙ a) (stay g (for_act t.empty w) z e w (omega arith) (omega arith) r))
-act_without g t.empty (seeking s) z there c rest e w a en r = not_true en.0
-act_without g x mode z there c rest e w a en r = still_going g (for_act x w) z e w (omega arith)
+act_without : (setting : Setting) (x : Action) (mode : Mode) (z : Configuration) (there : Sought → List Stmt) (c rest e : List Stmt) (w : World) → IsAct setting z.scene z.depth z.env x there c rest → Entered mode z.env x there c e → Ready setting z w
+    → RanDid setting (start z e w) (for_act x w) z rest w (no_turn_for x w)
+act_without setting t.empty forwards z there c rest e w a en r =
+    went (subst (λ code. Did setting (start z e w) (for_act t.empty w) z code w w) (en ∙ a) (stay setting (for_act t.empty w) z e w (omega arith) (omega arith) r))
+act_without setting t.empty (seeking s) z there c rest e w a en r = not_true en.0
+act_without setting x mode z there c rest e w a en r = still_going setting (for_act x w) z e w (omega arith)
 
-without_turns : (g : Setting) (p : Program) → Simulates g no_turns
-without_turns g p = record {
+without_turns : (setting : Setting) (p : Program) → Simulates setting no_turns
+without_turns setting p = record {
   grows = only_grows p zero;
-  value = λ e z c rest w a r. still_going g (for_value e w) z c w (omega arith);
-  truth = λ e z u n to c rest w a f r. still_going g (for_truth e w) z c w (omega arith);
-  address = λ e z c rest w a r. still_going g (for_value e w) z c w (omega arith);
-  destination = λ e z c rest w a r. still_going g (for_value e w) z c w (omega arith);
-  act = act_without g;
-  rounds = λ x mode z there body rest e w a en r. still_going g (for_rounds x w) z e w (omega arith);
-  scope = λ cs mode z j there c rest e w a en r. still_going g (for_scope cs w) z e w (omega arith);
-  for_rounds = λ x ob u k d z body rest w ed lf lim r. still_going g (for_counts x w) z body w (omega arith);
+  value = λ e z c rest w a r. still_going setting (for_value e w) z c w (omega arith);
+  truth = λ e z u n to c rest w a f r. still_going setting (for_truth e w) z c w (omega arith);
+  address = λ e z c rest w a r. still_going setting (for_value e w) z c w (omega arith);
+  destination = λ e z c rest w a r. still_going setting (for_value e w) z c w (omega arith);
+  act = act_without setting;
+  rounds = λ x mode z there body rest e w a en r. still_going setting (for_rounds x w) z e w (omega arith);
+  scope = λ cs mode z j there c rest e w a en r. still_going setting (for_scope cs w) z e w (omega arith);
+  for_rounds = λ x ob u k d z body rest w ed lf lim r. still_going setting (for_counts x w) z body w (omega arith);
 }
 
 -- ALL FORMS, WITH ANY NUMBER OF TURNS
-pub simulates : (g : Setting) (p : Program) → Procedures g p → KnowsLibrary g → (n : ℕ) → Simulates g (means p n)
-simulates g p procs known zero = without_turns g p
-simulates g p procs known (suc n) = simulates_next g p (means p n) procs known (simulates g p procs known n) (only_grows p (suc n))
+pub simulates : (setting : Setting) (p : Program) → Procedures setting p → KnowsLibrary setting → (n : ℕ) → Simulates setting (means p n)
+simulates setting p procs known zero = without_turns setting p
+simulates setting p procs known (suc n) = simulates_next setting p (means p n) procs known (simulates setting p procs known n) (only_grows p (suc n))

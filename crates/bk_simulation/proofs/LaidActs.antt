@@ -168,10 +168,10 @@ gone own d to c rest k st =
 
 -- a command of one word
 one_word : (pay : ℕ) (sc : Scene) (p : Enclosing) (s : Spot) (i l : ℕ) (x : Simple) (d n : ℕ) (c rest : List Stmt) → StandsAt sc.own d rest
-    → ((g : Setting) (env : Environment) → IsAct g sc d env (t.simple l x) (λ y. rest) c rest) → Done pay sc i (t.simple l x) d n (command_named sc.bindings p s (t.simple l x)) c rest
+    → ((setting : Setting) (env : Environment) → IsAct setting sc d env (t.simple l x) (λ y. rest) c rest) → Done pay sc i (t.simple l x) d n (command_named sc.bindings p s (t.simple l x)) c rest
 one_word pay sc p s i l x d n c rest on f = record {
   at = λ y. rest;
-  lies = record { on = on; objects_are = no_bases (home sc pay) i _ (λ g y ns u. f g (with_names ns i)) };
+  lies = record { on = on; objects_are = no_bases (home sc pay) i _ (λ setting y ns u. f setting (with_names ns i)) };
   finds = finds_nothing sc.own sc.targets sc.bindings d _;
 }
 

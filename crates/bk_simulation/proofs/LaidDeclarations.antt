@@ -32,16 +32,16 @@ item_word : (bs : List Binding) (i : ℕ) (e : Expression) (ns : List Named) →
 item_word bs i e ns u = ap (λ y. unwrap_or y 0) (constants_agree ns bs i u.0 e) ∙ worth_is (constant_word bs e)
 
 -- which is held
-item_held : (g : Setting) (section : ℕ) (own : Placed) (bs : List Binding) (n i : ℕ) (e : Expression) (ns : List Named) → Agree ns bs → HasWords bs → Regular e → HasWord (constant_word bs e)
-    → DataIn own (DataLabel n ∷ DataNumber (signed (worth (constant_word bs e))) ∷ []) → slice_get g.program.sections section ≡ Some own
-    → InData g.program (own.places.label n) (unwrap_or (constant_in (with_names ns i) e) 0 ∷ [])
-item_held g section own bs n i e ns u h r w f is =
+item_held : (setting : Setting) (section : ℕ) (own : Placed) (bs : List Binding) (n i : ℕ) (e : Expression) (ns : List Named) → Agree ns bs → HasWords bs → Regular e → HasWord (constant_word bs e)
+    → DataIn own (DataLabel n ∷ DataNumber (signed (worth (constant_word bs e))) ∷ []) → slice_get setting.program.sections section ≡ Some own
+    → InData setting.program (own.places.label n) (unwrap_or (constant_in (with_names ns i) e) 0 ∷ [])
+item_held setting section own bs n i e ns u h r w f is =
     let v : ℕ = worth (constant_word bs e) in
     let code = DataNumber (signed v) ∷ f.rest in
     let small : v < 2 ^ 32 = subst (λ y. worth y < 2 ^ 32) (sym w.1) (constant_small bs h e r w.0 w.1) in
     let same : unwrap_or (constant_in (with_names ns i) e) 0 ≡ v = item_word bs i e ns u in
-    let found = statement_data g.program section own f.depth (DataLabel n) code (record { place = own.places.label n; words = item_words own.places code }) is f.stands refl in
-    subst (λ y. InData g.program (own.places.label n) y) (items_are own.places (v ∷ []) f.rest (small, tt) f.ends ∙ ap (λ x. x ∷ []) (sym same)) found
+    let found = statement_data setting.program section own f.depth (DataLabel n) code (record { place = own.places.label n; words = item_words own.places code }) is f.stands refl in
+    subst (λ y. InData setting.program (own.places.label n) y) (items_are own.places (v ∷ []) f.rest (small, tt) f.ends ∙ ap (λ x. x ∷ []) (sym same)) found
 
 -- items of one STATIC, whose constants see what is in scope before them
 pub statics_lie : (h : Home) (s : Spot) (i k n : ℕ) (is : Items) → HasWords h.bindings → RegularItems is → StaticsSound h.bindings is → FoundParts h.own h.targets (parts_of_items n (statics_named h.bindings s is))
@@ -178,7 +178,7 @@ Later = Setting → Scene → ℕ → Environment → List Stmt → Type 0
 
 -- it is laid so, with names that agree, from this lasting object on
 abbrev pub LaidLater : Later → Scene → List Binding → ℕ → ℕ → List Stmt → Setting → Type 0
-LaidLater Then sc bs d i c g = (ns : List Named) → Agree ns bs → Then g (record sc { bindings = bs }) d (with_names ns i) c
+LaidLater Then sc bs d i c setting = (ns : List Named) → Agree ns bs → Then setting (record sc { bindings = bs }) d (with_names ns i) c
 
 -- ---- MANIFEST, STATIC and GLOBAL
 
@@ -187,30 +187,30 @@ abbrev elsewhere : Scene → ℕ → Surroundings → Exits → Scene
 elsewhere sc k a e = record sc { procedure = k; around = a; exits = e }
 
 -- the names behind a declaration
-record NamesAfter (g : Setting) (sc : Scene) (ns : List Named) (i : ℕ) (x : Declaration) (bs : List Binding) : Type 0 where
+record NamesAfter (setting : Setting) (sc : Scene) (ns : List Named) (i : ℕ) (x : Declaration) (bs : List Binding) : Type 0 where
   pub agree : Agree (declared x (with_names ns i)).names bs
-  pub renames : Renames g sc (with_names ns i) bs (declared x (with_names ns i))
+  pub renames : Renames setting sc (with_names ns i) bs (declared x (with_names ns i))
 
 constants_then : (pay : ℕ) (sc : Scene) (l : ℕ) (o : Sort) (is : Items) (i d many : ℕ) (c : List Stmt) (bs : List Binding) {ks qs : List Kind} (L : List Named → List Lasting) (Then : Later) (P : Setting → Type 0)
-    → ((g : Setting) → 0 < i → P g → (k : ℕ) (a : Surroundings) (e : Exits) (ns : List Named) → Agree ns sc.bindings → NamesAfter g (elsewhere sc k a e) ns i (t.constants l o is) bs)
+    → ((setting : Setting) → 0 < i → P setting → (k : ℕ) (a : Surroundings) (e : Exits) (ns : List Named) → Agree ns sc.bindings → NamesAfter setting (elsewhere sc k a e) ns i (t.constants l o is) bs)
     → Bases (home sc pay) i (objects_of_declaration (t.constants l o is)) ks (λ ns. of_items (with_names ns i) o is) P
     → Bases (record (home sc pay) { bindings = bs }) (i + objects_of_declaration (t.constants l o is)) many qs L (LaidLater Then sc bs d (i + objects_of_declaration (t.constants l o is)) c)
     → Bases (home sc pay) i (objects_of_declaration (t.constants l o is) + many) (ks ++ qs) (λ ns. of_items (with_names ns i) o is ++ L (declared (t.constants l o is) (with_names ns i)).names)
-    (InNames sc.bindings i (λ g env. IsOneDeclared g sc d env (t.constants l o is) (Then g) c))
+    (InNames sc.bindings i (λ setting env. IsOneDeclared setting sc d env (t.constants l o is) (Then setting) c))
 constants_then pay sc l o is i d many c bs L Then P names own others =
     let h : Home = home sc pay in
     let x : Declaration = t.constants l o is in
     let n : ℕ = objects_of_declaration x in
     let there : Exits = record { loop = false; switch = false } in
     let a = bases_some h i n P own in
-    let both = then_bases h bs i n many (λ g. (0 < i) × P g) (LaidLater Then sc bs d (i + n) c) (λ ns. (declared x (with_names ns i)).names) a
-    (λ g y ns u v. let w = a.laid g y in (
-      (names g w.0 w.1 0 outermost there ns u).agree,
-      λ k bases frame grown. record { each = ((names g w.0 w.1 k outermost there ns u).renames.1 bases frame grown (record { each = (v k bases frame grown).each })).each },
+    let both = then_bases h bs i n many (λ setting. (0 < i) × P setting) (LaidLater Then sc bs d (i + n) c) (λ ns. (declared x (with_names ns i)).names) a
+    (λ setting y ns u v. let w = a.laid setting y in (
+      (names setting w.0 w.1 0 outermost there ns u).agree,
+      λ k bases frame grown. record { each = ((names setting w.0 w.1 k outermost there ns u).renames.1 bases frame grown (record { each = (v k bases frame grown).each })).each },
     )) others in
-    bases_so h i (n + many) _ _ (λ g y v ns u.
-    let w = names g v.0.0 v.0.1 sc.procedure sc.around sc.exits ns u in
-    (bs, w.renames, subst (λ j. Then g (record sc { bindings = bs }) d (with_names (declared x (with_names ns i)).names j) c) (sym (next_declared x (with_names ns i))) (v.1 (declared x (with_names ns i)).names w.agree))) both
+    bases_so h i (n + many) _ _ (λ setting y v ns u.
+    let w = names setting v.0.0 v.0.1 sc.procedure sc.around sc.exits ns u in
+    (bs, w.renames, subst (λ j. Then setting (record sc { bindings = bs }) d (with_names (declared x (with_names ns i)).names j) c) (sym (next_declared x (with_names ns i))) (v.1 (declared x (with_names ns i)).names w.agree))) both
 
 pub constants_bases : (pay : ℕ) (sc : Scene) (p : Enclosing) (s : Spot) (l : ℕ) (o : Sort) (is : Items) (i d n many : ℕ) (c : List Stmt) {qs : List Kind} (L : List Named → List Lasting) (Then : Later) → HasWords sc.bindings
     → SoundOneDeclared sc.bindings p s (t.constants l o is) → RegularItems is → FoundParts sc.own sc.targets (parts_of_declaration d n (declaration_named sc.bindings p s (t.constants l o is)))
@@ -262,9 +262,9 @@ behind_let sc p s d ds c = cond (has_variables (definitions_named (inner sc s ds
 
 -- the definitions, and the bases of procedures
 abbrev DefinedHere : Scene → Enclosing → Spot → ℕ → ℕ → ℕ → Definitions → List Stmt → List Stmt → Setting → Type 0
-DefinedHere sc p s i n d ds c c0 g =
-    WordsBased g.lasting sc.own (inner sc s ds).bindings p (first_defined s ds) i n ds
-    × InNames (inner sc s ds).bindings i (λ g env. AreDefined g (inner sc s ds) d env ds c c0 (depth_here sc p s d ds) (slots_here sc p s d ds)) g
+DefinedHere sc p s i n d ds c c0 setting =
+    WordsBased setting.lasting sc.own (inner sc s ds).bindings p (first_defined s ds) i n ds
+    × InNames (inner sc s ds).bindings i (λ setting env. AreDefined setting (inner sc s ds) d env ds c c0 (depth_here sc p s d ds) (slots_here sc p s d ds)) setting
 
 definitions_lie : (pay : ℕ) (valofs : ValofsLie pay) (blocks : BlocksLie pay) (sc : Scene) (p : Enclosing) (s : Spot) (i l : ℕ) (ds : Definitions) (d n : ℕ) (c c1 : List Stmt) → Around sc p d → SoundOneDeclared sc.bindings p s (t.definitions l ds)
     → RegularDefinitions ds → turns_defined true ds ≤ pay → FoundParts sc.own sc.targets (parts_of_declaration d n (declaration_named sc.bindings p s (t.definitions l ds)))
@@ -288,21 +288,21 @@ exits_same p r x sc bs d e a same at w = record {
 }
 
 -- the names of the procedures, in some procedure of the scope
-procedures_mean : (sc : Scene) (p : Enclosing) (s : Spot) (i n d : ℕ) (ds : Definitions) (c c0 : List Stmt) (g : Setting) (k : ℕ) (a : Surroundings) (e : Exits) (ns : List Named) → 0 < i → DefinedHere sc p s i n d ds c c0 g
+procedures_mean : (sc : Scene) (p : Enclosing) (s : Spot) (i n d : ℕ) (ds : Definitions) (c c0 : List Stmt) (setting : Setting) (k : ℕ) (a : Surroundings) (e : Exits) (ns : List Named) → 0 < i → DefinedHere sc p s i n d ds c c0 setting
     → FoundParts sc.own sc.targets (parts_of_definitions d n (definitions_named (inner sc s ds).bindings p (first_defined s ds) ds)) → Agree ns sc.bindings
-    → Agree (bind_procedures ds (with_names ns i)).names (inner sc s ds).bindings × Renames g (elsewhere sc k a e) (with_names ns i) (inner sc s ds).bindings (within_let ds (with_names ns i))
-procedures_mean sc p s i n d ds c c0 g k a e ns some v f u =
-    let z = renames_procedures ds g (elsewhere sc k a e) ns i (s.number + 1) some u in
-    let based : AreProcedures g.lasting sc.own sc.targets sc.bindings i (s.number + 1) ds =
-    procedures_based g.lasting sc.own sc.targets sc.bindings (inner sc s ds).bindings p (first_defined s ds) i (s.number + 1) n d ds refl v.0 f in
+    → Agree (bind_procedures ds (with_names ns i)).names (inner sc s ds).bindings × Renames setting (elsewhere sc k a e) (with_names ns i) (inner sc s ds).bindings (within_let ds (with_names ns i))
+procedures_mean sc p s i n d ds c c0 setting k a e ns some v f u =
+    let z = renames_procedures ds setting (elsewhere sc k a e) ns i (s.number + 1) some u in
+    let based : AreProcedures setting.lasting sc.own sc.targets sc.bindings i (s.number + 1) ds =
+    procedures_based setting.lasting sc.own sc.targets sc.bindings (inner sc s ds).bindings p (first_defined s ds) i (s.number + 1) n d ds refl v.0 f in
     (z.agree, (z.keeps, λ bases frame grown r. record { each = (z.means based bases frame grown r).each }))
 
 -- the names behind a LET, before the run
-let_after : (sc : Scene) (p : Enclosing) (s : Spot) (i l d : ℕ) (ds : Definitions) (g : Setting) (k q : ℕ) (ns : List Named) → RegularDefinitions ds → Agree (bind_procedures ds (with_names ns i)).names (inner sc s ds).bindings
+let_after : (sc : Scene) (p : Enclosing) (s : Spot) (i l d : ℕ) (ds : Definitions) (setting : Setting) (k q : ℕ) (ns : List Named) → RegularDefinitions ds → Agree (bind_procedures ds (with_names ns i)).names (inner sc s ds).bindings
     → Agree (declared (t.definitions l ds) (with_names ns i)).names (bind_all (from_spots q (slots_here sc p s d ds)) (inner sc s ds).bindings)
     × ((bases : List ℕ) (frame : ℕ) → NamedIn (there_in (home (inner sc s ds) 0) k) (with_names (bind_procedures ds (with_names ns i)).names 0) bases frame
     → NamedIn (there_in (home (record sc { bindings = bind_all (from_spots q (slots_here sc p s d ds)) (inner sc s ds).bindings }) 0) k) (with_names (declared (t.definitions l ds) (with_names ns i)).names 0) bases frame)
-let_after sc p s i l d ds g k q ns r u =
+let_after sc p s i l d ds setting k q ns r u =
     let bl = (inner sc s ds).bindings in
     let ps = slots_here sc p s d ds in
     let names = (bind_procedures ds (with_names ns i)).names in
@@ -323,7 +323,7 @@ pub let_bases : (pay : ℕ) (valofs : ValofsLie pay) (blocks : BlocksLie pay) (s
     → Bases (record (home sc pay) { bindings = scope_behind_one sc.bindings p s (t.definitions l ds) }) (i + objects_of_definitions ds) many qs L
     (LaidLater Then sc (scope_behind_one sc.bindings p s (t.definitions l ds)) (depth_here sc p s d ds) (i + objects_of_definitions ds) c1)
     → Bases (home sc pay) i (objects_of_definitions ds + many) (kinds_of_definitions n (definitions_named (inner sc s ds).bindings p (first_defined s ds) ds) ++ qs) (λ ns. of_declaration (with_names ns i) (t.definitions l ds) ++ L (declared (t.definitions l ds) (with_names ns i)).names)
-    (InNames sc.bindings i (λ g env. IsOneDeclared g sc d env (t.definitions l ds) (Then g) c))
+    (InNames sc.bindings i (λ setting env. IsOneDeclared setting sc d env (t.definitions l ds) (Then setting) c))
 let_bases pay valofs blocks sc p s i l ds d n many c c1 {qs} L Then a h r m f k st b =
     let hm : Home = home sc pay in
     let bl = (inner sc s ds).bindings in
@@ -337,22 +337,22 @@ let_bases pay valofs blocks sc p s i l ds d n many c c1 {qs} L Then a h r m f k 
     let bs : List Binding = bind_all (from_spots q ps) bl in
     let others = subst (λ (z : List Binding). Bases (record hm { bindings = bind_all z bl }) j many qs L (LaidLater Then sc (bind_all z bl) d1 j c1)) vars.are b in
     let there : Exits = record { loop = false; switch = false } in
-    let P : Setting → Type 0 = λ g. (0 < i) × DefinedHere sc p s i n d ds c c0 g in
+    let P : Setting → Type 0 = λ setting. (0 < i) × DefinedHere sc p s i n d ds c c0 setting in
     let own = bases_some hm i (objects_of_definitions ds) (DefinedHere sc p s i n d ds c c0) (bases_under hm bl i (objects_of_definitions ds) (DefinedHere sc p s i n d ds c c0) (λ ns. (bind_procedures ds (with_names ns i)).names)
-    (λ g some v ns u w. (
-      (procedures_mean sc p s i n d ds c c0 g 0 outermost there ns some v f u).0,
-      λ k bases frame grown. record { each = ((procedures_mean sc p s i n d ds c c0 g k outermost there ns some v f u).1.1 bases frame grown (record { each = (w k bases frame grown).each })).each },
+    (λ setting some v ns u w. (
+      (procedures_mean sc p s i n d ds c c0 setting 0 outermost there ns some v f u).0,
+      λ k bases frame grown. record { each = ((procedures_mean sc p s i n d ds c c0 setting k outermost there ns some v f u).1.1 bases frame grown (record { each = (w k bases frame grown).each })).each },
     )) lies.objects_are) in
     let both = then_bases hm bs i (objects_of_definitions ds) many P (LaidLater Then sc bs d1 j c1) (λ ns. (declared (t.definitions l ds) (with_names ns i)).names) own
-    (λ g y ns u w.
-    let v = own.laid g y in (
-      (let_after sc p s i l d ds g 0 q ns r (procedures_mean sc p s i n d ds c c0 g 0 outermost there ns v.0 v.1 f u).0).0,
+    (λ setting y ns u w.
+    let v = own.laid setting y in (
+      (let_after sc p s i l d ds setting 0 q ns r (procedures_mean sc p s i n d ds c c0 setting 0 outermost there ns v.0 v.1 f u).0).0,
       λ k bases frame grown.
-          let z = procedures_mean sc p s i n d ds c c0 g k outermost there ns v.0 v.1 f u in
-          (let_after sc p s i l d ds g k q ns r z.0).1 bases frame (record { each = (z.1.1 bases frame grown (record { each = (w k bases frame grown).each })).each }),
+          let z = procedures_mean sc p s i n d ds c c0 setting k outermost there ns v.0 v.1 f u in
+          (let_after sc p s i l d ds setting k q ns r z.0).1 bases frame (record { each = (z.1.1 bases frame grown (record { each = (w k bases frame grown).each })).each }),
     )) others in
-    bases_so hm i (objects_of_definitions ds + many) _ _ (λ g y v ns u.
-    let z = procedures_mean sc p s i n d ds c c0 g sc.procedure sc.around sc.exits ns v.0.0 v.0.1 f u in
+    bases_so hm i (objects_of_definitions ds + many) _ _ (λ setting y v ns u.
+    let z = procedures_mean sc p s i n d ds c c0 setting sc.procedure sc.around sc.exits ns v.0.0 v.0.1 f u in
     let names = (bind_procedures ds (with_names ns i)).names in (
       bl,
       bs,
@@ -365,7 +365,7 @@ let_bases pay valofs blocks sc p s i l ds d n many c c1 {qs} L Then a h r m f k 
       v.0.1.1 names z.0,
       stored (has_variables (definitions_named bl p (first_defined s ds) ds)) c1 ∙ ap (λ w. cond w (Store ∷ c1) c1) (variables_here bl p (first_defined s ds) ds),
       lies.on.shallow,
-      (λ o some. subst (λ w. Then g (record sc { bindings = bs }) d1 (with_names (variables_bound o ps (with_names names j)).names w) c1) (sym (next_bound ps o (with_names names j)))
+      (λ o some. subst (λ w. Then setting (record sc { bindings = bs }) d1 (with_names (variables_bound o ps (with_names names j)).names w) c1) (sym (next_bound ps o (with_names names j)))
           (v.1 (variables_bound o ps (with_names names j)).names (bound_agree ps names bl j o q some z.0))),
     )) both
 
@@ -438,7 +438,7 @@ pub declared_bases : (pay : ℕ) (valofs : ValofsLie pay) (blocks : BlocksLie pa
     → c ≡ declarations_code sc.targets d n (declarations_named sc.bindings p s xs) ++ c1 → StandsAt sc.own d c
     → Bases (record (home sc pay) { bindings = scope_behind sc.bindings p s xs }) (i + objects_of_declarations xs) many qs L
     (LaidLater Then sc (scope_behind sc.bindings p s xs) (behind_declarations d (declarations_named sc.bindings p s xs)) (i + objects_of_declarations xs) c1)
-    → Bases (home sc pay) i (objects_of_declarations xs + many) (kinds_of_declarations n (declarations_named sc.bindings p s xs) ++ qs) (λ ns. of_declarations (with_names ns i) xs ++ L (all_declared xs (with_names ns i)).names) (InNames sc.bindings i (λ g env. AreDeclared g sc d env xs (Then g) c))
+    → Bases (home sc pay) i (objects_of_declarations xs + many) (kinds_of_declarations n (declarations_named sc.bindings p s xs) ++ qs) (λ ns. of_declarations (with_names ns i) xs ++ L (all_declared xs (with_names ns i)).names) (InNames sc.bindings i (λ setting env. AreDeclared setting sc d env xs (Then setting) c))
 declared_bases pay valofs blocks sc p s i t.no_declarations d n many c c1 {qs} L Then a h r m f k st b =
     let none : i + 0 ≡ i = omega arith in
     let same : many ≡ 0 + many = omega arith in
@@ -466,13 +466,13 @@ declared_bases pay valofs blocks sc p s i (t.declare x xs) d n many c c1 {qs} L 
     let b1 = subst (λ z. Bases (record hm { bindings = scope_behind bs p1 s1 xs }) z many qs L (LaidLater Then sc (scope_behind bs p1 s1 xs) (behind_declarations d1 named) z c1)) further b in
     let others = declared_bases pay valofs blocks within p1 s1 (i + ox) xs d1 n1 many (more ++ c1) c1 L Then first.1 h.1 r.1 (omega (arith, m)) (found_back sc.own sc.targets (parts_of_declaration d n one) _ f) refl first.0 b1 in
     let whole = one_bases pay valofs blocks sc p s i x d n (os + many) c (more ++ c1) (λ ns. of_declarations (with_names ns (i + ox)) xs ++ L (all_declared xs (with_names ns (i + ox))).names)
-    (λ g sc0 d0 env0 c0. AreDeclared g sc0 d0 env0 xs (Then g) c0) a.around h.0 r.0 (omega (arith, m)) own_found k1 st others in
+    (λ setting sc0 d0 env0 c0. AreDeclared setting sc0 d0 env0 xs (Then setting) c0) a.around h.0 r.0 (omega (arith, m)) own_found k1 st others in
     let said = bases_of hm i (ox + (os + many)) _ (λ ns. of_declarations (with_names ns i) (t.declare x xs) ++ L (all_declared (t.declare x xs) (with_names ns i)).names) _ (λ ns.
     let env : Environment = declared x (with_names ns i) in
     ap (λ z. of_declaration (with_names ns i) x ++ (of_declarations (with_names env.names z) xs ++ L (all_declared xs (with_names env.names z)).names)) (sym (next_declared x (with_names ns i)))
     ∙ sym (append_assoc (of_declaration (with_names ns i) x) (of_declarations env xs) (L (all_declared xs env).names))) whole in
     let all_kinds = append_assoc (kinds_of_declaration n one) (kinds_of_declarations n1 named) qs in
     let objects_said : List Named → List Lasting = λ ns. of_declarations (with_names ns i) (t.declare x xs) ++ L (all_declared (t.declare x xs) (with_names ns i)).names in
-    let laid_said : Setting → Type 0 = InNames sc.bindings i (λ g env. AreDeclared g sc d env (t.declare x xs) (Then g) c) in
+    let laid_said : Setting → Type 0 = InNames sc.bindings i (λ setting env. AreDeclared setting sc d env (t.declare x xs) (Then setting) c) in
     subst (λ z. Bases hm i z (kinds_of_declarations n (declarations_named sc.bindings p s (t.declare x xs)) ++ qs) objects_said laid_said) many_more
     (subst (λ z. Bases hm i (ox + (os + many)) z objects_said laid_said) (sym all_kinds) said)

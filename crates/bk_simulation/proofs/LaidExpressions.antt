@@ -119,7 +119,7 @@ known_agree (x ∷ xs) y = either_agrees (bytes_eq x.name y) (Some (sense_for x.
 
 -- What holds with names that agree, from this lasting object on.
 abbrev pub InNames : List Binding → ℕ → (Setting → Environment → Type 0) → Setting → Type 0
-InNames bs next P g = (ns : List Named) → Agree ns bs → P g (with_names ns next)
+InNames bs next P setting = (ns : List Named) → Agree ns bs → P setting (with_names ns next)
 
 -- seeking finds the same where constants are the same
 mutual
@@ -181,7 +181,7 @@ pub leaf_on : (own : Placed) (d : ℕ) (aim : Aim) (c rest : List Stmt) (x : Stm
 leaf_on own d aim c rest x e m st = ended own d aim rest (passed own d (d + 1) x (ending aim rest) (subst (λ y. StandsAt own d y) e st) m)
 
 pub leaf_lies : (h : Home) (next d : ℕ) (aim : Aim) (c rest : List Stmt) (x : Stmt) (P : Setting → Type 0) → c ≡ x ∷ ending aim rest → next_depth d x ≡ d + 1 → StandsAt h.own d c
-    → ((g : Setting) → Fitting h g → P g) → Lies h next 0 (level aim d) rest [] (λ ns. []) P
+    → ((setting : Setting) → Fitting h setting → P setting) → Lies h next 0 (level aim d) rest [] (λ ns. []) P
 leaf_lies h next d aim c rest x P e m st f = record { on = leaf_on h.own d aim c rest x e m st; objects_are = no_bases h next P f }
 
 pub pushed_depth : (ts : List Target) (k : ℕ) (x : Bound) → next_depth k (push ts x) ≡ k + 1

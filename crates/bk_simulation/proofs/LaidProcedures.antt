@@ -77,7 +77,7 @@ formals_around : (pay section : ℕ) (own : Placed) (ts : List Target) (bs : Lis
 formals_around pay section own ts bs k fs i many ks L P a =
     let h : Home = record { section = section; own = own; targets = ts; bindings = bs; pay = pay } in
     bases_inside h (with_formals k 2 fs bs) i many P (λ ns. (bind_each (letters fs) foreign (with_names ns 0)).names)
-    (λ g ns u v. (foreign_agree k 2 fs ns bs u, (λ q bases frame grown. record { each = (foreign_named (there_in h q) k 2 fs bs (with_names ns 0) bases frame (v q bases frame grown)).each }))) a
+    (λ setting ns u v. (foreign_agree k 2 fs ns bs u, (λ q bases frame grown. record { each = (foreign_named (there_in h q) k 2 fs bs (with_names ns 0) bases frame (v q bases frame grown)).each }))) a
 
 -- ---- procedures
 
@@ -187,11 +187,11 @@ letters_length [] = refl
 letters_length (x ∷ xs) = ap (λ k. suc k) (letters_length xs)
 
 -- So a procedure whose outer names mean what they should is one of the program.
-pub procedure_is : (pay section : ℕ) (own : Placed) (ts : List Target) (bs : List Binding) (k : ℕ) (fs : List Mention) (i many : ℕ) (body : Body) (n : ℕ) (ks : List Kind) (p : ProcedureLies pay section own ts bs k fs i many body n ks) (g : Setting) (number : ℕ)
-    (ns : List Named) (global : Option ℕ) → Suits (record { section = section; own = own; targets = ts; bindings = bs; pay = pay }) i p.objects_are.bases p.objects_are.entries g → Agree ns bs → g.codes.procedure number ≡ own.places.label n
-    → ((bases : List ℕ) (frame : ℕ) → Grown g.lasting bases → NamedIn (scene_of section own ts bs k) (with_names ns i) bases frame)
-    → (q : IsProcedure g number (record { formals = letters fs; body = body; env = with_names ns i; global = global })) × (q.scene.own ≡ own)
-procedure_is pay section own ts bs k fs i many body n ks p g number ns global suits agrees word outer =
+pub procedure_is : (pay section : ℕ) (own : Placed) (ts : List Target) (bs : List Binding) (k : ℕ) (fs : List Mention) (i many : ℕ) (body : Body) (n : ℕ) (ks : List Kind) (p : ProcedureLies pay section own ts bs k fs i many body n ks) (setting : Setting) (number : ℕ)
+    (ns : List Named) (global : Option ℕ) → Suits (record { section = section; own = own; targets = ts; bindings = bs; pay = pay }) i p.objects_are.bases p.objects_are.entries setting → Agree ns bs → setting.codes.procedure number ≡ own.places.label n
+    → ((bases : List ℕ) (frame : ℕ) → Grown setting.lasting bases → NamedIn (scene_of section own ts bs k) (with_names ns i) bases frame)
+    → (q : IsProcedure setting number (record { formals = letters fs; body = body; env = with_names ns i; global = global })) × (q.scene.own ≡ own)
+procedure_is pay section own ts bs k fs i many body n ks p setting number ns global suits agrees word outer =
     let sc = scene_of section own ts (with_formals k 2 fs bs) k in
     let same = letters_length fs in
     let few = p.few in (
@@ -206,7 +206,7 @@ procedure_is pay section own ts bs k fs i many body n ks p g number ns global su
         behind = subst (λ z. drop (suc p.place) own.stmts ≡ Save (z + 2) ∷ p.code) (sym same) p.behind;
         word = word;
         few = omega (arith, few, same);
-        laid = λ o above. subst (λ z. IsBody g sc (z + 2) (bind_formals o 0 (letters fs) (with_names ns i)) body p.code) (sym same) (p.objects_are.laid g suits ns agrees o above);
+        laid = λ o above. subst (λ z. IsBody setting sc (z + 2) (bind_formals o 0 (letters fs) (with_names ns i)) body p.code) (sym same) (p.objects_are.laid setting suits ns agrees o above);
         names = λ o frame bases grown base low. formals_named (scene_of section own ts bs k) k o 0 2 fs bs (with_names ns i) bases frame refl (omega (arith, few)) base low (outer bases frame grown);
       },
       refl,
@@ -215,17 +215,17 @@ procedure_is pay section own ts bs k fs i many body n ks p g number ns global su
 -- ---- what lasts of a procedure
 
 -- its word
-word_held : (g : Setting) (section : ℕ) (own : Placed) (n number place : ℕ) (name : List ℕ) (y : Option Bound) → slice_get g.program.sections section ≡ Some own → slice_get own.stmts place ≡ Some (Entry n name)
-    → g.codes.procedure number ≡ own.places.label n → Callable y → DataIn own (word_code n (meant y)) → BaseOf g.lasting number (word_base own n (meant y)) → HeldWord g number (global_of y)
-word_held g section own n number place name (Some (b.Global None)) is at word c d base = absurd (let h : None ≡ Some c.0 = c.1 in cc)
-word_held g section own n number place name (Some (b.Global (Some v))) is at word c d base =
-    let e = g.well.entries section place n own name is at in
-    (own.places.label n, base, (let l : global_place GLOBAL_NUMBER < own.places.label n = e.1 in omega (arith, l)), (let l : own.places.label n < g.first = e.2 in omega (arith, l)))
-word_held g section own n number place name (Some (b.Static m)) is at word c d base =
+word_held : (setting : Setting) (section : ℕ) (own : Placed) (n number place : ℕ) (name : List ℕ) (y : Option Bound) → slice_get setting.program.sections section ≡ Some own → slice_get own.stmts place ≡ Some (Entry n name)
+    → setting.codes.procedure number ≡ own.places.label n → Callable y → DataIn own (word_code n (meant y)) → BaseOf setting.lasting number (word_base own n (meant y)) → HeldWord setting number (global_of y)
+word_held setting section own n number place name (Some (b.Global None)) is at word c d base = absurd (let h : None ≡ Some c.0 = c.1 in cc)
+word_held setting section own n number place name (Some (b.Global (Some v))) is at word c d base =
+    let e = setting.well.entries section place n own name is at in
+    (own.places.label n, base, (let l : global_place GLOBAL_NUMBER < own.places.label n = e.1 in omega (arith, l)), (let l : own.places.label n < setting.first = e.2 in omega (arith, l)))
+word_held setting section own n number place name (Some (b.Static m)) is at word c d base =
     let items = DataAddress n ∷ d.rest in
-    let found = statement_data g.program section own d.depth (DataLabel (n + 1)) items (record { place = own.places.label (n + 1); words = item_words own.places items }) is d.stands refl in
-    (own.places.label (n + 1), base, subst (λ ws. InData g.program (own.places.label (n + 1)) ws) (ap₂ (λ x xs. x ∷ xs) (sym word) d.ends) found)
-word_held g section own n number place name _ is at word c d base = elim c [ ]
+    let found = statement_data setting.program section own d.depth (DataLabel (n + 1)) items (record { place = own.places.label (n + 1); words = item_words own.places items }) is d.stands refl in
+    (own.places.label (n + 1), base, subst (λ ws. InData setting.program (own.places.label (n + 1)) ws) (ap₂ (λ x xs. x ∷ xs) (sym word) d.ends) found)
+word_held setting section own n number place name _ is at word c d base = elim c [ ]
 
 -- what its name means sets the global, if it is one
 named_global : (s : Option Sense) (y : Option Bound) → SameGlobal s y → Callable y → global_named s ≡ bound_global (meant y)
@@ -253,31 +253,31 @@ word_below section own n _ d program first well is low = omega (arith, low)
 pub procedure_bases : (pay section : ℕ) (own : Placed) (ts : List Target) (bs : List Binding) (k : ℕ) (x : List ℕ) (fs : List Mention) (i many : ℕ) (body : Body) (n : ℕ) (ks : List Kind) → ProcedureLies pay section own ts bs k fs (i + 1) many body n ks
     → Callable (bound_in bs x) → DataIn own (word_code n (meant (bound_in bs x)))
     → Bases (record { section = section; own = own; targets = ts; bindings = bs; pay = pay }) i (1 + many) (entry n (meant (bound_in bs x)) ∷ ks)
-    (λ ns. code (record { formals = letters fs; body = body; env = with_names ns (i + 1); global = global_named (sense_in ns x) }) ∷ of_body body (bind_each (letters fs) foreign (with_names ns (i + 1)))) (λ g. BaseOf g.lasting i (word_base own n (meant (bound_in bs x))))
+    (λ ns. code (record { formals = letters fs; body = body; env = with_names ns (i + 1); global = global_named (sense_in ns x) }) ∷ of_body body (bind_each (letters fs) foreign (with_names ns (i + 1)))) (λ setting. BaseOf setting.lasting i (word_base own n (meant (bound_in bs x))))
 procedure_bases pay section own ts bs k x fs i many body n ks p callable word =
     let o = p.objects_are in
     let all = o.all in
     let entries = o.all_entries in
     let h : Home = record { section = section; own = own; targets = ts; bindings = bs; pay = pay } in
     let next : suc i ≡ i + 1 = omega arith in
-    let inner : (g : Setting) → Suits h i (word_base own n (meant (bound_in bs x)) ∷ o.bases) (own.places.label n ∷ o.entries) g → Suits h (i + 1) o.bases o.entries g =
-    λ g s. record { fits = s.fits; some = omega arith; follow = subst (λ z. Follow g.lasting z o.bases) next (s.follow.1); words = subst (λ z. FollowWords g.codes.procedure z o.entries) next (s.words.1) } in
+    let inner : (setting : Setting) → Suits h i (word_base own n (meant (bound_in bs x)) ∷ o.bases) (own.places.label n ∷ o.entries) setting → Suits h (i + 1) o.bases o.entries setting =
+    λ setting s. record { fits = s.fits; some = omega arith; follow = subst (λ z. Follow setting.lasting z o.bases) next (s.follow.1); words = subst (λ z. FollowWords setting.codes.procedure z o.entries) next (s.words.1) } in
     record {
       bases = word_base own n (meant (bound_in bs x)) ∷ o.bases;
       entries = own.places.label n ∷ o.entries;
       all = omega (arith, all);
       all_entries = omega (arith, entries);
       count = λ ns. let c = o.count ns in omega (arith, c);
-      laid = λ g s. s.follow.0;
-      held = λ g s ns u v. (
+      laid = λ setting s. s.follow.0;
+      held = λ setting s ns u v. (
         (
-          (let q = procedure_is pay section own ts bs k fs (i + 1) many body n ks p g i ns (global_named (sense_in ns x)) (inner g s) u s.words.0 (λ bases frame grown. record { each = (v k bases frame grown).each }) in q.0),
-          (let q = procedure_is pay section own ts bs k fs (i + 1) many body n ks p g i ns (global_named (sense_in ns x)) (inner g s) u s.words.0 (λ bases frame grown. record { each = (v k bases frame grown).each }) in q.1),
-          subst (λ y. HeldWord g i y) (sym (same_global (sense_in ns x) (bound_in bs x) (u.1 x))) (word_held g section own n i p.place p.name (bound_in bs x) s.fits.own p.at s.words.0 callable word s.follow.0),
+          (let q = procedure_is pay section own ts bs k fs (i + 1) many body n ks p setting i ns (global_named (sense_in ns x)) (inner setting s) u s.words.0 (λ bases frame grown. record { each = (v k bases frame grown).each }) in q.0),
+          (let q = procedure_is pay section own ts bs k fs (i + 1) many body n ks p setting i ns (global_named (sense_in ns x)) (inner setting s) u s.words.0 (λ bases frame grown. record { each = (v k bases frame grown).each }) in q.1),
+          subst (λ y. HeldWord setting i y) (sym (same_global (sense_in ns x) (bound_in bs x) (u.1 x))) (word_held setting section own n i p.place p.name (bound_in bs x) s.fits.own p.at s.words.0 callable word s.follow.0),
         ),
-        subst (λ z. HeldIn g own z (of_body body (bind_each (letters fs) foreign (with_names ns (i + 1))))) (sym next) (o.held g (inner g s) ns u v),
+        subst (λ z. HeldIn setting own z (of_body body (bind_each (letters fs) foreign (with_names ns (i + 1))))) (sym next) (o.held setting (inner setting s) ns u v),
       );
-      alike = λ g s ns u v. ((refl, refl, named_global (sense_in ns x) (bound_in bs x) (u.1 x) callable, called (bound_in bs x) callable), o.alike g (inner g s) ns u v);
+      alike = λ setting s ns u v. ((refl, refl, named_global (sense_in ns x) (bound_in bs x) (u.1 x) callable, called (bound_in bs x) callable), o.alike setting (inner setting s) ns u v);
       placed = λ program first well is.
           let q = o.placed program first well is in
           let e = well.entries section p.place n own p.name is p.at in

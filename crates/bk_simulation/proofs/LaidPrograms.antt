@@ -28,8 +28,8 @@ pub record AreLaid (program : Program) (first : ℕ) (well : IsWellPlaced progra
   pub vector : BaseOf lasting 0 16
   pub procedures : (cap : ℕ) → Procedures (setting program first well codes pay cap lasting low vector) (program_of sections)
 
-pub knows : (g : Setting) → ((r : value.Routine) → g.codes.routine r ≡ library_word r) → KnowsLibrary g
-knows g is r = ap (λ w. g.program.callables.routine w) (is r) ∙ g.well.routines (library_word r) ∙ by_routine r
+pub knows : (setting : Setting) → ((r : value.Routine) → setting.codes.routine r ≡ library_word r) → KnowsLibrary setting
+knows setting is r = ap (λ w. setting.program.callables.routine w) (is r) ∙ setting.well.routines (library_word r) ∙ by_routine r
   where
     by_routine : (r : value.Routine) → library_routine (library_word r) ≡ Some (named_there r)
     by_routine stop = refl

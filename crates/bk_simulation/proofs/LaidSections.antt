@@ -39,9 +39,9 @@ Nothing g sc d env c = Unit {0}
 -- the objects of one declaration, and then those of others
 outside_both : (pay : ℕ) (sc : Scene) (i : ℕ) (x : Declaration) (xs : Declarations) {ks : List Kind} (P : Setting → Type 0)
     → Bases (home sc pay) i (objects_of_declaration x + objects_of_declarations xs) ks (λ ns. of_declaration (with_names ns i) x ++ of_declarations (with_names (declared x (with_names ns i)).names (i + objects_of_declaration x)) xs) P
-    → Bases (home sc pay) i (objects_of_declarations (t.declare x xs)) ks (λ ns. of_declarations (with_names ns i) (t.declare x xs)) (λ g. Unit {0})
+    → Bases (home sc pay) i (objects_of_declarations (t.declare x xs)) ks (λ ns. of_declarations (with_names ns i) (t.declare x xs)) (λ setting. Unit {0})
 outside_both pay sc i x xs P a =
-    bases_so (home sc pay) i _ P (λ g. Unit {0}) (λ g y v. tt) (bases_of (home sc pay) i _ _ (λ ns. of_declarations (with_names ns i) (t.declare x xs)) P
+    bases_so (home sc pay) i _ P (λ setting. Unit {0}) (λ setting y v. tt) (bases_of (home sc pay) i _ _ (λ ns. of_declarations (with_names ns i) (t.declare x xs)) P
     (λ ns. ap (λ z. of_declaration (with_names ns i) x ++ of_declarations (with_names (declared x (with_names ns i)).names z) xs) (sym (next_declared x (with_names ns i)))) a)
 
 constants_depth : (bs : List Binding) (p : Enclosing) (s : Spot) (l : ℕ) (o : Sort) (is : Items) (d : ℕ) → behind_declaration d (declaration_named bs p s (t.constants l o is)) ≡ d

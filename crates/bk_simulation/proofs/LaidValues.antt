@@ -22,13 +22,13 @@ use Rattle.bk_simulation.proofs.Standing.{StandsAt, passed, at_depth, written, l
 use Rattle.bk_simulation.proofs.LaidExpressions.{coded, own_parts, own_kinds, plain_lies, role, level, HasWords, FoundParts, found_front, found_back, DataIn, Around, around_deeper, InNames, plain_code, plain_parts, lies_ended, leaf_on, leaf_lies, pushed_depth, truth_depth, infix_on, joined_two, joined_three, joined_choice, call_lies}
 
 -- the words of a TABLE
-table_held : (g : Setting) (sc : Scene) (n l : ℕ) (es : Expressions) (i : ℕ) (ns : List Named) → Agree ns sc.bindings → HasWords sc.bindings → RegularEach es → HaveWords sc.bindings es → DataIn sc.own (data_code (static_table n (words_named sc.bindings es)))
-    → slice_get g.program.sections sc.section ≡ Some sc.own → InData g.program (sc.own.places.label n) (constant_words (with_names ns i) es)
-table_held g sc n l es i ns u words r h f own =
+table_held : (setting : Setting) (sc : Scene) (n l : ℕ) (es : Expressions) (i : ℕ) (ns : List Named) → Agree ns sc.bindings → HasWords sc.bindings → RegularEach es → HaveWords sc.bindings es → DataIn sc.own (data_code (static_table n (words_named sc.bindings es)))
+    → slice_get setting.program.sections sc.section ≡ Some sc.own → InData setting.program (sc.own.places.label n) (constant_words (with_names ns i) es)
+table_held setting sc n l es i ns u words r h f own =
     let ws = words_named sc.bindings es in
     let code = map (λ w. DataNumber (signed w)) ws ++ f.rest in
-    let found = statement_data g.program sc.section sc.own f.depth (DataLabel n) code (record { place = sc.own.places.label n; words = item_words sc.own.places code }) own f.stands refl in
-    subst (λ y. InData g.program (sc.own.places.label n) y) (items_are sc.own.places ws f.rest (words_small sc.bindings es words r h) f.ends ∙ sym (words_agree ns sc.bindings i es u)) found
+    let found = statement_data setting.program sc.section sc.own f.depth (DataLabel n) code (record { place = sc.own.places.label n; words = item_words sc.own.places code }) own f.stands refl in
+    subst (λ y. InData setting.program (sc.own.places.label n) y) (items_are sc.own.places ws f.rest (words_small sc.bindings es words r h) f.ends ∙ sym (words_agree ns sc.bindings i es u)) found
 
 -- expressions that are VALOFs are laid
 abbrev pub ValofsLie : ℕ → Type 0
@@ -116,10 +116,10 @@ two_jumps pay sc p s i x y u v j l d n c rest f k st on_x on_y =
 -- and a label after them
 labelled_lies : (sc : Scene) (pay i d n : ℕ) (rest : List Stmt) {many : ℕ} {ks : List Kind} {L : List Named → List Lasting}
     (P Q : Setting → Environment → Type 0) → Lies (home sc pay) i many d (Label n ∷ rest) ks L (InNames sc.bindings i P)
-    → ((g : Setting) (env : Environment) → P g env → LabelAt g sc d n rest → Q g env) → Lies (home sc pay) i many d rest ks L (InNames sc.bindings i Q)
+    → ((setting : Setting) (env : Environment) → P setting env → LabelAt setting sc d n rest → Q setting env) → Lies (home sc pay) i many d rest ks L (InNames sc.bindings i Q)
 labelled_lies sc pay i d n rest P Q a h = record {
   on = passed sc.own d d (Label n) rest a.on refl;
-  objects_are = bases_so (home sc pay) i _ _ _ (λ g z v ns u. h g (with_names ns i) (v ns u) (label_at g sc d n rest z.own a.on)) a.objects_are;
+  objects_are = bases_so (home sc pay) i _ _ _ (λ setting z v ns u. h setting (with_names ns i) (v ns u) (label_at setting sc d n rest z.own a.on)) a.objects_are;
 }
 
 mutual

@@ -492,26 +492,26 @@ vector_there program first codes lasting rest lasts =
     let here : first_base.0 ≡ 16 = (lasts.each 0 first_base.0 global_vector refl first_base.1).1 in
     subst (λ b. BaseOf lasting 0 b) here first_base.1
 
-module _ (g : Setting) (rest : List Lasting) (lasts : HoldsLasting g.program g.first g.codes g.lasting (global_vector ∷ rest)) (known : (r : value.Routine) → g.codes.routine r ≡ library_word r) where
+module _ (setting : Setting) (rest : List Lasting) (lasts : HoldsLasting setting.program setting.first setting.codes setting.lasting (global_vector ∷ rest)) (known : (r : value.Routine) → setting.codes.routine r ≡ library_word r) where
   abbrev p : List Lasting
   p = global_vector ∷ rest
 
-  pub first_store : FirstStore g (first_memory p) (first_cells g.program g.first)
+  pub first_store : FirstStore setting (first_memory p) (first_cells setting.program setting.first)
   first_store = record {
-    fits = lasting_fits g.program g.first g.well g.codes g.lasting p lasts known;
-    words = first_bytes_are g.program g.first g.well;
-    frame = link_first g.program g.first g.well;
-    back = link_next g.program g.first g.well;
+    fits = lasting_fits setting.program setting.first setting.well setting.codes setting.lasting p lasts known;
+    words = first_bytes_are setting.program setting.first setting.well;
+    frame = link_first setting.program setting.first setting.well;
+    back = link_next setting.program setting.first setting.well;
   }
 
-  pub start_there : NoStart g p ⊎ HasStart g p
+  pub start_there : NoStart setting p ⊎ HasStart setting p
   start_there =
-      let long = globals_long g.codes p in
+      let long = globals_long setting.codes p in
       let c = get_at (global_cells p) 1 (omega arith) in
       by_cell c.0 c.1 ((all_start 0 p (library_cells ++ replicate 988 (holds unset)) library_starts).each c.0 c.1)
-      (cell_is g.program g.first g.well g.codes g.lasting p lasts known 0 16 1 c.0 c.1 (vector_there g.program g.first g.codes g.lasting rest lasts))
+      (cell_is setting.program setting.first setting.well setting.codes setting.lasting p lasts known 0 16 1 c.0 c.1 (vector_there setting.program setting.first setting.codes setting.lasting rest lasts))
     where
-      by_cell : (c : value.Cell) → slice_get (global_cells p) 1 ≡ Some c → StartCell c → CellIs g.codes c (first_cells g.program g.first (16 + 1)) → NoStart g p ⊎ HasStart g p
+      by_cell : (c : value.Cell) → slice_get (global_cells p) 1 ≡ Some c → StartCell c → CellIs setting.codes c (first_cells setting.program setting.first (16 + 1)) → NoStart setting p ⊎ HasStart setting p
       by_cell (holds unset) e s h = inl (record { is = ap (λ y. option_and_then value_in y) e; word = ap content_of h })
       by_cell (holds (procedure k)) e s h = inr (record { number = k; is = ap (λ y. option_and_then value_in y) e; word = ap content_of h })
       by_cell _ e s h = absurd s

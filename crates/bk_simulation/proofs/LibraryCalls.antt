@@ -132,21 +132,21 @@ named_there value.putbyte = ocode.Putbyte
 named_there value.writef = ocode.Writef
 
 -- The run has come to a routine, in its frame.
-pub record AtRoutine (g : Setting) (s : State) (A : Account) (z : Configuration) (w : World) (vs : List Value) (back e : ℕ) (w1 : World) : Type 0 where
+pub record AtRoutine (setting : Setting) (s : State) (A : Account) (z : Configuration) (w : World) (vs : List Value) (back e : ℕ) (w1 : World) : Type 0 where
   pub bases1 : List ℕ
   pub cells1 : ℕ → Cell
   pub written1 : List ℕ
   pub steps : ℕ
   pub paid : ℕ
-  pub comes : Comes g steps paid s (record { control = At e; cells = cells1; frame = z.frame + z.depth; hand = None; input = w1.input; output = w1.output; written = written1 })
+  pub comes : Comes setting steps paid s (record { control = At e; cells = cells1; frame = z.frame + z.depth; hand = None; input = w1.input; output = w1.output; written = written1 })
   pub has : HasBytes (record { control = At e; cells = cells1; frame = z.frame + z.depth; hand = None; input = w1.input; output = w1.output; written = written1 })
   pub most : steps + 16 * w1.turns ≤ A.most
   pub least : A.least ≤ w1.turns + paid
   pub link0 : content_of (cells1 (z.frame + z.depth + 0)) ≡ Word z.frame
   pub link1 : content_of (cells1 (z.frame + z.depth + 1)) ≡ Word back
-  pub fits : Fits g.codes (record { bases = bases1; mem = w1.memory; cells = cells1 }) (z.frame + z.depth)
+  pub fits : Fits setting.codes (record { bases = bases1; mem = w1.memory; cells = cells1 }) (z.frame + z.depth)
   pub moved : Moved (z.frame + z.depth) (store z w) (record { bases = bases1; mem = w1.memory; cells = cells1 })
-  pub each : (i : ℕ) (u : Value) → slice_get vs i ≡ Some u → Stands g.codes bases1 u (content_of (cells1 (z.frame + z.depth + (2 + i))))
+  pub each : (i : ℕ) (u : Value) → slice_get vs i ≡ Some u → Stands setting.codes bases1 u (content_of (cells1 (z.frame + z.depth + (2 + i))))
 
 not_home : (program : Program) (n : ℕ) (r : ocode.Routine) → program.callables.routine program.home ≡ None → program.callables.routine n ≡ Some r → (n == program.home) ≡ false
 not_home program n r none some =
@@ -164,10 +164,10 @@ routine_stepped program s n r none e er =
     ∙ ap (λ y. step_from program.callables s y) e
     ∙ ap (λ y. on_some y (λ routine. routine_step s routine)) er
 
-module _ (of : Bool) (g : Setting) (s : State) (A B : Account) (z : Configuration) (rest : List Stmt) (w w1 : World) (vs : List Value) (r : value.Routine) (n : ℕ)
-    (le : A.most + 1 ≤ B.most) (le' : B.least ≤ A.least) (en : n ≡ w.calls) (ready : Ready g z w) (call : CallAt g z.scene (call_stmt of z.depth) rest)
-    (known : g.program.callables.routine (g.codes.routine r) ≡ Some (named_there r))
-    (at : AtRoutine g s A z w vs (z.scene.own.places.call (length rest)) (g.codes.routine r) w1) where
+module _ (of : Bool) (setting : Setting) (s : State) (A B : Account) (z : Configuration) (rest : List Stmt) (w w1 : World) (vs : List Value) (r : value.Routine) (n : ℕ)
+    (le : A.most + 1 ≤ B.most) (le' : B.least ≤ A.least) (en : n ≡ w.calls) (ready : Ready setting z w) (call : CallAt setting z.scene (call_stmt of z.depth) rest)
+    (known : setting.program.callables.routine (setting.codes.routine r) ≡ Some (named_there r))
+    (at : AtRoutine setting s A z w vs (z.scene.own.places.call (length rest)) (setting.codes.routine r) w1) where
   abbrev top : ℕ
   top = z.frame + z.depth
 
@@ -175,29 +175,29 @@ module _ (of : Bool) (g : Setting) (s : State) (A B : Account) (z : Configuratio
   back = z.scene.own.places.call (length rest)
 
   abbrev here : State
-  here = record { control = At (g.codes.routine r); cells = at.cells1; frame = top; hand = None; input = w1.input; output = w1.output; written = at.written1 }
+  here = record { control = At (setting.codes.routine r); cells = at.cells1; frame = top; hand = None; input = w1.input; output = w1.output; written = at.written1 }
 
   abbrev held : Store
   held = record { bases = at.bases1; mem = w1.memory; cells = at.cells1 }
 
   abbrev Given : Value → World → Type 0
-  Given v w3 = Gave of g s B z rest w v (calls_back n w3)
+  Given v w3 = Gave of setting s B z rest w v (calls_back n w3)
 
   abbrev RanHere : Outcome Value → Type 0
-  RanHere o = Ran g s B Given AnyExit o
+  RanHere o = Ran setting s B Given AnyExit o
 
-  stepped : program_step g.program here ≡ routine_step here (named_there r)
-  stepped = routine_stepped g.program here (g.codes.routine r) (named_there r) g.well.is_program.home_apart refl known
+  stepped : program_step setting.program here ≡ routine_step here (named_there r)
+  stepped = routine_stepped setting.program here (setting.codes.routine r) (named_there r) setting.well.is_program.home_apart refl known
 
   -- the routine goes back with a result, these cells, and the world's bytes
-  back_with : (v : Value) (result : Option Content) (w3 : World) (cells3 : ℕ → Cell) (written3 : List ℕ) → w3.turns ≡ w1.turns → Stands g.codes at.bases1 v (in_hand result)
+  back_with : (v : Value) (result : Option Content) (w3 : World) (cells3 : ℕ → Cell) (written3 : List ℕ) → w3.turns ≡ w1.turns → Stands setting.codes at.bases1 v (in_hand result)
       → routine_step here (named_there r) ≡ return (record here { cells = cells3; input = w3.input; output = w3.output; written = written3 }) result
       → content_of (cells3 (top + 0)) ≡ Word z.frame → content_of (cells3 (top + 1)) ≡ Word back
-      → Fits g.codes (record { bases = at.bases1; mem = w3.memory; cells = cells3 }) top → Moved top held (record { bases = at.bases1; mem = w3.memory; cells = cells3 }) → RanHere (gives v w3)
+      → Fits setting.codes (record { bases = at.bases1; mem = w3.memory; cells = cells3 }) top → Moved top held (record { bases = at.bases1; mem = w3.memory; cells = cells3 }) → RanHere (gives v w3)
   back_with v result w3 cells3 written3 et st e e0 e1 f mv =
       let mq = at.most in
       let lq = at.least in
-      went (returned_in of g s A B z rest w w3 n v result le le' en ready call (record {
+      went (returned_in of setting s A B z rest w w3 n v result le le' en ready call (record {
         from = here;
         steps = at.steps;
         paid = at.paid;
@@ -210,15 +210,15 @@ module _ (of : Bool) (g : Setting) (s : State) (A B : Account) (z : Configuratio
         written1 = written3;
         returns = stepped ∙ e ∙ return_goes (record here { cells = cells3; input = w3.input; output = w3.output; written = written3 }) result back z.frame e1 e0;
         fits = f;
-        moved = moved_on g.codes top top top _ _ _ ready.fits (omega arith) at.moved mv;
+        moved = moved_on setting.codes top top top _ _ _ ready.fits (omega arith) at.moved mv;
       }) st)
 
   -- with the cells as they were
-  back_same : (v : Value) (result : Option Content) (w3 : World) → w3.turns ≡ w1.turns → w3.memory ≡ w1.memory → Stands g.codes at.bases1 v (in_hand result)
+  back_same : (v : Value) (result : Option Content) (w3 : World) → w3.turns ≡ w1.turns → w3.memory ≡ w1.memory → Stands setting.codes at.bases1 v (in_hand result)
       → routine_step here (named_there r) ≡ return (record here { input = w3.input; output = w3.output }) result → RanHere (gives v w3)
   back_same v result w3 et em st e =
       back_with v result w3 at.cells1 at.written1 et st e at.link0 at.link1
-      (subst (λ y. Fits g.codes (record { bases = at.bases1; mem = y; cells = at.cells1 }) top) (sym em) at.fits)
+      (subst (λ y. Fits setting.codes (record { bases = at.bases1; mem = y; cells = at.cells1 }) top) (sym em) at.fits)
       (subst (λ y. Moved top held (record { bases = at.bases1; mem = y; cells = at.cells1 })) (sym em) (moved_refl top held))
 
 low_place : (top p : ℕ) (cells : ℕ → Cell) (k : Content) → variable_at top cells p ≡ Some k → p < top
@@ -238,11 +238,11 @@ low_byte top w i b cells k e = by_variable (variable_at top cells (word_sum w (b
 held_bytes : (cells : ℕ → Cell) → ((a : ℕ) → AreBytes (content_of (cells a))) → (p : ℕ) (k : Content) → cells p ≡ Held Variable k → AreBytes k
 held_bytes cells all p k e = subst (λ c. AreBytes (content_of c)) e (all p)
 
-pub library_runs : (of : Bool) (g : Setting) (s : State) (A B : Account) (z : Configuration) (rest : List Stmt) (w w1 : World) (vs : List Value) (r : value.Routine) (n : ℕ) → A.most + 1 ≤ B.most → B.least ≤ A.least → n ≡ w.calls → Ready g z w
-    → CallAt g z.scene (call_stmt of z.depth) rest → g.program.callables.routine (g.codes.routine r) ≡ Some (named_there r) → AtRoutine g s A z w vs (z.scene.own.places.call (length rest)) (g.codes.routine r) w1
-    → Ran g s B (λ v w3. Gave of g s B z rest w v (calls_back n w3)) AnyExit (library r vs w1)
-library_runs of g s A B z rest w w1 (number k ∷ vs) value.stop n le le' en ready call known at =
-    let h = here of g s A B z rest w w1 (number k ∷ vs) value.stop n le le' en ready call known at in
+pub library_runs : (of : Bool) (setting : Setting) (s : State) (A B : Account) (z : Configuration) (rest : List Stmt) (w w1 : World) (vs : List Value) (r : value.Routine) (n : ℕ) → A.most + 1 ≤ B.most → B.least ≤ A.least → n ≡ w.calls → Ready setting z w
+    → CallAt setting z.scene (call_stmt of z.depth) rest → setting.program.callables.routine (setting.codes.routine r) ≡ Some (named_there r) → AtRoutine setting s A z w vs (z.scene.own.places.call (length rest)) (setting.codes.routine r) w1
+    → Ran setting s B (λ v w3. Gave of setting s B z rest w v (calls_back n w3)) AnyExit (library r vs w1)
+library_runs of setting s A B z rest w w1 (number k ∷ vs) value.stop n le le' en ready call known at =
+    let h = here of setting s A B z rest w w1 (number k ∷ vs) value.stop n le le' en ready call known at in
     let mq = at.most in
     went (record {
       to = h;
@@ -252,70 +252,70 @@ library_runs of g s A B z rest w w1 (number k ∷ vs) value.stop n le le' en rea
       most = omega arith;
       end = Status (signed k);
       is_end = refl;
-      stops = stepped of g s A B z rest w w1 (number k ∷ vs) value.stop n le le' en ready call known at ∙ ap (λ y. on_number y (λ n. Ends (Status (signed n)) h)) (at.each 0 (number k) refl);
+      stops = stepped of setting s A B z rest w w1 (number k ∷ vs) value.stop n le le' en ready call known at ∙ ap (λ y. on_number y (λ n. Ends (Status (signed n)) h)) (at.each 0 (number k) refl);
       wrote = refl;
       left = refl;
     })
-library_runs of g s A B z rest w w1 vs value.rdch n le le' en ready call known at = by_input w1.input refl
+library_runs of setting s A B z rest w w1 vs value.rdch n le le' en ready call known at = by_input w1.input refl
   where
     h : State
-    h = record { control = At (g.codes.routine value.rdch); cells = at.cells1; frame = z.frame + z.depth; hand = None; input = w1.input; output = w1.output; written = at.written1 }
+    h = record { control = At (setting.codes.routine value.rdch); cells = at.cells1; frame = z.frame + z.depth; hand = None; input = w1.input; output = w1.output; written = at.written1 }
 
-    by_input : (input : List ℕ) → w1.input ≡ input → Ran g s B (λ v w3. Gave of g s B z rest w v (calls_back n w3)) AnyExit (takes_byte input w1)
+    by_input : (input : List ℕ) → w1.input ≡ input → Ran setting s B (λ v w3. Gave of setting s B z rest w v (calls_back n w3)) AnyExit (takes_byte input w1)
     by_input [] e =
-        back_same of g s A B z rest w w1 vs value.rdch n le le' en ready call known at (number (2 ^ 32 - 1)) (Some (Word (2 ^ 32 - 1))) w1 refl refl refl (ap (λ y. takes_input y h) e)
+        back_same of setting s A B z rest w w1 vs value.rdch n le le' en ready call known at (number (2 ^ 32 - 1)) (Some (Word (2 ^ 32 - 1))) w1 refl refl refl (ap (λ y. takes_input y h) e)
     by_input (b ∷ more) e =
-        back_same of g s A B z rest w w1 vs value.rdch n le le' en ready call known at (number b) (Some (Word b)) (record w1 { input = more }) refl refl refl (ap (λ y. takes_input y h) e)
-library_runs of g s A B z rest w w1 (number k ∷ vs) value.wrch n le le' en ready call known at =
-    let h = here of g s A B z rest w w1 (number k ∷ vs) value.wrch n le le' en ready call known at in
-    back_same of g s A B z rest w w1 (number k ∷ vs) value.wrch n le le' en ready call known at unset None (writing (k % 256 ∷ []) w1) refl refl tt
+        back_same of setting s A B z rest w w1 vs value.rdch n le le' en ready call known at (number b) (Some (Word b)) (record w1 { input = more }) refl refl refl (ap (λ y. takes_input y h) e)
+library_runs of setting s A B z rest w w1 (number k ∷ vs) value.wrch n le le' en ready call known at =
+    let h = here of setting s A B z rest w w1 (number k ∷ vs) value.wrch n le le' en ready call known at in
+    back_same of setting s A B z rest w w1 (number k ∷ vs) value.wrch n le le' en ready call known at unset None (writing (k % 256 ∷ []) w1) refl refl tt
     (ap (λ y. on_number y (λ b. tells h (b % 256 ∷ []))) (at.each 0 (number k) refl))
-library_runs of g s A B z rest w w1 vs value.newline n le le' en ready call known at =
-    back_same of g s A B z rest w w1 vs value.newline n le le' en ready call known at unset None (writing (10 ∷ []) w1) refl refl tt refl
-library_runs of g s A B z rest w w1 (a ∷ vs) value.writes n le le' en ready call known at =
-    by_option (λ o. Ran g s B (λ v w3. Gave of g s B z rest w v (calls_back n w3)) AnyExit (writes_text o w1))
+library_runs of setting s A B z rest w w1 vs value.newline n le le' en ready call known at =
+    back_same of setting s A B z rest w w1 vs value.newline n le le' en ready call known at unset None (writing (10 ∷ []) w1) refl refl tt refl
+library_runs of setting s A B z rest w w1 (a ∷ vs) value.writes n le le' en ready call known at =
+    by_option (λ o. Ran setting s B (λ v w3. Gave of setting s B z rest w v (calls_back n w3)) AnyExit (writes_text o w1))
     (m.string_at w1.memory a) (λ _. went tt) (λ text e.
     let hs : Store = record { bases = at.bases1; mem = w1.memory; cells = at.cells1 } in
-    let x = string_word g.codes hs (z.frame + z.depth) at.fits a _ text (at.each 0 a refl) e in
-    let st = subst (λ y. Stands g.codes at.bases1 a y) x.1 (at.each 0 a refl) in
-    back_same of g s A B z rest w w1 (a ∷ vs) value.writes n le le' en ready call known at unset None (writing text w1) refl refl tt
+    let x = string_word setting.codes hs (z.frame + z.depth) at.fits a _ text (at.each 0 a refl) e in
+    let st = subst (λ y. Stands setting.codes at.bases1 a y) x.1 (at.each 0 a refl) in
+    back_same of setting s A B z rest w w1 (a ∷ vs) value.writes n le le' en ready call known at unset None (writing text w1) refl refl tt
     (ap (λ y. on_number y (λ a. on_some (string_at h.frame h.cells a) (λ bytes. tells h bytes))) x.1
-    ∙ ap (λ y. on_some y (λ bytes. tells h bytes)) (string_read g.codes hs (z.frame + z.depth) at.fits a x.0 text st e)))
+    ∙ ap (λ y. on_some y (λ bytes. tells h bytes)) (string_read setting.codes hs (z.frame + z.depth) at.fits a x.0 text st e)))
   where
     h : State
-    h = record { control = At (g.codes.routine value.writes); cells = at.cells1; frame = z.frame + z.depth; hand = None; input = w1.input; output = w1.output; written = at.written1 }
-library_runs of g s A B z rest w w1 (number k ∷ vs) value.writen n le le' en ready call known at =
-    let h = here of g s A B z rest w w1 (number k ∷ vs) value.writen n le le' en ready call known at in
-    back_same of g s A B z rest w w1 (number k ∷ vs) value.writen n le le' en ready call known at unset None (writing (spelling (signed k)) w1) refl refl tt
+    h = record { control = At (setting.codes.routine value.writes); cells = at.cells1; frame = z.frame + z.depth; hand = None; input = w1.input; output = w1.output; written = at.written1 }
+library_runs of setting s A B z rest w w1 (number k ∷ vs) value.writen n le le' en ready call known at =
+    let h = here of setting s A B z rest w w1 (number k ∷ vs) value.writen n le le' en ready call known at in
+    back_same of setting s A B z rest w w1 (number k ∷ vs) value.writen n le le' en ready call known at unset None (writing (spelling (signed k)) w1) refl refl tt
     (ap (λ y. on_number y (λ n. tells h (spelling (signed n)))) (at.each 0 (number k) refl))
-library_runs of g s A B z rest w w1 (number k ∷ number d ∷ vs) value.writed n le le' en ready call known at =
-    let h = here of g s A B z rest w w1 (number k ∷ number d ∷ vs) value.writed n le le' en ready call known at in
-    back_same of g s A B z rest w w1 (number k ∷ number d ∷ vs) value.writed n le le' en ready call known at unset None (writing (aligned k d) w1) refl refl tt
+library_runs of setting s A B z rest w w1 (number k ∷ number d ∷ vs) value.writed n le le' en ready call known at =
+    let h = here of setting s A B z rest w w1 (number k ∷ number d ∷ vs) value.writed n le le' en ready call known at in
+    back_same of setting s A B z rest w w1 (number k ∷ number d ∷ vs) value.writed n le le' en ready call known at unset None (writing (aligned k d) w1) refl refl tt
     (ap (λ y. on_number y (λ n. on_number (slot h 3) (λ w. tells h (aligned n w)))) (at.each 0 (number k) refl)
     ∙ ap (λ y. on_number y (λ w. tells h (aligned k w))) (at.each 1 (number d) refl))
-library_runs of g s A B z rest w w1 (a ∷ i ∷ vs) value.getbyte n le le' en ready call known at =
-    by_option (λ o. Ran g s B (λ v w3. Gave of g s B z rest w v (calls_back n w3)) AnyExit (given (option_map number o) w1))
+library_runs of setting s A B z rest w w1 (a ∷ i ∷ vs) value.getbyte n le le' en ready call known at =
+    by_option (λ o. Ran setting s B (λ v w3. Gave of setting s B z rest w v (calls_back n w3)) AnyExit (given (option_map number o) w1))
     (read_byte w1.memory a i) (λ _. went tt) (λ b e.
     let hs : Store = record { bases = at.bases1; mem = w1.memory; cells = at.cells1 } in
-    let x = read_byte_at g.codes hs (z.frame + z.depth) a i _ _ b at.fits (at.each 0 a refl) (at.each 1 i refl) e in
-    back_same of g s A B z rest w w1 (a ∷ i ∷ vs) value.getbyte n le le' en ready call known at (number b) (Some (Word b)) w1 refl refl refl
+    let x = read_byte_at setting.codes hs (z.frame + z.depth) a i _ _ b at.fits (at.each 0 a refl) (at.each 1 i refl) e in
+    back_same of setting s A B z rest w w1 (a ∷ i ∷ vs) value.getbyte n le le' en ready call known at (number b) (Some (Word b)) w1 refl refl refl
     (ap (λ y. on_number y (λ a. on_number (slot h 3) (λ i. on_some (byte_at h.frame h.cells a i) (λ b. return h (Some (Word b)))))) x.is_word
     ∙ ap (λ y. on_number y (λ i. on_some (byte_at h.frame h.cells x.word i) (λ b. return h (Some (Word b))))) x.is_index
     ∙ ap (λ y. on_some y (λ b. return h (Some (Word b)))) x.reads))
   where
     h : State
-    h = record { control = At (g.codes.routine value.getbyte); cells = at.cells1; frame = z.frame + z.depth; hand = None; input = w1.input; output = w1.output; written = at.written1 }
-library_runs of g s A B z rest w w1 (a ∷ i ∷ u ∷ vs) value.putbyte n le le' en ready call known at =
+    h = record { control = At (setting.codes.routine value.getbyte); cells = at.cells1; frame = z.frame + z.depth; hand = None; input = w1.input; output = w1.output; written = at.written1 }
+library_runs of setting s A B z rest w w1 (a ∷ i ∷ u ∷ vs) value.putbyte n le le' en ready call known at =
     let set_to : ℕ → Content → State = λ p x. record h { cells = write h.cells p (Held Variable x); written = p ∷ h.written } in
-    by_option (λ o. Ran g s B (λ v w3. Gave of g s B z rest w v (calls_back n w3)) AnyExit (with (changes o w1) (λ _ w. gives unset w)))
+    by_option (λ o. Ran setting s B (λ v w3. Gave of setting s B z rest w v (calls_back n w3)) AnyExit (with (changes o w1) (λ _ w. gives unset w)))
     (write_byte w1.memory a i u) (λ _. went tt) (λ m1 e.
     let hs : Store = record { bases = at.bases1; mem = w1.memory; cells = at.cells1 } in
-    let x = write_byte_at g.codes hs (z.frame + z.depth) a i u _ _ _ m1 (held_bytes at.cells1 at.has.words) at.fits (at.each 0 a refl) (at.each 1 i refl) (at.each 2 u refl) e in
+    let x = write_byte_at setting.codes hs (z.frame + z.depth) a i u _ _ _ m1 (held_bytes at.cells1 at.has.words) at.fits (at.each 0 a refl) (at.each 1 i refl) (at.each 2 u refl) e in
     let p = word_sum x.word (byte_distance x.index) in
     let low = low_byte (z.frame + z.depth) x.word x.index x.byte at.cells1 x.content x.sets in
     let n0 : z.frame + z.depth + 0 ≢ p = λ q. absurd (omega (arith, low, q)) in
     let n1 : z.frame + z.depth + 1 ≢ p = λ q. absurd (omega (arith, low, q)) in
-    back_with of g s A B z rest w w1 (a ∷ i ∷ u ∷ vs) value.putbyte n le le' en ready call known at unset None (remembering m1 w1) (write at.cells1 p (Held Variable x.content)) (p ∷ at.written1) refl tt
+    back_with of setting s A B z rest w w1 (a ∷ i ∷ u ∷ vs) value.putbyte n le le' en ready call known at unset None (remembering m1 w1) (write at.cells1 p (Held Variable x.content)) (p ∷ at.written1) refl tt
     (ap (λ y. on_number y (λ a. on_number (slot h 3) (λ i. on_number (slot h 4) (λ b. on_some (word_with_byte_at h.frame h.cells a i b) (λ content. return (set_to (word_sum a (byte_distance i)) content) None))))) x.is_word
     ∙ ap (λ y. on_number y (λ i. on_number (slot h 4) (λ b. on_some (word_with_byte_at h.frame h.cells x.word i b) (λ content. return (set_to (word_sum x.word (byte_distance i)) content) None)))) x.is_index
     ∙ ap (λ y. on_number y (λ b. on_some (word_with_byte_at h.frame h.cells x.word x.index b) (λ content. return (set_to p content) None))) x.is_byte
@@ -325,25 +325,25 @@ library_runs of g s A B z rest w w1 (a ∷ i ∷ u ∷ vs) value.putbyte n le le
     x.fits (x.moved (z.frame + z.depth)))
   where
     h : State
-    h = record { control = At (g.codes.routine value.putbyte); cells = at.cells1; frame = z.frame + z.depth; hand = None; input = w1.input; output = w1.output; written = at.written1 }
-library_runs of g s A B z rest w w1 (a ∷ vs) value.writef n le le' en ready call known at =
-    by_option (λ o. Ran g s B (λ v w3. Gave of g s B z rest w v (calls_back n w3)) AnyExit (writes_text (option_and_then (λ bytes. m.written w1.memory (parts bytes) vs) o) w1))
+    h = record { control = At (setting.codes.routine value.putbyte); cells = at.cells1; frame = z.frame + z.depth; hand = None; input = w1.input; output = w1.output; written = at.written1 }
+library_runs of setting s A B z rest w w1 (a ∷ vs) value.writef n le le' en ready call known at =
+    by_option (λ o. Ran setting s B (λ v w3. Gave of setting s B z rest w v (calls_back n w3)) AnyExit (writes_text (option_and_then (λ bytes. m.written w1.memory (parts bytes) vs) o) w1))
     (m.string_at w1.memory a) (λ _. went tt) (λ bytes e.
     by_text bytes e (m.written w1.memory (parts bytes) vs) refl)
   where
     h : State
-    h = record { control = At (g.codes.routine value.writef); cells = at.cells1; frame = z.frame + z.depth; hand = None; input = w1.input; output = w1.output; written = at.written1 }
+    h = record { control = At (setting.codes.routine value.writef); cells = at.cells1; frame = z.frame + z.depth; hand = None; input = w1.input; output = w1.output; written = at.written1 }
 
-    by_text : (bytes : List ℕ) → m.string_at w1.memory a ≡ Some bytes → (o : Option (List ℕ)) → m.written w1.memory (parts bytes) vs ≡ o → Ran g s B (λ v w3. Gave of g s B z rest w v (calls_back n w3)) AnyExit (writes_text o w1)
+    by_text : (bytes : List ℕ) → m.string_at w1.memory a ≡ Some bytes → (o : Option (List ℕ)) → m.written w1.memory (parts bytes) vs ≡ o → Ran setting s B (λ v w3. Gave of setting s B z rest w v (calls_back n w3)) AnyExit (writes_text o w1)
     by_text bytes eb None e = went tt
     by_text bytes eb (Some text) e =
         let hs : Store = record { bases = at.bases1; mem = w1.memory; cells = at.cells1 } in
-        let x = string_word g.codes hs (z.frame + z.depth) at.fits a _ bytes (at.each 0 a refl) eb in
-        let st = subst (λ y. Stands g.codes at.bases1 a y) x.1 (at.each 0 a refl) in
-        let told = format_told g.codes hs (z.frame + z.depth) at.fits (slot h) (parts bytes) 3 vs
-        (λ i v ev. subst (λ k. Stands g.codes at.bases1 v (content_of (at.cells1 (z.frame + z.depth + k)))) (let q : 2 + suc i ≡ 3 + i = omega arith in q) (at.each (suc i) v ev)) text e in
-        back_same of g s A B z rest w w1 (a ∷ vs) value.writef n le le' en ready call known at unset None (writing text w1) refl refl tt
+        let x = string_word setting.codes hs (z.frame + z.depth) at.fits a _ bytes (at.each 0 a refl) eb in
+        let st = subst (λ y. Stands setting.codes at.bases1 a y) x.1 (at.each 0 a refl) in
+        let told = format_told setting.codes hs (z.frame + z.depth) at.fits (slot h) (parts bytes) 3 vs
+        (λ i v ev. subst (λ k. Stands setting.codes at.bases1 v (content_of (at.cells1 (z.frame + z.depth + k)))) (let q : 2 + suc i ≡ 3 + i = omega arith in q) (at.each (suc i) v ev)) text e in
+        back_same of setting s A B z rest w w1 (a ∷ vs) value.writef n le le' en ready call known at unset None (writing text w1) refl refl tt
         (ap (λ y. on_number y (λ f. on_some (string_at h.frame h.cells f) (λ format. on_some (format_bytes (λ a. number_in (slot h a)) (string_at h.frame h.cells) (parts format) 3) (λ bytes. tells h bytes)))) x.1
-        ∙ ap (λ y. on_some y (λ format. on_some (format_bytes (λ a. number_in (slot h a)) (string_at h.frame h.cells) (parts format) 3) (λ bytes. tells h bytes))) (string_read g.codes hs (z.frame + z.depth) at.fits a x.0 bytes st eb)
+        ∙ ap (λ y. on_some y (λ format. on_some (format_bytes (λ a. number_in (slot h a)) (string_at h.frame h.cells) (parts format) 3) (λ bytes. tells h bytes))) (string_read setting.codes hs (z.frame + z.depth) at.fits a x.0 bytes st eb)
         ∙ ap (λ y. on_some y (λ bytes. tells h bytes)) told)
-library_runs of g s A B z rest w w1 _ _ n le le' en ready call known at = went tt
+library_runs of setting s A B z rest w w1 _ _ n le le' en ready call known at = went tt

@@ -31,15 +31,15 @@ same_entry program first well k own is_own l n i j x y at at1 e =
     cc
 
 -- the mark of an object of section k, its base, and its statement
-record Located (g : Setting) (k : ℕ) (o : ℕ) (ms : List Mark) (j : ℕ) : Type 0 where
+record Located (setting : Setting) (k : ℕ) (o : ℕ) (ms : List Mark) (j : ℕ) : Type 0 where
   pub mark : Mark
   pub base : ℕ
   pub at : slice_get ms j ≡ Some mark
-  pub base_of : BaseOf g.lasting o base
-  pub marked : Marked g.program k mark base
+  pub base_of : BaseOf setting.lasting o base
+  pub marked : Marked setting.program k mark base
 
-module _ (g : Setting) (k : ℕ) (own : Placed) (is_own : slice_get g.program.sections k ≡ Some own) where
-  spans_at : (i : ℕ) (ks : List Kind) (xs : List Lasting) (vs ws : List ℕ) (keys : List ℕ) (spans : List Span) → AreSpread g own i (map form_of ks) keys spans → AreAs own ks xs vs ws → FollowWords g.codes.procedure i ws → AreThere own ks
+module _ (setting : Setting) (k : ℕ) (own : Placed) (is_own : slice_get setting.program.sections k ≡ Some own) where
+  spans_at : (i : ℕ) (ks : List Kind) (xs : List Lasting) (vs ws : List ℕ) (keys : List ℕ) (spans : List Span) → AreSpread setting own i (map form_of ks) keys spans → AreAs own ks xs vs ws → FollowWords setting.codes.procedure i ws → AreThere own ks
       → AllSpansAt own spans (joined entry_label ks)
   spans_at i [] xs vs ws [] [] s a f t = tt
   spans_at i (string ∷ ks) (x ∷ xs) (v ∷ vs) (w ∷ ws) (q ∷ keys) spans s a f t = spans_at (suc i) ks xs vs ws keys spans s.1 a.1 f.1 t.1
@@ -47,7 +47,7 @@ module _ (g : Setting) (k : ℕ) (own : Placed) (is_own : slice_get g.program.se
   spans_at i (entry n y ∷ ks) (code p ∷ xs) (v ∷ vs) (w ∷ ws) keys (z ∷ spans) s a f t =
       let c = s.0 in
       let e : own.places.label c.label ≡ own.places.label n = sym c.word ∙ f.0 ∙ a.0.1 in
-      let same = same_entry g.program g.first g.well k own is_own c.label n z.place t.0.1 c.name t.0.2 c.at t.0.3 e in
+      let same = same_entry setting.program setting.first setting.well k own is_own c.label n z.place t.0.1 c.name t.0.2 c.at t.0.3 e in
       (record { name = c.name; at = c.at ∙ ap (λ l. Some (Entry l c.name)) same; behind = c.behind }, spans_at (suc i) ks xs vs ws keys spans s.1 a.1 f.1 t.1)
   spans_at i (entry n y ∷ ks) (words us ∷ xs) (v ∷ vs) (w ∷ ws) keys (z ∷ spans) s a f t = elim (a.0) [ ]
   spans_at i (entry n y ∷ ks) (global_vector ∷ xs) (v ∷ vs) (w ∷ ws) keys (z ∷ spans) s a f t = elim (a.0) [ ]
@@ -64,19 +64,19 @@ module _ (g : Setting) (k : ℕ) (own : Placed) (is_own : slice_get g.program.se
   string_some (a ∷ c ∷ []) = omega arith
   string_some (a ∷ c ∷ d ∷ rest) = omega arith
 
-  further : (o o1 : ℕ) (m : Mark) (ms : List Mark) (j : ℕ) → o ≡ o1 → Located g k o ms j → Located g k o1 (m ∷ ms) (suc j)
-  further o o1 m ms j e a = record { mark = a.mark; base = a.base; at = a.at; base_of = subst (λ n. BaseOf g.lasting n a.base) e a.base_of; marked = a.marked }
+  further : (o o1 : ℕ) (m : Mark) (ms : List Mark) (j : ℕ) → o ≡ o1 → Located setting k o ms j → Located setting k o1 (m ∷ ms) (suc j)
+  further o o1 m ms j e a = record { mark = a.mark; base = a.base; at = a.at; base_of = subst (λ n. BaseOf setting.lasting n a.base) e a.base_of; marked = a.marked }
 
   -- words after a label
   labelled : (i n v : ℕ) (ms : List Mark) (place : ℕ) (rest : List Stmt) → drop place own.stmts ≡ DataLabel n ∷ rest → own.places.label n ≡ v
-      → 0 < length (item_words own.places rest) → BaseOf g.lasting i v → Located g k (i + 0) (at_label n ∷ ms) 0
+      → 0 < length (item_words own.places rest) → BaseOf setting.lasting i v → Located setting k (i + 0) (at_label n ∷ ms) 0
   labelled i n v ms place rest at placed some base =
       let here : i ≡ i + 0 = omega arith in
       record {
         mark = at_label n;
         base = v;
         at = refl;
-        base_of = subst (λ o. BaseOf g.lasting o v) here base;
+        base_of = subst (λ o. BaseOf setting.lasting o v) here base;
         marked = record {
           own = own;
           is_own = is_own;
@@ -92,8 +92,8 @@ module _ (g : Setting) (k : ℕ) (own : Placed) (is_own : slice_get g.program.se
         };
       }
 
-  located : (i : ℕ) (ks : List Kind) (xs : List Lasting) (vs ws : List ℕ) (keys : List ℕ) (spans : List Span) → AreSpread g own i (map form_of ks) keys spans → AreAs own ks xs vs ws → Follow g.lasting i vs → AreThere own ks
-      → ((q : ℕ) → 1 ≤ times q keys → StringIn own.stmts q) → (j : ℕ) (x : Lasting) → slice_get xs j ≡ Some x → HasWords (Some x) → Located g k (i + j) (marks ks keys) j
+  located : (i : ℕ) (ks : List Kind) (xs : List Lasting) (vs ws : List ℕ) (keys : List ℕ) (spans : List Span) → AreSpread setting own i (map form_of ks) keys spans → AreAs own ks xs vs ws → Follow setting.lasting i vs → AreThere own ks
+      → ((q : ℕ) → 1 ≤ times q keys → StringIn own.stmts q) → (j : ℕ) (x : Lasting) → slice_get xs j ≡ Some x → HasWords (Some x) → Located setting k (i + j) (marks ks keys) j
   located i [] [] vs ws keys spans s a f t there j x e h = absurd (let z : None ≡ Some x = e in cc)
   located i (string ∷ ks) (x0 ∷ xs) (v ∷ vs) (w ∷ ws) [] spans s a f t there j x e h = absurd s
   located i (string ∷ ks) (x0 ∷ xs) (v ∷ vs) (w ∷ ws) (q ∷ keys) spans s a f t there zero x e h =
@@ -106,7 +106,7 @@ module _ (g : Setting) (k : ℕ) (own : Placed) (is_own : slice_get g.program.se
         mark = at_string q;
         base = own.places.text q;
         at = refl;
-        base_of = subst (λ n. BaseOf g.lasting n (own.places.text q)) here s.0;
+        base_of = subst (λ n. BaseOf setting.lasting n (own.places.text q)) here s.0;
         marked = record {
           own = own;
           is_own = is_own;
@@ -153,29 +153,29 @@ module _ (g : Setting) (k : ℕ) (own : Placed) (is_own : slice_get g.program.se
 
 -- ---- one section
 
-record SectionMarks (g : Setting) (k i : ℕ) (xs : List Lasting) : Type 0 where
+record SectionMarks (setting : Setting) (k i : ℕ) (xs : List Lasting) : Type 0 where
   pub ms : List Mark
   pub once : (m : Mark) → count m ms ≤ 1
-  pub each : (j : ℕ) (x : Lasting) → slice_get xs j ≡ Some x → HasWords (Some x) → Located g k (i + j) ms j
+  pub each : (j : ℕ) (x : Lasting) → slice_get xs j ≡ Some x → HasWords (Some x) → Located setting k (i + j) ms j
 
-section_marks : (g : Setting) (pay k i : ℕ) (ds : Declarations) (rest : List Declarations) (own : Placed) (others : List Placed) (h : SectionsLie pay k i (ds ∷ rest) (own ∷ others)) → HasAll g pay k i (ds ∷ rest) (own ∷ others) h → IsAccepted ds
-    → own.stmts ≡ scheme (named_tree ds) → SectionMarks g k i (of_declarations (with_names [] i) ds)
-section_marks g pay k i ds rest own others h a ok e =
+section_marks : (setting : Setting) (pay k i : ℕ) (ds : Declarations) (rest : List Declarations) (own : Placed) (others : List Placed) (h : SectionsLie pay k i (ds ∷ rest) (own ∷ others)) → HasAll setting pay k i (ds ∷ rest) (own ∷ others) h → IsAccepted ds
+    → own.stmts ≡ scheme (named_tree ds) → SectionMarks setting k i (of_declarations (with_names [] i) ds)
+section_marks setting pay k i ds rest own others h a ok e =
     let ks = kinds_of_declarations 1 (named_tree ds) in
     let is_own = a.own.0 in
-    let suits = first_suits g pay k i ds rest own others h a in
-    let alike = first_alike g pay k i ds rest own others h a in
-    let held = h.0.held g suits [] no_names (none_mean g k own ds pay) in
-    let spread = outside_spread g own ds ok.regular.1 (with_names [] i) refl held in
+    let suits = first_suits setting pay k i ds rest own others h a in
+    let alike = first_alike setting pay k i ds rest own others h a in
+    let held = h.0.held setting suits [] no_names (none_mean setting k own ds pay) in
+    let spread = outside_spread setting own ds ok.regular.1 (with_names [] i) refl held in
     let forms = declared_forms ds 1 [] outermost beginning [] outermost beginning (section_sound ds ok.faultless) in
-    let are = subst (λ fs. AreSpread g own i fs spread.keys spread.spans) (sym forms) spread.are in
+    let are = subst (λ fs. AreSpread setting own i fs spread.keys spread.spans) (sym forms) spread.are in
     let there = kinds_there own ds ok e in
-    let spans = spans_at g k own is_own i ks _ h.0.bases h.0.entries spread.keys spread.spans are alike suits.words there in
+    let spans = spans_at setting k own is_own i ks _ h.0.bases h.0.entries spread.keys spread.spans are alike suits.words there in
     let few : (q : ℕ) → times q spread.keys ≤ in_spans q spread.spans = λ q. let o = spread.once q in omega (arith, o) in
     record {
       ms = marks ks spread.keys;
       once = marked_once ks spread.keys (λ q. let f = few q in let o = spans_once own spread.spans (joined entry_label ks) q spans (entry_labels_once ds) in omega (arith, f, o)) (data_labels_once ds);
-      each = located g k own is_own i ks _ h.0.bases h.0.entries spread.keys spread.spans are alike suits.follow there
+      each = located setting k own is_own i ks _ h.0.bases h.0.entries spread.keys spread.spans are alike suits.follow there
           (λ q r. let f = few q in stands_there own (joined entry_label ks) q (string_has own spread.spans (joined entry_label ks) q spans (omega (arith, r, f))));
     }
 
@@ -191,74 +191,74 @@ split (y ∷ xs) ys (suc o) x e =
     ⊎_elim (λ (h : slice_get xs o ≡ Some x). inl h) (λ (h : (p : ℕ) × (o ≡ length xs + p) × (slice_get ys p ≡ Some x)). let q = h.1 in inr (h.0, omega (arith, q), h.2)) (split xs ys o x e)
 
 -- an object of a section from k on
-record Later (g : Setting) (k o : ℕ) : Type 0 where
+record Later (setting : Setting) (k o : ℕ) : Type 0 where
   pub section : ℕ
   pub from : k ≤ section
   pub mark : Mark
   pub base : ℕ
-  pub base_of : BaseOf g.lasting o base
-  pub marked : Marked g.program section mark base
+  pub base_of : BaseOf setting.lasting o base
+  pub marked : Marked setting.program section mark base
 
-later : (g : Setting) (pay k i : ℕ) (sections : List Declarations) (owns : List Placed) (h : SectionsLie pay k i sections owns) → HasAll g pay k i sections owns h → AreAccepted sections → StandFor sections owns → (o : ℕ) (x : Lasting)
-    → slice_get (of_sections i sections) o ≡ Some x → HasWords (Some x) → Later g k (i + o)
-later g pay k i [] owns h a ok st o x e w = absurd (let z : None ≡ Some x = e in cc)
-later g pay k i (ds ∷ rest) [] h a ok st o x e w = absurd h
-later g pay k i (ds ∷ rest) (own ∷ others) h a ok st o x e w =
+later : (setting : Setting) (pay k i : ℕ) (sections : List Declarations) (owns : List Placed) (h : SectionsLie pay k i sections owns) → HasAll setting pay k i sections owns h → AreAccepted sections → StandFor sections owns → (o : ℕ) (x : Lasting)
+    → slice_get (of_sections i sections) o ≡ Some x → HasWords (Some x) → Later setting k (i + o)
+later setting pay k i [] owns h a ok st o x e w = absurd (let z : None ≡ Some x = e in cc)
+later setting pay k i (ds ∷ rest) [] h a ok st o x e w = absurd h
+later setting pay k i (ds ∷ rest) (own ∷ others) h a ok st o x e w =
     let n : ℕ = i + objects_of_declarations ds in
     let long : length (of_declarations (with_names [] i) ds) ≡ objects_of_declarations ds = h.0.count [] in
     ⊎_elim
     (λ (q : slice_get (of_declarations (with_names [] i) ds) o ≡ Some x).
-    let l = (section_marks g pay k i ds rest own others h a ok.0 st.0).each o x q w in
+    let l = (section_marks setting pay k i ds rest own others h a ok.0 st.0).each o x q w in
     record { section = k; from = omega arith; mark = l.mark; base = l.base; base_of = l.base_of; marked = l.marked })
     (λ (q : (p : ℕ) × (o ≡ length (of_declarations (with_names [] i) ds) + p) × (slice_get (of_sections n rest) p ≡ Some x)).
-    let l = later g pay (suc k) n rest others h.1 (others_suit g pay k i ds rest own others h a) ok.1 st.1 q.0 x q.2 w in
+    let l = later setting pay (suc k) n rest others h.1 (others_suit setting pay k i ds rest own others h a) ok.1 st.1 q.0 x q.2 w in
     let e1 = q.1 in
     let there : n + q.0 ≡ i + o = omega (arith, e1, long) in
     let f = l.from in
-    record { section = l.section; from = omega (arith, f); mark = l.mark; base = l.base; base_of = subst (λ y. BaseOf g.lasting y l.base) there l.base_of; marked = l.marked })
+    record { section = l.section; from = omega (arith, f); mark = l.mark; base = l.base; base_of = subst (λ y. BaseOf setting.lasting y l.base) there l.base_of; marked = l.marked })
     (split (of_declarations (with_names [] i) ds) (of_sections n rest) o x e)
 
 -- an object of section k has another base than one of a later section
-not_later : (g : Setting) (k o o1 b : ℕ) (ms : List Mark) (j : ℕ) → Located g k o ms j → Later g (suc k) o1 → BaseOf g.lasting o b → BaseOf g.lasting o1 b → ⊥
-not_later g k o o1 b ms j l r base base1 =
-    let e = one_base g.lasting o l.base b l.base_of base in
-    let e1 = one_base g.lasting o1 r.base b r.base_of base1 in
-    let one = marked_alone g.program g.first g.well k r.section l.mark r.mark b (subst (λ y. Marked g.program k l.mark y) e l.marked) (subst (λ y. Marked g.program r.section r.mark y) e1 r.marked) in
+not_later : (setting : Setting) (k o o1 b : ℕ) (ms : List Mark) (j : ℕ) → Located setting k o ms j → Later setting (suc k) o1 → BaseOf setting.lasting o b → BaseOf setting.lasting o1 b → ⊥
+not_later setting k o o1 b ms j l r base base1 =
+    let e = one_base setting.lasting o l.base b l.base_of base in
+    let e1 = one_base setting.lasting o1 r.base b r.base_of base1 in
+    let one = marked_alone setting.program setting.first setting.well k r.section l.mark r.mark b (subst (λ y. Marked setting.program k l.mark y) e l.marked) (subst (λ y. Marked setting.program r.section r.mark y) e1 r.marked) in
     let same = one.0 in
     let f = r.from in
     omega (arith, same, f)
 
-all_apart : (g : Setting) (pay k i : ℕ) (sections : List Declarations) (owns : List Placed) (h : SectionsLie pay k i sections owns) → HasAll g pay k i sections owns h → AreAccepted sections → StandFor sections owns → (o o1 b : ℕ) (x x1 : Lasting)
-    → slice_get (of_sections i sections) o ≡ Some x → slice_get (of_sections i sections) o1 ≡ Some x1 → HasWords (Some x) → HasWords (Some x1) → BaseOf g.lasting (i + o) b → BaseOf g.lasting (i + o1) b → o ≡ o1
-all_apart g pay k i [] owns h a ok st o o1 b x x1 e e1 w w1 base base1 = absurd (let z : None ≡ Some x = e in cc)
-all_apart g pay k i (ds ∷ rest) [] h a ok st o o1 b x x1 e e1 w w1 base base1 = absurd h
-all_apart g pay k i (ds ∷ rest) (own ∷ others) h a ok st o o1 b x x1 e e1 w w1 base base1 =
+all_apart : (setting : Setting) (pay k i : ℕ) (sections : List Declarations) (owns : List Placed) (h : SectionsLie pay k i sections owns) → HasAll setting pay k i sections owns h → AreAccepted sections → StandFor sections owns → (o o1 b : ℕ) (x x1 : Lasting)
+    → slice_get (of_sections i sections) o ≡ Some x → slice_get (of_sections i sections) o1 ≡ Some x1 → HasWords (Some x) → HasWords (Some x1) → BaseOf setting.lasting (i + o) b → BaseOf setting.lasting (i + o1) b → o ≡ o1
+all_apart setting pay k i [] owns h a ok st o o1 b x x1 e e1 w w1 base base1 = absurd (let z : None ≡ Some x = e in cc)
+all_apart setting pay k i (ds ∷ rest) [] h a ok st o o1 b x x1 e e1 w w1 base base1 = absurd h
+all_apart setting pay k i (ds ∷ rest) (own ∷ others) h a ok st o o1 b x x1 e e1 w w1 base base1 =
     let n : ℕ = i + objects_of_declarations ds in
     let xs = of_declarations (with_names [] i) ds in
     let ys = of_sections n rest in
     let long : length xs ≡ objects_of_declarations ds = h.0.count [] in
-    let here = section_marks g pay k i ds rest own others h a ok.0 st.0 in
-    let more = others_suit g pay k i ds rest own others h a in
-    let far : (p v : ℕ) → v ≡ length xs + p → BaseOf g.lasting (i + v) b → BaseOf g.lasting (n + p) b = λ p v q c. let t : i + v ≡ n + p = omega (arith, q, long) in subst (λ y. BaseOf g.lasting y b) t c in
+    let here = section_marks setting pay k i ds rest own others h a ok.0 st.0 in
+    let more = others_suit setting pay k i ds rest own others h a in
+    let far : (p v : ℕ) → v ≡ length xs + p → BaseOf setting.lasting (i + v) b → BaseOf setting.lasting (n + p) b = λ p v q c. let t : i + v ≡ n + p = omega (arith, q, long) in subst (λ y. BaseOf setting.lasting y b) t c in
     ⊎_elim
     (λ (q : slice_get xs o ≡ Some x).
     let l = here.each o x q w in
     ⊎_elim
     (λ (q1 : slice_get xs o1 ≡ Some x1).
     let l1 = here.each o1 x1 q1 w1 in
-    let f = one_base g.lasting (i + o) l.base b l.base_of base in
-    let f1 = one_base g.lasting (i + o1) l1.base b l1.base_of base1 in
-    let one = marked_alone g.program g.first g.well k k l.mark l1.mark b (subst (λ y. Marked g.program k l.mark y) f l.marked) (subst (λ y. Marked g.program k l1.mark y) f1 l1.marked) in
-    marked_apart l.mark here.ms o o1 (mark_is_some g.program k l.mark l.base l.marked) l.at (l1.at ∙ ap (λ y. Some y) (sym one.1)) (here.once l.mark))
+    let f = one_base setting.lasting (i + o) l.base b l.base_of base in
+    let f1 = one_base setting.lasting (i + o1) l1.base b l1.base_of base1 in
+    let one = marked_alone setting.program setting.first setting.well k k l.mark l1.mark b (subst (λ y. Marked setting.program k l.mark y) f l.marked) (subst (λ y. Marked setting.program k l1.mark y) f1 l1.marked) in
+    marked_apart l.mark here.ms o o1 (mark_is_some setting.program k l.mark l.base l.marked) l.at (l1.at ∙ ap (λ y. Some y) (sym one.1)) (here.once l.mark))
     (λ (q1 : (p : ℕ) × (o1 ≡ length xs + p) × (slice_get ys p ≡ Some x1)).
-    absurd (not_later g k (i + o) (n + q1.0) b here.ms o l (later g pay (suc k) n rest others h.1 more ok.1 st.1 q1.0 x1 q1.2 w1) base (far q1.0 o1 q1.1 base1)))
+    absurd (not_later setting k (i + o) (n + q1.0) b here.ms o l (later setting pay (suc k) n rest others h.1 more ok.1 st.1 q1.0 x1 q1.2 w1) base (far q1.0 o1 q1.1 base1)))
     (split xs ys o1 x1 e1))
     (λ (q : (p : ℕ) × (o ≡ length xs + p) × (slice_get ys p ≡ Some x)).
     ⊎_elim
     (λ (q1 : slice_get xs o1 ≡ Some x1).
-    absurd (not_later g k (i + o1) (n + q.0) b here.ms o1 (here.each o1 x1 q1 w1) (later g pay (suc k) n rest others h.1 more ok.1 st.1 q.0 x q.2 w) base1 (far q.0 o q.1 base)))
+    absurd (not_later setting k (i + o1) (n + q.0) b here.ms o1 (here.each o1 x1 q1 w1) (later setting pay (suc k) n rest others h.1 more ok.1 st.1 q.0 x q.2 w) base1 (far q.0 o q.1 base)))
     (λ (q1 : (p : ℕ) × (o1 ≡ length xs + p) × (slice_get ys p ≡ Some x1)).
-    let same = all_apart g pay (suc k) n rest others h.1 more ok.1 st.1 q.0 q1.0 b x x1 q.2 q1.2 w w1 (far q.0 o q.1 base) (far q1.0 o1 q1.1 base1) in
+    let same = all_apart setting pay (suc k) n rest others h.1 more ok.1 st.1 q.0 q1.0 b x x1 q.2 q1.2 w w1 (far q.0 o q.1 base) (far q1.0 o1 q1.1 base1) in
     let u = q.1 in
     let v = q1.1 in
     omega (arith, same, u, v))

@@ -29,22 +29,22 @@ last_or (suc zero) zero le = inr refl
 last_or (suc (suc k)) zero le = absurd (omega arith)
 last_or (suc k) (suc n) le = ⊎_elim (λ (x : k ≤ n). inl (omega arith)) (λ (x : k ≡ suc n). inr (ap (λ y. suc y) x)) (last_or k n (omega arith))
 
-module _ (g : Setting) (s0 s : State) (is : settled g.program s0 ≡ s) (few : FewFrames g s0.cells s0.frame g.cap) where
-  ends_no_more : (k : ℕ) (t u : State) (e : End) → run g.program k s0 ≡ Ends e u → run g.program k s0 ≡ Goes t → ⊥
+module _ (setting : Setting) (s0 s : State) (is : settled setting.program s0 ≡ s) (few : FewFrames setting s0.cells s0.frame setting.cap) where
+  ends_no_more : (k : ℕ) (t u : State) (e : End) → run setting.program k s0 ≡ Ends e u → run setting.program k s0 ≡ Goes t → ⊥
   ends_no_more k t u e h i = absurd (let z : Ends e u ≡ Goes t = sym h ∙ i in cc)
 
-  pub stopped_ends : (B : Account) (e : world.End) (w : World) (end : End) (n : ℕ) → B.most ≤ n → end_of e ≡ Some end → Stopped g s B e w → EndsWithin g.program g.first s0 n g.cap w.output w.input end
+  pub stopped_ends : (B : Account) (e : world.End) (w : World) (end : End) (n : ℕ) → B.most ≤ n → end_of e ≡ Some end → Stopped setting s B e w → EndsWithin setting.program setting.first s0 n setting.cap w.output w.input end
   stopped_ends B e w end n le ee q =
-      let until : (k : ℕ) (t : State) (m : ℕ) → k ≤ suc q.steps → run g.program k s0 ≡ Goes t → HasFrames g.program g.first FRAME_WORDS t.cells t.frame m → RunSo g q.steps s0 q.to → run g.program (suc q.steps) s0 ≡ Ends end q.to → m ≤ g.cap =
+      let until : (k : ℕ) (t : State) (m : ℕ) → k ≤ suc q.steps → run setting.program k s0 ≡ Goes t → HasFrames setting.program setting.first FRAME_WORDS t.cells t.frame m → RunSo setting q.steps s0 q.to → run setting.program (suc q.steps) s0 ≡ Ends end q.to → m ≤ setting.cap =
       λ k t m lk h f r over.
       ⊎_elim (λ (x : k ≤ q.steps). r.frames k t x h m f)
-      (λ (x : k ≡ suc q.steps). absurd (ends_no_more (suc q.steps) t q.to end over (subst (λ j. run g.program j s0 ≡ Goes t) x h)))
+      (λ (x : k ≡ suc q.steps). absurd (ends_no_more (suc q.steps) t q.to end over (subst (λ j. run setting.program j s0 ≡ Goes t) x h)))
       (last_or k q.steps lk) in
-      let r = comes_run g q.steps q.paid s s0 q.to is few q.comes in
+      let r = comes_run setting q.steps q.paid s s0 q.to is few q.comes in
       let mq = q.most in
       let same : q.end ≡ end = (let z : Some q.end ≡ Some end = sym q.is_end ∙ ee in cc) in
-      let over : run g.program (suc q.steps) s0 ≡ Ends end q.to =
-      run_after g.program q.steps s0 r.last r.runs ∙ settled_step g.program r.last ∙ ap (program_step g.program) r.settles ∙ q.stops ∙ ap (λ x. Ends x q.to) same in
+      let over : run setting.program (suc q.steps) s0 ≡ Ends end q.to =
+      run_after setting.program q.steps s0 r.last r.runs ∙ settled_step setting.program r.last ∙ ap (program_step setting.program) r.settles ∙ q.stops ∙ ap (λ x. Ends x q.to) same in
       record {
         steps = suc q.steps;
         within = omega arith;
@@ -55,11 +55,11 @@ module _ (g : Setting) (s0 s : State) (is : settled g.program s0 ≡ s) (few : F
         frames = λ k t m lk h f. until k t m lk h f r over;
       }
 
-  pub reached_comes : (B : Account) (w : World) (n : ℕ) → B.most ≤ n → Reaches g s B w → ComesWithin g.program g.first s0 n g.cap w.output w.input
+  pub reached_comes : (B : Account) (w : World) (n : ℕ) → B.most ≤ n → Reaches setting s B w → ComesWithin setting.program setting.first s0 n setting.cap w.output w.input
   reached_comes B w n le q =
-      let r = comes_run g q.steps q.paid s s0 q.to is few q.comes in
+      let r = comes_run setting q.steps q.paid s s0 q.to is few q.comes in
       let mq = q.most in
-      let h = goes_on_so g.program g.first FRAME_WORDS g.well r.last in
+      let h = goes_on_so setting.program setting.first FRAME_WORDS setting.well r.last in
       record {
         steps = q.steps;
         within = omega arith;
@@ -70,10 +70,10 @@ module _ (g : Setting) (s0 s : State) (is : settled g.program s0 ≡ s) (few : F
         frames = λ k t m lk e f. r.frames k t lk e m f;
       }
 
-  pub fell_out : (out : List ℕ) → Fell g s out → RunsOut g.program g.first s0 g.cap out
+  pub fell_out : (out : List ℕ) → Fell setting s out → RunsOut setting.program setting.first s0 setting.cap out
   fell_out out q =
-      let r = comes_run g q.steps q.paid s s0 q.to is few q.comes in
-      let h = goes_on_so g.program g.first FRAME_WORDS g.well r.last in
+      let r = comes_run setting q.steps q.paid s s0 q.to is few q.comes in
+      let h = goes_on_so setting.program setting.first FRAME_WORDS setting.well r.last in
       record {
         steps = q.steps;
         now = r.last;
@@ -83,12 +83,12 @@ module _ (g : Setting) (s0 s : State) (is : settled g.program s0 ≡ s) (few : F
         frames = λ k t m lk e f. r.frames k t lk e m f;
       }
 
-  falls_out : (out : List ℕ) (most : ℕ) → most ≡ g.cap → FallsThose g s out most → RunsOut g.program g.first s0 g.cap out
+  falls_out : (out : List ℕ) (most : ℕ) → most ≡ setting.cap → FallsThose setting s out most → RunsOut setting.program setting.first s0 setting.cap out
   falls_out out most e (inl f) = fell_out out f
   falls_out out most e (inr lt) = absurd (omega arith)
 
-  at_end : (n : ℕ) (B : Account) (e : world.End) (w : World) → B.most ≤ 16 * n + 16 → w.most_calls ≡ g.cap → (x : Option End) → end_of e ≡ x → Stopped g s B e w ⊎ FallsThose g s w.output w.most_calls
-      → DoesEnd g.program g.first n s0 w.output w.input g.cap x
+  at_end : (n : ℕ) (B : Account) (e : world.End) (w : World) → B.most ≤ 16 * n + 16 → w.most_calls ≡ setting.cap → (x : Option End) → end_of e ≡ x → Stopped setting s B e w ⊎ FallsThose setting s w.output w.most_calls
+      → DoesEnd setting.program setting.first n s0 w.output w.input setting.cap x
   at_end n B e w le ec (Some end) ee (inl q) = inl (stopped_ends B e w end (16 * n + 16) le ee q)
   at_end n B e w le ec (Some end) ee (inr f) = inr (falls_out w.output w.most_calls ec f)
   at_end n B e w le ec None ee (inl q) = absurd (let z : None ≡ Some q.end = sym ee ∙ q.is_end in cc)
@@ -96,34 +96,34 @@ module _ (g : Setting) (s0 s : State) (is : settled g.program s0 ≡ s) (few : F
 
   -- what the call of START comes to, the program does
   does_those : (n k : ℕ) (B : Account) (o : Outcome Value) → B.most ≤ 16 * n + 16
-      → calls_of (run_of (each_way (λ v after. gives v (calls_back k after)) (λ x w. undefined) o)) ≡ g.cap → Went g s B (Over g s B) AnyExit o ⊎ Falls g s o
-      → Does g.program g.first n s0 (run_of (each_way (λ v after. gives v (calls_back k after)) (λ x w. undefined) o))
+      → calls_of (run_of (each_way (λ v after. gives v (calls_back k after)) (λ x w. undefined) o)) ≡ setting.cap → Went setting s B (Over setting s B) AnyExit o ⊎ Falls setting s o
+      → Does setting.program setting.first n s0 (run_of (each_way (λ v after. gives v (calls_back k after)) (λ x w. undefined) o))
   does_those n k B (gives v w) le ec r =
-      subst (λ c. DoesEnd g.program g.first n s0 w.output w.input c (end_of (status 0))) (sym ec) (at_end n B (status 0) w le ec (end_of (status 0)) refl r)
-  does_those n k B (ends e w) le ec r = subst (λ c. DoesEnd g.program g.first n s0 w.output w.input c (end_of e)) (sym ec) (at_end n B e w le ec (end_of e) refl r)
-  does_those n k B (going w) le ec (inl q) = subst (λ c. Does g.program g.first n s0 (Going w.output w.input c)) (sym ec) (inl (reached_comes B w (16 * n + 16) le q))
-  does_those n k B (going w) le ec (inr f) = subst (λ c. Does g.program g.first n s0 (Going w.output w.input c)) (sym ec) (inr (falls_out w.output w.most_calls ec f))
+      subst (λ c. DoesEnd setting.program setting.first n s0 w.output w.input c (end_of (status 0))) (sym ec) (at_end n B (status 0) w le ec (end_of (status 0)) refl r)
+  does_those n k B (ends e w) le ec r = subst (λ c. DoesEnd setting.program setting.first n s0 w.output w.input c (end_of e)) (sym ec) (at_end n B e w le ec (end_of e) refl r)
+  does_those n k B (going w) le ec (inl q) = subst (λ c. Does setting.program setting.first n s0 (Going w.output w.input c)) (sym ec) (inl (reached_comes B w (16 * n + 16) le q))
+  does_those n k B (going w) le ec (inr f) = subst (λ c. Does setting.program setting.first n s0 (Going w.output w.input c)) (sym ec) (inr (falls_out w.output w.most_calls ec f))
   does_those n k B _ le ec r = tt
 
-  pub does_so : (n k : ℕ) (B : Account) (o : Outcome Value) → B.most ≤ 16 * n + 16 → calls_of (run_of (each_way (λ v after. gives v (calls_back k after)) (λ x w. undefined) o)) ≡ g.cap → Ran g s B (Over g s B) AnyExit o
-      → Does g.program g.first n s0 (run_of (each_way (λ v after. gives v (calls_back k after)) (λ x w. undefined) o))
+  pub does_so : (n k : ℕ) (B : Account) (o : Outcome Value) → B.most ≤ 16 * n + 16 → calls_of (run_of (each_way (λ v after. gives v (calls_back k after)) (λ x w. undefined) o)) ≡ setting.cap → Ran setting s B (Over setting s B) AnyExit o
+      → Does setting.program setting.first n s0 (run_of (each_way (λ v after. gives v (calls_back k after)) (λ x w. undefined) o))
   does_so n k B o le ec r = does_those n k B o le ec r.is
 
 -- ---- The program does from its first state what its sections mean.
 
 -- What global 1 holds: nothing, or a procedure and its word.
-pub record NoStart (g : Setting) (p : Program) : Type 0 where
+pub record NoStart (setting : Setting) (p : Program) : Type 0 where
   pub is : read (first_memory p) (address globals_object 1) ≡ None
-  pub word : content_of (first_cells g.program g.first (global_place 1)) ≡ Unset
+  pub word : content_of (first_cells setting.program setting.first (global_place 1)) ≡ Unset
 
-pub record HasStart (g : Setting) (p : Program) : Type 0 where
+pub record HasStart (setting : Setting) (p : Program) : Type 0 where
   pub number : ℕ
   pub is : read (first_memory p) (address globals_object 1) ≡ Some (procedure number)
-  pub word : content_of (first_cells g.program g.first (global_place 1)) ≡ Word (g.codes.procedure number)
+  pub word : content_of (first_cells setting.program setting.first (global_place 1)) ≡ Word (setting.codes.procedure number)
 
 -- the state in which START is called
 abbrev pub called_at : Setting → List ℕ → ℕ → State
-called_at g input start = record { control = At start; cells = first_cells g.program g.first; frame = g.first; hand = None; input = input; output = []; written = [] }
+called_at setting input start = record { control = At start; cells = first_cells setting.program setting.first; frame = setting.first; hand = None; input = input; output = []; written = [] }
 
 pub some_calls : (k : ℕ) (w0 : World) (o : Outcome Value) → After (history (calling w0)) o → 1 ≤ calls_of (run_of (each_way (λ v after. gives v (calls_back k after)) (λ x w. undefined) o))
 some_calls k w0 (gives v w) h = let c : max w0.most_calls (w0.calls + 1) ≤ w.most_calls = h.most_calls in omega arith
@@ -132,45 +132,45 @@ some_calls k w0 (ends e w) h = let c : max w0.most_calls (w0.calls + 1) ≤ w.mo
 some_calls k w0 undefined h = omega arith
 some_calls k w0 (going w) h = let c : max w0.most_calls (w0.calls + 1) ≤ w.most_calls = h.most_calls in omega arith
 
-pub enter_after : (m : Meanings) → AloneAdds m → (g : Setting) → Simulates g m → (f : Procedure) (vs : List Value) (w : World) → After (history w) (enter m (Some f) vs w)
-enter_after m alone_after g sim f vs w =
+pub enter_after : (inner : Meanings) → AloneAdds inner → (setting : Setting) → Simulates setting inner → (f : Procedure) (vs : List Value) (w : World) → After (history w) (enter inner (Some f) vs w)
+enter_after inner alone_after setting sim f vs w =
     let w2 : World = making (formal_cells f.formals vs) w in
     let env : Environment = bind_formals (length w.memory) 0 f.formals f.env in
-    closing_after _ (length w.memory) (run_body m f.body env w2) (body_after m sim.grows alone_after f.body env w2)
+    closing_after _ (length w.memory) (run_body inner f.body env w2) (body_after inner sim.grows alone_after f.body env w2)
 
 -- where START's procedure is entered, and what its call does from there
-pub record Entered (g : Setting) (m : Meanings) (f : Procedure) (w0 : World) (s0 : State) : Type 0 where
+pub record Entered (setting : Setting) (inner : Meanings) (f : Procedure) (w0 : World) (s0 : State) : Type 0 where
   pub at : State
-  pub is : settled g.program s0 ≡ at
-  pub few : FewFrames g s0.cells s0.frame g.cap
-  pub ran : (B : Account) → 16 * w0.turns + 16 ≤ B.most → B.least ≤ w0.turns → Ran g at B (Over g at B) AnyExit (enter m (Some f) [] (calling w0))
+  pub is : settled setting.program s0 ≡ at
+  pub few : FewFrames setting s0.cells s0.frame setting.cap
+  pub ran : (B : Account) → 16 * w0.turns + 16 ≤ B.most → B.least ≤ w0.turns → Ran setting at B (Over setting at B) AnyExit (enter inner (Some f) [] (calling w0))
 
-pub entered_so : (g : Setting) (p : Program) (n : ℕ) (input : List ℕ) → Simulates g (means p n) → AloneRuns g (means p n) → FirstStore g (first_memory p) (first_cells g.program g.first) → (k : ℕ) (f : Procedure) → IsProcedure g k f → 1 ≤ g.cap
-    → Entered g (means p n) f (first_world p input n) (called_at g input (g.codes.procedure k))
-entered_so g p n input sim alone_runs fs k f ip cap1 =
+pub entered_so : (setting : Setting) (p : Program) (n : ℕ) (input : List ℕ) → Simulates setting (means p n) → AloneRuns setting (means p n) → FirstStore setting (first_memory p) (first_cells setting.program setting.first) → (k : ℕ) (f : Procedure) → IsProcedure setting k f → 1 ≤ setting.cap
+    → Entered setting (means p n) f (first_world p input n) (called_at setting input (setting.codes.procedure k))
+entered_so setting p n input sim alone_runs fs k f ip cap1 =
     let w0 : World = first_world p input n in
-    let s0 : State = called_at g input (g.codes.procedure k) in
-    let s1 : State = state ip.scene.own 2 (Entry ip.label ip.name ∷ drop (suc ip.place) ip.scene.own.stmts) (first_cells g.program g.first) g.first None [] w0 in
-    let few0 : FewFrames g s0.cells s0.frame 1 = λ k h. few_first g.program g.first FRAME_WORDS s0.cells s0.frame k refl fs.frame h in
+    let s0 : State = called_at setting input (setting.codes.procedure k) in
+    let s1 : State = state ip.scene.own 2 (Entry ip.label ip.name ∷ drop (suc ip.place) ip.scene.own.stmts) (first_cells setting.program setting.first) setting.first None [] w0 in
+    let few0 : FewFrames setting s0.cells s0.frame 1 = λ k h. few_first setting.program setting.first FRAME_WORDS s0.cells s0.frame k refl fs.frame h in
     record {
       at = s1;
-      is = entry_settled g.program g.first FRAME_WORDS g.well ip.scene.section ip.scene.own ip.is_own s0 ip.place ip.label ip.name ip.at (ap At ip.word);
-      few = roomy g s0.cells s0.frame 1 few0 cap1;
-      ran = λ B le le1. start_runs g (means p n) sim alone_runs k f ip (first_cells g.program g.first) w0 fs refl cap1 B le le1;
+      is = entry_settled setting.program setting.first FRAME_WORDS setting.well ip.scene.section ip.scene.own ip.is_own s0 ip.place ip.label ip.name ip.at (ap At ip.word);
+      few = roomy setting s0.cells s0.frame 1 few0 cap1;
+      ran = λ B le le1. start_runs setting (means p n) sim alone_runs k f ip (first_cells setting.program setting.first) w0 fs refl cap1 B le le1;
     }
 
-pub does_from : (g : Setting) (p : Program) (n : ℕ) (input : List ℕ) → Simulates g (means p n) → AloneRuns g (means p n) → AloneAdds (means p n) → Procedures g p → FirstStore g (first_memory p) (first_cells g.program g.first) → NoStart g p ⊎ HasStart g p
-    → calls_of (started p (read (first_memory p) (address globals_object 1)) (first_world p input n) n) ≡ g.cap
-    → DoesFrom g.program g.first n (first_state g.program g.first input) (started p (read (first_memory p) (address globals_object 1)) (first_world p input n) n)
-does_from g p n input sim alone_runs alone_after procs fs (inl none) ec =
-    let ef : first_state g.program g.first input ≡ None = ap (λ c. option_map (called_at g input) (number_in c)) none.word in
-    subst (λ s. DoesFrom g.program g.first n s (started p (read (first_memory p) (address globals_object 1)) (first_world p input n) n)) (sym ef)
+pub does_from : (setting : Setting) (p : Program) (n : ℕ) (input : List ℕ) → Simulates setting (means p n) → AloneRuns setting (means p n) → AloneAdds (means p n) → Procedures setting p → FirstStore setting (first_memory p) (first_cells setting.program setting.first) → NoStart setting p ⊎ HasStart setting p
+    → calls_of (started p (read (first_memory p) (address globals_object 1)) (first_world p input n) n) ≡ setting.cap
+    → DoesFrom setting.program setting.first n (first_state setting.program setting.first input) (started p (read (first_memory p) (address globals_object 1)) (first_world p input n) n)
+does_from setting p n input sim alone_runs alone_after procs fs (inl none) ec =
+    let ef : first_state setting.program setting.first input ≡ None = ap (λ c. option_map (called_at setting input) (number_in c)) none.word in
+    subst (λ s. DoesFrom setting.program setting.first n s (started p (read (first_memory p) (address globals_object 1)) (first_world p input n) n)) (sym ef)
     ([], input, 0, ap (λ v. started p v (first_world p input n) n) none.is)
-does_from g p n input sim alone_runs alone_after procs fs (inr has) ec =
-    let ef : first_state g.program g.first input ≡ Some (called_at g input (g.codes.procedure has.number)) = ap (λ c. option_map (called_at g input) (number_in c)) has.word in
+does_from setting p n input sim alone_runs alone_after procs fs (inr has) ec =
+    let ef : first_state setting.program setting.first input ≡ Some (called_at setting input (setting.codes.procedure has.number)) = ap (λ c. option_map (called_at setting input) (number_in c)) has.word in
     let em : started p (read (first_memory p) (address globals_object 1)) (first_world p input n) n ≡ run_of (call p m (procedure has.number) [] w0) = ap (λ v. started p v w0 n) has.is in
-    subst (λ s. DoesFrom g.program g.first n s (started p (read (first_memory p) (address globals_object 1)) w0 n)) (sym ef)
-    (subst (λ r. Does g.program g.first n (called_at g input (g.codes.procedure has.number)) r) (sym em) (by_procedure (procedure_of p has.number) refl (ap calls_of (sym em) ∙ ec)))
+    subst (λ s. DoesFrom setting.program setting.first n s (started p (read (first_memory p) (address globals_object 1)) w0 n)) (sym ef)
+    (subst (λ r. Does setting.program setting.first n (called_at setting input (setting.codes.procedure has.number)) r) (sym em) (by_procedure (procedure_of p has.number) refl (ap calls_of (sym em) ∙ ec)))
   where
     m : Meanings
     m = means p n
@@ -184,15 +184,15 @@ does_from g p n input sim alone_runs alone_after procs fs (inr has) ec =
     B : Account
     B = record { most = 16 * n + 16; least = 0 }
 
-    by_procedure : (o : Option Procedure) → procedure_of p has.number ≡ o → calls_of (run_at (procedure_of p has.number)) ≡ g.cap → Does g.program g.first n (called_at g input (g.codes.procedure has.number)) (run_at (procedure_of p has.number))
-    by_procedure None eo ec = subst (λ x. Does g.program g.first n (called_at g input (g.codes.procedure has.number)) (run_at x)) (sym eo) tt
+    by_procedure : (o : Option Procedure) → procedure_of p has.number ≡ o → calls_of (run_at (procedure_of p has.number)) ≡ setting.cap → Does setting.program setting.first n (called_at setting input (setting.codes.procedure has.number)) (run_at (procedure_of p has.number))
+    by_procedure None eo ec = subst (λ x. Does setting.program setting.first n (called_at setting input (setting.codes.procedure has.number)) (run_at x)) (sym eo) tt
     by_procedure (Some f) eo ec =
-        let at_procedure : (f : Procedure) → IsProcedure g has.number f → calls_of (run_at (Some f)) ≡ g.cap → Does g.program g.first n (called_at g input (g.codes.procedure has.number)) (run_at (Some f)) =
+        let at_procedure : (f : Procedure) → IsProcedure setting has.number f → calls_of (run_at (Some f)) ≡ setting.cap → Does setting.program setting.first n (called_at setting input (setting.codes.procedure has.number)) (run_at (Some f)) =
         λ f ip ec.
         let o : Outcome Value = enter m (Some f) [] (calling w0) in
-        let c1 : 1 ≤ calls_of (run_at (Some f)) = some_calls 0 w0 o (enter_after m alone_after g sim f [] (calling w0)) in
-        let cap1 : 1 ≤ g.cap = omega arith in
-        let x = entered_so g p n input sim alone_runs fs has.number f ip cap1 in
-        does_so g (called_at g input (g.codes.procedure has.number)) x.at x.is x.few n 0 B o (omega arith) ec (x.ran B (omega arith) (omega arith)) in
-        subst (λ x. Does g.program g.first n (called_at g input (g.codes.procedure has.number)) (run_at x)) (sym eo)
+        let c1 : 1 ≤ calls_of (run_at (Some f)) = some_calls 0 w0 o (enter_after m alone_after setting sim f [] (calling w0)) in
+        let cap1 : 1 ≤ setting.cap = omega arith in
+        let x = entered_so setting p n input sim alone_runs fs has.number f ip cap1 in
+        does_so setting (called_at setting input (setting.codes.procedure has.number)) x.at x.is x.few n 0 B o (omega arith) ec (x.ran B (omega arith) (omega arith)) in
+        subst (λ x. Does setting.program setting.first n (called_at setting input (setting.codes.procedure has.number)) (run_at x)) (sym eo)
         (at_procedure f (procs.each has.number f eo) (ap (λ x. calls_of (run_at x)) (sym eo) ∙ ec))

@@ -75,13 +75,13 @@ below_at top [] o b h e = absurd (cc)
 below_at top (x ∷ xs) zero b h e = let same : x ≡ b = (let k : Some x ≡ Some b = e in cc) in subst (λ y. y ≤ top) same h.0
 below_at top (x ∷ xs) (suc o) b h e = below_at top xs o b h.1 e
 
-held_at : (g : Setting) (i o : ℕ) (xs : List Lasting) (x : Lasting) → HeldList g i xs → slice_get xs o ≡ Some x → HeldOne g (i + o) x
-held_at g i o [] x h e = absurd (cc)
-held_at g i zero (y ∷ ys) x h e =
+held_at : (setting : Setting) (i o : ℕ) (xs : List Lasting) (x : Lasting) → HeldList setting i xs → slice_get xs o ≡ Some x → HeldOne setting (i + o) x
+held_at setting i o [] x h e = absurd (cc)
+held_at setting i zero (y ∷ ys) x h e =
     let same : y ≡ x = (let k : Some y ≡ Some x = e in cc) in
     let here : i ≡ i + 0 = omega arith in
-    subst (λ n. HeldOne g n x) here (subst (λ z. HeldOne g i z) same h.0)
-held_at g i (suc o) (y ∷ ys) x h e = let there : suc i + o ≡ i + suc o = omega arith in subst (λ n. HeldOne g n x) there (held_at g (suc i) o ys x h.1 e)
+    subst (λ n. HeldOne setting n x) here (subst (λ z. HeldOne setting i z) same h.0)
+held_at setting i (suc o) (y ∷ ys) x h e = let there : suc i + o ≡ i + suc o = omega arith in subst (λ n. HeldOne setting n x) there (held_at setting (suc i) o ys x h.1 e)
 
 -- no part of a section is the global vector
 abbrev IsPart : Lasting → Type 0
@@ -106,25 +106,25 @@ parts_as own (words_at n ts ∷ ks) (words us ∷ xs) (v ∷ vs) (w ∷ ws) a = 
 parts_as own (entry n y ∷ ks) (code p ∷ xs) (v ∷ vs) (w ∷ ws) a = (tt, parts_as own ks xs vs ws a.1)
 parts_as own _ _ (v ∷ vs) (w ∷ ws) a = elim (a.0) [ ]
 
-all_parts : (g : Setting) (pay k i : ℕ) (sections : List Declarations) (owns : List Placed) (h : SectionsLie pay k i sections owns) → HasAll g pay k i sections owns h → AreParts (of_sections i sections)
-all_parts g pay k i [] owns h a = tt
-all_parts g pay k i (ds ∷ rest) [] h a = absurd h
-all_parts g pay k i (ds ∷ rest) (own ∷ others) h a =
-    parts_both _ _ (parts_as own _ _ h.0.bases h.0.entries (first_alike g pay k i ds rest own others h a)) (all_parts g pay (suc k) (i + objects_of_declarations ds) rest others h.1 (others_suit g pay k i ds rest own others h a))
+all_parts : (setting : Setting) (pay k i : ℕ) (sections : List Declarations) (owns : List Placed) (h : SectionsLie pay k i sections owns) → HasAll setting pay k i sections owns h → AreParts (of_sections i sections)
+all_parts setting pay k i [] owns h a = tt
+all_parts setting pay k i (ds ∷ rest) [] h a = absurd h
+all_parts setting pay k i (ds ∷ rest) (own ∷ others) h a =
+    parts_both _ _ (parts_as own _ _ h.0.bases h.0.entries (first_alike setting pay k i ds rest own others h a)) (all_parts setting pay (suc k) (i + objects_of_declarations ds) rest others h.1 (others_suit setting pay k i ds rest own others h a))
 
 part_at : (xs : List Lasting) (o : ℕ) (x : Lasting) → AreParts xs → slice_get xs o ≡ Some x → IsPart x
 part_at [] o x h e = absurd (cc)
 part_at (y ∷ ys) zero x h e = let same : y ≡ x = (let k : Some y ≡ Some x = e in cc) in subst IsPart same h.0
 part_at (y ∷ ys) (suc o) x h e = part_at ys o x h.1 e
 
-entry_holds : (g : Setting) (global : Option ℕ) (o b : ℕ) → BaseOf g.lasting o b → HeldWord g o global → HoldsEntry g.program g.first g.codes global o b
-entry_holds g None o b base h = let d = h.2 in (d.number, d.datum, d.at, d.placed ∙ one_base g.lasting o h.0 b h.1 base, d.is)
-entry_holds g (Some k) o b base h = let e = one_base g.lasting o h.0 b h.1 base in (subst (λ y. 16 ≤ y) e h.2, subst (λ y. y ≤ g.first) e h.3)
+entry_holds : (setting : Setting) (global : Option ℕ) (o b : ℕ) → BaseOf setting.lasting o b → HeldWord setting o global → HoldsEntry setting.program setting.first setting.codes global o b
+entry_holds setting None o b base h = let d = h.2 in (d.number, d.datum, d.at, d.placed ∙ one_base setting.lasting o h.0 b h.1 base, d.is)
+entry_holds setting (Some k) o b base h = let e = one_base setting.lasting o h.0 b h.1 base in (subst (λ y. 16 ≤ y) e h.2, subst (λ y. y ≤ setting.first) e h.3)
 
-held_holds : (g : Setting) (o b : ℕ) (x : Lasting) → IsPart x → BaseOf g.lasting o b → HeldOne g o x → HoldsOne g.program g.first g.codes x o b
-held_holds g o b global_vector part base h = absurd part
-held_holds g o b (words ws) part base h = let d = h.2 in (d.number, d.datum, d.at, d.placed ∙ one_base g.lasting o h.0 b h.1 base, d.is)
-held_holds g o b (code f) part base h = entry_holds g f.global o b base h.1
+held_holds : (setting : Setting) (o b : ℕ) (x : Lasting) → IsPart x → BaseOf setting.lasting o b → HeldOne setting o x → HoldsOne setting.program setting.first setting.codes x o b
+held_holds setting o b global_vector part base h = absurd part
+held_holds setting o b (words ws) part base h = let d = h.2 in (d.number, d.datum, d.at, d.placed ∙ one_base setting.lasting o h.0 b h.1 base, d.is)
+held_holds setting o b (code f) part base h = entry_holds setting f.global o b base h.1
 
 -- ---- the program
 

@@ -117,39 +117,39 @@ run_after program (suc n) s last e = by_step (program_step program s) e (λ t h.
     by_step (Goes t) e go = go t e
     by_step _ e go = absurd (cc)
 
-module _ (g : Setting) where
-  raw_frames : (t : State) → FewFrames g (settled g.program t).cells (settled g.program t).frame g.cap → FewFrames g t.cells t.frame g.cap
+module _ (setting : Setting) where
+  raw_frames : (t : State) → FewFrames setting (settled setting.program t).cells (settled setting.program t).frame setting.cap → FewFrames setting t.cells t.frame setting.cap
   raw_frames t few =
-      let h = goes_on_so g.program g.first FRAME_WORDS g.well t in
-      links_kept g.program g.first FRAME_WORDS (settled g.program t).cells t.cells t.frame g.cap h.links (subst (λ y. FewFrames g (settled g.program t).cells y g.cap) h.frame few)
+      let h = goes_on_so setting.program setting.first FRAME_WORDS setting.well t in
+      links_kept setting.program setting.first FRAME_WORDS (settled setting.program t).cells t.cells t.frame setting.cap h.links (subst (λ y. FewFrames setting (settled setting.program t).cells y setting.cap) h.frame few)
 
   -- from a state that goes on as the first does
   pub record RunSo (n : ℕ) (s0 u : State) : Type 0 where
     pub last : State
-    pub runs : run g.program n s0 ≡ Goes last
-    pub settles : settled g.program last ≡ u
-    pub frames : (k : ℕ) (t : State) → k ≤ n → run g.program k s0 ≡ Goes t → FewFrames g t.cells t.frame g.cap
+    pub runs : run setting.program n s0 ≡ Goes last
+    pub settles : settled setting.program last ≡ u
+    pub frames : (k : ℕ) (t : State) → k ≤ n → run setting.program k s0 ≡ Goes t → FewFrames setting t.cells t.frame setting.cap
 
-  at_first : (s0 : State) → FewFrames g s0.cells s0.frame g.cap → (k : ℕ) (t : State) → k ≤ 0 → run g.program k s0 ≡ Goes t → FewFrames g t.cells t.frame g.cap
-  at_first s0 few zero t le e = subst (λ (x : State). FewFrames g x.cells x.frame g.cap) (let z : s0 ≡ t = cc in z) few
+  at_first : (s0 : State) → FewFrames setting s0.cells s0.frame setting.cap → (k : ℕ) (t : State) → k ≤ 0 → run setting.program k s0 ≡ Goes t → FewFrames setting t.cells t.frame setting.cap
+  at_first s0 few zero t le e = subst (λ (x : State). FewFrames setting x.cells x.frame setting.cap) (let z : s0 ≡ t = cc in z) few
   at_first s0 few (suc k) t le e = absurd (omega arith)
 
-  pub comes_run : (n p : ℕ) (s s0 u : State) → settled g.program s0 ≡ s → FewFrames g s0.cells s0.frame g.cap → Comes g n p s u → RunSo n s0 u
+  pub comes_run : (n p : ℕ) (s s0 u : State) → settled setting.program s0 ≡ s → FewFrames setting s0.cells s0.frame setting.cap → Comes setting n p s u → RunSo n s0 u
   comes_run _ _ s s0 u es few (here _) = record { last = s0; runs = refl; settles = es; frames = at_first s0 few }
   comes_run _ _ s s0 u es few (go_on n p _ v _ mv fv c) =
-      let stepped : program_step g.program s0 ≡ Goes mv.0 = settled_step g.program s0 ∙ ap (program_step g.program) es ∙ mv.1 in
-      let few1 : FewFrames g mv.0.cells mv.0.frame g.cap = raw_frames mv.0 (subst (λ (x : State). FewFrames g x.cells x.frame g.cap) (sym mv.2) fv) in
+      let stepped : program_step setting.program s0 ≡ Goes mv.0 = settled_step setting.program s0 ∙ ap (program_step setting.program) es ∙ mv.1 in
+      let few1 : FewFrames setting mv.0.cells mv.0.frame setting.cap = raw_frames mv.0 (subst (λ (x : State). FewFrames setting x.cells x.frame setting.cap) (sym mv.2) fv) in
       let r = comes_run n p v mv.0 u mv.2 few1 c in
       record {
         last = r.last;
-        runs = ap (then_run (run g.program n)) stepped ∙ r.runs;
+        runs = ap (then_run (run setting.program n)) stepped ∙ r.runs;
         settles = r.settles;
         frames = λ k t le e. later k t le e stepped few1 r;
       }
     where
-      later : (k : ℕ) (t : State) → k ≤ suc n → run g.program k s0 ≡ Goes t → program_step g.program s0 ≡ Goes mv.0 → FewFrames g mv.0.cells mv.0.frame g.cap → RunSo n mv.0 u → FewFrames g t.cells t.frame g.cap
+      later : (k : ℕ) (t : State) → k ≤ suc n → run setting.program k s0 ≡ Goes t → program_step setting.program s0 ≡ Goes mv.0 → FewFrames setting mv.0.cells mv.0.frame setting.cap → RunSo n mv.0 u → FewFrames setting t.cells t.frame setting.cap
       later zero t le e st f1 r = at_first s0 few 0 t (omega arith) e
-      later (suc k) t le e st f1 r = r.frames k t (omega arith) (sym (ap (then_run (run g.program k)) st) ∙ e)
+      later (suc k) t le e st f1 r = r.frames k t (omega arith) (sym (ap (then_run (run setting.program k)) st) ∙ e)
 
 -- ---- What a run of a program writes goes behind what was written, and a run of so many steps has one of fewer before it.
 

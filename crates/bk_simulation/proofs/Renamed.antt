@@ -35,14 +35,14 @@ keeps_both a c d f g z h = let e = g z h in e ∙ f z (subst (λ y. IsLabelHere 
 
 -- names that mean what they should
 abbrev pub MeanThere : Setting → Scene → Environment → List Binding → Environment → Type 0
-MeanThere g sc env bs env1 = (bases : List ℕ) (frame : ℕ) → Grown g.lasting bases → NamedIn sc env bases frame → NamedIn (record sc { bindings = bs }) env1 bases frame
+MeanThere setting sc env bs env1 = (bases : List ℕ) (frame : ℕ) → Grown setting.lasting bases → NamedIn sc env bases frame → NamedIn (record sc { bindings = bs }) env1 bases frame
 
 -- ---- MANIFEST
 
 -- what stands behind the items
-pub record ManifestsBehind (g : Setting) (sc : Scene) (ns : List Named) (i : ℕ) (is : Items) : Type 0 where
+pub record ManifestsBehind (setting : Setting) (sc : Scene) (ns : List Named) (i : ℕ) (is : Items) : Type 0 where
   pub agree : Agree (manifests is (with_names ns i)).names (manifests_in_scope sc.bindings is)
-  pub renames : Renames g sc (with_names ns i) (manifests_in_scope sc.bindings is) (manifests is (with_names ns i))
+  pub renames : Renames setting sc (with_names ns i) (manifests_in_scope sc.bindings is) (manifests is (with_names ns i))
 
 constant_agrees : (u v : Option ℕ) → u ≡ v → word_named (Some (sense_of_constant u)) ≡ named_word (Some (b.Constant v))
 constant_agrees None v e = e
@@ -56,9 +56,9 @@ bound_constant : (y : Option Bound) (u : Option ℕ) (sc : Scene) (bases : List 
     → NameAt sc bases frame x (Some (sense_of_constant u))
 bound_constant y u sc bases frame x w e h k = subst (λ z. NameAt sc bases frame x (Some (sense_of_constant z))) (sym k) (e, h)
 
-pub renames_manifests : (is : Items) (g : Setting) (sc : Scene) (ns : List Named) (i : ℕ) → HasWords sc.bindings → Agree ns sc.bindings → RegularItems is → ManifestsSound sc.bindings is → ManifestsBehind g sc ns i is
-renames_manifests t.no_items g sc ns i h a r k = record { agree = a; renames = (keeps_same sc.bindings, λ bases frame grown n. n) }
-renames_manifests (t.item l x e is) g sc ns i h a r k =
+pub renames_manifests : (is : Items) (setting : Setting) (sc : Scene) (ns : List Named) (i : ℕ) → HasWords sc.bindings → Agree ns sc.bindings → RegularItems is → ManifestsSound sc.bindings is → ManifestsBehind setting sc ns i is
+renames_manifests t.no_items setting sc ns i h a r k = record { agree = a; renames = (keeps_same sc.bindings, λ bases frame grown n. n) }
+renames_manifests (t.item l x e is) setting sc ns i h a r k =
     let bs : List Binding = sc.bindings in
     let y : Bound = b.Constant (constant_word bs e) in
     let s : Sense = sense_of_constant (constant_in (with_names ns i) e) in
@@ -68,7 +68,7 @@ renames_manifests (t.item l x e is) g sc ns i h a r k =
     let small = constant_small bs h e r.0 w is_word in
     let h1 = words_constant x e bs h r.0 in
     let a1 = agree_bound x s y ns bs (constant_agrees (constant_in (with_names ns i) e) (constant_word bs e) same) (no_constant_global (constant_in (with_names ns i) e) (constant_word bs e)) a in
-    let more = renames_manifests is g (record sc { bindings = bind x y bs }) (record { name = x; sense = s } ∷ ns) i h1 a1 r.1 k.1 in
+    let more = renames_manifests is setting (record sc { bindings = bind x y bs }) (record { name = x; sense = s } ∷ ns) i h1 a1 r.1 k.1 in
     record {
       agree = more.agree;
       renames = (
@@ -91,24 +91,24 @@ abbrev pub AreBases : List ℕ → ℕ → List ℕ → Type 0
 AreBases all i [] = Unit {0}
 AreBases all i (x ∷ xs) = BaseOf all i x × AreBases all (suc i) xs
 
-pub record StaticsBehind (g : Setting) (sc : Scene) (ns : List Named) (i n : ℕ) (is : Items) : Type 0 where
+pub record StaticsBehind (setting : Setting) (sc : Scene) (ns : List Named) (i n : ℕ) (is : Items) : Type 0 where
   pub agree : Agree (statics is (with_names ns i)).names (statics_in_scope n is sc.bindings)
   pub keeps : KeepsLabels sc.bindings (statics_in_scope n is sc.bindings)
-  pub renames : AreBases g.lasting i (static_places sc.own sc.targets n is) → Renames g sc (with_names ns i) (statics_in_scope n is sc.bindings) (statics is (with_names ns i))
+  pub renames : AreBases setting.lasting i (static_places sc.own sc.targets n is) → Renames setting sc (with_names ns i) (statics_in_scope n is sc.bindings) (statics is (with_names ns i))
 
-pub static_at : (g : Setting) (sc : Scene) (bases : List ℕ) (frame : ℕ) (x : List ℕ) (i n : ℕ) → Grown g.lasting bases → BaseOf g.lasting i (sc.own.places.label ((goal_of sc.targets n).label)) → bound_in sc.bindings x ≡ Some (b.Static n)
+pub static_at : (setting : Setting) (sc : Scene) (bases : List ℕ) (frame : ℕ) (x : List ℕ) (i n : ℕ) → Grown setting.lasting bases → BaseOf setting.lasting i (sc.own.places.label ((goal_of sc.targets n).label)) → bound_in sc.bindings x ≡ Some (b.Static n)
     → NameAt sc bases frame x (Some (cell i 0))
-static_at g sc bases frame x i n grown base e =
+static_at setting sc bases frame x i n grown base e =
     let p : ℕ = sc.own.places.label ((goal_of sc.targets n).label) in
-    let low = g.lasting_low i p base in
+    let low = setting.lasting_low i p base in
     let small : p + 0 < 2 ^ 32 = omega (arith, low) in
     let at : p + 0 ≡ p = omega arith in
     (p, grown.each i p base, small, at ∙ ap (λ y. place_of sc.own frame (variable sc.targets (meant y))) (sym e), subst (λ y. IsWord y) (sym e) tt)
 
-pub renames_statics : (is : Items) (g : Setting) (sc : Scene) (ns : List Named) (i n : ℕ) → 0 < i → Agree ns sc.bindings → StaticsBehind g sc ns i n is
-renames_statics t.no_items g sc ns i n some a =
+pub renames_statics : (is : Items) (setting : Setting) (sc : Scene) (ns : List Named) (i n : ℕ) → 0 < i → Agree ns sc.bindings → StaticsBehind setting sc ns i n is
+renames_statics t.no_items setting sc ns i n some a =
     record { agree = a; keeps = keeps_same sc.bindings; renames = λ u. (keeps_same sc.bindings, λ bases frame grown k. k) }
-renames_statics (t.item l x e is) g sc ns i n some a =
+renames_statics (t.item l x e is) setting sc ns i n some a =
     let bs : List Binding = sc.bindings in
     let y : Bound = b.Static n in
     let s : Sense = cell i 0 in
@@ -116,30 +116,30 @@ renames_statics (t.item l x e is) g sc ns i n some a =
     let some1 : 0 < i + 1 = omega (arith, some) in
     let a1 = agree_bound x s y ns bs refl (own_cell i 0 some) a in
     let sc1 : Scene = record sc { bindings = bind x y bs } in
-    let more = renames_statics is g sc1 (record { name = x; sense = s } ∷ ns) (i + 1) (n + 1) some1 a1 in
+    let more = renames_statics is setting sc1 (record { name = x; sense = s } ∷ ns) (i + 1) (n + 1) some1 a1 in
     let through = keeps_both bs (bind x y bs) (statics_in_scope (n + 1) is (bind x y bs)) (keeps_bound x y bs (λ z. z)) more.keeps in
     record {
       agree = more.agree;
       keeps = through;
       renames = λ u. (
         through,
-        λ bases frame grown k. (more.renames (subst (λ z. AreBases g.lasting z (static_places sc.own sc.targets (n + 1) is)) (sym one) u.1)).1 bases frame grown
-            (record { each = (bound_named sc (with_names ns i) bases frame x y s (static_at g sc1 bases frame x i n grown u.0 (itself x y bs)) k).each }),
+        λ bases frame grown k. (more.renames (subst (λ z. AreBases setting.lasting z (static_places sc.own sc.targets (n + 1) is)) (sym one) u.1)).1 bases frame grown
+            (record { each = (bound_named sc (with_names ns i) bases frame x y s (static_at setting sc1 bases frame x i n grown u.0 (itself x y bs)) k).each }),
       );
     }
 
 -- ---- GLOBAL
 
-pub record GlobalsBehind (g : Setting) (sc : Scene) (outer : List Named) (os : List Binding) (ns : List Named) (i : ℕ) (is : Items) : Type 0 where
+pub record GlobalsBehind (setting : Setting) (sc : Scene) (outer : List Named) (os : List Binding) (ns : List Named) (i : ℕ) (is : Items) : Type 0 where
   pub agree : Agree (m.globals (with_names outer i) is (with_names ns i)).names (globals_in_scope os is sc.bindings)
   pub keeps : KeepsLabels sc.bindings (globals_in_scope os is sc.bindings)
-  pub renames : BaseOf g.lasting 0 16 → Renames g sc (with_names ns i) (globals_in_scope os is sc.bindings) (m.globals (with_names outer i) is (with_names ns i))
+  pub renames : BaseOf setting.lasting 0 16 → Renames setting sc (with_names ns i) (globals_in_scope os is sc.bindings) (m.globals (with_names outer i) is (with_names ns i))
 
 -- with the first item in scope
-record GlobalsLater (g : Setting) (sc : Scene) (outer : List Named) (os : List Binding) (ns : List Named) (i : ℕ) (is : Items) (bs : List Binding) (env : Environment) : Type 0 where
+record GlobalsLater (setting : Setting) (sc : Scene) (outer : List Named) (os : List Binding) (ns : List Named) (i : ℕ) (is : Items) (bs : List Binding) (env : Environment) : Type 0 where
   pub agree : Agree (m.globals (with_names outer i) is env).names (globals_in_scope os is bs)
   pub keeps : KeepsLabels sc.bindings (globals_in_scope os is bs)
-  pub renames : BaseOf g.lasting 0 16 → Renames g sc (with_names ns i) (globals_in_scope os is bs) (m.globals (with_names outer i) is env)
+  pub renames : BaseOf setting.lasting 0 16 → Renames setting sc (with_names ns i) (globals_in_scope os is bs) (m.globals (with_names outer i) is env)
 
 not_more : (w : ℕ) → w ≤ GLOBAL_NUMBER → nat_lt GLOBAL_NUMBER w ≡ false
 not_more w h = grind (arith, nat_tests)
@@ -147,15 +147,15 @@ not_more w h = grind (arith, nat_tests)
 within_most : (w : ℕ) → w ≤ GLOBAL_NUMBER → within GLOBAL_NUMBER (Some w) ≡ Some w
 within_most w h = ap (λ (q : Bool). cond q None (Some w)) (not_more w h)
 
-global_at : (g : Setting) (sc : Scene) (bases : List ℕ) (frame : ℕ) (x : List ℕ) (w : ℕ) → Grown g.lasting bases → BaseOf g.lasting 0 16 → w ≤ GLOBAL_NUMBER → bound_in sc.bindings x ≡ Some (b.Global (Some w)) → NameAt sc bases frame x (Some (cell 0 w))
-global_at g sc bases frame x w grown base low e =
+global_at : (setting : Setting) (sc : Scene) (bases : List ℕ) (frame : ℕ) (x : List ℕ) (w : ℕ) → Grown setting.lasting bases → BaseOf setting.lasting 0 16 → w ≤ GLOBAL_NUMBER → bound_in sc.bindings x ≡ Some (b.Global (Some w)) → NameAt sc bases frame x (Some (cell 0 w))
+global_at setting sc bases frame x w grown base low e =
     let small : 16 + w < 2 ^ 32 = omega (arith, low) in
     (16, grown.each 0 16 base, small, ap (λ y. place_of sc.own frame (variable sc.targets (meant y))) (sym e), subst (λ y. IsWord y) (sym e) tt)
 
-pub renames_globals : (is : Items) (g : Setting) (sc : Scene) (outer : List Named) (os : List Binding) (ns : List Named) (i : ℕ) → AgreeWords outer os → Agree ns sc.bindings → GlobalsSound os is → GlobalsBehind g sc outer os ns i is
-renames_globals t.no_items g sc outer os ns i ao a k =
+pub renames_globals : (is : Items) (setting : Setting) (sc : Scene) (outer : List Named) (os : List Binding) (ns : List Named) (i : ℕ) → AgreeWords outer os → Agree ns sc.bindings → GlobalsSound os is → GlobalsBehind setting sc outer os ns i is
+renames_globals t.no_items setting sc outer os ns i ao a k =
     record { agree = a; keeps = keeps_same sc.bindings; renames = λ u. (keeps_same sc.bindings, λ bases frame grown n. n) }
-renames_globals (t.item l x e is) g sc outer os ns i ao a k =
+renames_globals (t.item l x e is) setting sc outer os ns i ao a k =
     let bs : List Binding = sc.bindings in
     let w : ℕ = k.0.0 in
     let is_word : constant_word os e ≡ Some w = k.0.1 in
@@ -168,15 +168,15 @@ renames_globals (t.item l x e is) g sc outer os ns i ao a k =
     let sw : Sense = cell 0 w in
     let sc1 : Scene = record sc { bindings = bind x yw bs } in
     let a1 = agree_bound x sw yw ns bs refl refl a in
-    let more = renames_globals is g sc1 outer os (record { name = x; sense = sw } ∷ ns) i ao a1 k.1 in
+    let more = renames_globals is setting sc1 outer os (record { name = x; sense = sw } ∷ ns) i ao a1 k.1 in
     let through = keeps_both bs (bind x yw bs) (globals_in_scope os is (bind x yw bs)) (keeps_bound x yw bs (λ z. z)) more.keeps in
-    let whole : GlobalsLater g sc outer os ns i is (bind x yw bs) (m.bind x sw (with_names ns i)) = record {
+    let whole : GlobalsLater setting sc outer os ns i is (bind x yw bs) (m.bind x sw (with_names ns i)) = record {
       agree = more.agree;
       keeps = through;
-      renames = λ u. (through, λ bases frame grown n. (more.renames u).1 bases frame grown (bound_named sc (with_names ns i) bases frame x yw sw (global_at g sc1 bases frame x w grown u low (itself x yw bs)) n));
+      renames = λ u. (through, λ bases frame grown n. (more.renames u).1 bases frame grown (bound_named sc (with_names ns i) bases frame x yw sw (global_at setting sc1 bases frame x w grown u low (itself x yw bs)) n));
     } in
-    let whole1 = subst (λ z. GlobalsLater g sc outer os ns i is (bind x z bs) (m.bind x sw (with_names ns i))) (sym y_is) whole in
-    let whole2 = subst (λ z. GlobalsLater g sc outer os ns i is (bind x y bs) (m.bind x z (with_names ns i))) (sym s_is) whole1 in
+    let whole1 = subst (λ z. GlobalsLater setting sc outer os ns i is (bind x z bs) (m.bind x sw (with_names ns i))) (sym y_is) whole in
+    let whole2 = subst (λ z. GlobalsLater setting sc outer os ns i is (bind x y bs) (m.bind x z (with_names ns i))) (sym s_is) whole1 in
     record { agree = whole2.agree; keeps = whole2.keeps; renames = whole2.renames }
 
 -- ---- the procedures of a LET
@@ -191,10 +191,10 @@ AreProcedures all own ts bs i n (t.define (t.function l x fs e) ds) =
 AreProcedures all own ts bs i n (t.define (t.variables l xs is) ds) = AreProcedures all own ts bs (i + objects_of_starts is) n ds
 
 -- what stands behind some of them, with this in scope and these names in the run
-pub record ProceduresBehind (g : Setting) (sc : Scene) (ns : List Named) (i n : ℕ) (ds : Definitions) (P : Type 0) (bs : List Binding) (env : Environment) : Type 0 where
+pub record ProceduresBehind (setting : Setting) (sc : Scene) (ns : List Named) (i n : ℕ) (ds : Definitions) (P : Type 0) (bs : List Binding) (env : Environment) : Type 0 where
   pub agree : Agree (bind_procedures ds env).names (procedures_in_scope n ds bs)
   pub keeps : KeepsLabels sc.bindings (procedures_in_scope n ds bs)
-  pub means : P → MeanThere g sc (with_names ns i) (procedures_in_scope n ds bs) (bind_procedures ds env)
+  pub means : P → MeanThere setting sc (with_names ns i) (procedures_in_scope n ds bs) (bind_procedures ds env)
 
 global_here : (s : Option Sense) (y : Option Bound) → SameGlobal s y → is_global y ≡ true → global_named s ≡ None → ⊥
 global_here s (Some (b.Global None)) h e k = h
@@ -205,13 +205,13 @@ global_there s (Some (b.Global v)) w h e k = absurd (cc)
 global_there s _ w h e k = absurd (cc)
 
 -- one procedure, and those behind it
-one_procedure : (g : Setting) (sc : Scene) (ns : List Named) (i n k : ℕ) (ds : Definitions) (x : List ℕ) (u : Option ℕ) (q : Bool) → global_named (sense_in ns x) ≡ u → is_global (bound_in sc.bindings x) ≡ q → 0 < i → Agree ns sc.bindings
-    → ((sc1 : Scene) (ns1 : List Named) → Agree ns1 sc1.bindings → ProceduresBehind g sc1 ns1 (i + k) (n + 1) ds (AreProcedures g.lasting sc1.own sc1.targets sc1.bindings (i + k) (n + 1) ds) sc1.bindings (with_names ns1 (i + k)))
-    → ProceduresBehind g sc ns i (n + 1) ds
-    ((q ≡ false → BaseOf g.lasting i (sc.own.places.label ((goal_of sc.targets n).label))) × AreProcedures g.lasting sc.own sc.targets (cond q sc.bindings (bind x (b.Static n) sc.bindings)) (i + k) (n + 1) ds)
+one_procedure : (setting : Setting) (sc : Scene) (ns : List Named) (i n k : ℕ) (ds : Definitions) (x : List ℕ) (u : Option ℕ) (q : Bool) → global_named (sense_in ns x) ≡ u → is_global (bound_in sc.bindings x) ≡ q → 0 < i → Agree ns sc.bindings
+    → ((sc1 : Scene) (ns1 : List Named) → Agree ns1 sc1.bindings → ProceduresBehind setting sc1 ns1 (i + k) (n + 1) ds (AreProcedures setting.lasting sc1.own sc1.targets sc1.bindings (i + k) (n + 1) ds) sc1.bindings (with_names ns1 (i + k)))
+    → ProceduresBehind setting sc ns i (n + 1) ds
+    ((q ≡ false → BaseOf setting.lasting i (sc.own.places.label ((goal_of sc.targets n).label))) × AreProcedures setting.lasting sc.own sc.targets (cond q sc.bindings (bind x (b.Static n) sc.bindings)) (i + k) (n + 1) ds)
     (cond q sc.bindings (bind x (b.Static n) sc.bindings)) (m.behind k (bind_procedure_as u x (with_names ns i)))
-one_procedure g sc ns i n k ds x None true e f some a more = absurd (global_here (sense_in ns x) (bound_in sc.bindings x) (a.1 x) f e)
-one_procedure g sc ns i n k ds x None false e f some a more =
+one_procedure setting sc ns i n k ds x None true e f some a more = absurd (global_here (sense_in ns x) (bound_in sc.bindings x) (a.1 x) f e)
+one_procedure setting sc ns i n k ds x None false e f some a more =
     let bs : List Binding = sc.bindings in
     let y : Bound = b.Static n in
     let s : Sense = cell i 0 in
@@ -221,30 +221,30 @@ one_procedure g sc ns i n k ds x None false e f some a more =
       agree = mine.agree;
       keeps = keeps_both bs (bind x y bs) (procedures_in_scope (n + 1) ds (bind x y bs)) (keeps_bound x y bs (λ z. z)) mine.keeps;
       means = λ u bases frame grown r.
-          let there = bound_named sc (with_names ns i) bases frame x y s (static_at g sc1 bases frame x i n grown (u.0 refl) (itself x y bs)) r in
+          let there = bound_named sc (with_names ns i) bases frame x y s (static_at setting sc1 bases frame x i n grown (u.0 refl) (itself x y bs)) r in
           mine.means u.1 bases frame grown (record { each = there.each });
     }
-one_procedure g sc ns i n k ds x (Some v) true e f some a more =
+one_procedure setting sc ns i n k ds x (Some v) true e f some a more =
     let mine = more sc ns a in
     record { agree = mine.agree; keeps = mine.keeps; means = λ u bases frame grown r. mine.means u.1 bases frame grown (record { each = r.each }) }
-one_procedure g sc ns i n k ds x (Some v) false e f some a more = absurd (global_there (sense_in ns x) (bound_in sc.bindings x) v (a.1 x) f e)
+one_procedure setting sc ns i n k ds x (Some v) false e f some a more = absurd (global_there (sense_in ns x) (bound_in sc.bindings x) v (a.1 x) f e)
 
-pub renames_procedures : (ds : Definitions) (g : Setting) (sc : Scene) (ns : List Named) (i n : ℕ) → 0 < i → Agree ns sc.bindings
-    → ProceduresBehind g sc ns i n ds (AreProcedures g.lasting sc.own sc.targets sc.bindings i n ds) sc.bindings (with_names ns i)
-renames_procedures t.no_definitions g sc ns i n some a = record { agree = a; keeps = keeps_same sc.bindings; means = λ u bases frame grown r. r }
-renames_procedures (t.define (t.routine l x fs c) ds) g sc ns i n some a =
+pub renames_procedures : (ds : Definitions) (setting : Setting) (sc : Scene) (ns : List Named) (i n : ℕ) → 0 < i → Agree ns sc.bindings
+    → ProceduresBehind setting sc ns i n ds (AreProcedures setting.lasting sc.own sc.targets sc.bindings i n ds) sc.bindings (with_names ns i)
+renames_procedures t.no_definitions setting sc ns i n some a = record { agree = a; keeps = keeps_same sc.bindings; means = λ u bases frame grown r. r }
+renames_procedures (t.define (t.routine l x fs c) ds) setting sc ns i n some a =
     let k : ℕ = 1 + objects_of_action c in
     let some1 : 0 < i + (1 + objects_of_action c) = omega (arith, some) in
-    let one = one_procedure g sc ns i n k ds x (global_named (sense_in ns x)) (is_global (bound_in sc.bindings x)) refl refl some a (λ sc1 ns1 a1. renames_procedures ds g sc1 ns1 (i + k) (n + 1) some1 a1) in
+    let one = one_procedure setting sc ns i n k ds x (global_named (sense_in ns x)) (is_global (bound_in sc.bindings x)) refl refl some a (λ sc1 ns1 a1. renames_procedures ds setting sc1 ns1 (i + k) (n + 1) some1 a1) in
     record { agree = one.agree; keeps = one.keeps; means = one.means }
-renames_procedures (t.define (t.function l x fs e) ds) g sc ns i n some a =
+renames_procedures (t.define (t.function l x fs e) ds) setting sc ns i n some a =
     let k : ℕ = 1 + objects e in
     let some1 : 0 < i + (1 + objects e) = omega (arith, some) in
-    let one = one_procedure g sc ns i n k ds x (global_named (sense_in ns x)) (is_global (bound_in sc.bindings x)) refl refl some a (λ sc1 ns1 a1. renames_procedures ds g sc1 ns1 (i + k) (n + 1) some1 a1) in
+    let one = one_procedure setting sc ns i n k ds x (global_named (sense_in ns x)) (is_global (bound_in sc.bindings x)) refl refl some a (λ sc1 ns1 a1. renames_procedures ds setting sc1 ns1 (i + k) (n + 1) some1 a1) in
     record { agree = one.agree; keeps = one.keeps; means = one.means }
-renames_procedures (t.define (t.variables l xs is) ds) g sc ns i n some a =
+renames_procedures (t.define (t.variables l xs is) ds) setting sc ns i n some a =
     let some1 : 0 < i + objects_of_starts is = omega (arith, some) in
-    let more = renames_procedures ds g sc ns (i + objects_of_starts is) n some1 a in
+    let more = renames_procedures ds setting sc ns (i + objects_of_starts is) n some1 a in
     record { agree = more.agree; keeps = more.keeps; means = λ u bases frame grown r. more.means u bases frame grown (record { each = r.each }) }
 
 -- ---- the variables of a LET

@@ -73,56 +73,56 @@ all_placed program first well pay k i (ds ∷ rest) (own ∷ others) h is =
     (below_both first h.0.bases (all_bases pay (suc k) n rest others h.1) one.0 more.0, set_both h.0.entries (all_entries pay (suc k) n rest others h.1) one.1 more.1)
 
 -- A setting that has all of them, from section k and object i on.
-pub record HasAll (g : Setting) (pay k i : ℕ) (sections : List Declarations) (owns : List Placed) (h : SectionsLie pay k i sections owns) : Type 0 where
-  pub own : AreIn g.program.sections k owns
-  pub pays : pay ≤ g.pay
+pub record HasAll (setting : Setting) (pay k i : ℕ) (sections : List Declarations) (owns : List Placed) (h : SectionsLie pay k i sections owns) : Type 0 where
+  pub own : AreIn setting.program.sections k owns
+  pub pays : pay ≤ setting.pay
   pub some : 0 < i
-  pub follow : Follow g.lasting i (all_bases pay k i sections owns h)
-  pub words : FollowWords g.codes.procedure i (all_entries pay k i sections owns h)
+  pub follow : Follow setting.lasting i (all_bases pay k i sections owns h)
+  pub words : FollowWords setting.codes.procedure i (all_entries pay k i sections owns h)
 
-pub first_suits : (g : Setting) (pay k i : ℕ) (ds : Declarations) (rest : List Declarations) (own : Placed) (others : List Placed) (h : SectionsLie pay k i (ds ∷ rest) (own ∷ others)) → HasAll g pay k i (ds ∷ rest) (own ∷ others) h
-    → Suits (home (section_scene k own ds) pay) i h.0.bases h.0.entries g
-first_suits g pay k i ds rest own others h a = record {
+pub first_suits : (setting : Setting) (pay k i : ℕ) (ds : Declarations) (rest : List Declarations) (own : Placed) (others : List Placed) (h : SectionsLie pay k i (ds ∷ rest) (own ∷ others)) → HasAll setting pay k i (ds ∷ rest) (own ∷ others) h
+    → Suits (home (section_scene k own ds) pay) i h.0.bases h.0.entries setting
+first_suits setting pay k i ds rest own others h a = record {
   fits = record { own = a.own.0; pays = a.pays };
   some = a.some;
-  follow = follow_first g.lasting i h.0.bases (all_bases pay (suc k) (i + objects_of_declarations ds) rest others h.1) a.follow;
-  words = words_first g.codes.procedure i h.0.entries (all_entries pay (suc k) (i + objects_of_declarations ds) rest others h.1) a.words;
+  follow = follow_first setting.lasting i h.0.bases (all_bases pay (suc k) (i + objects_of_declarations ds) rest others h.1) a.follow;
+  words = words_first setting.codes.procedure i h.0.entries (all_entries pay (suc k) (i + objects_of_declarations ds) rest others h.1) a.words;
 }
 
-pub others_suit : (g : Setting) (pay k i : ℕ) (ds : Declarations) (rest : List Declarations) (own : Placed) (others : List Placed) (h : SectionsLie pay k i (ds ∷ rest) (own ∷ others)) → HasAll g pay k i (ds ∷ rest) (own ∷ others) h
-    → HasAll g pay (suc k) (i + objects_of_declarations ds) rest others h.1
-others_suit g pay k i ds rest own others h a =
+pub others_suit : (setting : Setting) (pay k i : ℕ) (ds : Declarations) (rest : List Declarations) (own : Placed) (others : List Placed) (h : SectionsLie pay k i (ds ∷ rest) (own ∷ others)) → HasAll setting pay k i (ds ∷ rest) (own ∷ others) h
+    → HasAll setting pay (suc k) (i + objects_of_declarations ds) rest others h.1
+others_suit setting pay k i ds rest own others h a =
     let n : ℕ = i + objects_of_declarations ds in
     let some = a.some in
     record {
       own = a.own.1;
       pays = a.pays;
       some = omega (arith, some);
-      follow = follow_second g.lasting i (objects_of_declarations ds) h.0.bases (all_bases pay (suc k) n rest others h.1) h.0.all a.follow;
-      words = words_second g.codes.procedure i (objects_of_declarations ds) h.0.entries (all_entries pay (suc k) n rest others h.1) h.0.all_entries a.words;
+      follow = follow_second setting.lasting i (objects_of_declarations ds) h.0.bases (all_bases pay (suc k) n rest others h.1) h.0.all a.follow;
+      words = words_second setting.codes.procedure i (objects_of_declarations ds) h.0.entries (all_entries pay (suc k) n rest others h.1) h.0.all_entries a.words;
     }
 
 -- a section begins with no name declared
 pub no_names : Agree [] []
 no_names = ((λ x. refl), (λ x. refl))
 
-pub none_mean : (g : Setting) (k : ℕ) (own : Placed) (ds : Declarations) (pay : ℕ) → Mean (home (section_scene k own ds) pay) g []
-none_mean g k own ds pay q bases frame grown = record { each = λ x. tt }
+pub none_mean : (setting : Setting) (k : ℕ) (own : Placed) (ds : Declarations) (pay : ℕ) → Mean (home (section_scene k own ds) pay) setting []
+none_mean setting k own ds pay q bases frame grown = record { each = λ x. tt }
 
 -- WHAT LASTS OF ALL SECTIONS is held
-pub all_held : (g : Setting) (pay k i : ℕ) (sections : List Declarations) (owns : List Placed) (h : SectionsLie pay k i sections owns) → HasAll g pay k i sections owns h → HeldList g i (of_sections i sections)
-all_held g pay k i [] owns h a = tt
-all_held g pay k i (ds ∷ rest) [] h a = absurd h
-all_held g pay k i (ds ∷ rest) (own ∷ others) h a =
+pub all_held : (setting : Setting) (pay k i : ℕ) (sections : List Declarations) (owns : List Placed) (h : SectionsLie pay k i sections owns) → HasAll setting pay k i sections owns h → HeldList setting i (of_sections i sections)
+all_held setting pay k i [] owns h a = tt
+all_held setting pay k i (ds ∷ rest) [] h a = absurd h
+all_held setting pay k i (ds ∷ rest) (own ∷ others) h a =
     let n : ℕ = i + objects_of_declarations ds in
-    held_both g i (objects_of_declarations ds) (of_declarations (with_names [] i) ds) (of_sections n rest) (h.0.count [])
-    (held_out g own i (of_declarations (with_names [] i) ds) (h.0.held g (first_suits g pay k i ds rest own others h a) [] no_names (none_mean g k own ds pay)))
-    (all_held g pay (suc k) n rest others h.1 (others_suit g pay k i ds rest own others h a))
+    held_both setting i (objects_of_declarations ds) (of_declarations (with_names [] i) ds) (of_sections n rest) (h.0.count [])
+    (held_out setting own i (of_declarations (with_names [] i) ds) (h.0.held setting (first_suits setting pay k i ds rest own others h a) [] no_names (none_mean setting k own ds pay)))
+    (all_held setting pay (suc k) n rest others h.1 (others_suit setting pay k i ds rest own others h a))
 
 -- each section's objects are of their kinds
-pub first_alike : (g : Setting) (pay k i : ℕ) (ds : Declarations) (rest : List Declarations) (own : Placed) (others : List Placed) (h : SectionsLie pay k i (ds ∷ rest) (own ∷ others)) → HasAll g pay k i (ds ∷ rest) (own ∷ others) h
+pub first_alike : (setting : Setting) (pay k i : ℕ) (ds : Declarations) (rest : List Declarations) (own : Placed) (others : List Placed) (h : SectionsLie pay k i (ds ∷ rest) (own ∷ others)) → HasAll setting pay k i (ds ∷ rest) (own ∷ others) h
     → AreAs own (kinds_of_declarations 1 (named_tree ds)) (of_declarations (with_names [] i) ds) h.0.bases h.0.entries
-first_alike g pay k i ds rest own others h a = h.0.alike g (first_suits g pay k i ds rest own others h a) [] no_names (none_mean g k own ds pay)
+first_alike setting pay k i ds rest own others h a = h.0.alike setting (first_suits setting pay k i ds rest own others h a) [] no_names (none_mean setting k own ds pay)
 
 -- ---- The globals that sections set are those that their procedures set in the meaning.
 
@@ -163,15 +163,15 @@ as_set codes own i (k ∷ ks) (x ∷ xs) (v ∷ vs) [] a f = absurd a
 as_set codes own i _ _ (v ∷ vs) (w ∷ ws) a f = elim (a.0) [ ]
 
 -- EACH SECTION SETS what its procedures set
-pub sections_set : (g : Setting) (pay k i : ℕ) (sections : List Declarations) (owns : List Placed) (h : SectionsLie pay k i sections owns) → HasAll g pay k i sections owns h → StandFor sections owns → SetSame g.codes i sections owns
-sections_set g pay k i [] [] h a st = tt
-sections_set g pay k i (ds ∷ rest) (own ∷ others) h a st = (
+pub sections_set : (setting : Setting) (pay k i : ℕ) (sections : List Declarations) (owns : List Placed) (h : SectionsLie pay k i sections owns) → HasAll setting pay k i sections owns h → StandFor sections owns → SetSame setting.codes i sections owns
+sections_set setting pay k i [] [] h a st = tt
+sections_set setting pay k i (ds ∷ rest) (own ∷ others) h a st = (
   record {
     same = ap (map (entry_setting own.places)) (alike_declarations entries_of kind_entries entries_alike 2 1 (named_tree ds))
-        ∙ as_set g.codes own i (kinds_of_declarations 1 (named_tree ds)) (of_declarations (with_names [] i) ds) h.0.bases h.0.entries (first_alike g pay k i ds rest own others h a)
-        (first_suits g pay k i ds rest own others h a).words;
+        ∙ as_set setting.codes own i (kinds_of_declarations 1 (named_tree ds)) (of_declarations (with_names [] i) ds) h.0.bases h.0.entries (first_alike setting pay k i ds rest own others h a)
+        (first_suits setting pay k i ds rest own others h a).words;
     many = h.0.count [];
   },
-  sections_set g pay (suc k) (i + objects_of_declarations ds) rest others h.1 (others_suit g pay k i ds rest own others h a) st.1,
+  sections_set setting pay (suc k) (i + objects_of_declarations ds) rest others h.1 (others_suit setting pay k i ds rest own others h a) st.1,
 )
 sections_set g pay k i _ _ h a st = absurd st

@@ -79,13 +79,13 @@ label_found own d l rest h =
     let f = first_of own.stmts h.place (Label l) rest h.behind in
     label_has_one_place own.stmts h.place l h.are f.at ∙ ap Some h.behind
 
-pub label_at : (g : Setting) (sc : Scene) (d l : ℕ) (rest : List Stmt) → slice_get g.program.sections sc.section ≡ Some sc.own → StandsAt sc.own d (Label l ∷ rest) → LabelAt g sc d l rest
-label_at g sc d l rest own h =
+pub label_at : (setting : Setting) (sc : Scene) (d l : ℕ) (rest : List Stmt) → slice_get setting.program.sections sc.section ≡ Some sc.own → StandsAt sc.own d (Label l ∷ rest) → LabelAt setting sc d l rest
+label_at setting sc d l rest own h =
     let f = first_of sc.own.stmts h.place (Label l) rest h.behind in
     record { is_own = own; place = h.place; at = f.at; same_depth = h.same_depth; behind = f.behind; found = label_found sc.own d l rest h }
 
-pub call_at : (g : Setting) (sc : Scene) (d : ℕ) (call : Stmt) (rest : List Stmt) → slice_get g.program.sections sc.section ≡ Some sc.own → StandsAt sc.own d (call ∷ rest) → CallAt g sc call rest
-call_at g sc d call rest own h =
+pub call_at : (setting : Setting) (sc : Scene) (d : ℕ) (call : Stmt) (rest : List Stmt) → slice_get setting.program.sections sc.section ≡ Some sc.own → StandsAt sc.own d (call ∷ rest) → CallAt setting sc call rest
+call_at setting sc d call rest own h =
     let f = first_of sc.own.stmts h.place call rest h.behind in
     record { is_own = own; place = h.place; at = f.at; behind = f.behind }
 
@@ -133,17 +133,17 @@ abbrev pub home : Scene → ℕ → Home
 home sc pay = record { section = sc.section; own = sc.own; targets = sc.targets; bindings = sc.bindings; pay = pay }
 
 -- a setting in which that section stands, and whose steps pay for as much
-pub record Fitting (h : Home) (g : Setting) : Type 0 where
-  pub own : slice_get g.program.sections h.section ≡ Some h.own
-  pub pays : h.pay ≤ g.pay
+pub record Fitting (h : Home) (setting : Setting) : Type 0 where
+  pub own : slice_get setting.program.sections h.section ≡ Some h.own
+  pub pays : h.pay ≤ setting.pay
 
 -- and whose lasting objects from this number on, which are not the global vector, have these bases, and those that are procedures
 -- these words
-pub record Suits (h : Home) (next : ℕ) (bases entries : List ℕ) (g : Setting) : Type 0 where
-  pub fits : Fitting h g
+pub record Suits (h : Home) (next : ℕ) (bases entries : List ℕ) (setting : Setting) : Type 0 where
+  pub fits : Fitting h setting
   pub some : 0 < next
-  pub follow : Follow g.lasting next bases
-  pub words : FollowWords g.codes.procedure next entries
+  pub follow : Follow setting.lasting next bases
+  pub words : FollowWords setting.codes.procedure next entries
 
 -- some procedure there
 abbrev pub there_in : Home → ℕ → Scene
@@ -151,7 +151,7 @@ there_in h k = record { section = h.section; own = h.own; targets = h.targets; b
 
 -- names that mean in each run what they should there
 abbrev pub Mean : Home → Setting → List Named → Type 0
-Mean h g ns = (k : ℕ) (bases : List ℕ) (frame : ℕ) → Grown g.lasting bases → NamedIn (there_in h k) (with_names ns 0) bases frame
+Mean h setting ns = (k : ℕ) (bases : List ℕ) (frame : ℕ) → Grown setting.lasting bases → NamedIn (there_in h k) (with_names ns 0) bases frame
 
 -- where the section stands in a program, they lie below the first frame, and the words of procedures are set
 abbrev pub ArePlaced : Home → List ℕ → List ℕ → Type 0
@@ -168,25 +168,25 @@ pub record Bases (h : Home) (next many : ℕ) (kinds : List Kind) (objects : Lis
   pub all : length bases ≡ many
   pub all_entries : length entries ≡ many
   pub count : (ns : List Named) → length (objects ns) ≡ many
-  pub laid : (g : Setting) → Suits h next bases entries g → P g
-  pub held : (g : Setting) → Suits h next bases entries g → (ns : List Named) → Agree ns h.bindings → Mean h g ns → HeldIn g h.own next (objects ns)
-  pub alike : (g : Setting) → Suits h next bases entries g → (ns : List Named) → Agree ns h.bindings → Mean h g ns → AreAs h.own kinds (objects ns) bases entries
+  pub laid : (setting : Setting) → Suits h next bases entries setting → P setting
+  pub held : (setting : Setting) → Suits h next bases entries setting → (ns : List Named) → Agree ns h.bindings → Mean h setting ns → HeldIn setting h.own next (objects ns)
+  pub alike : (setting : Setting) → Suits h next bases entries setting → (ns : List Named) → Agree ns h.bindings → Mean h setting ns → AreAs h.own kinds (objects ns) bases entries
   pub placed : ArePlaced h bases entries
 
 -- none
-pub no_bases : (h : Home) (next : ℕ) (P : Setting → Type 0) → ((g : Setting) → Fitting h g → P g) → Bases h next 0 [] (λ ns. []) P
-no_bases h next P f = record { bases = []; entries = []; all = refl; all_entries = refl; count = λ ns. refl; laid = λ g x. f g x.fits; held = λ g x ns a u. tt; alike = λ g x ns a u. tt; placed = λ program first well own. (tt, tt) }
+pub no_bases : (h : Home) (next : ℕ) (P : Setting → Type 0) → ((setting : Setting) → Fitting h setting → P setting) → Bases h next 0 [] (λ ns. []) P
+no_bases h next P f = record { bases = []; entries = []; all = refl; all_entries = refl; count = λ ns. refl; laid = λ setting x. f setting x.fits; held = λ setting x ns a u. tt; alike = λ setting x ns a u. tt; placed = λ program first well own. (tt, tt) }
 
 -- one
-pub new_base : (h : Home) (next base : ℕ) (kind : Kind) (object : List Named → Lasting) (P : Setting → Type 0) → ((ns : List Named) → Agree ns h.bindings → AsKind h.own kind (object ns) base 1) → IsBelow h base → ((g : Setting) → Fitting h g → BaseOf g.lasting next base → P g)
-    → ((g : Setting) → Fitting h g → BaseOf g.lasting next base → (ns : List Named) → Agree ns h.bindings → Mean h g ns → HeldOneIn g h.own next (object ns)) → Bases h next 1 (kind ∷ []) (λ ns. object ns ∷ []) P
-new_base h next base kind object P z low f k = record { bases = base ∷ []; entries = 1 ∷ []; all = refl; all_entries = refl; count = λ ns. refl; laid = λ g x. f g x.fits (x.follow.0); held = λ g x ns a u. (k g x.fits (x.follow.0) ns a u, tt); alike = λ g x ns a u. (z ns a, tt); placed = λ program first well own. ((low program first well own, tt), (omega arith, tt)) }
+pub new_base : (h : Home) (next base : ℕ) (kind : Kind) (object : List Named → Lasting) (P : Setting → Type 0) → ((ns : List Named) → Agree ns h.bindings → AsKind h.own kind (object ns) base 1) → IsBelow h base → ((setting : Setting) → Fitting h setting → BaseOf setting.lasting next base → P setting)
+    → ((setting : Setting) → Fitting h setting → BaseOf setting.lasting next base → (ns : List Named) → Agree ns h.bindings → Mean h setting ns → HeldOneIn setting h.own next (object ns)) → Bases h next 1 (kind ∷ []) (λ ns. object ns ∷ []) P
+new_base h next base kind object P z low f k = record { bases = base ∷ []; entries = 1 ∷ []; all = refl; all_entries = refl; count = λ ns. refl; laid = λ setting x. f setting x.fits (x.follow.0); held = λ setting x ns a u. (k setting x.fits (x.follow.0) ns a u, tt); alike = λ setting x ns a u. (z ns a, tt); placed = λ program first well own. ((low program first well own, tt), (omega arith, tt)) }
 
 -- Objects of one part, and then those of another, where other names are in scope, which mean what they should wherever the objects
 -- of the first part have their bases.
 pub then_bases : (h : Home) (bs : List Binding) (next n m : ℕ) {ks ls : List Kind} {K L : List Named → List Lasting} (P Q : Setting → Type 0) (names : List Named → List Named) (a : Bases h next n ks K P)
-    → ((g : Setting) → Suits h next a.bases a.entries g → (ns : List Named) → Agree ns h.bindings → Mean h g ns → Agree (names ns) bs × Mean (record h { bindings = bs }) g (names ns))
-    → Bases (record h { bindings = bs }) (next + n) m ls L Q → Bases h next (n + m) (ks ++ ls) (λ ns. K ns ++ L (names ns)) (λ g. P g × Q g)
+    → ((setting : Setting) → Suits h next a.bases a.entries setting → (ns : List Named) → Agree ns h.bindings → Mean h setting ns → Agree (names ns) bs × Mean (record h { bindings = bs }) setting (names ns))
+    → Bases (record h { bindings = bs }) (next + n) m ls L Q → Bases h next (n + m) (ks ++ ls) (λ ns. K ns ++ L (names ns)) (λ setting. P setting × Q setting)
 then_bases h bs next n m {ks} {ls} {K} {L} P Q names a after b =
     let an = a.all in
     let bn = b.all in
@@ -194,13 +194,13 @@ then_bases h bs next n m {ks} {ls} {K} {L} P Q names a after b =
     let be = b.all_entries in
     let l = length-append a.bases b.bases in
     let le = length-append a.entries b.entries in
-    let front : (g : Setting) → Suits h next (a.bases ++ b.bases) (a.entries ++ b.entries) g → Suits h next a.bases a.entries g =
-    λ g x. record { fits = x.fits; some = x.some; follow = follow_first g.lasting next a.bases b.bases x.follow; words = words_first g.codes.procedure next a.entries b.entries x.words } in
-    let back : (g : Setting) → Suits h next (a.bases ++ b.bases) (a.entries ++ b.entries) g → Suits (record h { bindings = bs }) (next + n) b.bases b.entries g = λ g x. record {
+    let front : (setting : Setting) → Suits h next (a.bases ++ b.bases) (a.entries ++ b.entries) setting → Suits h next a.bases a.entries setting =
+    λ setting x. record { fits = x.fits; some = x.some; follow = follow_first setting.lasting next a.bases b.bases x.follow; words = words_first setting.codes.procedure next a.entries b.entries x.words } in
+    let back : (setting : Setting) → Suits h next (a.bases ++ b.bases) (a.entries ++ b.entries) setting → Suits (record h { bindings = bs }) (next + n) b.bases b.entries setting = λ setting x. record {
       fits = record { own = x.fits.own; pays = x.fits.pays };
       some = (let z = x.some in omega (arith, z));
-      follow = follow_second g.lasting next n a.bases b.bases an x.follow;
-      words = words_second g.codes.procedure next n a.entries b.entries ae x.words;
+      follow = follow_second setting.lasting next n a.bases b.bases an x.follow;
+      words = words_second setting.codes.procedure next n a.entries b.entries ae x.words;
     } in
     record {
       bases = a.bases ++ b.bases;
@@ -208,13 +208,13 @@ then_bases h bs next n m {ks} {ls} {K} {L} P Q names a after b =
       all = omega (arith, an, bn, l);
       all_entries = omega (arith, ae, be, le);
       count = λ ns. let x = a.count ns in let y = b.count (names ns) in let z = length-append (K ns) (L (names ns)) in omega (arith, x, y, z);
-      laid = λ g x. (a.laid g (front g x), b.laid g (back g x));
-      held = λ g x ns e u.
-          let i = after g (front g x) ns e u in
-          held_in_both g h.own next n (K ns) (L (names ns)) (a.count ns) (a.held g (front g x) ns e u) (b.held g (back g x) (names ns) i.0 i.1);
-      alike = λ g x ns e u.
-          let i = after g (front g x) ns e u in
-          as_both h.own ks (K ns) a.bases a.entries ls (L (names ns)) b.bases b.entries (a.alike g (front g x) ns e u) (b.alike g (back g x) (names ns) i.0 i.1);
+      laid = λ setting x. (a.laid setting (front setting x), b.laid setting (back setting x));
+      held = λ setting x ns e u.
+          let i = after setting (front setting x) ns e u in
+          held_in_both setting h.own next n (K ns) (L (names ns)) (a.count ns) (a.held setting (front setting x) ns e u) (b.held setting (back setting x) (names ns) i.0 i.1);
+      alike = λ setting x ns e u.
+          let i = after setting (front setting x) ns e u in
+          as_both h.own ks (K ns) a.bases a.entries ls (L (names ns)) b.bases b.entries (a.alike setting (front setting x) ns e u) (b.alike setting (back setting x) (names ns) i.0 i.1);
       placed = λ program first well own.
           let p = a.placed program first well own in
           let q = b.placed program first well own in
@@ -223,18 +223,18 @@ then_bases h bs next n m {ks} {ls} {K} {L} P Q names a after b =
 
 -- those of one part and then those of another
 pub both_bases : (h : Home) (next n m : ℕ) {ks ls : List Kind} {K L : List Named → List Lasting} (P Q : Setting → Type 0) → Bases h next n ks K P → Bases h (next + n) m ls L Q
-    → Bases h next (n + m) (ks ++ ls) (λ ns. K ns ++ L ns) (λ g. P g × Q g)
-both_bases h next n m P Q a b = then_bases h h.bindings next n m P Q (λ ns. ns) a (λ g x ns e u. (e, u)) b
+    → Bases h next (n + m) (ks ++ ls) (λ ns. K ns ++ L ns) (λ setting. P setting × Q setting)
+both_bases h next n m P Q a b = then_bases h h.bindings next n m P Q (λ ns. ns) a (λ setting x ns e u. (e, u)) b
 
 -- those of three
 pub three_bases : (h : Home) (next n m k : ℕ) {ks ls ms : List Kind} {K L M : List Named → List Lasting} (P Q R : Setting → Type 0) → Bases h next n ks K P → Bases h (next + n) m ls L Q → Bases h (next + n + m) k ms M R
-    → Bases h next (n + m + k) (ks ++ ls ++ ms) (λ ns. K ns ++ L ns ++ M ns) (λ g. (P g × Q g) × R g)
+    → Bases h next (n + m + k) (ks ++ ls ++ ms) (λ ns. K ns ++ L ns ++ M ns) (λ setting. (P setting × Q setting) × R setting)
 three_bases h next n m k {ks} {ls} {ms} {K} {L} {M} P Q R a b c =
     let e : next + n + m ≡ next + (n + m) = omega arith in
     both_bases h next (n + m) k _ R (both_bases h next n m P Q a b) (subst (λ x. Bases h x k ms M R) e c)
 
-pub bases_so : (h : Home) (next n : ℕ) {ks : List Kind} {L : List Named → List Lasting} (P Q : Setting → Type 0) → ((g : Setting) → Fitting h g → P g → Q g) → Bases h next n ks L P → Bases h next n ks L Q
-bases_so h next n P Q f a = record { bases = a.bases; entries = a.entries; all = a.all; all_entries = a.all_entries; count = a.count; laid = λ g x. f g x.fits (a.laid g x); held = a.held; alike = a.alike; placed = a.placed }
+pub bases_so : (h : Home) (next n : ℕ) {ks : List Kind} {L : List Named → List Lasting} (P Q : Setting → Type 0) → ((setting : Setting) → Fitting h setting → P setting → Q setting) → Bases h next n ks L P → Bases h next n ks L Q
+bases_so h next n P Q f a = record { bases = a.bases; entries = a.entries; all = a.all; all_entries = a.all_entries; count = a.count; laid = λ setting x. f setting x.fits (a.laid setting x); held = a.held; alike = a.alike; placed = a.placed }
 
 -- the same objects, said otherwise
 pub bases_of : (h : Home) (next n : ℕ) {ks : List Kind} (K L : List Named → List Lasting) (P : Setting → Type 0) → ((ns : List Named) → K ns ≡ L ns) → Bases h next n ks K P → Bases h next n ks L P
@@ -245,54 +245,54 @@ bases_of h next n {ks} K L P e a = record {
   all_entries = a.all_entries;
   count = λ ns. subst (λ x. length x ≡ n) (e ns) (a.count ns);
   laid = a.laid;
-  held = λ g x ns u v. subst (λ y. HeldIn g h.own next y) (e ns) (a.held g x ns u v);
-  alike = λ g x ns u v. subst (λ y. AreAs h.own ks y a.bases a.entries) (e ns) (a.alike g x ns u v);
+  held = λ setting x ns u v. subst (λ y. HeldIn setting h.own next y) (e ns) (a.held setting x ns u v);
+  alike = λ setting x ns u v. subst (λ y. AreAs h.own ks y a.bases a.entries) (e ns) (a.alike setting x ns u v);
   placed = a.placed;
 }
 
 -- where their bases say so, more names are in scope inside
 pub bases_under : (h : Home) (bs : List Binding) (next n : ℕ) {ks : List Kind} {L : List Named → List Lasting} (P : Setting → Type 0) (names : List Named → List Named)
-    → ((g : Setting) → 0 < next → P g → (ns : List Named) → Agree ns h.bindings → Mean h g ns → Agree (names ns) bs × Mean (record h { bindings = bs }) g (names ns)) → Bases (record h { bindings = bs }) next n ks L P
+    → ((setting : Setting) → 0 < next → P setting → (ns : List Named) → Agree ns h.bindings → Mean h setting ns → Agree (names ns) bs × Mean (record h { bindings = bs }) setting (names ns)) → Bases (record h { bindings = bs }) next n ks L P
     → Bases h next n ks (λ ns. L (names ns)) P
 bases_under h bs next n P names f a =
-    let inner : (g : Setting) → Suits h next a.bases a.entries g → Suits (record h { bindings = bs }) next a.bases a.entries g =
-    λ g x. record { fits = record { own = x.fits.own; pays = x.fits.pays }; some = x.some; follow = x.follow; words = x.words } in
+    let inner : (setting : Setting) → Suits h next a.bases a.entries setting → Suits (record h { bindings = bs }) next a.bases a.entries setting =
+    λ setting x. record { fits = record { own = x.fits.own; pays = x.fits.pays }; some = x.some; follow = x.follow; words = x.words } in
     record {
       bases = a.bases;
       entries = a.entries;
       all = a.all;
       all_entries = a.all_entries;
       count = λ ns. a.count (names ns);
-      laid = λ g x. a.laid g (inner g x);
-      held = λ g x ns u v. let i = f g x.some (a.laid g (inner g x)) ns u v in a.held g (inner g x) (names ns) i.0 i.1;
-      alike = λ g x ns u v. let i = f g x.some (a.laid g (inner g x)) ns u v in a.alike g (inner g x) (names ns) i.0 i.1;
+      laid = λ setting x. a.laid setting (inner setting x);
+      held = λ setting x ns u v. let i = f setting x.some (a.laid setting (inner setting x)) ns u v in a.held setting (inner setting x) (names ns) i.0 i.1;
+      alike = λ setting x ns u v. let i = f setting x.some (a.laid setting (inner setting x)) ns u v in a.alike setting (inner setting x) (names ns) i.0 i.1;
       placed = a.placed;
     }
 
 -- with more names in scope inside
 pub bases_inside : (h : Home) (bs : List Binding) (next n : ℕ) {ks : List Kind} {L : List Named → List Lasting} (P : Setting → Type 0) (names : List Named → List Named)
-    → ((g : Setting) (ns : List Named) → Agree ns h.bindings → Mean h g ns → Agree (names ns) bs × Mean (record h { bindings = bs }) g (names ns)) → Bases (record h { bindings = bs }) next n ks L P
+    → ((setting : Setting) (ns : List Named) → Agree ns h.bindings → Mean h setting ns → Agree (names ns) bs × Mean (record h { bindings = bs }) setting (names ns)) → Bases (record h { bindings = bs }) next n ks L P
     → Bases h next n ks (λ ns. L (names ns)) P
-bases_inside h bs next n P names f a = bases_under h bs next n P names (λ g some p ns u v. f g ns u v) a
+bases_inside h bs next n P names f a = bases_under h bs next n P names (λ setting some p ns u v. f setting ns u v) a
 
 -- none of them is the global vector
-pub bases_some : (h : Home) (next n : ℕ) {ks : List Kind} {L : List Named → List Lasting} (P : Setting → Type 0) → Bases h next n ks L P → Bases h next n ks L (λ g. (0 < next) × P g)
-bases_some h next n P a = record { bases = a.bases; entries = a.entries; all = a.all; all_entries = a.all_entries; count = a.count; laid = λ g x. (x.some, a.laid g x); held = a.held; alike = a.alike; placed = a.placed }
+pub bases_some : (h : Home) (next n : ℕ) {ks : List Kind} {L : List Named → List Lasting} (P : Setting → Type 0) → Bases h next n ks L P → Bases h next n ks L (λ setting. (0 < next) × P setting)
+bases_some h next n P a = record { bases = a.bases; entries = a.entries; all = a.all; all_entries = a.all_entries; count = a.count; laid = λ setting x. (x.some, a.laid setting x); held = a.held; alike = a.alike; placed = a.placed }
 
 -- where a step pays for more
 pub bases_paid : (h : Home) (more next n : ℕ) {ks : List Kind} {L : List Named → List Lasting} (P : Setting → Type 0) → h.pay ≤ more → Bases h next n ks L P → Bases (record h { pay = more }) next n ks L P
 bases_paid h more next n P low a =
-    let inner : (g : Setting) → Suits (record h { pay = more }) next a.bases a.entries g → Suits h next a.bases a.entries g =
-    λ g x. record { fits = record { own = x.fits.own; pays = (let z = x.fits.pays in omega (arith, z, low)) }; some = x.some; follow = x.follow; words = x.words } in
+    let inner : (setting : Setting) → Suits (record h { pay = more }) next a.bases a.entries setting → Suits h next a.bases a.entries setting =
+    λ setting x. record { fits = record { own = x.fits.own; pays = (let z = x.fits.pays in omega (arith, z, low)) }; some = x.some; follow = x.follow; words = x.words } in
     record {
       bases = a.bases;
       entries = a.entries;
       all = a.all;
       all_entries = a.all_entries;
       count = a.count;
-      laid = λ g x. a.laid g (inner g x);
-      held = λ g x ns u v. a.held g (inner g x) ns u v;
-      alike = λ g x ns u v. a.alike g (inner g x) ns u v;
+      laid = λ setting x. a.laid setting (inner setting x);
+      held = λ setting x ns u v. a.held setting (inner setting x) ns u v;
+      alike = λ setting x ns u v. a.alike setting (inner setting x) ns u v;
       placed = a.placed;
     }
 
@@ -301,7 +301,7 @@ pub record Lies (h : Home) (next many depth : ℕ) (rest : List Stmt) (kinds : L
   pub on : StandsAt h.own depth rest
   pub objects_are : Bases h next many kinds objects P
 
-pub lies_so : (h : Home) (next many depth : ℕ) (rest : List Stmt) {ks : List Kind} {L : List Named → List Lasting} (P Q : Setting → Type 0) → ((g : Setting) → Fitting h g → P g → Q g) → Lies h next many depth rest ks L P
+pub lies_so : (h : Home) (next many depth : ℕ) (rest : List Stmt) {ks : List Kind} {L : List Named → List Lasting} (P Q : Setting → Type 0) → ((setting : Setting) → Fitting h setting → P setting → Q setting) → Lies h next many depth rest ks L P
     → Lies h next many depth rest ks L Q
 lies_so h next many depth rest P Q f a = record { on = a.on; objects_are = bases_so h next many P Q f a.objects_are }
 

@@ -118,18 +118,18 @@ later k z = record { env_next = ap (λ x. x + k) z.env_next; held_next = ap (λ 
 pub same_numbers : {env held env1 held1 : Environment} {i : ℕ} → env1.next ≡ env.next → held1.next ≡ held.next → Numbered env held i → Numbered env1 held1 i
 same_numbers e h z = record { env_next = e ∙ z.env_next; held_next = h ∙ z.held_next }
 
-pub held_front : (g : Setting) (own : Placed) (i : ℕ) (xs ys : List Lasting) → HeldIn g own i (xs ++ ys) → HeldIn g own i xs
-held_front g own i [] ys h = tt
-held_front g own i (x ∷ xs) ys h = (h.0, held_front g own (suc i) xs ys h.1)
+pub held_front : (setting : Setting) (own : Placed) (i : ℕ) (xs ys : List Lasting) → HeldIn setting own i (xs ++ ys) → HeldIn setting own i xs
+held_front setting own i [] ys h = tt
+held_front setting own i (x ∷ xs) ys h = (h.0, held_front setting own (suc i) xs ys h.1)
 
-pub held_back : (g : Setting) (own : Placed) (i n : ℕ) (xs ys : List Lasting) → length xs ≡ n → HeldIn g own i (xs ++ ys) → HeldIn g own (i + n) ys
-held_back g own i n [] ys e h = let s : i ≡ i + n = omega (arith, e) in subst (λ k. HeldIn g own k ys) s h
-held_back g own i n (x ∷ xs) ys e h =
+pub held_back : (setting : Setting) (own : Placed) (i n : ℕ) (xs ys : List Lasting) → length xs ≡ n → HeldIn setting own i (xs ++ ys) → HeldIn setting own (i + n) ys
+held_back setting own i n [] ys e h = let s : i ≡ i + n = omega (arith, e) in subst (λ k. HeldIn setting own k ys) s h
+held_back setting own i n (x ∷ xs) ys e h =
     let s : suc i + length xs ≡ i + n = omega (arith, e) in
-    subst (λ k. HeldIn g own k ys) s (held_back g own (suc i) (length xs) xs ys refl h.1)
+    subst (λ k. HeldIn setting own k ys) s (held_back setting own (suc i) (length xs) xs ys refl h.1)
 
-pub held_third : (g : Setting) (own : Placed) (i n k : ℕ) (xs ys zs : List Lasting) → length xs ≡ n → length ys ≡ k → HeldIn g own i (xs ++ ys ++ zs) → HeldIn g own (i + n + k) zs
-held_third g own i n k xs ys zs e f h = held_back g own (i + n) k ys zs f (held_back g own i n xs (ys ++ zs) e (subst (λ w. HeldIn g own i w) (append_assoc xs ys zs) h))
+pub held_third : (setting : Setting) (own : Placed) (i n k : ℕ) (xs ys zs : List Lasting) → length xs ≡ n → length ys ≡ k → HeldIn setting own i (xs ++ ys ++ zs) → HeldIn setting own (i + n + k) zs
+held_third setting own i n k xs ys zs e f h = held_back setting own (i + n) k ys zs f (held_back setting own i n xs (ys ++ zs) e (subst (λ w. HeldIn setting own i w) (append_assoc xs ys zs) h))
 
-pub spread_three : {g : Setting} {own : Placed} {c c1 c2 rest : List Stmt} {i m n k : ℕ} {fs hs ls : List Form} → Spread g own c c1 i m fs → Spread g own c1 c2 (i + m) n hs → Spread g own c2 rest (i + m + n) k ls → Spread g own c rest i (m + n + k) (fs ++ hs ++ ls)
+pub spread_three : {setting : Setting} {own : Placed} {c c1 c2 rest : List Stmt} {i m n k : ℕ} {fs hs ls : List Form} → Spread setting own c c1 i m fs → Spread setting own c1 c2 (i + m) n hs → Spread setting own c2 rest (i + m + n) k ls → Spread setting own c rest i (m + n + k) (fs ++ hs ++ ls)
 spread_three x y z = spread_both (spread_both x y) (spread_as (omega arith) refl refl z)

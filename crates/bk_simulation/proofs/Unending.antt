@@ -29,29 +29,29 @@ times_more zero j k le = omega arith
 times_more (suc n) zero k le = absurd (omega arith)
 times_more (suc n) (suc j) k le = let h = times_more n j k (omega arith) in omega arith
 
-comes_pays : (g : Setting) (n p : ℕ) (s u : State) → Comes g n p s u → p ≡ times n g.pay
-comes_pays g _ _ s _ (here _) = refl
-comes_pays g _ _ s u (go_on n p _ t _ m f c) = ap (λ x. g.pay + x) (comes_pays g n p t u c)
+comes_pays : (setting : Setting) (n p : ℕ) (s u : State) → Comes setting n p s u → p ≡ times n setting.pay
+comes_pays setting _ _ s _ (here _) = refl
+comes_pays setting _ _ s u (go_on n p _ t _ m f c) = ap (λ x. setting.pay + x) (comes_pays setting n p t u c)
 
 -- the run comes as far as its steps pay for
-record Far (g : Setting) (n : ℕ) (s0 : State) (bytes : List ℕ) : Type 0 where
+record Far (setting : Setting) (n : ℕ) (s0 : State) (bytes : List ℕ) : Type 0 where
   pub last : State
   pub steps : ℕ
-  pub runs : run g.program steps s0 ≡ Goes last
-  pub enough : n ≤ times steps g.pay
+  pub runs : run setting.program steps s0 ≡ Goes last
+  pub enough : n ≤ times steps setting.pay
   pub wrote : last.output ≡ bytes
 
 abbrev back_to : ℕ → Outcome Value → Outcome Value
 back_to k o = each_way (λ v after. gives v (calls_back k after)) (λ x w. undefined) o
 
-far_so : (g : Setting) (s0 s : State) → settled g.program s0 ≡ s → FewFrames g s0.cells s0.frame g.cap → (n k : ℕ) (B : Account) (o : Outcome Value) → n ≤ B.least → ((v : World) → back_to k o ≡ going v → v.turns ≡ 0)
-    → (bytes left : List ℕ) (calls : ℕ) → run_of (back_to k o) ≡ Going bytes left calls → calls ≡ g.cap → Ran g s B (Over g s B) AnyExit o → Far g n s0 bytes ⊎ RunsOut g.program g.first s0 calls bytes
-far_so g s0 s is few n k B (gives v w) le cut bytes left calls e ec r = absurd (cc)
-far_so g s0 s is few n k B (going w) le cut bytes left calls e ec r =
-    let far : Reaches g s B w → w.output ≡ bytes → Far g n s0 bytes = λ q eb.
-    let c = comes_run g q.steps q.paid s s0 q.to is few q.comes in
-    let pays = comes_pays g q.steps q.paid s q.to q.comes in
-    let h = goes_on_so g.program g.first FRAME_WORDS g.well c.last in
+far_so : (setting : Setting) (s0 s : State) → settled setting.program s0 ≡ s → FewFrames setting s0.cells s0.frame setting.cap → (n k : ℕ) (B : Account) (o : Outcome Value) → n ≤ B.least → ((v : World) → back_to k o ≡ going v → v.turns ≡ 0)
+    → (bytes left : List ℕ) (calls : ℕ) → run_of (back_to k o) ≡ Going bytes left calls → calls ≡ setting.cap → Ran setting s B (Over setting s B) AnyExit o → Far setting n s0 bytes ⊎ RunsOut setting.program setting.first s0 calls bytes
+far_so setting s0 s is few n k B (gives v w) le cut bytes left calls e ec r = absurd (cc)
+far_so setting s0 s is few n k B (going w) le cut bytes left calls e ec r =
+    let far : Reaches setting s B w → w.output ≡ bytes → Far setting n s0 bytes = λ q eb.
+    let c = comes_run setting q.steps q.paid s s0 q.to is few q.comes in
+    let pays = comes_pays setting q.steps q.paid s q.to q.comes in
+    let h = goes_on_so setting.program setting.first FRAME_WORDS setting.well c.last in
     let z = cut w refl in
     let lq = q.least in
     record {
@@ -63,12 +63,12 @@ far_so g s0 s is few n k B (going w) le cut bytes left calls e ec r =
     } in
     let eb : w.output ≡ bytes = cc in
     let em : w.most_calls ≡ calls = cc in
-    ⊎_elim (λ (q : Reaches g s B w). inl (far q eb)) (λ (f : FallsThose g s w.output w.most_calls). inr (falls f eb em)) r.is
+    ⊎_elim (λ (q : Reaches setting s B w). inl (far q eb)) (λ (f : FallsThose setting s w.output w.most_calls). inr (falls f eb em)) r.is
   where
-    falls : FallsThose g s w.output w.most_calls → w.output ≡ bytes → w.most_calls ≡ calls → RunsOut g.program g.first s0 calls bytes
-    falls (inl f) eb em = subst (λ c. RunsOut g.program g.first s0 c bytes) (sym ec) (subst (λ y. RunsOut g.program g.first s0 g.cap y) eb (fell_out g s0 s is few w.output f))
+    falls : FallsThose setting s w.output w.most_calls → w.output ≡ bytes → w.most_calls ≡ calls → RunsOut setting.program setting.first s0 calls bytes
+    falls (inl f) eb em = subst (λ c. RunsOut setting.program setting.first s0 c bytes) (sym ec) (subst (λ y. RunsOut setting.program setting.first s0 setting.cap y) eb (fell_out setting s0 s is few w.output f))
     falls (inr lt) eb em = absurd (omega arith)
-far_so g s0 s is few n k B _ le cut bytes left calls e ec r = absurd (cc)
+far_so setting s0 s is few n k B _ le cut bytes left calls e ec r = absurd (cc)
 
 pub laid_goes_on : (sections : List Declarations) (program : Program) (first : ℕ) (input : List ℕ) (s : State) (well : IsWellPlaced program first FRAME_WORDS) → AreLaid program first well sections → first_state program first input ≡ Some s → IsWithoutEnd sections input
     → (j : ℕ) → StillGoes program first sections input s j ⊎ RunsOutOnTheWay program first sections input s
