@@ -24,7 +24,7 @@ mod SourceLaws
 mod SameParts
 mod CodeOfSources
 mod FilterCode
-mod ReportsLemmas
+mod ReportLemmas
 mod ShowLemmas
 mod TraceLemmas
 mod LineLemmas

@@ -7,7 +7,7 @@ ghost use Rattle.bk_kit.specs.RunningSource.{NotAssembled, ReadsSource};
 ghost use Rattle.bk_kit.specs.Checking.{fails_reading, fails_check, HasTheseTrees, ChecksSource, Untouched};
 
 use crate::kit_fault::KitFault;
-use crate::reading::read_section;
+use crate::reading::read_source_section;
 use crate::section::{SectionCode, compile_section};
 use bk_base::{ByteIn, ByteOut, Line};
 use bk_checker::{GivenUp, Report, check};
@@ -81,7 +81,7 @@ fn read_trees<C: ByteIn>(alloc: Global, source: &mut C) -> Result<Vec<Section>, 
     let mut taken = 0;
     let mut line = Line::first();
     loop {
-        let lexer = match read_section(alloc, source, &mut taken, line) {
+        let lexer = match read_source_section(alloc, source, &mut taken, line) {
             Ok(lexer) => lexer,
             Err(fault) => return Err(no_hint(alloc, fault)),
         };

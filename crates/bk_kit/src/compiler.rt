@@ -7,7 +7,7 @@ ghost use Rattle.bk_kit.specs.CompilingSection.{codes_in};
 ghost use Rattle.bk_kit.specs.Compiling.{Compiles, PutsSections};
 
 use crate::kit_fault::KitFault;
-use crate::reading::read_section;
+use crate::reading::read_source_section;
 use crate::section::{SectionCode, compile_section};
 use bk_base::{ByteIn, ByteOut, Failed, Line};
 use bk_ocode::print;
@@ -40,7 +40,7 @@ fn put_sections<C: ByteIn, O: ByteOut>(
     let mut taken = 0;
     let mut line = Line::first();
     loop {
-        let lexer = read_section(alloc, source, &mut taken, line)?;
+        let lexer = read_source_section(alloc, source, &mut taken, line)?;
         let section = compile_section(alloc, &lexer)?;
         let Ok(()) = put_code(&section.code, out) else {
             return Err(KitFault::Write);

@@ -34,7 +34,7 @@ fn no_memory<C: ByteIn>(source: &mut C, taken: &mut u64) -> KitFault
 
 /// Reads the next section of a source, its `.` included, up to where a fault of it is certain, or to the end; its first line has the
 /// number `from`. `taken` counts the bytes that were read of the source, of which one call reads `limit::INPUT_BYTES` at most.
-pub fn read_section<C: ByteIn>(
+pub fn read_source_section<C: ByteIn>(
     alloc: Global,
     source: &mut C,
     taken: &mut u64,

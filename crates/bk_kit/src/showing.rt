@@ -4,7 +4,7 @@ ghost use Rattle.bk_kit.specs.CompilingSection.{Compiled};
 ghost use Rattle.bk_kit.specs.Showing.{PutsSection, NotPut, ShowsSections, ShowsSource};
 
 use crate::kit_fault::KitFault;
-use crate::reading::read_section;
+use crate::reading::read_source_section;
 use crate::section::{CompiledSection, compile_section};
 use bk_base::{ByteIn, ByteOut, Line};
 use bk_gen::generate;
@@ -63,7 +63,7 @@ pub fn show_sections<C: ByteIn, O, L: Layout<O>>(
     let mut line = Line::first();
     let mut number = 1u32;
     loop {
-        let lexer = read_section(alloc, source, &mut taken, line)?;
+        let lexer = read_source_section(alloc, source, &mut taken, line)?;
         let section = compile_section(alloc, &lexer)?;
         match put_section(alloc, number, line, &lexer, &section, layout, out) {
             Ok(()) => {}

@@ -11,7 +11,7 @@ ghost use Rattle.bk_kit.specs.SourceMeaning.{meanings};
 
 use crate::kit_fault::KitFault;
 use crate::laws::sources_run;
-use crate::reading::read_section;
+use crate::reading::read_source_section;
 use crate::section::{SectionCode, compile_section};
 use bk_base::{ByteIn, ByteOut, End, Limits, Line};
 use bk_gen::generate;
@@ -48,7 +48,7 @@ fn assemble<C: ByteIn>(alloc: Global, source: &mut C) -> Result<Vec<Intcode>, Ki
     let mut taken = 0;
     let mut line = Line::first();
     loop {
-        let lexer = read_section(alloc, source, &mut taken, line)?;
+        let lexer = read_source_section(alloc, source, &mut taken, line)?;
         let section = compile_section(alloc, &lexer)?;
         let Ok(()) = push_segment(alloc, &section.code, &mut segments) else {
             return Err(KitFault::Memory);

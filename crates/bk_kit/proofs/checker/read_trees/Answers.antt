@@ -16,42 +16,42 @@ loop-lexer-init g c = rw (c.first-line.ensures, c.new-trees.ensures.items) (tree
 pub returns-in-Err-clause-refused : goal.returns-in-Err-clause-refused
 returns-in-Err-clause-refused g c =
     let read = c.in-Err.ensures.fault in
-    subst (λ (f : KitFault). NotAssembled f (g.C.ByteIn.left c.args.source.now) (g.C.ByteIn.left c.read_section.new.source) (g.C.ByteIn.ended c.read_section.new.source)) (sym c.no_hint.ensures)
-    (not_read _ _ _ (g.C.ByteIn.ended c.read_section.new.source) _ c.read_section.new.taken c.loop-lexer.line c.loop-lexer.invariant.passed read.0 read.1 c.read_section.ensures.within c.in-Err.fault read.2)
+    subst (λ (f : KitFault). NotAssembled f (g.C.ByteIn.left c.args.source.now) (g.C.ByteIn.left c.read_source_section.new.source) (g.C.ByteIn.ended c.read_source_section.new.source)) (sym c.no_hint.ensures)
+    (not_read _ _ _ (g.C.ByteIn.ended c.read_source_section.new.source) _ c.read_source_section.new.taken c.loop-lexer.line c.loop-lexer.invariant.passed read.0 read.1 c.read_source_section.ensures.within c.in-Err.fault read.2)
 
 pub returns-in-Err-clause-delivered : goal.returns-in-Err-clause-delivered
 returns-in-Err-clause-delivered g c =
     let read = c.in-Err.ensures.fault in
-    subst (λ (f : KitFault). ReadsSource (is_read_fault f) (g.C.ByteIn.left c.args.source.now) (g.C.ByteIn.left c.read_section.new.source)) (sym c.no_hint.ensures)
-    (stops_reading _ _ _ (g.C.ByteIn.ended c.read_section.new.source) _ c.read_section.new.taken c.loop-lexer.line c.loop-lexer.invariant.passed read.0 read.1 c.read_section.ensures.within c.in-Err.fault read.2)
+    subst (λ (f : KitFault). ReadsSource (is_read_fault f) (g.C.ByteIn.left c.args.source.now) (g.C.ByteIn.left c.read_source_section.new.source)) (sym c.no_hint.ensures)
+    (stops_reading _ _ _ (g.C.ByteIn.ended c.read_source_section.new.source) _ c.read_source_section.new.taken c.loop-lexer.line c.loop-lexer.invariant.passed read.0 read.1 c.read_source_section.ensures.within c.in-Err.fault read.2)
 
 pub returns-in-Err-compile_section-clause-refused : goal.returns-in-Err-compile_section-clause-refused
 returns-in-Err-compile_section-clause-refused g c =
     let read = c.in-Ok.ensures.read in
     let refuses = subst (λ n. Refuses c.in-Err-compile_section.fault c.in-Ok.lexer.bytes n) c.in-Ok.ensures.line c.in-Err-compile_section.ensures.refuses in
-    subst (λ (f : KitFault). NotAssembled f (g.C.ByteIn.left c.args.source.now) (g.C.ByteIn.left c.read_section.new.source) (g.C.ByteIn.ended c.read_section.new.source)) (sym c.refused.ensures)
-    (not_compiled _ _ _ _ _ c.read_section.new.taken c.loop-lexer.line c.loop-lexer.invariant.passed c.in-Ok.lexer.bytes read.0 c.read_section.ensures.within read.1 c.in-Err-compile_section.fault refuses)
+    subst (λ (f : KitFault). NotAssembled f (g.C.ByteIn.left c.args.source.now) (g.C.ByteIn.left c.read_source_section.new.source) (g.C.ByteIn.ended c.read_source_section.new.source)) (sym c.refused.ensures)
+    (not_compiled _ _ _ _ _ c.read_source_section.new.taken c.loop-lexer.line c.loop-lexer.invariant.passed c.in-Ok.lexer.bytes read.0 c.read_source_section.ensures.within read.1 c.in-Err-compile_section.fault refuses)
 
 pub loop-lexer-smaller : goal.loop-lexer-smaller
 loop-lexer-smaller g c =
     let read = c.in-Ok.ensures.read in
     let compiled = subst (λ n. Compiled c.in-Ok-compile_section.section c.in-Ok.lexer.bytes n) c.in-Ok.ensures.line c.in-Ok-compile_section.ensures.compiled in
-    let more = some_taken _ _ _ _ c.read_section.new.taken c.loop-lexer.line c.loop-lexer.invariant.passed c.in-Ok.lexer.bytes read.0 c.in-Ok-compile_section.section compiled c.in-Some.next c.in-Some.is in
-    omega (arith, more, c.read_section.ensures.within)
+    let more = some_taken _ _ _ _ c.read_source_section.new.taken c.loop-lexer.line c.loop-lexer.invariant.passed c.in-Ok.lexer.bytes read.0 c.in-Ok-compile_section.section compiled c.in-Some.next c.in-Some.is in
+    omega (arith, more, c.read_source_section.ensures.within)
 
 pub returns-in_default-clause-refused : goal.returns-in_default-clause-refused
 returns-in_default-clause-refused g c =
     let read = c.in-Ok.ensures.read in
-    subst (λ (f : KitFault). NotAssembled f (g.C.ByteIn.left c.args.source.now) (g.C.ByteIn.left c.read_section.new.source) (g.C.ByteIn.ended c.read_section.new.source)) (sym c.no_hint-in_default.ensures)
-    (no_memory _ _ _ (g.C.ByteIn.ended c.read_section.new.source) _ c.read_section.new.taken c.loop-lexer.line c.loop-lexer.invariant.passed c.in-Ok.lexer.bytes read.0 c.read_section.ensures.within)
+    subst (λ (f : KitFault). NotAssembled f (g.C.ByteIn.left c.args.source.now) (g.C.ByteIn.left c.read_source_section.new.source) (g.C.ByteIn.ended c.read_source_section.new.source)) (sym c.no_hint-in_default.ensures)
+    (no_memory _ _ _ (g.C.ByteIn.ended c.read_source_section.new.source) _ c.read_source_section.new.taken c.loop-lexer.line c.loop-lexer.invariant.passed c.in-Ok.lexer.bytes read.0 c.read_source_section.ensures.within)
 
 pub returns-in-None-clause-trees : goal.returns-in-None-clause-trees
 returns-in-None-clause-trees g c =
     let read = c.in-Ok.ensures.read in
     let compiled = subst (λ n. Compiled c.in-Ok-compile_section.section c.in-Ok.lexer.bytes n) c.in-Ok.ensures.line c.in-Ok-compile_section.ensures.compiled in
     let all : map declarations_of c.push_tree.new.trees.items ≡ map declarations_of c.loop-lexer.trees.items ++ trees_in c.in-Ok-compile_section.section.code = search rules in
-    subst (λ (trees : List Declarations). HasTheseTrees trees (g.C.ByteIn.left c.args.source.now) (g.C.ByteIn.left c.read_section.new.source) (g.C.ByteIn.ended c.read_section.new.source)) (sym all)
-    (trees_end _ _ _ _ _ c.read_section.new.taken c.loop-lexer.line c.loop-lexer.invariant.passed c.in-Ok.lexer.bytes read.0 c.read_section.ensures.within read.1
+    subst (λ (trees : List Declarations). HasTheseTrees trees (g.C.ByteIn.left c.args.source.now) (g.C.ByteIn.left c.read_source_section.new.source) (g.C.ByteIn.ended c.read_source_section.new.source)) (sym all)
+    (trees_end _ _ _ _ _ c.read_source_section.new.taken c.loop-lexer.line c.loop-lexer.invariant.passed c.in-Ok.lexer.bytes read.0 c.read_source_section.ensures.within read.1
     c.in-Ok-compile_section.section compiled (map declarations_of c.loop-lexer.trees.items) c.loop-lexer.invariant.trees_are c.in-None.is)
 
 pub loop-lexer-preserved : goal.loop-lexer-preserved
@@ -59,19 +59,19 @@ loop-lexer-preserved g c =
     let read = c.in-Ok.ensures.read in
     let compiled = subst (λ n. Compiled c.in-Ok-compile_section.section c.in-Ok.lexer.bytes n) c.in-Ok.ensures.line c.in-Ok-compile_section.ensures.compiled in
     let all : map declarations_of c.push_tree.new.trees.items ≡ map declarations_of c.loop-lexer.trees.items ++ trees_in c.in-Ok-compile_section.section.code = search rules in
-    subst (λ (trees : List Declarations). WithTrees (g.C.ByteIn.left c.args.source.now) (g.C.ByteIn.left c.read_section.new.source) c.read_section.new.taken c.in-Some.next trees (g.C.ByteIn.faults c.read_section.new.source)) (sym all)
-    (trees_go_on _ _ _ _ _ c.read_section.new.taken c.loop-lexer.line c.loop-lexer.invariant.passed c.in-Ok.lexer.bytes read.0 c.read_section.ensures.within read.1
-    c.in-Ok-compile_section.section compiled (map declarations_of c.loop-lexer.trees.items) c.loop-lexer.invariant.trees_are c.in-Some.next (g.C.ByteIn.faults c.read_section.new.source) c.in-Some.is (c.in-Ok.ensures.failures c.loop-lexer.invariant.readable))
+    subst (λ (trees : List Declarations). WithTrees (g.C.ByteIn.left c.args.source.now) (g.C.ByteIn.left c.read_source_section.new.source) c.read_source_section.new.taken c.in-Some.next trees (g.C.ByteIn.faults c.read_source_section.new.source)) (sym all)
+    (trees_go_on _ _ _ _ _ c.read_source_section.new.taken c.loop-lexer.line c.loop-lexer.invariant.passed c.in-Ok.lexer.bytes read.0 c.read_source_section.ensures.within read.1
+    c.in-Ok-compile_section.section compiled (map declarations_of c.loop-lexer.trees.items) c.loop-lexer.invariant.trees_are c.in-Some.next (g.C.ByteIn.faults c.read_source_section.new.source) c.in-Some.is (c.in-Ok.ensures.failures c.loop-lexer.invariant.readable))
 
 pub returns-in-Err-compile_section-clause-delivered : goal.returns-in-Err-compile_section-clause-delivered
 returns-in-Err-compile_section-clause-delivered g c =
-    let reads = has_read _ _ _ (g.C.ByteIn.ended c.read_section.new.source) _ c.read_section.new.taken c.loop-lexer.line c.loop-lexer.invariant.passed c.in-Ok.lexer.bytes c.in-Ok.ensures.read.0 c.read_section.ensures.within in
+    let reads = has_read _ _ _ (g.C.ByteIn.ended c.read_source_section.new.source) _ c.read_source_section.new.taken c.loop-lexer.line c.loop-lexer.invariant.passed c.in-Ok.lexer.bytes c.in-Ok.ensures.read.0 c.read_source_section.ensures.within in
     search (reads, c.refused.ensures, c.in-Err-compile_section.ensures.refuses, rules)
 
 pub returns-in_default-clause-delivered : goal.returns-in_default-clause-delivered
 returns-in_default-clause-delivered g c =
-    let reads = has_read _ _ _ (g.C.ByteIn.ended c.read_section.new.source) _ c.read_section.new.taken c.loop-lexer.line c.loop-lexer.invariant.passed c.in-Ok.lexer.bytes c.in-Ok.ensures.read.0 c.read_section.ensures.within in
+    let reads = has_read _ _ _ (g.C.ByteIn.ended c.read_source_section.new.source) _ c.read_source_section.new.taken c.loop-lexer.line c.loop-lexer.invariant.passed c.in-Ok.lexer.bytes c.in-Ok.ensures.read.0 c.read_source_section.ensures.within in
     search (reads, c.no_hint-in_default.ensures, rules)
 
 pub returns-in-None-clause-delivered : goal.returns-in-None-clause-delivered
-returns-in-None-clause-delivered g c = has_read _ _ _ (g.C.ByteIn.ended c.read_section.new.source) _ c.read_section.new.taken c.loop-lexer.line c.loop-lexer.invariant.passed c.in-Ok.lexer.bytes c.in-Ok.ensures.read.0 c.read_section.ensures.within
+returns-in-None-clause-delivered g c = has_read _ _ _ (g.C.ByteIn.ended c.read_source_section.new.source) _ c.read_source_section.new.taken c.loop-lexer.line c.loop-lexer.invariant.passed c.in-Ok.lexer.bytes c.in-Ok.ensures.read.0 c.read_source_section.ensures.within

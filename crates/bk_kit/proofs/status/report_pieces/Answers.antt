@@ -1,5 +1,5 @@
 use Rattle.std.proofs.Common.{sym, ◌∙◌}
-use Rattle.bk_kit.proofs.ReportsLemmas.{line_told}
+use Rattle.bk_kit.proofs.ReportLemmas.{line_told}
 use Rattle.bk_kit.proofs.status.report_pieces.Goals as goal
 
 pub returns-then-is_ok : goal.returns-then-is_ok

@@ -5,7 +5,7 @@ use Rattle.bk_lex.specs.Found.{SectionBytes, cut_behind}
 use Rattle.bk_lex.specs.declared.cutter.Cut.TheVariants.{End, More}
 use Rattle.bk_lex.proofs.Lemmas.{more_undecided}
 use Rattle.bk_kit.proofs.ReadingLemmas.{delivered_more, goes_at_start, nothing_asked}
-use Rattle.bk_kit.proofs.reading.read_section.Goals as goal
+use Rattle.bk_kit.proofs.reading.read_source_section.Goals as goal
 
 pub loop-init : goal.loop-init
 loop-init g c =
