@@ -1,7 +1,7 @@
 //! A reader over an array of 512 bytes.
-ghost use Rattle.std.specs.Prelude.{◌≡◌, ℕ, [], ◌≤◌, false, IsTrue, drop, take, ◌||◌, ◌&&◌, if◌then◌else◌};
-ghost use Rattle.std.specs.Io.KnownBytes.{prepend_known};
-ghost use Rattle.bk_base.specs.Devices.{NothingLeft};
+ghost use Rattle.std.specs.Prelude.{◌≡◌, ℕ, [], ◌≤◌, None, false, IfOk, OnErr, IsErr, IsTrue, is_err, is_none, drop, take, ◌||◌, ◌&&◌, if◌then◌else◌};
+ghost use Rattle.std.specs.Io.KnownBytes.{Consumes, Keeps, prepend_known};
+ghost use Rattle.bk_base.specs.Devices.{NothingLeft, byte_list};
 ghost use Rattle.bk_base.specs.declared.reader.TheConstants.{SIZE};
 
 use crate::device::{ByteIn, Failed};
@@ -44,6 +44,45 @@ impl<R: Read> Reader512<R> {
             failed: false,
         }
     }
+
+    /// The next byte where none is held. It is read with up to 511 more. It is a function of its own, so that loops over bytes have no
+    /// code that reads.
+    #[cold]
+    #[inline(never)]
+    fn next_read(&mut self) -> Result<Option<u8>, Failed>
+        requires none_held { self.old.from ≡ self.old.to }
+        ensures delivers { IfOk result (λ given. Consumes (⟦<Reader512<R> as ByteIn>⟧.left self.old)
+            (⟦<Reader512<R> as ByteIn>⟧.left self.new) (byte_list given)) }
+        ensures end { IfOk result (λ given. self.new.ended ≡ is_none given) }
+        ensures end_again { IsTrue self.old.ended → result ≡ Ok None }
+        ensures keeps { OnErr result (Keeps (⟦<Reader512<R> as ByteIn>⟧.left self.old) (⟦<Reader512<R> as ByteIn>⟧.left self.new)
+            × (self.new.from ≡ self.new.to) × (self.new.ended ≡ self.old.ended)) }
+        ensures failures { self.new.failed ≡ is_err result }
+        ensures failed_again { IsTrue self.old.failed → IsErr result }
+    {
+        if self.failed {
+            return Err(Failed);
+        }
+        if self.ended {
+            return Ok(None);
+        }
+        match self.device.read(&mut self.buffer) {
+            Err(_) => {
+                self.failed = true;
+                Err(Failed)
+            }
+            Ok(0) => {
+                self.ended = true;
+                Ok(None)
+            }
+            Ok(n) => {
+                let byte = self.buffer[0];
+                self.from = 1;
+                self.to = n;
+                Ok(Some(byte))
+            }
+        }
+    }
 }
 
 impl<R: Read> ByteIn for Reader512<R> {
@@ -67,28 +106,7 @@ impl<R: Read> ByteIn for Reader512<R> {
             self.from += 1;
             return Ok(Some(byte));
         }
-        if self.failed {
-            return Err(Failed);
-        }
-        if self.ended {
-            return Ok(None);
-        }
-        match self.device.read(&mut self.buffer) {
-            Err(_) => {
-                self.failed = true;
-                Err(Failed)
-            }
-            Ok(0) => {
-                self.ended = true;
-                Ok(None)
-            }
-            Ok(n) => {
-                let byte = self.buffer[0];
-                self.from = 1;
-                self.to = n;
-                Ok(Some(byte))
-            }
-        }
+        self.next_read()
     }
 
     #[inline]
