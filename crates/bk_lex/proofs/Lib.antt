@@ -1,3 +1,5 @@
+mod Lists
+mod Terms
 mod Steps
 mod NoDots
 mod LexerLemmas

@@ -22,7 +22,7 @@ use std::alloc::{AllocError, Global};
 use std::marker::Model;
 
 /// The number of symbols for which a section has room at first.
-const FIRST_FOUND: usize = 256;
+const FIRST_FOUND: usize = 512;
 
 /// The number of bytes for which a section has room at first.
 const FIRST_BYTES: usize = 1024;
