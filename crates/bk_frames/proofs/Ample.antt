@@ -1,19 +1,10 @@
 -- Lists of rooms, and the rooms that ways leave of them.
-use Rattle.std.proofs.Common.{◌≡◌, ◌≤◌, ◌<◌, ℕ, zero, suc, ◌+◌, ◌-◌, max, leb, Bool, true, false, ◌&&◌, ◌||◌, Option, Some, None, List, [], ◌∷◌, ◌++◌, length, get_or, take, refl, sym, subst, ap, ◌∙◌, arith}
+use Rattle.bk_frames.proofs.Terms.{◌≡◌, ◌≤◌, ◌<◌, ℕ, zero, suc, ◌+◌, ◌-◌, max, leb, Bool, true, false, ◌&&◌, ◌||◌, Option, Some, None, List, [], ◌∷◌, ◌++◌, length, get_or, take, refl, sym, subst, ap, ◌∙◌, arith, nat_tests, Category, Closing, Assigning, Listing, Going, Repeating, Operating, Budget, Completion, Following, kept, category_number, next_number, next_of, is_next, serves, holds, covered, counted, raised, Within, AreAdded, IsKept, leads, by_budget, by_completion, take_more, take_all, or_left, or_right}
 use Rattle.std.specs.List.{remove}
-use Rattle.std.proofs.lemmas.List.{take_more, take_all}
-use Rattle.std.proofs.lemmas.Bool.Decides.{nat_tests}
-use Rattle.bk_frames.specs.declared.budget.Category.{Category}
 use Rattle.bk_frames.specs.declared.budget.Category.TheVariants.{Expression, Label, Call, Operated, Command, Missing, Definition, Declaration, Due, Closed}
 use Rattle.bk_frames.specs.declared.budget.Lookahead.{Lookahead}
-use Rattle.bk_frames.specs.declared.budget.Lookahead.TheVariants.{Closing, Assigning, Listing, Going, Repeating, Operating}
-use Rattle.bk_frames.specs.declared.budget.Budget.{Budget}
-use Rattle.bk_frames.specs.declared.completion.Completion.{Completion}
-use Rattle.bk_frames.specs.declared.completion.Following.{Following}
-use Rattle.bk_frames.specs.Sizes.{kept}
-use Rattle.bk_frames.specs.Budgets.{category_number, next_number, next_of, is_next, serves, holds, covered, counted, raised, Within, AreAdded, IsKept, leads, by_budget, by_completion}
 use Rattle.bk_frames.specs.Completing as w
-use Rattle.bk_frames.proofs.Links.{both, first, second, left, right}
+use Rattle.bk_frames.proofs.Links.{both, first, second}
 
 -- so it is of some room of the list
 abbrev pub IsCovered : Budget → List Budget → Type 0
@@ -74,8 +65,8 @@ within_by r s p q d n x c e m h =
 
 pub covered_at : (rs : List Budget) (i : ℕ) (r z : Budget) → i < length rs → Within r z → z ≡ get_or rs i z → IsCovered r rs
 covered_at [] i r z lt h is x c d n k = absurd (omega (arith, lt))
-covered_at (s ∷ rs) zero r z lt h is x c d n k = let P : Budget → Type 0 = λ y. holds y x c d n ≡ true in left (holds s x c d n) (covered rs x c d n) (subst P is (h x c d n k))
-covered_at (s ∷ rs) (suc i) r z lt h is x c d n k = right (holds s x c d n) (covered rs x c d n) (covered_at rs i r z (omega (arith, lt)) h is x c d n k)
+covered_at (s ∷ rs) zero r z lt h is x c d n k = let P : Budget → Type 0 = λ y. holds y x c d n ≡ true in or_left (holds s x c d n) (covered rs x c d n) (subst P is (h x c d n k))
+covered_at (s ∷ rs) (suc i) r z lt h is x c d n k = or_right (holds s x c d n) (covered rs x c d n) (covered_at rs i r z (omega (arith, lt)) h is x c d n k)
 
 absorbed : (a b c : Bool) → (b ≡ true → a ≡ true) → a || (b || c) ≡ a || c
 absorbed true b c h = refl
@@ -110,7 +101,7 @@ covered_push : (rs : List Budget) (r : Budget) (x : Category) (c : w.Lookahead) 
 covered_push [] r x c d n = or_none (holds r x c d n)
 covered_push (s ∷ rs) r x c d n = ap (λ y. holds s x c d n || y) (covered_push rs r x c d n) ∙ sym (or_assoc (holds s x c d n) (covered rs x c d n) (holds r x c d n))
 
--- what is left of a list beside a room, and the room behind it
+-- what is or_left of a list beside a room, and the room behind it
 pub pushed : (rs ss ts : List Budget) (r : Budget) → AreBeside r rs ss → ts ≡ ss ++ r ∷ [] → (x : Category) (c : w.Lookahead) (d n : ℕ) → covered ts x c d n ≡ (covered rs x c d n || holds r x c d n)
 pushed rs ss ts r h is x c d n = ap (λ y. covered y x c d n) is ∙ covered_push ss r x c d n ∙ or_swap (covered ss x c d n) (holds r x c d n) ∙ sym (h x c d n) ∙ or_swap (holds r x c d n) (covered rs x c d n)
 
@@ -129,7 +120,7 @@ dropped_behind r z old now new i h lt k is e x c d n =
     let f : AreBeside r now new = subst P (sym e) (dropped now i r z lt k is) in
     h x c d n ∙ f x c d n
 
--- it lies within one of those that are left
+-- it lies within one of those that are or_left
 pub held_already : (rs ss : List Budget) (r z : Budget) (i : ℕ) → AreBeside r rs ss → i < length ss → Within r z → z ≡ get_or ss i z → (x : Category) (c : w.Lookahead) (d n : ℕ) → covered ss x c d n ≡ (covered rs x c d n || holds r x c d n)
 held_already rs ss r z i h lt k is x c d n = added_none ss r (covered_at ss i r z lt k is) x c d n ∙ or_swap (covered ss x c d n) (holds r x c d n) ∙ sym (h x c d n) ∙ or_swap (holds r x c d n) (covered rs x c d n)
 
@@ -145,17 +136,12 @@ unserved b y r e None x c d n = refl
 unserved b y r e (Some m) x c d n = absorb (serves y.category x) (serves r.category y.onto) _ _ e
 
 unfit_depth : (a s p q t : Bool) → p ≡ false → false ≡ a && ((s && (p && q)) && t)
-unfit_depth false s p q t e = refl
-unfit_depth true false p q t e = refl
-unfit_depth true true false q t e = refl
 unfit_depth true true true q t e = absurd cc
+unfit_depth x y z q t e = refl
 
 unfit_nodes : (a s p q t : Bool) → q ≡ false → false ≡ a && ((s && (p && q)) && t)
-unfit_nodes false s p q t e = refl
-unfit_nodes true false p q t e = refl
-unfit_nodes true true false q t e = refl
-unfit_nodes true true true false t e = refl
 unfit_nodes true true true true t e = absurd cc
+unfit_nodes x y z u t e = refl
 
 leb_not : (a b : ℕ) → b < a → leb a b ≡ false
 leb_not a b p = grind (arith, nat_tests)
@@ -196,21 +182,8 @@ fits_nodes false m k n e g i o p q s = leb_same n (e - g) (n + 0) e (λ a. omega
 
 shuffled : (i a p q : Bool) → i && (a && (p && q)) ≡ a && ((true && (p && q)) && i)
 shuffled true true true true = refl
-shuffled true true true false = refl
-shuffled true true false true = refl
-shuffled true true false false = refl
-shuffled true false true true = refl
-shuffled true false true false = refl
-shuffled true false false true = refl
-shuffled true false false false = refl
 shuffled false true true true = refl
-shuffled false true true false = refl
-shuffled false true false true = refl
-shuffled false true false false = refl
-shuffled false false true true = refl
-shuffled false false true false = refl
-shuffled false false false true = refl
-shuffled false false false false = refl
+shuffled x y z u = refl
 
 pub leaves : (b : Bool) (k y : Completion) (r : Budget) (m : Following) (f g i h : ℕ) → IsKept k y → serves r.category k.onto ≡ true → f ≡ kept (raised m.more y.floor) → g ≡ kept (raised m.more y.rise) → i ≡ kept (raised m.more y.nodes) → h ≡ counted b i
     → f ≤ r.depth → g ≤ r.depth → h ≤ r.nodes

@@ -1,19 +1,9 @@
 -- What a state asks for, as rooms.
-use Rattle.std.proofs.Common.{◌≡◌, ◌⊎◌, ◌↔◌, inl, inr, ℕ, ◌+◌, Bool, true, ◌&&◌, ◌||◌, List, [], ◌∷◌, refl, sym, ◌∙◌}
-use Rattle.bk_frames.specs.declared.budget.Category.{Category}
+use Rattle.bk_frames.proofs.Terms.{◌≡◌, ◌⊎◌, ◌↔◌, inl, inr, ℕ, ◌+◌, Bool, true, ◌&&◌, ◌||◌, List, [], ◌∷◌, refl, sym, ◌∙◌, Category, Budget, Form, Action, none, more, depth, nodes, depth_of_action, nodes_of_action, Stack, in_args, want, have, begin, maybe, did, due, form_of, Limit, counted, next_of, is_next, serves, fits, holds, covered, has_budget, category_of, Part, Closes, Sized, AreBudgets, Any, Gives, Wants, Misses, Completes, Form as f, or_cases, or_left, or_right}
 use Rattle.bk_frames.specs.declared.budget.Category.TheVariants.{Expression, Label, Call, Command, Missing, Due, Closed}
-use Rattle.bk_frames.specs.declared.budget.Budget.{Budget}
-use Rattle.bk_frames.specs.declared.size.Form.{Form}
-use Rattle.bk_frames.specs.declared.size.Form.TheVariants as f
 use Rattle.bk_tree.specs.Tree as r
-use Rattle.bk_tree.specs.Tree.{Action, none, more}
-use Rattle.bk_tree.specs.Limits.{depth, nodes, depth_of_action, nodes_of_action}
-use Rattle.bk_grammar.specs.Machine.{Stack, in_args, want, have, begin, maybe, did, due}
-use Rattle.bk_frames.specs.Sizes.{form_of}
-use Rattle.bk_frames.specs.Budgets.{Limit, counted, next_of, is_next, serves, fits, holds, covered, has_budget, category_of, Part, Closes, Sized, AreBudgets}
 use Rattle.bk_frames.specs.Completing as w
-use Rattle.bk_frames.specs.Completing.{Any, Whole, Gives, Does, Wants, Misses, Completes}
-use Rattle.bk_frames.proofs.Links.{both, second, left, right, either_of, next_in}
+use Rattle.bk_frames.proofs.Links.{both, second, next_in}
 use Rattle.bk_frames.proofs.Joints.{limit_down, via, either, any_closing, plain}
 use Rattle.bk_frames.proofs.Decides.{decides}
 use Rattle.bk_frames.proofs.Covering.{wants}
@@ -22,10 +12,10 @@ abbrev Found : List Budget → Category → ℕ → ℕ → Type 0
 Found rs x d n = (c : w.Lookahead) × (covered rs x c d n ≡ true)
 
 found_first : (r : Budget) (rs : List Budget) (x : Category) (d n : ℕ) → serves r.category x && fits r d n ≡ true → Found (r ∷ rs) x d n
-found_first r rs x d n h = (next_of r.next, left (holds r x (next_of r.next) d n) (covered rs x (next_of r.next) d n) (both (next_in (next_of r.next)) h))
+found_first r rs x d n h = (next_of r.next, or_left (holds r x (next_of r.next) d n) (covered rs x (next_of r.next) d n) (both (next_in (next_of r.next)) h))
 
 found_rest : (r : Budget) (rs : List Budget) (x : Category) (d n : ℕ) → Found rs x d n → Found (r ∷ rs) x d n
-found_rest r rs x d n h = (h.0, right (holds r x h.0 d n) (covered rs x h.0 d n) h.1)
+found_rest r rs x d n h = (h.0, or_right (holds r x h.0 d n) (covered rs x h.0 d n) h.1)
 
 found_in : (r : Budget) (rs : List Budget) (x : Category) (d n : ℕ) → (has_budget rs x d n ≡ true → Found rs x d n) → (serves r.category x && fits r d n ≡ true) ⊎ (has_budget rs x d n ≡ true) → Found (r ∷ rs) x d n
 found_in r rs x d n k (inl h) = found_first r rs x d n h
@@ -33,15 +23,15 @@ found_in r rs x d n k (inr h) = found_rest r rs x d n (k h)
 
 budget_of : (rs : List Budget) (x : Category) (d n : ℕ) → has_budget rs x d n ≡ true → Found rs x d n
 budget_of [] x d n h = absurd cc
-budget_of (r ∷ rs) x d n h = found_in r rs x d n (budget_of rs x d n) (either_of (serves r.category x && fits r d n) (has_budget rs x d n) h)
+budget_of (r ∷ rs) x d n h = found_in r rs x d n (budget_of rs x d n) (or_cases (serves r.category x && fits r d n) (has_budget rs x d n) h)
 
 has_either : (r : Budget) (rs : List Budget) (x : Category) (c : w.Lookahead) (d n : ℕ) → (covered rs x c d n ≡ true → has_budget rs x d n ≡ true) → (holds r x c d n ≡ true) ⊎ (covered rs x c d n ≡ true) → has_budget (r ∷ rs) x d n ≡ true
-has_either r rs x c d n k (inl h) = left (serves r.category x && fits r d n) (has_budget rs x d n) (second (is_next (next_of r.next) c) (serves r.category x && fits r d n) h)
-has_either r rs x c d n k (inr h) = right (serves r.category x && fits r d n) (has_budget rs x d n) (k h)
+has_either r rs x c d n k (inl h) = or_left (serves r.category x && fits r d n) (has_budget rs x d n) (second (is_next (next_of r.next) c) (serves r.category x && fits r d n) h)
+has_either r rs x c d n k (inr h) = or_right (serves r.category x && fits r d n) (has_budget rs x d n) (k h)
 
 has_of : (rs : List Budget) (x : Category) (c : w.Lookahead) (d n : ℕ) → covered rs x c d n ≡ true → has_budget rs x d n ≡ true
 has_of [] x c d n h = absurd cc
-has_of (r ∷ rs) x c d n h = has_either r rs x c d n (has_of rs x c d n) (either_of (holds r x c d n) (covered rs x c d n) h)
+has_of (r ∷ rs) x c d n h = has_either r rs x c d n (has_of rs x c d n) (or_cases (holds r x c d n) (covered rs x c d n) h)
 
 -- some symbol may come behind the part
 asked : (b : Bool) (st : Stack) (rs : List Budget) → AreBudgets b st rs → (x : Category) (d n : ℕ) → Sized x d n → Any (λ c. Part (Limit b) st x c d n) ↔ (has_budget rs x d (counted b n) ≡ true)

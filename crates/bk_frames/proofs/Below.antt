@@ -1,25 +1,6 @@
 -- The rooms that ways leave of those below are the rooms of the stack.
-use Rattle.std.proofs.Common.{◌≡◌, ℕ, ◌+◌, max, Bool, true, false, ◌&&◌, ◌||◌, Option, Some, None, List, [], ◌∷◌, refl, sym, ap, ◌∙◌, arith}
-use Rattle.bk_frames.specs.declared.frame.Unfinished.{Unfinished}
-use Rattle.bk_frames.specs.declared.frame.Unfinished.TheVariants as b
-use Rattle.bk_frames.specs.declared.frame.OpenExpression.TheVariants as o
-use Rattle.bk_frames.specs.declared.frame.Phrase.TheVariants as p
-use Rattle.bk_frames.specs.declared.frame.Member.TheVariants as m
-use Rattle.bk_frames.specs.declared.frame.Clause.TheVariants as c
-use Rattle.bk_frames.specs.declared.frame.Place.TheVariants as a
-use Rattle.bk_frames.specs.declared.frame.Point.TheVariants as t
-use Rattle.bk_frames.specs.declared.budget.Category.{Category}
+use Rattle.bk_frames.proofs.Terms.{◌≡◌, ℕ, ◌+◌, max, Bool, true, false, ◌&&◌, ◌||◌, Option, Some, None, List, [], ◌∷◌, refl, sym, ap, ◌∙◌, arith, Unfinished, Category, Closing, Assigning, Listing, Going, Repeating, Operating, Budget, Link, Completion, Completions, One, Two, Three, Five, Following, Stack, unfinished_on, next_of, is_next, serves, holds, covered, counted, raised, reached, some_next, led_following, led_by, led_completion, led, goes_on, completions, AreBudgets, AreAdded, leads, by_budget, by_completion, by_completions, Unfinished as b, OpenExpression as o, Phrase as p, Member as m, Clause as c, Place as a, Point as t, and_left}
 use Rattle.bk_frames.specs.declared.budget.Lookahead.{Lookahead}
-use Rattle.bk_frames.specs.declared.budget.Lookahead.TheVariants.{Closing, Assigning, Listing, Going, Repeating, Operating}
-use Rattle.bk_frames.specs.declared.budget.Budget.{Budget}
-use Rattle.bk_frames.specs.declared.completion.Link.{Link}
-use Rattle.bk_frames.specs.declared.completion.Completion.{Completion}
-use Rattle.bk_frames.specs.declared.completion.Completions.{Completions}
-use Rattle.bk_frames.specs.declared.completion.Completions.TheVariants.{One, Two, Three, Five}
-use Rattle.bk_frames.specs.declared.completion.Following.{Following}
-use Rattle.bk_grammar.specs.Machine.{Stack}
-use Rattle.bk_frames.specs.Unfinished.{unfinished_on}
-use Rattle.bk_frames.specs.Budgets.{next_of, is_next, serves, holds, covered, counted, raised, reached, some_next, led_following, led_by, led_completion, led, goes_on, completions, AreBudgets, AreAdded, leads, by_budget, by_completion, by_completions}
 use Rattle.bk_frames.specs.Completing as w
 use Rattle.bk_frames.proofs.Links.{next_in}
 
@@ -34,10 +15,8 @@ and_none true = refl
 and_none false = refl
 
 or_cross : (x y z u : Bool) → (x || y) || (z || u) ≡ (x || z) || (y || u)
-or_cross true y z u = refl
 or_cross false true true u = refl
-or_cross false true false u = refl
-or_cross false false z u = refl
+or_cross x v w u = refl
 
 and_or : (x y z : Bool) → x && (y || z) ≡ (x && y) || (x && z)
 and_or true y z = refl
@@ -45,10 +24,8 @@ and_or false y z = refl
 
 or_and : (x y z : Bool) → (x || y) && z ≡ (x && z) || (y && z)
 or_and true true true = refl
-or_and true true false = refl
 or_and true false true = refl
-or_and true false false = refl
-or_and false y z = refl
+or_and x u v = refl
 
 -- ---- some symbol
 
@@ -107,10 +84,6 @@ by_or k f g d n x =
 not_there : (k : Option Following) (f : ℕ → ℕ → Bool) → ((d n : ℕ) → f d n ≡ false) → (d n : ℕ) (x : w.Lookahead) → led_following k f d n x ≡ false
 not_there k f h d n x = following_as k f (λ e i. false) h d n x ∙ following_none k d n x
 
-none_and : (x y : Bool) → x ≡ false → x && y ≡ false
-none_and true y e = absurd cc
-none_and false y e = refl
-
 summed : (q e : Bool) (n k : ℕ) → counted q (raised e (n + k)) ≡ counted q n + counted q (raised e k)
 summed true true n k = omega arith
 summed true false n k = refl
@@ -128,7 +101,7 @@ one_budget : (q : Bool) (y : Completion) (r : Budget) (x : Category) (c : w.Look
     → serves y.category x && led_by y.link (λ j e i. holds r y.onto j e (counted q i)) (max y.floor (d + y.rise)) (n + y.nodes) c ≡ by_budget q y r x c d (counted q n)
 one_budget q y r x c d n =
     ap (λ z. serves y.category x && z) (only (λ j. led_following (reached y.link j) (λ e i. holds r y.onto (next_of j) e (counted q i)) (max y.floor (d + y.rise)) (n + y.nodes) c) r.next
-    (λ j h. not_there (reached y.link j) (λ e i. holds r y.onto (next_of j) e (counted q i)) (λ e i. none_and (is_next (next_of r.next) (next_of j)) _ h) (max y.floor (d + y.rise)) (n + y.nodes) c))
+    (λ j h. not_there (reached y.link j) (λ e i. holds r y.onto (next_of j) e (counted q i)) (λ e i. and_left (is_next (next_of r.next) (next_of j)) _ h) (max y.floor (d + y.rise)) (n + y.nodes) c))
     ∙ there q y r (reached y.link r.next) x c d n
 
 -- ---- all rooms
@@ -159,52 +132,12 @@ completions_led q st (Five s u v y z) rs h x c d n = let e1 = completion_led q s
 
 by_unfinished : (q : Bool) (x : Unfinished) (st : Stack) (k : Category) (c : w.Lookahead) (d n : ℕ) → goes_on q (unfinished_on x st) k c d n ≡ led (completions (unfinished_on x st)) (goes_on q st) k c d n
 by_unfinished q (b.OpenExpression (o.Parens v_l)) st k c d n = refl
-by_unfinished q (b.OpenExpression (o.Unary v_l v_q)) st k c d n = refl
-by_unfinished q (b.OpenExpression (o.Binary v_q v_l v_x)) st k c d n = refl
-by_unfinished q (b.OpenExpression (o.Chain v_q v_l v_x v_y)) st k c d n = refl
-by_unfinished q (b.OpenExpression (o.Then v_l v_x)) st k c d n = refl
-by_unfinished q (b.OpenExpression (o.Else v_l v_x v_y)) st k c d n = refl
-by_unfinished q (b.OpenExpression (o.Args v_l v_x v_es)) st k c d n = refl
-by_unfinished q (b.OpenExpression (o.Table v_l v_es)) st k c d n = refl
 by_unfinished q (b.Phrase p.Start) st k c d n = refl
-by_unfinished q (b.Phrase (p.Dests v_xs)) st k c d n = refl
-by_unfinished q (b.Phrase (p.Values v_xs v_ys)) st k c d n = refl
-by_unfinished q (b.Phrase (p.Guard v_g v_l)) st k c d n = refl
-by_unfinished q (b.Phrase (p.Test v_l)) st k c d n = refl
-by_unfinished q (b.Phrase (p.ResultIs v_l)) st k c d n = refl
-by_unfinished q (b.Phrase (p.RepeatWhile v_t v_x)) st k c d n = refl
-by_unfinished q (b.Phrase (p.From v_l v_x)) st k c d n = refl
-by_unfinished q (b.Phrase (p.To v_l v_x v_y)) st k c d n = refl
-by_unfinished q (b.Phrase (p.By v_l v_x v_y v_z)) st k c d n = refl
 by_unfinished q (b.Member (m.Item v_l v_q v_is v_x)) st k c d n = refl
-by_unfinished q (b.Member (m.Function v_x v_fs)) st k c d n = refl
-by_unfinished q (b.Member (m.Value v_xs v_is)) st k c d n = refl
-by_unfinished q (b.Member (m.Vector v_l v_xs v_is)) st k c d n = refl
 by_unfinished q (b.Clause (c.Valof v_l)) st k c d n = refl
-by_unfinished q (b.Clause (c.Label v_l v_x)) st k c d n = refl
-by_unfinished q (b.Clause (c.Guarded v_g v_l v_x)) st k c d n = refl
-by_unfinished q (b.Clause (c.Default v_l)) st k c d n = refl
-by_unfinished q (b.Clause (c.Then v_l v_x)) st k c d n = refl
-by_unfinished q (b.Clause (c.Else v_l v_x v_y)) st k c d n = refl
-by_unfinished q (b.Clause (c.For v_l v_x v_y v_z v_h)) st k c d n = refl
-by_unfinished q (b.Clause (c.Routine v_x v_fs)) st k c d n = refl
 by_unfinished q (b.Place (a.Block v_l v_q v_ds v_cs)) st k c d n = refl
-by_unfinished q (b.Place (a.Let v_l v_ds)) st k c d n = refl
-by_unfinished q (b.Place (a.Named v_x)) st k c d n = refl
-by_unfinished q (b.Place (a.Formals v_x)) st k c d n = refl
-by_unfinished q (b.Place (a.Formal v_x v_fs)) st k c d n = refl
-by_unfinished q (b.Place (a.FormalEnd v_x v_fs)) st k c d n = refl
-by_unfinished q (b.Place (a.Headed v_x v_fs)) st k c d n = refl
-by_unfinished q (b.Place (a.Variable v_xs)) st k c d n = refl
-by_unfinished q (b.Place (a.VariableEnd v_xs)) st k c d n = refl
-by_unfinished q (b.Place (a.Inits v_xs v_is)) st k c d n = refl
 by_unfinished q (b.Point (t.Opening v_l v_q)) st k c d n = refl
-by_unfinished q (b.Point (t.Items v_l v_q v_is)) st k c d n = refl
-by_unfinished q (b.Point (t.Signed v_l v_q v_is v_x)) st k c d n = refl
-by_unfinished q (b.Point (t.Goto v_l)) st k c d n = refl
-by_unfinished q (b.Point (t.For v_l)) st k c d n = refl
-by_unfinished q (b.Point (t.Forward v_l v_x)) st k c d n = refl
-by_unfinished q (b.Point (t.Default v_l)) st k c d n = refl
+by_unfinished q x st k c d n = refl
 
 pub budgets_above : (q : Bool) (x : Unfinished) (st : Stack) (below above : List Budget) → AreBudgets q st below → AreAdded (by_completions q (completions (unfinished_on x st)) below) [] above → AreBudgets q (unfinished_on x st) above
 budgets_above q x st below above h g k c d n = g k c d (counted q n) ∙ completions_led q st (completions (unfinished_on x st)) below h k c d n ∙ sym (by_unfinished q x st k c d n)

@@ -1,20 +1,8 @@
 -- The ways of a command that was begun, of a definition and of a symbol that is due, are the ways on.
-use Rattle.std.proofs.Common.{◌≡◌, ◌↔◌, ℕ, ◌+◌, ◌==◌, max, Bool, true, false, List, length, refl, arith}
-use Rattle.bk_tree.specs.declared.tree.Sort.{Sort}
-use Rattle.bk_grammar.specs.declared.symbols.Guard.{Guard}
+use Rattle.bk_frames.proofs.Terms.{◌≡◌, ◌↔◌, ℕ, ◌+◌, ◌==◌, max, Bool, true, false, List, length, refl, arith, Sort, Guard, Closing, Going, Operating, Mention, Expressions, Action, Actions, Declarations, Items, Definitions, Starts, no_items, item, depth, depth_of_each, depth_of_action, depth_of_actions, depth_of_declarations, depth_of_items, depth_of_definitions, depth_of_starts, nodes, nodes_of_each, nodes_of_action, nodes_of_actions, nodes_of_declarations, nodes_of_items, nodes_of_definitions, nodes_of_starts, start_count, Stack, in_block, in_let, at_name, at_formals, at_formal, at_formal_end, at_head, at_variable, at_variable_end, at_starts, at_opening, at_items, at_sign, at_goto, at_for, at_forward, at_default, in_valof, in_label, in_guarded, in_default, in_do, in_or, in_for, in_routine, owed, Limit, is_tight, led, goes_on, completions_of_valof, Any, AtClosing, AtListing, If, Answered, Gives, Does, Operates, Defines, Declares, Misses, Link as l, Form as f}
 use Rattle.bk_frames.specs.declared.budget.Category.TheVariants.{Expression, Call, Operated, Command, Missing, Definition, Declaration, Due}
-use Rattle.bk_frames.specs.declared.budget.Lookahead.TheVariants.{Closing, Going, Operating}
-use Rattle.bk_frames.specs.declared.completion.Link.TheVariants as l
-use Rattle.bk_frames.specs.declared.size.Form.TheVariants as f
 use Rattle.bk_tree.specs.Tree as r
-use Rattle.bk_tree.specs.Tree.{Mention, Expressions, Action, Actions, Declarations, Items, Definitions, Starts, none, more, no_items, item}
-use Rattle.bk_tree.specs.Limits.{depth, depth_of_each, depth_of_action, depth_of_actions, depth_of_declarations, depth_of_items, depth_of_definitions, depth_of_starts, nodes, nodes_of_each, nodes_of_action, nodes_of_actions, nodes_of_declarations, nodes_of_items, nodes_of_definitions, nodes_of_starts}
-use Rattle.bk_tree.specs.Parts.{start_count}
-use Rattle.bk_grammar.specs.Machine.{Stack, in_block, in_let, at_name, at_formals, at_formal, at_formal_end, at_head, at_variable, at_variable_end, at_starts, at_opening, at_items, at_sign, at_goto, at_for, at_forward, at_default, in_valof, in_label, in_guarded, in_default, in_do, in_or, in_for, in_routine}
-use Rattle.bk_frames.specs.Sizes.{owed}
-use Rattle.bk_frames.specs.Budgets.{Limit, is_tight, led, goes_on, completions_of_valof}
 use Rattle.bk_frames.specs.Completing as w
-use Rattle.bk_frames.specs.Completing.{Any, AtClosing, AtListing, AtArgument, AtAssignment, AtPart, Unlisted, If, Started, Answered, Whole, Taken, Gives, Does, Operates, Defines, Declares, Misses}
 use Rattle.bk_frames.proofs.Lowering.{gives_falls, does_falls}
 use Rattle.bk_frames.proofs.Links.{link_test}
 use Rattle.bk_frames.proofs.Joints.{Budgets, limit_down, via, either, none_is, add_none, closing_as, operating_as, any_closing, any_listing, closing_any, split_answered, label_closing, callable, defined, declared, operated, defined_falls, declared_falls, operated_falls, loose, tight, counted_all}

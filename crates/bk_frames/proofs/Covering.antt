@@ -1,30 +1,11 @@
 -- A step of the machine leads to nothing that could not be completed before it.
-use Rattle.std.proofs.Common.{◌≡◌, ◌≤◌, ℕ, ◌+◌, max, Bool, true, false, cond, ◌==◌, length, Option, Some, None, refl, sym, subst, inl, inr, List, [], ◌∷◌, ◌++◌, length-append, Result, Ok, arith}
-use Rattle.bk_tree.proofs.Lemmas.{eq_is, each_depth, each_nodes, actions_depth, actions_nodes, declarations_depth, declarations_nodes, definitions_depth, definitions_nodes, items_depth, items_nodes, starts_depth, starts_nodes}
+use Rattle.bk_frames.proofs.Terms.{◌≡◌, ◌≤◌, ℕ, ◌+◌, max, Bool, true, false, cond, ◌==◌, length, Option, Some, None, refl, sym, subst, inl, inr, List, [], ◌∷◌, ◌++◌, length-append, Result, Ok, arith, eq_is, each_depth, each_nodes, actions_depth, actions_nodes, declarations_depth, declarations_nodes, definitions_depth, definitions_nodes, items_depth, items_nodes, starts_depth, starts_nodes, Kind, Operator, Both, nat_lt, Prefix, Sort, Guard, Form, depth, depth_of_each, depth_of_action, depth_of_actions, depth_of_declaration, depth_of_declarations, depth_of_items, depth_of_definition, depth_of_definitions, depth_of_starts, nodes, nodes_of_each, nodes_of_action, nodes_of_actions, nodes_of_declaration, nodes_of_declarations, nodes_of_items, nodes_of_definition, nodes_of_definitions, nodes_of_starts, inner, behind, is_relation, infix_of, prefix_of, sort_of, begins_command, repeats, assigns, is_and, is_comma, goes, last, line_of, line_of_first, line_of_names, line_of_action, size, start_count, each_then, actions_then, declarations_then, items_then, definitions_then, starts_then, form_of, owed, falls, behind_ok, inner_ok, pushes, repeated, size_then, count_then, no_comma, Kind as k, Operator as ops, Guard as g}
 use Rattle.bk_lex.specs.Symbol.{Symbol}
-use Rattle.bk_lex.specs.declared.token.Kind.{Kind}
-use Rattle.bk_lex.specs.declared.token.Kind.TheVariants as k
-use Rattle.bk_tree.specs.declared.tree.Operator.{Operator}
-use Rattle.bk_tree.specs.declared.tree.Operator.TheVariants.{Both}
-use Rattle.bk_tree.specs.declared.tree.Operator.TheVariants as ops
-use Rattle.std.specs.Prelude.{nat_lt}
-use Rattle.bk_tree.specs.declared.tree.Prefix.{Prefix}
-use Rattle.bk_tree.specs.declared.tree.Sort.{Sort}
-use Rattle.bk_grammar.specs.declared.symbols.Guard.{Guard}
-use Rattle.bk_grammar.specs.declared.symbols.Guard.TheVariants as g
-use Rattle.bk_frames.specs.declared.size.Form.{Form}
 use Rattle.bk_frames.specs.declared.size.Form.TheVariants.{Label, Call, Callable, Other}
 use Rattle.bk_tree.specs.Tree.{Mention, Expression, Expressions, Action, Actions, Declaration, Declarations, Items, Definition, Starts, name, parens, unary, binary, choice, apply, valof, table, none, more, empty, assign, label, default, test, for_loop, result, block, repeat_while, no_actions, also, constants, definitions, no_declarations, declare, no_items, item, routine, function, variables, no_definitions, define, no_starts, value, vector, call, goto}
-use Rattle.bk_tree.specs.Limits.{depth, depth_of_each, depth_of_action, depth_of_actions, depth_of_declaration, depth_of_declarations, depth_of_items, depth_of_definition, depth_of_definitions, depth_of_starts, nodes, nodes_of_each, nodes_of_action, nodes_of_actions, nodes_of_declaration, nodes_of_declarations, nodes_of_items, nodes_of_definition, nodes_of_definitions, nodes_of_starts}
-use Rattle.bk_grammar.specs.Rows.{inner, behind, is_relation, infix_of, prefix_of, sort_of, begins_command, repeats, assigns, is_and, is_comma, goes}
-use Rattle.bk_grammar.specs.Grammar.{last}
-use Rattle.bk_tree.specs.Parts.{line_of, line_of_first, line_of_names, line_of_action, size, start_count}
 use Rattle.bk_grammar.specs.Machine.{Stack, in_section, in_block, in_let, at_name, at_formals, at_formal, at_formal_end, at_head, at_variable, at_variable_end, at_starts, at_opening, at_items, at_sign, at_goto, at_for, at_forward, at_default, in_parens, in_unary, in_binary, in_chain, in_then, in_else, in_args, in_table, in_start, in_dests, in_values, in_guard, in_test, in_result, in_while, in_from, in_to, in_by, in_item, in_function, in_value, in_vector, in_valof, in_label, in_guarded, in_default, in_do, in_or, in_for, in_routine, State, want, have, begin, maybe, did, due, linked, infixed, push, is_close, is_colon, is_do, is_or, is_to, is_equal, is_semicolon, opens, closes, is_vec, is_let, is_open, is_sign_of, named, guarded, behind_sign, no_args, bars, take_operand, take_command, sorted, take_declaration, take_in_section, in_head, take_in_block, declared, declared_by, defined_by, again, dests, labelled, is_call, call_of, in_constants, to_or_do, give, finish, without, inside, in_names, in_formals, headed, take_item, take_due, step, prefixed, counted, whole, run, stepped_by, going}
-use Rattle.bk_tree.specs.Parts.{each_then, actions_then, declarations_then, items_then, definitions_then, starts_then}
-use Rattle.bk_frames.specs.Sizes.{form_of, owed}
 use Rattle.bk_frames.specs.Completing as nx
 use Rattle.bk_frames.specs.Completing.{Lookahead, Any, AtClosing, AtListing, AtArgument, AtAssignment, Unlisted, AtPart, If, Closed, Missing, Started, Answered, Whole, Guarded, Taken, Gives, Does, Operates, Defines, Declares, Wants, Misses, Lists, Due, Completes}
-use Rattle.bk_grammar.proofs.Lemmas.{falls, behind_ok, inner_ok, pushes, repeated, size_then, count_then, no_comma}
 use Rattle.bk_frames.proofs.Turns.{guarded_depth, guarded_nodes}
 use Rattle.bk_frames.proofs.Lowering.{Down, Falls, any, unlisted, any_falls, any_closed, any_missing, whole_falls, gives_falls, does_falls, defines_fall, declares_fall}
 
@@ -36,24 +17,19 @@ Leads P X (Some y) = Completes P y → X
 -- ---- unions
 
 unclosed : (F : ℕ → ℕ → Lookahead → Type 0) → Falls F → (d n : ℕ) → (c : Lookahead) → Closed F d n c → Any (F d n)
-unclosed F f d n nx.closing h = (nx.closing, h)
-unclosed F f d n nx.assigning h = (nx.assigning, h)
-unclosed F f d n nx.listing h = (nx.listing, h)
 unclosed F f d n nx.going h = absurd h
 unclosed F f d n nx.operating h = absurd h
 unclosed F f d n nx.repeating h = any_falls F f d (d + 1) n (n + 1) (omega arith) (omega arith) h
+unclosed F f d n x h = (x, h)
 
 -- a command that an expression ends, as one
 opened : (F : ℕ → ℕ → Lookahead → Type 0) → Falls F → (d e n m : ℕ) → d ≤ e → n ≤ m → Any (Closed F e m) → Any (F d n)
 opened F f d e n m p q h = any_falls F f d e n m p q (unclosed F f e m h.0 h.1)
 
 unmissing : (F : ℕ → ℕ → Lookahead → Type 0) → Falls F → (d n : ℕ) → (c : Lookahead) → Missing F d n c → Any (F d n)
-unmissing F f d n nx.closing h = (nx.closing, h)
-unmissing F f d n nx.assigning h = (nx.assigning, h)
-unmissing F f d n nx.listing h = (nx.listing, h)
 unmissing F f d n nx.going h = absurd h
-unmissing F f d n nx.operating h = (nx.operating, h)
 unmissing F f d n nx.repeating h = any_falls F f d (d + 1) n (n + 1) (omega arith) (omega arith) h
+unmissing F f d n x h = (x, h)
 
 missed : (F : ℕ → ℕ → Lookahead → Type 0) → Falls F → (d e n m : ℕ) → d ≤ e → n ≤ m → Any (Missing F e m) → Any (F d n)
 missed F f d e n m p q h = any_falls F f d e n m p q (unmissing F f e m h.0 h.1)
@@ -64,19 +40,7 @@ started_label F k f d n p q nx.listing h = (nx.listing, any_closed F k (max 1 1 
 started_label F k Label d n p q nx.closing h = (nx.closing, h)
 started_label F k Call d n p q nx.closing h = (nx.closing, inl (nx.closing, k 1 d 1 n p q nx.closing h))
 started_label F k Call d n p q nx.repeating h = (nx.closing, inl (nx.repeating, any_falls F k (1 + 1) (d + 1) (1 + 1) (n + 1) (omega (arith, p)) (omega (arith, q)) h))
-started_label F k Label d n p q nx.going h = absurd h
-started_label F k Label d n p q nx.operating h = absurd h
-started_label F k Label d n p q nx.repeating h = absurd h
-started_label F k Call d n p q nx.going h = absurd h
-started_label F k Call d n p q nx.operating h = absurd h
-started_label F k Callable d n p q nx.closing h = absurd h
-started_label F k Callable d n p q nx.going h = absurd h
-started_label F k Callable d n p q nx.operating h = absurd h
-started_label F k Callable d n p q nx.repeating h = absurd h
-started_label F k Other d n p q nx.closing h = absurd h
-started_label F k Other d n p q nx.going h = absurd h
-started_label F k Other d n p q nx.operating h = absurd h
-started_label F k Other d n p q nx.repeating h = absurd h
+started_label x k y d n p q z h = absurd h
 
 -- a name is the least operand
 least : (P : ℕ → ℕ → Type 0) → Down P → (st : Stack) (f : Form) (d n : ℕ) → 1 ≤ d → 1 ≤ n → (c : Lookahead) → Gives P st f d n c → Any (Gives P st Label 1 1)
@@ -103,10 +67,7 @@ wants P w st h = h
 started_call : (F : ℕ → ℕ → Lookahead → Type 0) (d n : ℕ) (c : Lookahead) → Started F Other d n c → Started F Call d n c
 started_call F d n nx.assigning h = h
 started_call F d n nx.listing h = h
-started_call F d n nx.closing h = absurd h
-started_call F d n nx.going h = absurd h
-started_call F d n nx.operating h = absurd h
-started_call F d n nx.repeating h = absurd h
+started_call x d n y h = absurd h
 
 called : (P : ℕ → ℕ → Type 0) (st : Stack) (d n : ℕ) (c : Lookahead) → Gives P st Other d n c → Gives P st Call d n c
 called P (in_start st) d n c h = started_call (Does P st) d n c h
@@ -129,19 +90,11 @@ leads_named P X _ l x f h = tt
 
 from_closing : {X : Type 0} → Any (AtClosing X) → X
 from_closing (nx.closing, h) = h
-from_closing (nx.assigning, h) = absurd h
-from_closing (nx.listing, h) = absurd h
-from_closing (nx.going, h) = absurd h
-from_closing (nx.operating, h) = absurd h
-from_closing (nx.repeating, h) = absurd h
+from_closing (x, h) = absurd h
 
 from_listing : {X : Type 0} → Any (AtListing X) → X
 from_listing (nx.listing, h) = h
-from_listing (nx.assigning, h) = absurd h
-from_listing (nx.closing, h) = absurd h
-from_listing (nx.going, h) = absurd h
-from_listing (nx.operating, h) = absurd h
-from_listing (nx.repeating, h) = absurd h
+from_listing (x, h) = absurd h
 
 again_leads : (P : ℕ → ℕ → Type 0) → Down P → (t : Kind) (st : Stack) (c : Action) → Leads P (Any (Does P st (depth_of_action c + 1) (nodes_of_action c + 1))) (again st c t)
 again_leads P w k.Repeat st c = λ h. h
@@ -218,9 +171,7 @@ started_any F f (nx.assigning, h) = opened F f 1 (max 1 1 + 1) 1 (1 + 2) (omega 
 started_any F f (nx.listing, h) = opened F f 1 (max 1 1 + 1) 1 (1 + 4) (omega arith) (omega arith) h
 started_any F f (nx.closing, inl h) = missed F f 1 1 1 1 (omega arith) (omega arith) h
 started_any F f (nx.closing, inr h) = any_falls F f 1 2 1 2 (omega arith) (omega arith) h
-started_any F f (nx.going, h) = absurd h
-started_any F f (nx.operating, h) = absurd h
-started_any F f (nx.repeating, h) = absurd h
+started_any F f (x, h) = absurd h
 
 guarded_any : (gd : Guard) (F : ℕ → ℕ → Lookahead → Type 0) → Falls F → Guarded gd F 1 1 → Any (F 1 1)
 guarded_any g.Case F f (inl h) = missed F f 1 2 1 2 (omega arith) (omega arith) h
@@ -348,10 +299,7 @@ values_any P w xs ys st h = values_by P w (size xs == size ys + 1) xs ys st 1 1 
 dests_any : (P : ℕ → ℕ → Type 0) → Down P → (xs : Expressions) (st : Stack) → Any (Gives P (in_dests xs st) Label 1 1) → Any (Closed (Does P st) (max (depth_of_each xs) 1 + 1) (nodes_of_each xs + size xs + 3))
 dests_any P w xs st (nx.assigning, h) = any_closed (Does P st) (does_falls P w st) (max (depth_of_each xs) 1 + 1) (max (max (depth_of_each xs) 1) 1 + 1) (nodes_of_each xs + size xs + 3) (nodes_of_each xs + 1 + size xs + 2) (omega arith) (omega arith) h
 dests_any P w xs st (nx.listing, h) = any_closed (Does P st) (does_falls P w st) (max (depth_of_each xs) 1 + 1) (max (max (depth_of_each xs) 1) 1 + 1) (nodes_of_each xs + size xs + 3) (nodes_of_each xs + 1 + size xs + 4) (omega arith) (omega arith) h
-dests_any P w xs st (nx.closing, h) = absurd h
-dests_any P w xs st (nx.going, h) = absurd h
-dests_any P w xs st (nx.operating, h) = absurd h
-dests_any P w xs st (nx.repeating, h) = absurd h
+dests_any P w xs st (x, h) = absurd h
 
 -- a symbol that ends no definition and begins no declaration
 abbrev Plain : Kind → Type 0
@@ -370,200 +318,66 @@ defined_none : (st : Stack) (d : Definition) (l : ℕ) (x : List ℕ) (t : Kind)
 defined_none (in_let m ds st) d l x t h = let a = h.0 in rw a (declared_none st (definitions m (definitions_then ds (define d no_definitions))) l x t h)
 defined_none _ d l x t h = refl
 
-assign_sign : (gd : Guard) → is_sign_of gd k.Assign ≡ false
-assign_sign g.SwitchOn = refl
-assign_sign g.Case = refl
-assign_sign _ = refl
+-- what holds after each symbol that repeats a command
+abbrev Each : (ℕ → ℕ → Type 0) → Type 0 → (Kind → Option State) → Type 0
+Each P X f = Leads P X (f k.Repeat) × Leads P X (f k.RepeatWhile) × Leads P X (f k.RepeatUntil)
 
-mutual
-  give_assign : (P : ℕ → ℕ → Type 0) → Down P → (st : Stack) (e : Expression) (l : ℕ) (x : List ℕ) → Leads P (Gives P st (form_of e) (depth e) (nodes e) nx.assigning) (give st e l x k.Assign)
-  give_assign P w (in_unary m p st) e l x = give_assign P w st (unary m p e) l x
-  give_assign P w (in_binary q s a st) e l x = give_assign P w st (binary (line_of a) q s a e) l x
-  give_assign P w (in_chain q s a b st) e l x = give_assign P w st (binary (line_of a) Both s a (binary (line_of b) q s b e)) l x
-  give_assign P w (in_else s y a st) e l x = give_assign P w st (choice (line_of y) s y a e) l x
-  give_assign P w (in_table m es st) e l x = leads_by P (Gives P st Other (depth_of_each (each_then es (more e none)) + 1) (nodes_of_each (each_then es (more e none)) + 1) nx.assigning) (Gives P st Other (max (depth_of_each es) (depth e) + 1) (nodes_of_each es + nodes e + 1) nx.assigning) (give st (table m (each_then es (more e none))) l x k.Assign)
-      (let a = each_depth es e in let b = each_nodes es e in gives_falls P w st Other (max (depth_of_each es) (depth e) + 1) (depth_of_each (each_then es (more e none)) + 1) (nodes_of_each es + nodes e + 1) (nodes_of_each (each_then es (more e none)) + 1) (omega (arith, a)) (omega (arith, b)) nx.assigning) (give_assign P w st (table m (each_then es (more e none))) l x)
-  give_assign P w (in_start st) e l x = λ h. any_closed (Does P st) (does_falls P w st) (max (depth e) 1 + 1) (max (max (depth e) 0) (max 0 1) + 1) (nodes e + 2) (nodes e + 0 + (0 + 1) + owed (0 + 1) 0 + 1) (omega arith) (omega arith) (values_any P w (more e none) none st h)
-  give_assign P w (in_dests xs st) e l x = let a = each_depth xs e in let b = each_nodes xs e in let z = size_then xs (more e none) in let zs : Expressions = each_then xs (more e none) in λ h. any_closed (Does P st) (does_falls P w st) (max (max (depth_of_each xs) 1) (depth e) + 1) (max (depth_of_each zs) (max 0 1) + 1) (nodes_of_each xs + nodes e + size xs + 2) (nodes_of_each zs + (0 + 1) + owed (size zs) 0 + 1) (omega (arith, a)) (omega (arith, b, z)) (values_any P w zs none st h)
-  give_assign P w (in_values xs ys st) e l x =
-      let zs : Expressions = each_then ys (more e none) in
-      let a = each_depth ys e in
-      let b = each_nodes ys e in
-      counted_leads P (size xs == size ys + 1) (Closed (Does P st) (max (depth_of_each xs) (max (depth_of_each ys) (depth e)) + 1) (nodes_of_each xs + (nodes_of_each ys + nodes e) + 1)) (AtListing (Any (Closed (Does P st) (max (depth_of_each xs) (max (depth_of_each ys) (max (depth e) 1)) + 1) (nodes_of_each xs + (nodes_of_each ys + nodes e) + owed (size xs) (size ys) + 1)))) nx.assigning
-      (finish st (assign (line_of_first xs) xs zs) l x k.Assign) k.Assign (want (in_values xs zs st))
-      (leads_by P (Does P st (max (depth_of_each xs) (depth_of_each (each_then ys (more e none))) + 1) (nodes_of_each xs + nodes_of_each (each_then ys (more e none)) + 1) nx.assigning) (Does P st (max (depth_of_each xs) (max (depth_of_each ys) (depth e)) + 1) (nodes_of_each xs + (nodes_of_each ys + nodes e) + 1) nx.assigning) (finish st (assign (line_of_first xs) xs zs) l x k.Assign) (does_falls P w st (max (depth_of_each xs) (max (depth_of_each ys) (depth e)) + 1) (max (depth_of_each xs) (depth_of_each (each_then ys (more e none))) + 1) (nodes_of_each xs + (nodes_of_each ys + nodes e) + 1) (nodes_of_each xs + nodes_of_each (each_then ys (more e none)) + 1) (omega (arith, a)) (omega (arith, b)) nx.assigning) (finish_assign P w st (assign (line_of_first xs) xs zs) l x))
-      (λ j. absurd cc)
-  give_assign P w (in_guard gd m st) e l x = leads_if P (AtClosing (Guarded gd (Does P st) (depth e) (nodes e)) nx.assigning) (is_sign_of gd k.Assign) (Some (behind_sign gd (in_guarded gd m e st))) None (λ j. absurd (let s = assign_sign gd in cc)) (λ j. tt)
-  give_assign P w (in_result m st) e l x = finish_assign P w st (result m e) l x
-  give_assign P w (in_while b a st) e l x = finish_assign P w st (repeat_while (line_of_action a) b a e) l x
-  give_assign P w (in_function y fs st) e l x = leads_none P (AtClosing (Defines P st (depth e + 1) (nodes e + 1)) nx.assigning) (defined_by st (function y.line y.letters fs e) l x k.Assign) (defined_none st (function y.line y.letters fs e) l x k.Assign (refl, refl, refl, refl, refl))
-  give_assign P w (in_value xs is st) e l x =
-      let js : Starts = starts_then is (value e no_starts) in
-      let whole_of : Definition = variables (line_of_names xs) xs js in
-      counted_leads P (length xs == start_count is + 1) (AtClosing (Defines P st (max (depth_of_starts is) (depth e) + 1) (nodes_of_starts is + nodes e + 1)))
-      (AtListing (Defines P st (max (depth_of_starts is) (max (depth e) 1) + 1) (nodes_of_starts is + nodes e + owed (length xs) (start_count is) + 1))) nx.assigning (defined_by st whole_of l x k.Assign) k.Assign (due (at_starts xs js st))
-      (leads_none P ⊥ (defined_by st whole_of l x k.Assign) (defined_none st whole_of l x k.Assign (refl, refl, refl, refl, refl)))
-      (λ j. absurd cc)
-  give_assign P w (in_vector m xs is st) e l x =
-      let js : Starts = starts_then is (vector m e no_starts) in
-      let whole_of : Definition = variables (line_of_names xs) xs js in
-      counted_leads P (length xs == start_count is + 1) (AtClosing (Defines P st (max (depth_of_starts is) (depth e) + 1) (nodes_of_starts is + nodes e + 1)))
-      (AtListing (Defines P st (max (depth_of_starts is) (max (depth e) 1) + 1) (nodes_of_starts is + nodes e + owed (length xs) (start_count is) + 1))) nx.assigning (defined_by st whole_of l x k.Assign) k.Assign (due (at_starts xs js st))
-      (leads_none P ⊥ (defined_by st whole_of l x k.Assign) (defined_none st whole_of l x k.Assign (refl, refl, refl, refl, refl)))
-      (λ j. absurd cc)
-  give_assign P w _ e l x = tt
+each_by : (P : ℕ → ℕ → Type 0) (X Y : Type 0) (f : Kind → Option State) → (X → Y) → Each P X f → Each P Y f
+each_by P X Y f g h = (leads_by P X Y (f k.Repeat) g h.0, leads_by P X Y (f k.RepeatWhile) g h.1, leads_by P X Y (f k.RepeatUntil) g h.2)
 
-  finish_assign : (P : ℕ → ℕ → Type 0) → Down P → (st : Stack) (c : Action) (l : ℕ) (x : List ℕ) → Leads P (Does P st (depth_of_action c) (nodes_of_action c) nx.assigning) (finish st c l x k.Assign)
-  finish_assign P w (in_valof m st) c l x = give_assign P w st (valof m c) l x
-  finish_assign P w (in_label m y st) c l x = finish_assign P w st (label m y c) l x
-  finish_assign P w (in_guarded gd m e st) c l x =
-      let a = guarded_depth gd m e c in
-      let b = guarded_nodes gd m e c in
-      leads_by P (Does P st (depth_of_action (guarded gd m e c)) (nodes_of_action (guarded gd m e c)) nx.assigning) (Does P st (max (depth e) (depth_of_action c) + 1) (nodes e + nodes_of_action c + 1) nx.assigning) (finish st (guarded gd m e c) l x k.Assign)
-      (does_falls P w st (max (depth e) (depth_of_action c) + 1) (depth_of_action (guarded gd m e c)) (nodes e + nodes_of_action c + 1) (nodes_of_action (guarded gd m e c)) (omega (arith, a)) (omega (arith, b)) nx.assigning) (finish_assign P w st (guarded gd m e c) l x)
-  finish_assign P w (in_default m st) c l x = finish_assign P w st (default m c) l x
-  finish_assign P w (in_or m e a st) c l x = finish_assign P w st (test m e a c) l x
-  finish_assign P w (in_for m y a b z st) c l x = finish_assign P w st (for_loop m y a b z c) l x
-  finish_assign P w (in_routine y fs st) c l x = leads_none P ⊥ (defined_by st (routine y.line y.letters fs c) l x k.Assign) (defined_none st (routine y.line y.letters fs c) l x k.Assign (refl, refl, refl, refl, refl))
-  finish_assign P w _ c l x = tt
+each_counted : (P : ℕ → ℕ → Type 0) (b : Bool) (F G : Lookahead → Type 0) (c : Lookahead) (f : Kind → Option State) (y : State) → Each P (F c) f → Each P (If b F G c) (λ (t : Kind). counted b (f t) t y)
+each_counted P true F G c f y h = h
+each_counted P false F G c f y h = (tt, tt, tt)
 
-repeat_sign : (gd : Guard) → is_sign_of gd k.Repeat ≡ false
-repeat_sign g.SwitchOn = refl
-repeat_sign g.Case = refl
-repeat_sign _ = refl
+each_guard : (P : ℕ → ℕ → Type 0) (X : Type 0) (gd : Guard) (y : State) → Each P X (λ (t : Kind). cond (is_sign_of gd t) (Some y) None)
+each_guard P X g.SwitchOn y = (tt, tt, tt)
+each_guard P X g.Case y = (tt, tt, tt)
+each_guard P X _ y = (tt, tt, tt)
 
-finish_repeat : (P : ℕ → ℕ → Type 0) → Down P → (st : Stack) (c : Action) (l : ℕ) (x : List ℕ) → Leads P (Any (Does P st (depth_of_action c + 1) (nodes_of_action c + 1))) (finish st c l x k.Repeat)
-finish_repeat P w st c l x = let Q : Option State → Type 0 = λ z. Leads P (Any (Does P st (depth_of_action c + 1) (nodes_of_action c + 1))) z in subst Q (sym (repeated st c l x k.Repeat refl)) (again_leads P w k.Repeat st c)
+each_defined : (P : ℕ → ℕ → Type 0) (X : Type 0) (st : Stack) (d : Definition) (l : ℕ) (x : List ℕ) → Each P X (defined_by st d l x)
+each_defined P X st d l x =
+    let none : (t : Kind) → Plain t → Leads P X (defined_by st d l x t) = λ t p. leads_none P X (defined_by st d l x t) (defined_none st d l x t p) in
+    (none k.Repeat (refl, refl, refl, refl, refl), none k.RepeatWhile (refl, refl, refl, refl, refl), none k.RepeatUntil (refl, refl, refl, refl, refl))
 
-give_repeat : (P : ℕ → ℕ → Type 0) → Down P → (st : Stack) (e : Expression) (l : ℕ) (x : List ℕ) → Leads P (Gives P st (form_of e) (depth e) (nodes e) nx.repeating) (give st e l x k.Repeat)
+finish_repeat : (P : ℕ → ℕ → Type 0) → Down P → (st : Stack) (c : Action) (l : ℕ) (x : List ℕ) → Each P (Any (Does P st (depth_of_action c + 1) (nodes_of_action c + 1))) (finish st c l x)
+finish_repeat P w st c l x =
+    let again_so : (t : Kind) → repeats t ≡ true → Leads P (Any (Does P st (depth_of_action c + 1) (nodes_of_action c + 1))) (finish st c l x t) = λ t r. subst (λ (z : Option State). Leads P (Any (Does P st (depth_of_action c + 1) (nodes_of_action c + 1))) z) (sym (repeated st c l x t r)) (again_leads P w t st c) in
+    (again_so k.Repeat refl, again_so k.RepeatWhile refl, again_so k.RepeatUntil refl)
+
+give_repeat : (P : ℕ → ℕ → Type 0) → Down P → (st : Stack) (e : Expression) (l : ℕ) (x : List ℕ) → Each P (Gives P st (form_of e) (depth e) (nodes e) nx.repeating) (give st e l x)
 give_repeat P w (in_unary m p st) e l x = give_repeat P w st (unary m p e) l x
 give_repeat P w (in_binary q s a st) e l x = give_repeat P w st (binary (line_of a) q s a e) l x
 give_repeat P w (in_chain q s a b st) e l x = give_repeat P w st (binary (line_of a) Both s a (binary (line_of b) q s b e)) l x
 give_repeat P w (in_else s y a st) e l x = give_repeat P w st (choice (line_of y) s y a e) l x
-give_repeat P w (in_table m es st) e l x = leads_by P (Gives P st Other (depth_of_each (each_then es (more e none)) + 1) (nodes_of_each (each_then es (more e none)) + 1) nx.repeating) (Gives P st Other (max (depth_of_each es) (depth e) + 1) (nodes_of_each es + nodes e + 1) nx.repeating) (give st (table m (each_then es (more e none))) l x k.Repeat)
+give_repeat P w (in_table m es st) e l x = each_by P (Gives P st Other (depth_of_each (each_then es (more e none)) + 1) (nodes_of_each (each_then es (more e none)) + 1) nx.repeating) (Gives P st Other (max (depth_of_each es) (depth e) + 1) (nodes_of_each es + nodes e + 1) nx.repeating) (give st (table m (each_then es (more e none))) l x)
     (let a = each_depth es e in let b = each_nodes es e in gives_falls P w st Other (max (depth_of_each es) (depth e) + 1) (depth_of_each (each_then es (more e none)) + 1) (nodes_of_each es + nodes e + 1) (nodes_of_each (each_then es (more e none)) + 1) (omega (arith, a)) (omega (arith, b)) nx.repeating) (give_repeat P w st (table m (each_then es (more e none))) l x)
 give_repeat P w (in_start st) (apply m s y es) l x = finish_repeat P w st (call m y es) l x
-give_repeat P w (in_start st) e l x = tt
-give_repeat P w (in_dests xs st) e l x = tt
+give_repeat P w (in_start st) e l x = (tt, tt, tt)
+give_repeat P w (in_dests xs st) e l x = (tt, tt, tt)
 give_repeat P w (in_values xs ys st) e l x =
     let zs : Expressions = each_then ys (more e none) in
     let a = each_depth ys e in
     let b = each_nodes ys e in
-    counted_leads P (size xs == size ys + 1) (Closed (Does P st) (max (depth_of_each xs) (max (depth_of_each ys) (depth e)) + 1) (nodes_of_each xs + (nodes_of_each ys + nodes e) + 1)) (AtListing (Any (Closed (Does P st) (max (depth_of_each xs) (max (depth_of_each ys) (max (depth e) 1)) + 1) (nodes_of_each xs + (nodes_of_each ys + nodes e) + owed (size xs) (size ys) + 1)))) nx.repeating
-    (finish st (assign (line_of_first xs) xs zs) l x k.Repeat) k.Repeat (want (in_values xs zs st))
-    (leads_by P (Any (Does P st (max (depth_of_each xs) (depth_of_each (each_then ys (more e none))) + 1 + 1) (nodes_of_each xs + nodes_of_each (each_then ys (more e none)) + 1 + 1))) (Any (Does P st (max (depth_of_each xs) (max (depth_of_each ys) (depth e)) + 1 + 1) (nodes_of_each xs + (nodes_of_each ys + nodes e) + 1 + 1))) (finish st (assign (line_of_first xs) xs zs) l x k.Repeat) (any_falls (Does P st) (does_falls P w st) (max (depth_of_each xs) (max (depth_of_each ys) (depth e)) + 1 + 1) (max (depth_of_each xs) (depth_of_each (each_then ys (more e none))) + 1 + 1) (nodes_of_each xs + (nodes_of_each ys + nodes e) + 1 + 1) (nodes_of_each xs + nodes_of_each (each_then ys (more e none)) + 1 + 1) (omega (arith, a)) (omega (arith, b))) (finish_repeat P w st (assign (line_of_first xs) xs zs) l x))
-    (λ j. absurd cc)
-give_repeat P w (in_guard gd m st) e l x = leads_if P (AtClosing (Guarded gd (Does P st) (depth e) (nodes e)) nx.repeating) (is_sign_of gd k.Repeat) (Some (behind_sign gd (in_guarded gd m e st))) None (λ j. absurd (let s = repeat_sign gd in cc)) (λ j. tt)
+    each_counted P (size xs == size ys + 1) (Closed (Does P st) (max (depth_of_each xs) (max (depth_of_each ys) (depth e)) + 1) (nodes_of_each xs + (nodes_of_each ys + nodes e) + 1)) (AtListing (Any (Closed (Does P st) (max (depth_of_each xs) (max (depth_of_each ys) (max (depth e) 1)) + 1) (nodes_of_each xs + (nodes_of_each ys + nodes e) + owed (size xs) (size ys) + 1)))) nx.repeating
+    (finish st (assign (line_of_first xs) xs zs) l x) (want (in_values xs zs st))
+    (each_by P (Any (Does P st (max (depth_of_each xs) (depth_of_each (each_then ys (more e none))) + 1 + 1) (nodes_of_each xs + nodes_of_each (each_then ys (more e none)) + 1 + 1))) (Any (Does P st (max (depth_of_each xs) (max (depth_of_each ys) (depth e)) + 1 + 1) (nodes_of_each xs + (nodes_of_each ys + nodes e) + 1 + 1))) (finish st (assign (line_of_first xs) xs zs) l x) (any_falls (Does P st) (does_falls P w st) (max (depth_of_each xs) (max (depth_of_each ys) (depth e)) + 1 + 1) (max (depth_of_each xs) (depth_of_each (each_then ys (more e none))) + 1 + 1) (nodes_of_each xs + (nodes_of_each ys + nodes e) + 1 + 1) (nodes_of_each xs + nodes_of_each (each_then ys (more e none)) + 1 + 1) (omega (arith, a)) (omega (arith, b))) (finish_repeat P w st (assign (line_of_first xs) xs zs) l x))
+give_repeat P w (in_guard gd m st) e l x = each_guard P (AtClosing (Guarded gd (Does P st) (depth e) (nodes e)) nx.repeating) gd (behind_sign gd (in_guarded gd m e st))
 give_repeat P w (in_result m st) e l x = finish_repeat P w st (result m e) l x
 give_repeat P w (in_while b a st) e l x = finish_repeat P w st (repeat_while (line_of_action a) b a e) l x
-give_repeat P w (in_function y fs st) e l x = leads_none P (AtClosing (Defines P st (depth e + 1) (nodes e + 1)) nx.repeating) (defined_by st (function y.line y.letters fs e) l x k.Repeat) (defined_none st (function y.line y.letters fs e) l x k.Repeat (refl, refl, refl, refl, refl))
+give_repeat P w (in_function y fs st) e l x = each_defined P (AtClosing (Defines P st (depth e + 1) (nodes e + 1)) nx.repeating) st (function y.line y.letters fs e) l x
 give_repeat P w (in_value xs is st) e l x =
     let js : Starts = starts_then is (value e no_starts) in
     let whole_of : Definition = variables (line_of_names xs) xs js in
-    counted_leads P (length xs == start_count is + 1) (AtClosing (Defines P st (max (depth_of_starts is) (depth e) + 1) (nodes_of_starts is + nodes e + 1)))
-    (AtListing (Defines P st (max (depth_of_starts is) (max (depth e) 1) + 1) (nodes_of_starts is + nodes e + owed (length xs) (start_count is) + 1))) nx.repeating (defined_by st whole_of l x k.Repeat) k.Repeat (due (at_starts xs js st))
-    (leads_none P ⊥ (defined_by st whole_of l x k.Repeat) (defined_none st whole_of l x k.Repeat (refl, refl, refl, refl, refl)))
-    (λ j. absurd cc)
+    each_counted P (length xs == start_count is + 1) (AtClosing (Defines P st (max (depth_of_starts is) (depth e) + 1) (nodes_of_starts is + nodes e + 1)))
+    (AtListing (Defines P st (max (depth_of_starts is) (max (depth e) 1) + 1) (nodes_of_starts is + nodes e + owed (length xs) (start_count is) + 1))) nx.repeating (defined_by st whole_of l x) (due (at_starts xs js st))
+    (each_defined P ⊥ st whole_of l x)
 give_repeat P w (in_vector m xs is st) e l x =
     let js : Starts = starts_then is (vector m e no_starts) in
     let whole_of : Definition = variables (line_of_names xs) xs js in
-    counted_leads P (length xs == start_count is + 1) (AtClosing (Defines P st (max (depth_of_starts is) (depth e) + 1) (nodes_of_starts is + nodes e + 1)))
-    (AtListing (Defines P st (max (depth_of_starts is) (max (depth e) 1) + 1) (nodes_of_starts is + nodes e + owed (length xs) (start_count is) + 1))) nx.repeating (defined_by st whole_of l x k.Repeat) k.Repeat (due (at_starts xs js st))
-    (leads_none P ⊥ (defined_by st whole_of l x k.Repeat) (defined_none st whole_of l x k.Repeat (refl, refl, refl, refl, refl)))
-    (λ j. absurd cc)
-give_repeat P w _ e l x = tt
-
-repeat_while_sign : (gd : Guard) → is_sign_of gd k.RepeatWhile ≡ false
-repeat_while_sign g.SwitchOn = refl
-repeat_while_sign g.Case = refl
-repeat_while_sign _ = refl
-
-finish_repeat_while : (P : ℕ → ℕ → Type 0) → Down P → (st : Stack) (c : Action) (l : ℕ) (x : List ℕ) → Leads P (Any (Does P st (depth_of_action c + 1) (nodes_of_action c + 1))) (finish st c l x k.RepeatWhile)
-finish_repeat_while P w st c l x = let Q : Option State → Type 0 = λ z. Leads P (Any (Does P st (depth_of_action c + 1) (nodes_of_action c + 1))) z in subst Q (sym (repeated st c l x k.RepeatWhile refl)) (again_leads P w k.RepeatWhile st c)
-
-give_repeat_while : (P : ℕ → ℕ → Type 0) → Down P → (st : Stack) (e : Expression) (l : ℕ) (x : List ℕ) → Leads P (Gives P st (form_of e) (depth e) (nodes e) nx.repeating) (give st e l x k.RepeatWhile)
-give_repeat_while P w (in_unary m p st) e l x = give_repeat_while P w st (unary m p e) l x
-give_repeat_while P w (in_binary q s a st) e l x = give_repeat_while P w st (binary (line_of a) q s a e) l x
-give_repeat_while P w (in_chain q s a b st) e l x = give_repeat_while P w st (binary (line_of a) Both s a (binary (line_of b) q s b e)) l x
-give_repeat_while P w (in_else s y a st) e l x = give_repeat_while P w st (choice (line_of y) s y a e) l x
-give_repeat_while P w (in_table m es st) e l x = leads_by P (Gives P st Other (depth_of_each (each_then es (more e none)) + 1) (nodes_of_each (each_then es (more e none)) + 1) nx.repeating) (Gives P st Other (max (depth_of_each es) (depth e) + 1) (nodes_of_each es + nodes e + 1) nx.repeating) (give st (table m (each_then es (more e none))) l x k.RepeatWhile)
-    (let a = each_depth es e in let b = each_nodes es e in gives_falls P w st Other (max (depth_of_each es) (depth e) + 1) (depth_of_each (each_then es (more e none)) + 1) (nodes_of_each es + nodes e + 1) (nodes_of_each (each_then es (more e none)) + 1) (omega (arith, a)) (omega (arith, b)) nx.repeating) (give_repeat_while P w st (table m (each_then es (more e none))) l x)
-give_repeat_while P w (in_start st) (apply m s y es) l x = finish_repeat_while P w st (call m y es) l x
-give_repeat_while P w (in_start st) e l x = tt
-give_repeat_while P w (in_dests xs st) e l x = tt
-give_repeat_while P w (in_values xs ys st) e l x =
-    let zs : Expressions = each_then ys (more e none) in
-    let a = each_depth ys e in
-    let b = each_nodes ys e in
-    counted_leads P (size xs == size ys + 1) (Closed (Does P st) (max (depth_of_each xs) (max (depth_of_each ys) (depth e)) + 1) (nodes_of_each xs + (nodes_of_each ys + nodes e) + 1)) (AtListing (Any (Closed (Does P st) (max (depth_of_each xs) (max (depth_of_each ys) (max (depth e) 1)) + 1) (nodes_of_each xs + (nodes_of_each ys + nodes e) + owed (size xs) (size ys) + 1)))) nx.repeating
-    (finish st (assign (line_of_first xs) xs zs) l x k.RepeatWhile) k.RepeatWhile (want (in_values xs zs st))
-    (leads_by P (Any (Does P st (max (depth_of_each xs) (depth_of_each (each_then ys (more e none))) + 1 + 1) (nodes_of_each xs + nodes_of_each (each_then ys (more e none)) + 1 + 1))) (Any (Does P st (max (depth_of_each xs) (max (depth_of_each ys) (depth e)) + 1 + 1) (nodes_of_each xs + (nodes_of_each ys + nodes e) + 1 + 1))) (finish st (assign (line_of_first xs) xs zs) l x k.RepeatWhile) (any_falls (Does P st) (does_falls P w st) (max (depth_of_each xs) (max (depth_of_each ys) (depth e)) + 1 + 1) (max (depth_of_each xs) (depth_of_each (each_then ys (more e none))) + 1 + 1) (nodes_of_each xs + (nodes_of_each ys + nodes e) + 1 + 1) (nodes_of_each xs + nodes_of_each (each_then ys (more e none)) + 1 + 1) (omega (arith, a)) (omega (arith, b))) (finish_repeat_while P w st (assign (line_of_first xs) xs zs) l x))
-    (λ j. absurd cc)
-give_repeat_while P w (in_guard gd m st) e l x = leads_if P (AtClosing (Guarded gd (Does P st) (depth e) (nodes e)) nx.repeating) (is_sign_of gd k.RepeatWhile) (Some (behind_sign gd (in_guarded gd m e st))) None (λ j. absurd (let s = repeat_while_sign gd in cc)) (λ j. tt)
-give_repeat_while P w (in_result m st) e l x = finish_repeat_while P w st (result m e) l x
-give_repeat_while P w (in_while b a st) e l x = finish_repeat_while P w st (repeat_while (line_of_action a) b a e) l x
-give_repeat_while P w (in_function y fs st) e l x = leads_none P (AtClosing (Defines P st (depth e + 1) (nodes e + 1)) nx.repeating) (defined_by st (function y.line y.letters fs e) l x k.RepeatWhile) (defined_none st (function y.line y.letters fs e) l x k.RepeatWhile (refl, refl, refl, refl, refl))
-give_repeat_while P w (in_value xs is st) e l x =
-    let js : Starts = starts_then is (value e no_starts) in
-    let whole_of : Definition = variables (line_of_names xs) xs js in
-    counted_leads P (length xs == start_count is + 1) (AtClosing (Defines P st (max (depth_of_starts is) (depth e) + 1) (nodes_of_starts is + nodes e + 1)))
-    (AtListing (Defines P st (max (depth_of_starts is) (max (depth e) 1) + 1) (nodes_of_starts is + nodes e + owed (length xs) (start_count is) + 1))) nx.repeating (defined_by st whole_of l x k.RepeatWhile) k.RepeatWhile (due (at_starts xs js st))
-    (leads_none P ⊥ (defined_by st whole_of l x k.RepeatWhile) (defined_none st whole_of l x k.RepeatWhile (refl, refl, refl, refl, refl)))
-    (λ j. absurd cc)
-give_repeat_while P w (in_vector m xs is st) e l x =
-    let js : Starts = starts_then is (vector m e no_starts) in
-    let whole_of : Definition = variables (line_of_names xs) xs js in
-    counted_leads P (length xs == start_count is + 1) (AtClosing (Defines P st (max (depth_of_starts is) (depth e) + 1) (nodes_of_starts is + nodes e + 1)))
-    (AtListing (Defines P st (max (depth_of_starts is) (max (depth e) 1) + 1) (nodes_of_starts is + nodes e + owed (length xs) (start_count is) + 1))) nx.repeating (defined_by st whole_of l x k.RepeatWhile) k.RepeatWhile (due (at_starts xs js st))
-    (leads_none P ⊥ (defined_by st whole_of l x k.RepeatWhile) (defined_none st whole_of l x k.RepeatWhile (refl, refl, refl, refl, refl)))
-    (λ j. absurd cc)
-give_repeat_while P w _ e l x = tt
-
-repeat_until_sign : (gd : Guard) → is_sign_of gd k.RepeatUntil ≡ false
-repeat_until_sign g.SwitchOn = refl
-repeat_until_sign g.Case = refl
-repeat_until_sign _ = refl
-
-finish_repeat_until : (P : ℕ → ℕ → Type 0) → Down P → (st : Stack) (c : Action) (l : ℕ) (x : List ℕ) → Leads P (Any (Does P st (depth_of_action c + 1) (nodes_of_action c + 1))) (finish st c l x k.RepeatUntil)
-finish_repeat_until P w st c l x = let Q : Option State → Type 0 = λ z. Leads P (Any (Does P st (depth_of_action c + 1) (nodes_of_action c + 1))) z in subst Q (sym (repeated st c l x k.RepeatUntil refl)) (again_leads P w k.RepeatUntil st c)
-
-give_repeat_until : (P : ℕ → ℕ → Type 0) → Down P → (st : Stack) (e : Expression) (l : ℕ) (x : List ℕ) → Leads P (Gives P st (form_of e) (depth e) (nodes e) nx.repeating) (give st e l x k.RepeatUntil)
-give_repeat_until P w (in_unary m p st) e l x = give_repeat_until P w st (unary m p e) l x
-give_repeat_until P w (in_binary q s a st) e l x = give_repeat_until P w st (binary (line_of a) q s a e) l x
-give_repeat_until P w (in_chain q s a b st) e l x = give_repeat_until P w st (binary (line_of a) Both s a (binary (line_of b) q s b e)) l x
-give_repeat_until P w (in_else s y a st) e l x = give_repeat_until P w st (choice (line_of y) s y a e) l x
-give_repeat_until P w (in_table m es st) e l x = leads_by P (Gives P st Other (depth_of_each (each_then es (more e none)) + 1) (nodes_of_each (each_then es (more e none)) + 1) nx.repeating) (Gives P st Other (max (depth_of_each es) (depth e) + 1) (nodes_of_each es + nodes e + 1) nx.repeating) (give st (table m (each_then es (more e none))) l x k.RepeatUntil)
-    (let a = each_depth es e in let b = each_nodes es e in gives_falls P w st Other (max (depth_of_each es) (depth e) + 1) (depth_of_each (each_then es (more e none)) + 1) (nodes_of_each es + nodes e + 1) (nodes_of_each (each_then es (more e none)) + 1) (omega (arith, a)) (omega (arith, b)) nx.repeating) (give_repeat_until P w st (table m (each_then es (more e none))) l x)
-give_repeat_until P w (in_start st) (apply m s y es) l x = finish_repeat_until P w st (call m y es) l x
-give_repeat_until P w (in_start st) e l x = tt
-give_repeat_until P w (in_dests xs st) e l x = tt
-give_repeat_until P w (in_values xs ys st) e l x =
-    let zs : Expressions = each_then ys (more e none) in
-    let a = each_depth ys e in
-    let b = each_nodes ys e in
-    counted_leads P (size xs == size ys + 1) (Closed (Does P st) (max (depth_of_each xs) (max (depth_of_each ys) (depth e)) + 1) (nodes_of_each xs + (nodes_of_each ys + nodes e) + 1)) (AtListing (Any (Closed (Does P st) (max (depth_of_each xs) (max (depth_of_each ys) (max (depth e) 1)) + 1) (nodes_of_each xs + (nodes_of_each ys + nodes e) + owed (size xs) (size ys) + 1)))) nx.repeating
-    (finish st (assign (line_of_first xs) xs zs) l x k.RepeatUntil) k.RepeatUntil (want (in_values xs zs st))
-    (leads_by P (Any (Does P st (max (depth_of_each xs) (depth_of_each (each_then ys (more e none))) + 1 + 1) (nodes_of_each xs + nodes_of_each (each_then ys (more e none)) + 1 + 1))) (Any (Does P st (max (depth_of_each xs) (max (depth_of_each ys) (depth e)) + 1 + 1) (nodes_of_each xs + (nodes_of_each ys + nodes e) + 1 + 1))) (finish st (assign (line_of_first xs) xs zs) l x k.RepeatUntil) (any_falls (Does P st) (does_falls P w st) (max (depth_of_each xs) (max (depth_of_each ys) (depth e)) + 1 + 1) (max (depth_of_each xs) (depth_of_each (each_then ys (more e none))) + 1 + 1) (nodes_of_each xs + (nodes_of_each ys + nodes e) + 1 + 1) (nodes_of_each xs + nodes_of_each (each_then ys (more e none)) + 1 + 1) (omega (arith, a)) (omega (arith, b))) (finish_repeat_until P w st (assign (line_of_first xs) xs zs) l x))
-    (λ j. absurd cc)
-give_repeat_until P w (in_guard gd m st) e l x = leads_if P (AtClosing (Guarded gd (Does P st) (depth e) (nodes e)) nx.repeating) (is_sign_of gd k.RepeatUntil) (Some (behind_sign gd (in_guarded gd m e st))) None (λ j. absurd (let s = repeat_until_sign gd in cc)) (λ j. tt)
-give_repeat_until P w (in_result m st) e l x = finish_repeat_until P w st (result m e) l x
-give_repeat_until P w (in_while b a st) e l x = finish_repeat_until P w st (repeat_while (line_of_action a) b a e) l x
-give_repeat_until P w (in_function y fs st) e l x = leads_none P (AtClosing (Defines P st (depth e + 1) (nodes e + 1)) nx.repeating) (defined_by st (function y.line y.letters fs e) l x k.RepeatUntil) (defined_none st (function y.line y.letters fs e) l x k.RepeatUntil (refl, refl, refl, refl, refl))
-give_repeat_until P w (in_value xs is st) e l x =
-    let js : Starts = starts_then is (value e no_starts) in
-    let whole_of : Definition = variables (line_of_names xs) xs js in
-    counted_leads P (length xs == start_count is + 1) (AtClosing (Defines P st (max (depth_of_starts is) (depth e) + 1) (nodes_of_starts is + nodes e + 1)))
-    (AtListing (Defines P st (max (depth_of_starts is) (max (depth e) 1) + 1) (nodes_of_starts is + nodes e + owed (length xs) (start_count is) + 1))) nx.repeating (defined_by st whole_of l x k.RepeatUntil) k.RepeatUntil (due (at_starts xs js st))
-    (leads_none P ⊥ (defined_by st whole_of l x k.RepeatUntil) (defined_none st whole_of l x k.RepeatUntil (refl, refl, refl, refl, refl)))
-    (λ j. absurd cc)
-give_repeat_until P w (in_vector m xs is st) e l x =
-    let js : Starts = starts_then is (vector m e no_starts) in
-    let whole_of : Definition = variables (line_of_names xs) xs js in
-    counted_leads P (length xs == start_count is + 1) (AtClosing (Defines P st (max (depth_of_starts is) (depth e) + 1) (nodes_of_starts is + nodes e + 1)))
-    (AtListing (Defines P st (max (depth_of_starts is) (max (depth e) 1) + 1) (nodes_of_starts is + nodes e + owed (length xs) (start_count is) + 1))) nx.repeating (defined_by st whole_of l x k.RepeatUntil) k.RepeatUntil (due (at_starts xs js st))
-    (leads_none P ⊥ (defined_by st whole_of l x k.RepeatUntil) (defined_none st whole_of l x k.RepeatUntil (refl, refl, refl, refl, refl)))
-    (λ j. absurd cc)
-give_repeat_until P w _ e l x = tt
+    each_counted P (length xs == start_count is + 1) (AtClosing (Defines P st (max (depth_of_starts is) (depth e) + 1) (nodes_of_starts is + nodes e + 1)))
+    (AtListing (Defines P st (max (depth_of_starts is) (max (depth e) 1) + 1) (nodes_of_starts is + nodes e + owed (length xs) (start_count is) + 1))) nx.repeating (defined_by st whole_of l x) (due (at_starts xs js st))
+    (each_defined P ⊥ st whole_of l x)
+give_repeat P w _ e l x = (tt, tt, tt)
 
 parts_any : {F G H : Lookahead → Type 0} → ((c : Lookahead) → F c → H c) → ((c : Lookahead) → G c → H c) → Any (AtPart F G) → Any (Unlisted H)
 parts_any f k (nx.listing, h) = any (unlisted k) h
@@ -579,10 +393,7 @@ args_due : (P : ℕ → ℕ → Type 0) → Down P → (s : ℕ) (y : Expression
 args_due P w s y none st some h = absurd (omega (arith, some))
 args_due P w s y (more z zs) st some (nx.closing, h) = h
 args_due P w s y (more z zs) st some (nx.listing, h) = whole_falls (Gives P st) (gives_falls P w st) Call (max (depth y) (max (depth_of_each (more z zs)) 1) + 1) (max (depth y) (max (depth_of_each (more z zs)) (max 1 1)) + 1) (nodes y + (nodes_of_each (more z zs) + 1) + 1) (nodes y + (nodes_of_each (more z zs) + 1) + 2) (omega arith) (omega arith) h
-args_due P w s y (more z zs) st some (nx.assigning, h) = absurd h
-args_due P w s y (more z zs) st some (nx.going, h) = absurd h
-args_due P w s y (more z zs) st some (nx.operating, h) = absurd h
-args_due P w s y (more z zs) st some (nx.repeating, h) = absurd h
+args_due P w s y (more z zs) st some (x, h) = absurd h
 
 args_any : (P : ℕ → ℕ → Type 0) → Down P → (s : ℕ) (y : Expression) (es : Expressions) (st : Stack) (e : Expression) → Wants P (in_args s y (each_then es (more e none)) st) → Whole (Gives P st) Call (max (depth y) (max (depth_of_each es) (max (depth e) 1)) + 1) (nodes y + (nodes_of_each es + nodes e) + 2)
 args_any P w s y es st e h =
@@ -622,63 +433,91 @@ starts_more : (P : ℕ → ℕ → Type 0) → Down P → (xs : List Mention) (i
     → Any (Gives P (in_value xs js st) Label 1 1) → Defines P st (max (depth_of_starts is) (max d 1) + 1) (nodes_of_starts is + n + owed (length xs) (start_count is) + 1)
 starts_more P w xs is js st d n a b c h = defines_fall P w st (max (depth_of_starts is) (max d 1) + 1) (max (depth_of_starts js) 1 + 1) (nodes_of_starts is + n + owed (length xs) (start_count is) + 1) (nodes_of_starts js + 1 + owed (length xs) (start_count js) + 1) (omega (arith, a)) (omega (arith, b, c)) (starts_any P w xs js st h)
 
-comma_sign : (gd : Guard) → is_sign_of gd k.Comma ≡ false
-comma_sign g.SwitchOn = refl
-comma_sign g.Case = refl
-comma_sign _ = refl
+-- what holds after a sign of assignment, and after a comma
+abbrev Two : (ℕ → ℕ → Type 0) → (Lookahead → Type 0) → (Kind → Option State) → Type 0
+Two P F f = Leads P (F nx.assigning) (f k.Assign) × Leads P (F nx.listing) (f k.Comma)
+
+two_by : (P : ℕ → ℕ → Type 0) (F G : Lookahead → Type 0) (f : Kind → Option State) → ((c : Lookahead) → F c → G c) → Two P F f → Two P G f
+two_by P F G f g h = (leads_by P (F nx.assigning) (G nx.assigning) (f k.Assign) (g nx.assigning) h.0, leads_by P (F nx.listing) (G nx.listing) (f k.Comma) (g nx.listing) h.1)
+
+two_counted : (P : ℕ → ℕ → Type 0) (b : Bool) (F G : Lookahead → Type 0) (f : Kind → Option State) (y : State) → Two P F f → Leads P (G nx.listing) (Some y)
+    → Leads P (If b F G nx.assigning) (counted b (f k.Assign) k.Assign y) × Leads P (If b F G nx.listing) (counted b (f k.Comma) k.Comma y)
+two_counted P true F G f y h j = h
+two_counted P false F G f y h j = (tt, j)
+
+two_guard : (P : ℕ → ℕ → Type 0) (X : Type 0) (gd : Guard) (y : State) → Leads P ⊥ (cond (is_sign_of gd k.Assign) (Some y) None) × Leads P ⊥ (cond (is_sign_of gd k.Comma) (Some y) None)
+two_guard P X g.SwitchOn y = (tt, tt)
+two_guard P X g.Case y = (tt, tt)
+two_guard P X _ y = (tt, tt)
+
+two_defined : (P : ℕ → ℕ → Type 0) (F : Lookahead → Type 0) (st : Stack) (d : Definition) (l : ℕ) (x : List ℕ) → Two P F (defined_by st d l x)
+two_defined P F st d l x = (
+  leads_none P (F nx.assigning) (defined_by st d l x k.Assign) (defined_none st d l x k.Assign (refl, refl, refl, refl, refl)),
+  leads_none P (F nx.listing) (defined_by st d l x k.Comma) (defined_none st d l x k.Comma (refl, refl, refl, refl, refl)),
+)
 
 mutual
-  give_comma : (P : ℕ → ℕ → Type 0) → Down P → (st : Stack) (e : Expression) (l : ℕ) (x : List ℕ) → Leads P (Gives P st (form_of e) (depth e) (nodes e) nx.listing) (give st e l x k.Comma)
-  give_comma P w (in_unary m p st) e l x = give_comma P w st (unary m p e) l x
-  give_comma P w (in_binary q s a st) e l x = give_comma P w st (binary (line_of a) q s a e) l x
-  give_comma P w (in_chain q s a b st) e l x = give_comma P w st (binary (line_of a) Both s a (binary (line_of b) q s b e)) l x
-  give_comma P w (in_else s y a st) e l x = give_comma P w st (choice (line_of y) s y a e) l x
-  give_comma P w (in_then s y st) e l x = λ h. any_falls (Gives P st Other) (gives_falls P w st Other) (max (depth y) (max (depth e) 1) + 1) (max (depth y) (max (depth e) 1) + 1) (nodes y + nodes e + 2) (nodes y + nodes e + 1 + 1) (omega arith) (omega arith) h
-  give_comma P w (in_args s y es st) e l x = let a = each_depth es e in let b = each_nodes es e in λ h. args_any P w s y es st e h
-  give_comma P w (in_table m es st) e l x = λ h. table_any P w m es st e h
-  give_comma P w (in_start st) e l x = λ h. any_closed (Does P st) (does_falls P w st) (max (depth e) 1 + 1) (max (max (depth e) 0) 1 + 1) (nodes e + 4) (nodes e + 0 + (0 + 1) + 3) (omega arith) (omega arith) (dests_any P w (more e none) st h)
-  give_comma P w (in_dests xs st) e l x = let a = each_depth xs e in let b = each_nodes xs e in let z = size_then xs (more e none) in let zs : Expressions = each_then xs (more e none) in λ h. any_closed (Does P st) (does_falls P w st) (max (max (depth_of_each xs) 1) (depth e) + 1) (max (depth_of_each zs) 1 + 1) (nodes_of_each xs + nodes e + size xs + 4) (nodes_of_each zs + size zs + 3) (omega (arith, a)) (omega (arith, b, z)) (dests_any P w zs st h)
-  give_comma P w (in_values xs ys st) e l x =
+  give_two : (P : ℕ → ℕ → Type 0) → Down P → (st : Stack) (e : Expression) (l : ℕ) (x : List ℕ) → Two P (Gives P st (form_of e) (depth e) (nodes e)) (give st e l x)
+  give_two P w (in_unary m p st) e l x = give_two P w st (unary m p e) l x
+  give_two P w (in_binary q s a st) e l x = give_two P w st (binary (line_of a) q s a e) l x
+  give_two P w (in_chain q s a b st) e l x = give_two P w st (binary (line_of a) Both s a (binary (line_of b) q s b e)) l x
+  give_two P w (in_else s y a st) e l x = give_two P w st (choice (line_of y) s y a e) l x
+  give_two P w (in_then s y st) e l x = (tt, λ h. any_falls (Gives P st Other) (gives_falls P w st Other) (max (depth y) (max (depth e) 1) + 1) (max (depth y) (max (depth e) 1) + 1) (nodes y + nodes e + 2) (nodes y + nodes e + 1 + 1) (omega arith) (omega arith) h)
+  give_two P w (in_args s y es st) e l x = (tt, let a = each_depth es e in let b = each_nodes es e in λ h. args_any P w s y es st e h)
+  give_two P w (in_table m es st) e l x = (
+    leads_by P (Gives P st Other (depth_of_each (each_then es (more e none)) + 1) (nodes_of_each (each_then es (more e none)) + 1) nx.assigning) (Gives P st Other (max (depth_of_each es) (depth e) + 1) (nodes_of_each es + nodes e + 1) nx.assigning) (give st (table m (each_then es (more e none))) l x k.Assign)
+        (let a = each_depth es e in let b = each_nodes es e in gives_falls P w st Other (max (depth_of_each es) (depth e) + 1) (depth_of_each (each_then es (more e none)) + 1) (nodes_of_each es + nodes e + 1) (nodes_of_each (each_then es (more e none)) + 1) (omega (arith, a)) (omega (arith, b)) nx.assigning) (give_two P w st (table m (each_then es (more e none))) l x).0,
+    λ h. table_any P w m es st e h,
+  )
+  give_two P w (in_start st) e l x = (
+    λ h. any_closed (Does P st) (does_falls P w st) (max (depth e) 1 + 1) (max (max (depth e) 0) (max 0 1) + 1) (nodes e + 2) (nodes e + 0 + (0 + 1) + owed (0 + 1) 0 + 1) (omega arith) (omega arith) (values_any P w (more e none) none st h),
+    λ h. any_closed (Does P st) (does_falls P w st) (max (depth e) 1 + 1) (max (max (depth e) 0) 1 + 1) (nodes e + 4) (nodes e + 0 + (0 + 1) + 3) (omega arith) (omega arith) (dests_any P w (more e none) st h),
+  )
+  give_two P w (in_dests xs st) e l x = (
+    let a = each_depth xs e in let b = each_nodes xs e in let z = size_then xs (more e none) in let zs : Expressions = each_then xs (more e none) in λ h. any_closed (Does P st) (does_falls P w st) (max (max (depth_of_each xs) 1) (depth e) + 1) (max (depth_of_each zs) (max 0 1) + 1) (nodes_of_each xs + nodes e + size xs + 2) (nodes_of_each zs + (0 + 1) + owed (size zs) 0 + 1) (omega (arith, a)) (omega (arith, b, z)) (values_any P w zs none st h),
+    let a = each_depth xs e in let b = each_nodes xs e in let z = size_then xs (more e none) in let zs : Expressions = each_then xs (more e none) in λ h. any_closed (Does P st) (does_falls P w st) (max (max (depth_of_each xs) 1) (depth e) + 1) (max (depth_of_each zs) 1 + 1) (nodes_of_each xs + nodes e + size xs + 4) (nodes_of_each zs + size zs + 3) (omega (arith, a)) (omega (arith, b, z)) (dests_any P w zs st h),
+  )
+  give_two P w (in_values xs ys st) e l x =
       let zs : Expressions = each_then ys (more e none) in
       let a = each_depth ys e in
       let b = each_nodes ys e in
-      counted_leads P (size xs == size ys + 1) (Closed (Does P st) (max (depth_of_each xs) (max (depth_of_each ys) (depth e)) + 1) (nodes_of_each xs + (nodes_of_each ys + nodes e) + 1)) (AtListing (Any (Closed (Does P st) (max (depth_of_each xs) (max (depth_of_each ys) (max (depth e) 1)) + 1) (nodes_of_each xs + (nodes_of_each ys + nodes e) + owed (size xs) (size ys) + 1)))) nx.listing
-      (finish st (assign (line_of_first xs) xs zs) l x k.Comma) k.Comma (want (in_values xs zs st))
-      (leads_by P (Does P st (max (depth_of_each xs) (depth_of_each (each_then ys (more e none))) + 1) (nodes_of_each xs + nodes_of_each (each_then ys (more e none)) + 1) nx.listing) (Does P st (max (depth_of_each xs) (max (depth_of_each ys) (depth e)) + 1) (nodes_of_each xs + (nodes_of_each ys + nodes e) + 1) nx.listing) (finish st (assign (line_of_first xs) xs zs) l x k.Comma) (does_falls P w st (max (depth_of_each xs) (max (depth_of_each ys) (depth e)) + 1) (max (depth_of_each xs) (depth_of_each (each_then ys (more e none))) + 1) (nodes_of_each xs + (nodes_of_each ys + nodes e) + 1) (nodes_of_each xs + nodes_of_each (each_then ys (more e none)) + 1) (omega (arith, a)) (omega (arith, b)) nx.listing) (finish_comma P w st (assign (line_of_first xs) xs zs) l x))
-      (λ j h. values_more P w xs ys st e h)
-  give_comma P w (in_guard gd m st) e l x = leads_if P (AtClosing (Guarded gd (Does P st) (depth e) (nodes e)) nx.listing) (is_sign_of gd k.Comma) (Some (behind_sign gd (in_guarded gd m e st))) None (λ j. absurd (let s = comma_sign gd in cc)) (λ j. tt)
-  give_comma P w (in_result m st) e l x = finish_comma P w st (result m e) l x
-  give_comma P w (in_while b a st) e l x = finish_comma P w st (repeat_while (line_of_action a) b a e) l x
-  give_comma P w (in_function y fs st) e l x = leads_none P (AtClosing (Defines P st (depth e + 1) (nodes e + 1)) nx.listing) (defined_by st (function y.line y.letters fs e) l x k.Comma) (defined_none st (function y.line y.letters fs e) l x k.Comma (refl, refl, refl, refl, refl))
-  give_comma P w (in_value xs is st) e l x =
+      two_counted P (size xs == size ys + 1) (Closed (Does P st) (max (depth_of_each xs) (max (depth_of_each ys) (depth e)) + 1) (nodes_of_each xs + (nodes_of_each ys + nodes e) + 1)) (AtListing (Any (Closed (Does P st) (max (depth_of_each xs) (max (depth_of_each ys) (max (depth e) 1)) + 1) (nodes_of_each xs + (nodes_of_each ys + nodes e) + owed (size xs) (size ys) + 1))))
+      (finish st (assign (line_of_first xs) xs zs) l x) (want (in_values xs zs st))
+      (two_by P (Does P st (max (depth_of_each xs) (depth_of_each (each_then ys (more e none))) + 1) (nodes_of_each xs + nodes_of_each (each_then ys (more e none)) + 1)) (Does P st (max (depth_of_each xs) (max (depth_of_each ys) (depth e)) + 1) (nodes_of_each xs + (nodes_of_each ys + nodes e) + 1)) (finish st (assign (line_of_first xs) xs zs) l x) (does_falls P w st (max (depth_of_each xs) (max (depth_of_each ys) (depth e)) + 1) (max (depth_of_each xs) (depth_of_each (each_then ys (more e none))) + 1) (nodes_of_each xs + (nodes_of_each ys + nodes e) + 1) (nodes_of_each xs + nodes_of_each (each_then ys (more e none)) + 1) (omega (arith, a)) (omega (arith, b))) (finish_two P w st (assign (line_of_first xs) xs zs) l x))
+      (λ h. values_more P w xs ys st e h)
+  give_two P w (in_guard gd m st) e l x = two_guard P (Guarded gd (Does P st) (depth e) (nodes e)) gd (behind_sign gd (in_guarded gd m e st))
+  give_two P w (in_result m st) e l x = finish_two P w st (result m e) l x
+  give_two P w (in_while b a st) e l x = finish_two P w st (repeat_while (line_of_action a) b a e) l x
+  give_two P w (in_function y fs st) e l x = two_defined P (AtClosing (Defines P st (depth e + 1) (nodes e + 1))) st (function y.line y.letters fs e) l x
+  give_two P w (in_value xs is st) e l x =
       let js : Starts = starts_then is (value e no_starts) in
       let whole_of : Definition = variables (line_of_names xs) xs js in
-      counted_leads P (length xs == start_count is + 1) (AtClosing (Defines P st (max (depth_of_starts is) (depth e) + 1) (nodes_of_starts is + nodes e + 1)))
-      (AtListing (Defines P st (max (depth_of_starts is) (max (depth e) 1) + 1) (nodes_of_starts is + nodes e + owed (length xs) (start_count is) + 1))) nx.listing (defined_by st whole_of l x k.Comma) k.Comma (due (at_starts xs js st))
-      (leads_none P ⊥ (defined_by st whole_of l x k.Comma) (defined_none st whole_of l x k.Comma (refl, refl, refl, refl, refl)))
-      (λ j h. starts_more P w xs is (starts_then is (value e no_starts)) st (depth e) (nodes e) (starts_depth is (value e no_starts)) (starts_nodes is (value e no_starts)) (count_then is (value e no_starts)) h)
-  give_comma P w (in_vector m xs is st) e l x =
+      two_counted P (length xs == start_count is + 1) (AtClosing (Defines P st (max (depth_of_starts is) (depth e) + 1) (nodes_of_starts is + nodes e + 1)))
+      (AtListing (Defines P st (max (depth_of_starts is) (max (depth e) 1) + 1) (nodes_of_starts is + nodes e + owed (length xs) (start_count is) + 1))) (defined_by st whole_of l x) (due (at_starts xs js st))
+      (two_defined P (AtClosing (Defines P st (max (depth_of_starts is) (depth e) + 1) (nodes_of_starts is + nodes e + 1))) st whole_of l x)
+      (λ h. starts_more P w xs is (starts_then is (value e no_starts)) st (depth e) (nodes e) (starts_depth is (value e no_starts)) (starts_nodes is (value e no_starts)) (count_then is (value e no_starts)) h)
+  give_two P w (in_vector m xs is st) e l x =
       let js : Starts = starts_then is (vector m e no_starts) in
       let whole_of : Definition = variables (line_of_names xs) xs js in
-      counted_leads P (length xs == start_count is + 1) (AtClosing (Defines P st (max (depth_of_starts is) (depth e) + 1) (nodes_of_starts is + nodes e + 1)))
-      (AtListing (Defines P st (max (depth_of_starts is) (max (depth e) 1) + 1) (nodes_of_starts is + nodes e + owed (length xs) (start_count is) + 1))) nx.listing (defined_by st whole_of l x k.Comma) k.Comma (due (at_starts xs js st))
-      (leads_none P ⊥ (defined_by st whole_of l x k.Comma) (defined_none st whole_of l x k.Comma (refl, refl, refl, refl, refl)))
-      (λ j h. starts_more P w xs is (starts_then is (vector m e no_starts)) st (depth e) (nodes e) (starts_depth is (vector m e no_starts)) (starts_nodes is (vector m e no_starts)) (count_then is (vector m e no_starts)) h)
-  give_comma P w _ e l x = tt
+      two_counted P (length xs == start_count is + 1) (AtClosing (Defines P st (max (depth_of_starts is) (depth e) + 1) (nodes_of_starts is + nodes e + 1)))
+      (AtListing (Defines P st (max (depth_of_starts is) (max (depth e) 1) + 1) (nodes_of_starts is + nodes e + owed (length xs) (start_count is) + 1))) (defined_by st whole_of l x) (due (at_starts xs js st))
+      (two_defined P (AtClosing (Defines P st (max (depth_of_starts is) (depth e) + 1) (nodes_of_starts is + nodes e + 1))) st whole_of l x)
+      (λ h. starts_more P w xs is (starts_then is (vector m e no_starts)) st (depth e) (nodes e) (starts_depth is (vector m e no_starts)) (starts_nodes is (vector m e no_starts)) (count_then is (vector m e no_starts)) h)
+  give_two P w _ e l x = (tt, tt)
 
-  finish_comma : (P : ℕ → ℕ → Type 0) → Down P → (st : Stack) (c : Action) (l : ℕ) (x : List ℕ) → Leads P (Does P st (depth_of_action c) (nodes_of_action c) nx.listing) (finish st c l x k.Comma)
-  finish_comma P w (in_valof m st) c l x = give_comma P w st (valof m c) l x
-  finish_comma P w (in_label m y st) c l x = finish_comma P w st (label m y c) l x
-  finish_comma P w (in_guarded gd m e st) c l x =
+  finish_two : (P : ℕ → ℕ → Type 0) → Down P → (st : Stack) (c : Action) (l : ℕ) (x : List ℕ) → Two P (Does P st (depth_of_action c) (nodes_of_action c)) (finish st c l x)
+  finish_two P w (in_valof m st) c l x = give_two P w st (valof m c) l x
+  finish_two P w (in_label m y st) c l x = finish_two P w st (label m y c) l x
+  finish_two P w (in_guarded gd m e st) c l x =
       let a = guarded_depth gd m e c in
       let b = guarded_nodes gd m e c in
-      leads_by P (Does P st (depth_of_action (guarded gd m e c)) (nodes_of_action (guarded gd m e c)) nx.listing) (Does P st (max (depth e) (depth_of_action c) + 1) (nodes e + nodes_of_action c + 1) nx.listing) (finish st (guarded gd m e c) l x k.Comma)
-      (does_falls P w st (max (depth e) (depth_of_action c) + 1) (depth_of_action (guarded gd m e c)) (nodes e + nodes_of_action c + 1) (nodes_of_action (guarded gd m e c)) (omega (arith, a)) (omega (arith, b)) nx.listing) (finish_comma P w st (guarded gd m e c) l x)
-  finish_comma P w (in_default m st) c l x = finish_comma P w st (default m c) l x
-  finish_comma P w (in_or m e a st) c l x = finish_comma P w st (test m e a c) l x
-  finish_comma P w (in_for m y a b z st) c l x = finish_comma P w st (for_loop m y a b z c) l x
-  finish_comma P w (in_routine y fs st) c l x = leads_none P ⊥ (defined_by st (routine y.line y.letters fs c) l x k.Comma) (defined_none st (routine y.line y.letters fs c) l x k.Comma (refl, refl, refl, refl, refl))
-  finish_comma P w _ c l x = tt
+      two_by P (Does P st (depth_of_action (guarded gd m e c)) (nodes_of_action (guarded gd m e c))) (Does P st (max (depth e) (depth_of_action c) + 1) (nodes e + nodes_of_action c + 1)) (finish st (guarded gd m e c) l x)
+      (does_falls P w st (max (depth e) (depth_of_action c) + 1) (depth_of_action (guarded gd m e c)) (nodes e + nodes_of_action c + 1) (nodes_of_action (guarded gd m e c)) (omega (arith, a)) (omega (arith, b))) (finish_two P w st (guarded gd m e c) l x)
+  finish_two P w (in_default m st) c l x = finish_two P w st (default m c) l x
+  finish_two P w (in_or m e a st) c l x = finish_two P w st (test m e a c) l x
+  finish_two P w (in_for m y a b z st) c l x = finish_two P w st (for_loop m y a b z c) l x
+  finish_two P w (in_routine y fs st) c l x = two_defined P (Does P (in_routine y fs st) (depth_of_action c) (nodes_of_action c)) st (routine y.line y.letters fs c) l x
+  finish_two P w _ c l x = (tt, tt)
 
 -- ---- a symbol with which an expression goes on
 
@@ -972,36 +811,20 @@ due_leads P w t _ l x = tt
 
 -- ---- any symbol
 
+by_test : {X : Type 0} (b : Bool) → (b ≡ true → X) → (b ≡ false → X) → X
+by_test true f g = f refl
+by_test false f g = g refl
+
 -- what holds of each class holds of each symbol
-by_class : (Q : Kind → Type 0) → Q k.Assign → Q k.Comma → Q k.Repeat → Q k.RepeatWhile → Q k.RepeatUntil → Q k.Open
+by_class : (Q : Kind → Type 0) → Q k.Assign → Q k.Comma → Q k.Repeat × Q k.RepeatWhile × Q k.RepeatUntil → Q k.Open
     → ((t : Kind) → goes 12 t ≡ true → is_open t ≡ false → Q t) → ((t : Kind) → goes 12 t ≡ false → repeats t ≡ false → assigns t ≡ false → Q t) → (t : Kind) → Q t
-by_class Q a b c d e o f h k.Assign = a
-by_class Q a b c d e o f h k.Comma = b
-by_class Q a b c d e o f h k.Repeat = c
-by_class Q a b c d e o f h k.RepeatWhile = d
-by_class Q a b c d e o f h k.RepeatUntil = e
-by_class Q a b c d e o f h k.Open = o
-by_class Q a b c d e o f h k.Arrow = f k.Arrow refl refl
-by_class Q a b c d e o f h k.Bang = f k.Bang refl refl
-by_class Q a b c d e o f h k.Percent = f k.Percent refl refl
-by_class Q a b c d e o f h k.Star = f k.Star refl refl
-by_class Q a b c d e o f h k.Slash = f k.Slash refl refl
-by_class Q a b c d e o f h k.Rem = f k.Rem refl refl
-by_class Q a b c d e o f h k.Plus = f k.Plus refl refl
-by_class Q a b c d e o f h k.Minus = f k.Minus refl refl
-by_class Q a b c d e o f h k.Equal = f k.Equal refl refl
-by_class Q a b c d e o f h k.NotEqual = f k.NotEqual refl refl
-by_class Q a b c d e o f h k.Less = f k.Less refl refl
-by_class Q a b c d e o f h k.Greater = f k.Greater refl refl
-by_class Q a b c d e o f h k.LessEqual = f k.LessEqual refl refl
-by_class Q a b c d e o f h k.GreaterEqual = f k.GreaterEqual refl refl
-by_class Q a b c d e o f h k.ShiftLeft = f k.ShiftLeft refl refl
-by_class Q a b c d e o f h k.ShiftRight = f k.ShiftRight refl refl
-by_class Q a b c d e o f h k.Ampersand = f k.Ampersand refl refl
-by_class Q a b c d e o f h k.Bar = f k.Bar refl refl
-by_class Q a b c d e o f h k.Eqv = f k.Eqv refl refl
-by_class Q a b c d e o f h k.Neqv = f k.Neqv refl refl
-by_class Q a b c d e o f h t = h t refl refl refl
+by_class Q a b r o f h k.Assign = a
+by_class Q a b r o f h k.Comma = b
+by_class Q a b r o f h k.Repeat = r.0
+by_class Q a b r o f h k.RepeatWhile = r.1
+by_class Q a b r o f h k.RepeatUntil = r.2
+by_class Q a b r o f h k.Open = o
+by_class Q a b r o f h t = by_test (goes 12 t) (λ g. f t g refl) (λ g. h t g refl refl)
 
 operated : (P : ℕ → ℕ → Type 0) → Down P → (st : Stack) (d n : ℕ) → Any (Gives P st Other (d + 1) (n + 2)) → Any (Gives P st Call (d + 1) (n + 1))
 operated P w st d n h = any_falls (Gives P st Call) (gives_falls P w st Call) (d + 1) (d + 1) (n + 1) (n + 2) (omega arith) (omega arith) (h.0, called P st (d + 1) (n + 2) h.0 h.1)
@@ -1011,11 +834,9 @@ have_leads P w st e l x =
     let X : Type 0 = Whole (Gives P st) (form_of e) (depth e) (nodes e) in
     let at : (c : Lookahead) → Gives P st (form_of e) (depth e) (nodes e) c → X = λ c h. inl (c, h) in
     by_class (λ t. Leads P X (give st e l x t))
-    (leads_by P (Gives P st (form_of e) (depth e) (nodes e) nx.assigning) X (give st e l x k.Assign) (at nx.assigning) (give_assign P w st e l x))
-    (leads_by P (Gives P st (form_of e) (depth e) (nodes e) nx.listing) X (give st e l x k.Comma) (at nx.listing) (give_comma P w st e l x))
-    (leads_by P (Gives P st (form_of e) (depth e) (nodes e) nx.repeating) X (give st e l x k.Repeat) (at nx.repeating) (give_repeat P w st e l x))
-    (leads_by P (Gives P st (form_of e) (depth e) (nodes e) nx.repeating) X (give st e l x k.RepeatWhile) (at nx.repeating) (give_repeat_while P w st e l x))
-    (leads_by P (Gives P st (form_of e) (depth e) (nodes e) nx.repeating) X (give st e l x k.RepeatUntil) (at nx.repeating) (give_repeat_until P w st e l x))
+    (leads_by P (Gives P st (form_of e) (depth e) (nodes e) nx.assigning) X (give st e l x k.Assign) (at nx.assigning) (give_two P w st e l x).0)
+    (leads_by P (Gives P st (form_of e) (depth e) (nodes e) nx.listing) X (give st e l x k.Comma) (at nx.listing) (give_two P w st e l x).1)
+    (each_by P (Gives P st (form_of e) (depth e) (nodes e) nx.repeating) X (give st e l x) (at nx.repeating) (give_repeat P w st e l x))
     (leads_by P (Any (Gives P st Call (depth e + 1) (nodes e + 1))) X (give st e l x k.Open) (λ h. inr h) (open_leads P w st e l x))
     (λ t g o. leads_by P (Operates P st (Gives P st) (depth e) (nodes e)) X (give st e l x t) (λ h. inr (operated P w st (depth e) (nodes e) (operates_any P w st (depth e) (nodes e) h))) (operator_leads P w t g o st e l x))
     (λ t g r a. leads_by P (Gives P st (form_of e) (depth e) (nodes e) nx.closing) X (give st e l x t) (at nx.closing) (give_close P w t g r a st e l x))
@@ -1029,11 +850,9 @@ did_leads P w st c l x =
     let at : (z : Lookahead) → F d m z → X = λ z h. (z, h) in
     let more_of : Any (F (d + 1) (m + 1)) → X = any_falls F (does_falls P w st) d (d + 1) m (m + 1) (omega arith) (omega arith) in
     by_class (λ t. Leads P X (finish st c l x t))
-    (leads_by P (F d m nx.assigning) X (finish st c l x k.Assign) (at nx.assigning) (finish_assign P w st c l x))
-    (leads_by P (F d m nx.listing) X (finish st c l x k.Comma) (at nx.listing) (finish_comma P w st c l x))
-    (leads_by P (Any (F (d + 1) (m + 1))) X (finish st c l x k.Repeat) more_of (finish_repeat P w st c l x))
-    (leads_by P (Any (F (d + 1) (m + 1))) X (finish st c l x k.RepeatWhile) more_of (finish_repeat_while P w st c l x))
-    (leads_by P (Any (F (d + 1) (m + 1))) X (finish st c l x k.RepeatUntil) more_of (finish_repeat_until P w st c l x))
+    (leads_by P (F d m nx.assigning) X (finish st c l x k.Assign) (at nx.assigning) (finish_two P w st c l x).0)
+    (leads_by P (F d m nx.listing) X (finish st c l x k.Comma) (at nx.listing) (finish_two P w st c l x).1)
+    (each_by P (Any (F (d + 1) (m + 1))) X (finish st c l x) more_of (finish_repeat P w st c l x))
     (leads_by P (F d m nx.going) X (finish st c l x k.Open) (at nx.going) (finish_open P w st c l x))
     (λ t g o. leads_by P (F d m nx.operating) X (finish st c l x t) (at nx.operating) (finish_operator P w t g o st c l x))
     (λ t g r a. leads_by P (F d m nx.closing) X (finish st c l x t) (at nx.closing) (finish_close P w t g r a st c l x))
@@ -1046,11 +865,9 @@ empty_leads P w st c l x =
     let m : ℕ = nodes_of_action c in
     let X : Type 0 = Any (Missing F d m) in
     by_class (λ t. begins_command t ≡ false → Leads P X (finish st c l x t))
-    (λ b. leads_by P (F d m nx.assigning) X (finish st c l x k.Assign) (λ h. (nx.assigning, h)) (finish_assign P w st c l x))
-    (λ b. leads_by P (F d m nx.listing) X (finish st c l x k.Comma) (λ h. (nx.listing, h)) (finish_comma P w st c l x))
-    (λ b. leads_by P (Any (F (d + 1) (m + 1))) X (finish st c l x k.Repeat) (λ h. (nx.repeating, h)) (finish_repeat P w st c l x))
-    (λ b. leads_by P (Any (F (d + 1) (m + 1))) X (finish st c l x k.RepeatWhile) (λ h. (nx.repeating, h)) (finish_repeat_while P w st c l x))
-    (λ b. leads_by P (Any (F (d + 1) (m + 1))) X (finish st c l x k.RepeatUntil) (λ h. (nx.repeating, h)) (finish_repeat_until P w st c l x))
+    (λ b. leads_by P (F d m nx.assigning) X (finish st c l x k.Assign) (λ h. (nx.assigning, h)) (finish_two P w st c l x).0)
+    (λ b. leads_by P (F d m nx.listing) X (finish st c l x k.Comma) (λ h. (nx.listing, h)) (finish_two P w st c l x).1)
+    (let r = each_by P (Any (F (d + 1) (m + 1))) X (finish st c l x) (λ h. (nx.repeating, h)) (finish_repeat P w st c l x) in (λ b. r.0, λ b. r.1, λ b. r.2))
     (λ b. absurd cc)
     (λ t g o b. leads_by P (F d m nx.operating) X (finish st c l x t) (λ h. (nx.operating, h)) (finish_operator P w t g o st c l x))
     (λ t g r a b. leads_by P (F d m nx.closing) X (finish st c l x t) (λ h. (nx.closing, h)) (finish_close P w t g r a st c l x))

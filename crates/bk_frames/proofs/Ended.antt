@@ -1,20 +1,8 @@
 -- What the end completes is no larger than any other completion.
-use Rattle.std.proofs.Common.{◌≡◌, ◌≤◌, ◌+◌, ◌==◌, max, length, ℕ, List, [], Bool, true, false, cond, Option, Some, None, refl, subst, inl, inr, arith}
-use Rattle.std.specs.Prelude.{nat_lt}
-use Rattle.bk_lex.specs.declared.token.Kind.TheVariants as k
-use Rattle.bk_frames.specs.declared.size.Form.{Form}
+use Rattle.bk_frames.proofs.Terms.{◌≡◌, ◌≤◌, ◌+◌, ◌==◌, max, length, ℕ, List, [], Bool, true, false, cond, Option, Some, None, refl, subst, inl, inr, arith, nat_lt, Form, Both, inner, line_of, line_of_first, line_of_names, line_of_action, size, start_count, depth, depth_of_each, depth_of_action, depth_of_declarations, depth_of_definition, depth_of_definitions, depth_of_starts, nodes, nodes_of_each, nodes_of_action, nodes_of_declarations, nodes_of_definition, nodes_of_definitions, nodes_of_starts, each_then, starts_then, definitions_then, declarations_then, form_of, Lookahead, closing, assigning, listing, going, repeating, operating, Any, AtClosing, AtPart, If, Unlisted, Closed, Missing, Started, Answered, Whole, Taken, Gives, Does, Operates, Defines, Completes, each_depth, each_nodes, declarations_depth, declarations_nodes, definitions_depth, definitions_nodes, starts_depth, starts_nodes, Kind as k, Guard as g}
 use Rattle.bk_frames.specs.declared.size.Form.TheVariants.{Label, Call, Callable, Other}
-use Rattle.bk_grammar.specs.declared.symbols.Guard.TheVariants as g
-use Rattle.bk_tree.specs.declared.tree.Operator.TheVariants.{Both}
-use Rattle.bk_tree.specs.Tree.{Expression, Expressions, Action, Definition, Declarations, name, number, text, truth, query, parens, unary, binary, choice, apply, table, call, assign, result, repeat_while, function, variables, value, vector, valof, label, default, test, for_loop, routine, empty, none, more, no_starts, no_items, item, declare, no_declarations, definitions, define, no_definitions}
-use Rattle.bk_grammar.specs.Rows.{inner}
-use Rattle.bk_tree.specs.Parts.{line_of, line_of_first, line_of_names, line_of_action, size, start_count}
-use Rattle.bk_tree.specs.Limits.{depth, depth_of_each, depth_of_action, depth_of_declarations, depth_of_definition, depth_of_definitions, depth_of_starts, nodes, nodes_of_each, nodes_of_action, nodes_of_declarations, nodes_of_definition, nodes_of_definitions, nodes_of_starts}
+use Rattle.bk_tree.specs.Tree.{Expression, Expressions, Action, Definition, Declarations, name, unary, binary, choice, apply, table, call, assign, result, repeat_while, function, variables, value, vector, valof, label, default, test, for_loop, routine, empty, none, more, no_starts, no_items, item, declare, no_declarations, definitions, define, no_definitions}
 use Rattle.bk_grammar.specs.Machine.{Stack, State, want, have, maybe, did, due, in_section, in_block, in_let, at_name, at_starts, at_items, in_unary, in_binary, in_chain, in_else, in_table, in_start, in_values, in_guard, in_result, in_while, in_function, in_value, in_vector, in_valof, in_label, in_guarded, in_default, in_or, in_for, in_routine, give, finish, defined_by, stepped_by, counted, guarded, inside}
-use Rattle.bk_tree.specs.Parts.{each_then, starts_then, definitions_then, declarations_then}
-use Rattle.bk_frames.specs.Sizes.{form_of}
-use Rattle.bk_frames.specs.Completing.{Lookahead, closing, assigning, listing, going, repeating, operating, Any, AtClosing, AtPart, If, Unlisted, Closed, Missing, Started, Answered, Whole, Taken, Gives, Does, Operates, Defines, Completes}
-use Rattle.bk_tree.proofs.Lemmas.{each_depth, each_nodes, declarations_depth, declarations_nodes, definitions_depth, definitions_nodes, starts_depth, starts_nodes}
 use Rattle.bk_frames.proofs.Turns.{guarded_depth, guarded_nodes}
 use Rattle.bk_frames.proofs.Lowering.{Down}
 
@@ -42,17 +30,12 @@ closed_has : (P : ℕ → ℕ → Type 0) (ds : Declarations) (F : ℕ → ℕ �
 closed_has P ds F a b f d n p q repeating h = f (d + 1) (n + 1) (omega (arith, p)) (omega (arith, q)) h.0 h.1
 closed_has P ds F a b f d n p q going h = absurd h
 closed_has P ds F a b f d n p q operating h = absurd h
-closed_has P ds F a b f d n p q closing h = f d n p q closing h
-closed_has P ds F a b f d n p q assigning h = f d n p q assigning h
-closed_has P ds F a b f d n p q listing h = f d n p q listing h
+closed_has P ds F a b f d n p q x h = f d n p q x h
 
 missing_has : (P : ℕ → ℕ → Type 0) (ds : Declarations) (F : ℕ → ℕ → Lookahead → Type 0) (a b : ℕ) → NoLess P ds F a b → NoLess P ds (Missing F) a b
 missing_has P ds F a b f d n p q repeating h = f (d + 1) (n + 1) (omega (arith, p)) (omega (arith, q)) h.0 h.1
 missing_has P ds F a b f d n p q going h = absurd h
-missing_has P ds F a b f d n p q operating h = f d n p q operating h
-missing_has P ds F a b f d n p q closing h = f d n p q closing h
-missing_has P ds F a b f d n p q assigning h = f d n p q assigning h
-missing_has P ds F a b f d n p q listing h = f d n p q listing h
+missing_has P ds F a b f d n p q x h = f d n p q x h
 
 -- behind a call at the start of a command
 started_has : (P : ℕ → ℕ → Type 0) (ds : Declarations) (F : ℕ → ℕ → Lookahead → Type 0) (a b : ℕ) → NoLess P ds F a b → (f : Form) → (f ≡ Label → ⊥) → NoLess P ds (Started F f) a b
@@ -73,11 +56,7 @@ unlisted_has X F f (operating, h) = f operating h
 
 part_has : (X : Type 0) (F G : Lookahead → Type 0) → ((c : Lookahead) → F c → X) → ((c : Lookahead) → G c → X) → (c : Lookahead) → AtPart F G c → X
 part_has X F G f j listing h = unlisted_has X G j h
-part_has X F G f j closing h = f closing h
-part_has X F G f j assigning h = f assigning h
-part_has X F G f j going h = f going h
-part_has X F G f j repeating h = f repeating h
-part_has X F G f j operating h = f operating h
+part_has X F G f j x h = f x h
 
 at_closing_has : (X Y : Type 0) → (Y → X) → (c : Lookahead) → AtClosing Y c → X
 at_closing_has X Y f closing h = f h
@@ -88,9 +67,7 @@ answered_has : (P : ℕ → ℕ → Type 0) (ds : Declarations) (G : Form → �
 answered_has P ds G H a b f j d n p q going h = f Call (λ e. cc) (d + 2) (n + 2) (omega (arith, p)) (omega (arith, q)) h.0 h.1
 answered_has P ds G H a b f j d n p q operating h = j (d + 1) (n + 1) (omega (arith, p)) (omega (arith, q)) h
 answered_has P ds G H a b f j d n p q repeating h = absurd h
-answered_has P ds G H a b f j d n p q closing h = f Callable (λ e. cc) (d + 1) (n + 1) (omega (arith, p)) (omega (arith, q)) closing h
-answered_has P ds G H a b f j d n p q assigning h = f Callable (λ e. cc) (d + 1) (n + 1) (omega (arith, p)) (omega (arith, q)) assigning h
-answered_has P ds G H a b f j d n p q listing h = f Callable (λ e. cc) (d + 1) (n + 1) (omega (arith, p)) (omega (arith, q)) listing h
+answered_has P ds G H a b f j d n p q x h = f Callable (λ e. cc) (d + 1) (n + 1) (omega (arith, p)) (omega (arith, q)) x h
 
 taken_has : (b : Bool) (X Y Z : Type 0) → (Y → X) → (Z → X) → Taken b Y Z → X
 taken_has true X Y Z f j h = f h

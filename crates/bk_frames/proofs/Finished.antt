@@ -1,18 +1,9 @@
 -- The section at the end is within the limits, and so is the empty one.
-use Rattle.std.proofs.Common.{◌≡◌, List, [], Some, sym, subst, ap, ◌∙◌, Result, Ok, Err, arith}
-use Rattle.std.specs.Prelude.{IfOk}
-use Rattle.bk_base.specs.declared.limit.TheConstants.{TREE_DEPTH, TREE_NODES}
+use Rattle.bk_frames.proofs.Terms.{◌≡◌, List, [], Some, sym, subst, ap, ◌∙◌, Result, Ok, Err, arith, IfOk, TREE_DEPTH, TREE_NODES, Frame, Decl, Declarations, no_declarations, Stack, State, due, in_section, stepped_by, stack, AtMost, Bounded, Kind as k}
 use Rattle.bk_base.specs.declared.source_fault.SourceFault.{SourceFault}
 use Rattle.bk_base.specs.declared.refused.Refused.{Refused}
-use Rattle.bk_lex.specs.declared.token.Kind.TheVariants as k
 use Rattle.bk_tree.specs.declared.section.Section.{Section}
-use Rattle.bk_frames.specs.declared.frame.Frame.{Frame}
-use Rattle.bk_tree.specs.declared.tree.Decl.{Decl}
-use Rattle.bk_tree.specs.Tree.{Declarations, no_declarations}
 use Rattle.bk_tree.specs.Limits.{Within}
-use Rattle.bk_grammar.specs.Machine.{Stack, State, due, in_section, stepped_by}
-use Rattle.bk_frames.specs.Stacked.{stack}
-use Rattle.bk_frames.specs.Bounds.{AtMost, Bounded}
 use Rattle.bk_tree.specs.Section.{declarations_of}
 use Rattle.bk_frames.proofs.Stacks.{stack_none}
 use Rattle.bk_frames.proofs.Lowering.{at_most_down}

@@ -1,41 +1,15 @@
 -- Whether a LET stands in a block, by the two frames on top.
-use Rattle.std.proofs.Common.{◌≡◌, ℕ, ◌+◌, ◌-◌, ◌<◌, ◌≤◌, false, cond, List, [], ◌∷◌, length, get_or, take, refl, sym, ap, ◌∙◌, arith}
-use Rattle.std.proofs.Math.Seq.{take-length}
-use Rattle.bk_frames.specs.declared.frame.OpenExpression.TheVariants as o
-use Rattle.bk_frames.specs.declared.frame.Phrase.TheVariants as p
-use Rattle.bk_frames.specs.declared.frame.Member.TheVariants as m
-use Rattle.bk_frames.specs.declared.frame.Clause.TheVariants as c
-use Rattle.bk_frames.specs.declared.frame.Place.TheVariants as a
-use Rattle.bk_frames.specs.declared.frame.Point.TheVariants as t
-use Rattle.bk_frames.specs.declared.frame.Unfinished.{Unfinished}
-use Rattle.bk_frames.specs.declared.frame.Unfinished.TheVariants as b
-use Rattle.bk_frames.specs.declared.frame.Frame.{Frame}
-use Rattle.bk_tree.specs.declared.tree.Decl.{Decl}
-use Rattle.bk_tree.specs.Tree.{Declarations, declarations_in}
-use Rattle.bk_frames.specs.declared.frame.Phrase.{Phrase}
-use Rattle.bk_frames.specs.declared.frame.Member.{Member}
-use Rattle.bk_frames.specs.declared.frame.Clause.{Clause}
-use Rattle.bk_frames.specs.declared.frame.Place.{Place}
-use Rattle.bk_frames.specs.declared.frame.Point.{Point}
-use Rattle.bk_grammar.specs.Machine.{Stack, in_section, inside, limit}
-use Rattle.bk_frames.specs.Unfinished.{unfinished_on, phrase_on, member_on}
-use Rattle.bk_frames.specs.Stacked.{stack}
-use Rattle.bk_frames.specs.Frames.{is_let_unfinished, is_block_unfinished}
+use Rattle.bk_frames.proofs.Terms.{◌≡◌, ℕ, ◌+◌, ◌-◌, ◌<◌, ◌≤◌, false, cond, List, [], ◌∷◌, length, get_or, take, refl, sym, ap, ◌∙◌, arith, take-length, Unfinished, Frame, Decl, Declarations, declarations_in, Stack, in_section, inside, limit, unfinished_on, phrase_on, member_on, stack, is_let_unfinished, is_block_unfinished, OpenExpression as o, Phrase as p, Member as m, Clause as c, Place as a, Point as t, Unfinished as b, Phrase, Member}
 use Rattle.bk_frames.proofs.Stacks.{stack_take}
 
 inside_one : (x : Unfinished) (ds : Declarations) → inside (unfinished_on x (in_section ds)) ≡ false
-inside_one (b.OpenExpression (o.Parens l)) ds = refl
-inside_one (b.OpenExpression _) ds = refl
-inside_one (b.Phrase p.Start) ds = refl
-inside_one (b.Phrase _) ds = refl
-inside_one (b.Member (m.Function n fs)) ds = refl
-inside_one (b.Member _) ds = refl
-inside_one (b.Clause (c.Valof l)) ds = refl
-inside_one (b.Clause _) ds = refl
-inside_one (b.Place (a.Let l xs)) ds = refl
-inside_one (b.Place _) ds = refl
 inside_one (b.Point (t.Goto l)) ds = refl
-inside_one (b.Point _) ds = refl
+inside_one (b.Place (a.Let l xs)) ds = refl
+inside_one (b.Clause (c.Valof l)) ds = refl
+inside_one (b.Member (m.Function n fs)) ds = refl
+inside_one (b.Phrase p.Start) ds = refl
+inside_one (b.OpenExpression (o.Parens l)) ds = refl
+inside_one x ds = refl
 
 pub inside_short : (ds : List Decl) (xs : List Frame) → length xs < 2 → inside (stack ds xs) ≡ false
 unfolding stack
@@ -44,18 +18,13 @@ inside_short ds (x ∷ []) h = inside_one x.unfinished (declarations_in ds)
 inside_short ds (x ∷ (y ∷ xs)) h = absurd (omega arith)
 
 let_in : (y : Unfinished) (l : ℕ) (xs : _) (st : Stack) → inside (unfinished_on (b.Place (a.Let l xs)) (unfinished_on y st)) ≡ is_block_unfinished y
-let_in (b.OpenExpression (o.Parens l)) m xs st = refl
-let_in (b.OpenExpression _) m xs st = refl
-let_in (b.Phrase p.Start) m xs st = refl
-let_in (b.Phrase _) m xs st = refl
-let_in (b.Member (m.Function n fs)) l xs st = refl
-let_in (b.Member _) l xs st = refl
-let_in (b.Clause (c.Valof l)) m xs st = refl
-let_in (b.Clause _) m xs st = refl
-let_in (b.Place (a.Block l q ds cs)) m xs st = refl
-let_in (b.Place _) m xs st = refl
 let_in (b.Point (t.Goto l)) m xs st = refl
-let_in (b.Point _) m xs st = refl
+let_in (b.Place (a.Block l q ds cs)) m xs st = refl
+let_in (b.Clause (c.Valof l)) m xs st = refl
+let_in (b.Member (m.Function n fs)) l xs st = refl
+let_in (b.Phrase p.Start) m xs st = refl
+let_in (b.OpenExpression (o.Parens l)) m xs st = refl
+let_in x l xs st = refl
 
 inside_two : (x y : Unfinished) (st : Stack) → inside (unfinished_on x (unfinished_on y st)) ≡ cond (is_let_unfinished x) (is_block_unfinished y) false
 inside_two (b.OpenExpression (o.Parens l)) y st = refl

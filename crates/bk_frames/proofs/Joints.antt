@@ -1,20 +1,8 @@
 -- The ways on, taken apart.
-use Rattle.std.proofs.Common.{◌≡◌, ◌⊎◌, ◌↔◌, inl, inr, ℕ, ◌+◌, ◌==◌, max, not, Bool, true, false, ◌||◌, refl, arith}
-use Rattle.std.specs.Prelude.{nat_lt}
-use Rattle.std.proofs.lemmas.Bool.Decides.{nat_tests}
-use Rattle.bk_base.specs.declared.limit.TheConstants.{TREE_DEPTH, TREE_NODES}
-use Rattle.bk_frames.specs.declared.budget.Category.{Category}
-use Rattle.bk_frames.specs.declared.budget.Category.TheVariants.{Expression}
-use Rattle.bk_frames.specs.declared.size.Form.{Form}
-use Rattle.bk_frames.specs.declared.size.Form.TheVariants as f
-use Rattle.bk_grammar.specs.Rows.{inner}
-use Rattle.bk_grammar.specs.Machine.{Stack, in_parens, in_binary, in_start}
-use Rattle.bk_frames.specs.Sizes.{owed}
-use Rattle.bk_frames.specs.Budgets.{Limit, is_tight, Tight, Part, Sized, goes_on}
+use Rattle.bk_frames.proofs.Terms.{◌≡◌, ◌⊎◌, ◌↔◌, inl, inr, ℕ, ◌+◌, ◌==◌, max, not, Bool, true, false, ◌||◌, refl, arith, nat_lt, nat_tests, TREE_DEPTH, TREE_NODES, Category, Expression, Form, inner, Stack, in_parens, in_binary, in_start, owed, Limit, is_tight, Tight, Part, Sized, goes_on, Any, AtClosing, AtListing, AtArgument, AtAssignment, AtPart, Unlisted, Started, Answered, Whole, Taken, Gives, Does, Operates, Defines, Declares, Form as f, or_cases, or_left, or_right}
 use Rattle.bk_frames.specs.Completing as w
-use Rattle.bk_frames.specs.Completing.{Any, AtClosing, AtListing, AtArgument, AtAssignment, AtPart, Unlisted, Started, Answered, Whole, Taken, Gives, Does, Operates, Defines, Declares}
 use Rattle.bk_frames.proofs.Lowering.{Down, at_most_down, levels_down, Falls, at_closing, gives_falls, operates_fall, defines_fall, declares_fall, any_falls}
-use Rattle.bk_frames.proofs.Links.{At, at_in, at_of, Ended, Decided, either_of, left, right}
+use Rattle.bk_frames.proofs.Links.{At, at_in, at_of, Ended, Decided}
 
 abbrev pub Budgets : Bool → Stack → Type 0
 Budgets b st = (x : Category) (c : w.Lookahead) (d n : ℕ) → Sized x d n → Part (Limit b) st x c d n ↔ (goes_on b st x c d n ≡ true)
@@ -27,15 +15,15 @@ pub via : {X Y Z : Type 0} → (X ↔ Y) → (Y ↔ Z) → X ↔ Z
 via f g = (λ x. g.0 (f.0 x), λ z. f.1 (g.1 z))
 
 or_in : {X Y : Type 0} → (a b : Bool) → (X → a ≡ true) → (Y → b ≡ true) → X ⊎ Y → a || b ≡ true
-or_in a b f g (inl x) = left a b (f x)
-or_in a b f g (inr y) = right a b (g y)
+or_in a b f g (inl x) = or_left a b (f x)
+or_in a b f g (inr y) = or_right a b (g y)
 
 or_of : {X Y : Type 0} → (a b : Bool) → (a ≡ true → X) → (b ≡ true → Y) → (a ≡ true) ⊎ (b ≡ true) → X ⊎ Y
 or_of a b f g (inl x) = inl (f x)
 or_of a b f g (inr y) = inr (g y)
 
 pub either : {X Y : Type 0} {a b : Bool} → (X ↔ (a ≡ true)) → (Y ↔ (b ≡ true)) → (X ⊎ Y) ↔ (a || b ≡ true)
-either {a = a} {b = b} f g = (or_in a b f.0 g.0, λ h. or_of a b f.1 g.1 (either_of a b h))
+either {a = a} {b = b} f g = (or_in a b f.0 g.0, λ h. or_of a b f.1 g.1 (or_cases a b h))
 
 pub none_is : ⊥ ↔ (false ≡ true)
 none_is = (λ x. absurd x, λ e. absurd cc)
@@ -49,11 +37,7 @@ add_none = (inl, sum_none)
 
 shut_in : (c : w.Lookahead) → AtClosing ⊥ c → false ≡ true
 shut_in w.closing x = absurd x
-shut_in w.assigning x = absurd x
-shut_in w.listing x = absurd x
-shut_in w.going x = absurd x
-shut_in w.repeating x = absurd x
-shut_in w.operating x = absurd x
+shut_in y x = absurd x
 
 pub shut : (c : w.Lookahead) → AtClosing ⊥ c ↔ (false ≡ true)
 shut c = (shut_in c, λ e. absurd cc)
@@ -72,19 +56,11 @@ operating_as f c = at_as w.operating f c
 
 any_closed_of : {X : Type 0} → Any (AtClosing X) → X
 any_closed_of (w.closing, x) = x
-any_closed_of (w.assigning, x) = absurd x
-any_closed_of (w.listing, x) = absurd x
-any_closed_of (w.going, x) = absurd x
-any_closed_of (w.repeating, x) = absurd x
-any_closed_of (w.operating, x) = absurd x
+any_closed_of (y, x) = absurd x
 
 any_listed_of : {X : Type 0} → Any (AtListing X) → X
 any_listed_of (w.listing, x) = x
-any_listed_of (w.closing, x) = absurd x
-any_listed_of (w.assigning, x) = absurd x
-any_listed_of (w.going, x) = absurd x
-any_listed_of (w.repeating, x) = absurd x
-any_listed_of (w.operating, x) = absurd x
+any_listed_of (y, x) = absurd x
 
 pub any_closing : (X : Type 0) → Any (AtClosing X) ↔ X
 any_closing X = (any_closed_of, λ x. (w.closing, x))
@@ -103,11 +79,7 @@ listing_any X c = listing_as closed_any c
 
 pub sum_closing : (X Y : Type 0) (c : w.Lookahead) → AtClosing (X ⊎ Y) c ↔ (AtClosing X c ⊎ AtClosing Y c)
 sum_closing X Y w.closing = (λ h. h, λ h. h)
-sum_closing X Y w.assigning = (λ h. absurd h, sum_none)
-sum_closing X Y w.listing = (λ h. absurd h, sum_none)
-sum_closing X Y w.going = (λ h. absurd h, sum_none)
-sum_closing X Y w.repeating = (λ h. absurd h, sum_none)
-sum_closing X Y w.operating = (λ h. absurd h, sum_none)
+sum_closing x y z = (λ h. absurd h, sum_none)
 
 none_sum : {X : Type 0} → ⊥ ⊎ X → X
 none_sum (inl x) = absurd x
@@ -116,10 +88,7 @@ none_sum (inr x) = x
 pub split_argument : (X Y : Type 0) (c : w.Lookahead) → AtArgument X Y c ↔ (AtClosing X c ⊎ AtListing Y c)
 split_argument X Y w.closing = (inl, sum_none)
 split_argument X Y w.listing = (inr, none_sum)
-split_argument X Y w.assigning = (λ h. absurd h, sum_none)
-split_argument X Y w.going = (λ h. absurd h, sum_none)
-split_argument X Y w.repeating = (λ h. absurd h, sum_none)
-split_argument X Y w.operating = (λ h. absurd h, sum_none)
+split_argument x y z = (λ h. absurd h, sum_none)
 
 other_at : {X Y : Type 0} {k c : w.Lookahead} → (k ≡ c → ⊥) → ((k ≡ c) × X) ⊎ Y → Y
 other_at f (inl h) = absurd (f h.0)
@@ -132,18 +101,11 @@ assignment_of (inr h) = absurd h
 pub split_assignment : (X Y : Type 0) (c : w.Lookahead) → AtAssignment X Y c ↔ (At w.assigning X c ⊎ AtListing Y c)
 split_assignment X Y w.assigning = (λ h. inl (refl, h), assignment_of)
 split_assignment X Y w.listing = (inr, other_at (λ e. absurd cc))
-split_assignment X Y w.closing = (λ h. absurd h, other_at (λ e. absurd cc))
-split_assignment X Y w.going = (λ h. absurd h, other_at (λ e. absurd cc))
-split_assignment X Y w.repeating = (λ h. absurd h, other_at (λ e. absurd cc))
-split_assignment X Y w.operating = (λ h. absurd h, other_at (λ e. absurd cc))
+split_assignment x y z = (λ h. absurd h, other_at (λ e. absurd cc))
 
 pub split_part : (F G : w.Lookahead → Type 0) (c : w.Lookahead) → AtPart F G c ↔ (Unlisted F c ⊎ AtListing (Any (Unlisted G)) c)
 split_part F G w.listing = (inr, none_sum)
-split_part F G w.closing = (inl, sum_none)
-split_part F G w.assigning = (inl, sum_none)
-split_part F G w.going = (inl, sum_none)
-split_part F G w.repeating = (inl, sum_none)
-split_part F G w.operating = (inl, sum_none)
+split_part x y z = (inl, sum_none)
 
 at_other : {X Y : Type 0} {k c : w.Lookahead} → (k ≡ c → ⊥) → X ⊎ ((k ≡ c) × Y) → X
 at_other f (inl x) = x
@@ -154,12 +116,8 @@ at_same (inl x) = absurd x
 at_same (inr h) = h.1
 
 pub split_closed : (F : ℕ → ℕ → w.Lookahead → Type 0) (d n : ℕ) (c : w.Lookahead) → w.Closed F d n c ↔ (Ended (F d n) c ⊎ At w.repeating (Any (F (d + 1) (n + 1))) c)
-split_closed F d n w.closing = (inl, at_other (λ e. absurd cc))
-split_closed F d n w.assigning = (inl, at_other (λ e. absurd cc))
-split_closed F d n w.listing = (inl, at_other (λ e. absurd cc))
-split_closed F d n w.going = (inl, at_other (λ e. absurd cc))
-split_closed F d n w.operating = (inl, at_other (λ e. absurd cc))
 split_closed F d n w.repeating = (λ h. inr (refl, h), at_same)
+split_closed x d n y = (inl, at_other (λ e. absurd cc))
 
 at_none : {X Y Z : Type 0} {c : w.Lookahead} → (w.going ≡ c → ⊥) → (w.operating ≡ c → ⊥) → X ⊎ (((w.going ≡ c) × Y) ⊎ ((w.operating ≡ c) × Z)) → X
 at_none f k (inl x) = x
@@ -177,12 +135,10 @@ at_operating (inr (inl h)) = let e : w.going ≡ w.operating = h.0 in absurd cc
 at_operating (inr (inr h)) = h.1
 
 pub split_answered : (G : Form → ℕ → ℕ → w.Lookahead → Type 0) (H : ℕ → ℕ → Type 0) (d n : ℕ) (c : w.Lookahead) → Answered G H d n c ↔ (Ended (G f.Callable (d + 1) (n + 1)) c ⊎ (At w.going (Any (G f.Call (d + 2) (n + 2))) c ⊎ At w.operating (H (d + 1) (n + 1)) c))
-split_answered G H d n w.closing = (inl, at_none (λ e. absurd cc) (λ e. absurd cc))
-split_answered G H d n w.assigning = (inl, at_none (λ e. absurd cc) (λ e. absurd cc))
-split_answered G H d n w.listing = (inl, at_none (λ e. absurd cc) (λ e. absurd cc))
 split_answered G H d n w.repeating = (λ h. absurd h, at_none (λ e. absurd cc) (λ e. absurd cc))
 split_answered G H d n w.going = (λ h. inr (inl (refl, h)), at_going)
 split_answered G H d n w.operating = (λ h. inr (inr (refl, h)), at_operating)
+split_answered x y d n z = (inl, at_none (λ e. absurd cc) (λ e. absurd cc))
 
 -- ---- the start of a command
 
@@ -210,10 +166,7 @@ listed f (inr (inr h)) = absurd (f h)
 pub split_start : (F : ℕ → ℕ → w.Lookahead → Type 0) (d n : ℕ) (c : w.Lookahead) → Started F f.Other d n c ↔ (Assigns F d n c ⊎ (Lists F d n c ⊎ ⊥))
 split_start F d n w.assigning = (λ h. inl (refl, h), assigned (λ z. z))
 split_start F d n w.listing = (λ h. inr (inl h), listed (λ z. z))
-split_start F d n w.closing = (λ h. absurd h, third (λ e. absurd cc))
-split_start F d n w.going = (λ h. absurd h, third (λ e. absurd cc))
-split_start F d n w.repeating = (λ h. absurd h, third (λ e. absurd cc))
-split_start F d n w.operating = (λ h. absurd h, third (λ e. absurd cc))
+split_start x d n y = (λ h. absurd h, third (λ e. absurd cc))
 
 no_call : {Y : Type 0} {c : w.Lookahead} → (w.repeating ≡ c → ⊥) → ⊥ ⊎ ((w.repeating ≡ c) × Y) → ⊥
 no_call f (inl h) = h
@@ -235,9 +188,7 @@ pub split_start_label : (F : ℕ → ℕ → w.Lookahead → Type 0) (d n : ℕ)
 split_start_label F d n w.assigning = (λ h. inl (refl, h), assigned sum_none)
 split_start_label F d n w.listing = (λ h. inr (inl h), listed sum_none)
 split_start_label F d n w.closing = (λ h. inr (inr (inl h)), λ h. sum_none (third (λ e. absurd cc) h))
-split_start_label F d n w.going = (λ h. absurd h, λ h. sum_none (third (λ e. absurd cc) h))
-split_start_label F d n w.repeating = (λ h. absurd h, λ h. sum_none (third (λ e. absurd cc) h))
-split_start_label F d n w.operating = (λ h. absurd h, λ h. sum_none (third (λ e. absurd cc) h))
+split_start_label x d n y = (λ h. absurd h, λ h. sum_none (third (λ e. absurd cc) h))
 
 with_command : (F : ℕ → ℕ → w.Lookahead → Type 0) → Any (w.Missing F 1 1) ⊎ Any (F 2 2) → Any (w.Missing F 1 1)
 with_command F (inl h) = h
@@ -257,11 +208,7 @@ call_whole G k d n = (whole_of G k d n, inl)
 
 callable_start : (F : ℕ → ℕ → w.Lookahead → Type 0) (d n : ℕ) (c : w.Lookahead) → Started F f.Callable d n c ↔ Started F f.Other d n c
 callable_start F d n w.closing = (λ h. h, λ h. h)
-callable_start F d n w.assigning = (λ h. h, λ h. h)
-callable_start F d n w.listing = (λ h. h, λ h. h)
-callable_start F d n w.going = (λ h. h, λ h. h)
-callable_start F d n w.repeating = (λ h. h, λ h. h)
-callable_start F d n w.operating = (λ h. h, λ h. h)
+callable_start x d n y = (λ h. h, λ h. h)
 
 pub plain : (P : ℕ → ℕ → Type 0) (st : Stack) (d n : ℕ) (c : w.Lookahead) → Gives P st f.Callable d n c ↔ Gives P st f.Other d n c
 plain P (in_start st) d n c = callable_start (Does P st) d n c

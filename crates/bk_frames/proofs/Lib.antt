@@ -1,3 +1,4 @@
+mod Terms
 mod Stacks
 mod Turns
 mod Insides

@@ -1,13 +1,7 @@
 -- What the links of ways come to.
-use Rattle.std.proofs.Common.{◌≡◌, ◌⊎◌, ◌↔◌, inl, inr, ℕ, ◌+◌, Bool, true, false, ◌&&◌, ◌||◌, Option, Some, None, refl, sym, subst, arith}
+use Rattle.bk_frames.proofs.Terms.{◌≡◌, ◌⊎◌, ◌↔◌, inl, inr, ℕ, ◌+◌, Bool, true, false, ◌&&◌, ◌||◌, Option, Some, None, refl, sym, subst, arith, Closing, Assigning, Listing, Going, Repeating, Operating, Link, Following, next_of, is_next, some_next, led_following, led_by, reached, raised, Any, AtClosing, AtListing, Unlisted, Closed, Missing, Link as l, or_cases, or_left, or_right}
 use Rattle.bk_frames.specs.declared.budget.Lookahead.{Lookahead}
-use Rattle.bk_frames.specs.declared.budget.Lookahead.TheVariants.{Closing, Assigning, Listing, Going, Repeating, Operating}
-use Rattle.bk_frames.specs.declared.completion.Link.{Link}
-use Rattle.bk_frames.specs.declared.completion.Link.TheVariants as l
-use Rattle.bk_frames.specs.declared.completion.Following.{Following}
-use Rattle.bk_frames.specs.Budgets.{next_of, is_next, some_next, led_following, led_by, reached, raised}
 use Rattle.bk_frames.specs.Completing as w
-use Rattle.bk_frames.specs.Completing.{Any, AtClosing, AtListing, AtArgument, AtAssignment, AtPart, Unlisted, If, Closed, Missing, Started, Answered, Whole, Taken}
 use Rattle.bk_frames.proofs.Lowering.{Falls}
 
 -- ---- tests
@@ -24,18 +18,6 @@ first false b p = p
 pub second : (a b : Bool) → a && b ≡ true → b ≡ true
 second true b p = p
 second false b p = absurd cc
-
-pub left : (a b : Bool) → a ≡ true → a || b ≡ true
-left true b p = refl
-left false b p = absurd cc
-
-pub right : (a b : Bool) → b ≡ true → a || b ≡ true
-right true b p = refl
-right false b p = p
-
-pub either_of : (a b : Bool) → a || b ≡ true → (a ≡ true) ⊎ (b ≡ true)
-either_of true b p = inl refl
-either_of false b p = inr p
 
 pub next_in : (c : w.Lookahead) → is_next c c ≡ true
 next_in w.closing = refl
@@ -65,12 +47,12 @@ abbrev next_2 : (Lookahead → Bool) → Bool
 next_2 f = f Assigning || next_3 f
 
 pub some_in : (f : Lookahead → Bool) (k : Lookahead) → f k ≡ true → some_next f ≡ true
-some_in f Closing p = left (f Closing) (next_2 f) p
-some_in f Assigning p = right (f Closing) (next_2 f) (left (f Assigning) (next_3 f) p)
-some_in f Listing p = right (f Closing) (next_2 f) (right (f Assigning) (next_3 f) (left (f Listing) (next_4 f) p))
-some_in f Going p = right (f Closing) (next_2 f) (right (f Assigning) (next_3 f) (right (f Listing) (next_4 f) (left (f Going) (next_5 f) p)))
-some_in f Repeating p = right (f Closing) (next_2 f) (right (f Assigning) (next_3 f) (right (f Listing) (next_4 f) (right (f Going) (next_5 f) (left (f Repeating) (f Operating) p))))
-some_in f Operating p = right (f Closing) (next_2 f) (right (f Assigning) (next_3 f) (right (f Listing) (next_4 f) (right (f Going) (next_5 f) (right (f Repeating) (f Operating) p))))
+some_in f Closing p = or_left (f Closing) (next_2 f) p
+some_in f Assigning p = or_right (f Closing) (next_2 f) (or_left (f Assigning) (next_3 f) p)
+some_in f Listing p = or_right (f Closing) (next_2 f) (or_right (f Assigning) (next_3 f) (or_left (f Listing) (next_4 f) p))
+some_in f Going p = or_right (f Closing) (next_2 f) (or_right (f Assigning) (next_3 f) (or_right (f Listing) (next_4 f) (or_left (f Going) (next_5 f) p)))
+some_in f Repeating p = or_right (f Closing) (next_2 f) (or_right (f Assigning) (next_3 f) (or_right (f Listing) (next_4 f) (or_right (f Going) (next_5 f) (or_left (f Repeating) (f Operating) p))))
+some_in f Operating p = or_right (f Closing) (next_2 f) (or_right (f Assigning) (next_3 f) (or_right (f Listing) (next_4 f) (or_right (f Going) (next_5 f) (or_right (f Repeating) (f Operating) p))))
 
 abbrev Sum : (Lookahead → Bool) → Type 0
 Sum f = (k : Lookahead) × (f k ≡ true)
@@ -81,22 +63,22 @@ sum_5 f (inr p) = (Operating, p)
 
 sum_4 : (f : Lookahead → Bool) → (f Going ≡ true) ⊎ (f Repeating || f Operating ≡ true) → Sum f
 sum_4 f (inl p) = (Going, p)
-sum_4 f (inr p) = sum_5 f (either_of _ _ p)
+sum_4 f (inr p) = sum_5 f (or_cases _ _ p)
 
 sum_3 : (f : Lookahead → Bool) → (f Listing ≡ true) ⊎ (f Going || (f Repeating || f Operating) ≡ true) → Sum f
 sum_3 f (inl p) = (Listing, p)
-sum_3 f (inr p) = sum_4 f (either_of _ _ p)
+sum_3 f (inr p) = sum_4 f (or_cases _ _ p)
 
 sum_2 : (f : Lookahead → Bool) → (f Assigning ≡ true) ⊎ (f Listing || (f Going || (f Repeating || f Operating)) ≡ true) → Sum f
 sum_2 f (inl p) = (Assigning, p)
-sum_2 f (inr p) = sum_3 f (either_of _ _ p)
+sum_2 f (inr p) = sum_3 f (or_cases _ _ p)
 
 sum_1 : (f : Lookahead → Bool) → (f Closing ≡ true) ⊎ (f Assigning || (f Listing || (f Going || (f Repeating || f Operating))) ≡ true) → Sum f
 sum_1 f (inl p) = (Closing, p)
-sum_1 f (inr p) = sum_2 f (either_of _ _ p)
+sum_1 f (inr p) = sum_2 f (or_cases _ _ p)
 
 pub some_of : (f : Lookahead → Bool) → some_next f ≡ true → Sum f
-some_of f p = sum_1 f (either_of _ _ p)
+some_of f p = sum_1 f (or_cases _ _ p)
 
 abbrev pub from : w.Lookahead → Lookahead
 from w.closing = Closing
@@ -128,20 +110,11 @@ at_in w.operating c e x = (e, x)
 pub at_of : {X : Type 0} → (k c : w.Lookahead) → At k X c → (k ≡ c) × X
 at_of w.closing w.closing x = (refl, x)
 at_of w.listing w.listing x = (refl, x)
-at_of w.closing w.assigning x = absurd x
-at_of w.closing w.listing x = absurd x
-at_of w.closing w.going x = absurd x
-at_of w.closing w.repeating x = absurd x
-at_of w.closing w.operating x = absurd x
-at_of w.listing w.closing x = absurd x
-at_of w.listing w.assigning x = absurd x
-at_of w.listing w.going x = absurd x
-at_of w.listing w.repeating x = absurd x
-at_of w.listing w.operating x = absurd x
 at_of w.assigning c x = x
 at_of w.going c x = x
 at_of w.repeating c x = x
 at_of w.operating c x = x
+at_of y z x = absurd x
 
 abbrev pub Ended : (w.Lookahead → Type 0) → w.Lookahead → Type 0
 Ended F w.closing = F w.closing
@@ -193,11 +166,7 @@ reached_of k F t h d n c x =
 
 each_in : (F : ℕ → ℕ → w.Lookahead → Type 0) (d n : ℕ) (c : w.Lookahead) → F d n c → Reached l.Each F d n c
 each_in F d n w.closing x = (Closing, (refl, x))
-each_in F d n w.assigning x = (Assigning, (refl, x))
-each_in F d n w.listing x = (Listing, (refl, x))
-each_in F d n w.going x = (Going, (refl, x))
-each_in F d n w.repeating x = (Repeating, (refl, x))
-each_in F d n w.operating x = (Operating, (refl, x))
+each_in F d n c x = (from c, (refl, x))
 
 moved : (G : w.Lookahead → Type 0) (a c : w.Lookahead) → a ≡ c → G a → G c
 moved G a c e x = subst G e x
@@ -206,47 +175,31 @@ each_of : (F : ℕ → ℕ → w.Lookahead → Type 0) (d n : ℕ) (c : w.Lookah
 each_of F d n c x = moved (F d n) (next_of x.0) c x.1.0 x.1.1
 
 unlisted_in : (F : ℕ → ℕ → w.Lookahead → Type 0) (d n : ℕ) (c : w.Lookahead) → Unlisted (F d n) c → Reached l.Unlisted F d n c
-unlisted_in F d n w.closing x = (Closing, (refl, x))
-unlisted_in F d n w.assigning x = (Assigning, (refl, x))
 unlisted_in F d n w.listing x = absurd x
-unlisted_in F d n w.going x = (Going, (refl, x))
-unlisted_in F d n w.repeating x = (Repeating, (refl, x))
-unlisted_in F d n w.operating x = (Operating, (refl, x))
+unlisted_in F d n c x = (from c, (refl, x))
 
 unlisted_of : (F : ℕ → ℕ → w.Lookahead → Type 0) (d n : ℕ) (c : w.Lookahead) → Reached l.Unlisted F d n c → Unlisted (F d n) c
-unlisted_of F d n c (Closing, x) = moved (Unlisted (F d n)) w.closing c x.0 x.1
-unlisted_of F d n c (Assigning, x) = moved (Unlisted (F d n)) w.assigning c x.0 x.1
 unlisted_of F d n c (Listing, x) = absurd x
-unlisted_of F d n c (Going, x) = moved (Unlisted (F d n)) w.going c x.0 x.1
-unlisted_of F d n c (Repeating, x) = moved (Unlisted (F d n)) w.repeating c x.0 x.1
-unlisted_of F d n c (Operating, x) = moved (Unlisted (F d n)) w.operating c x.0 x.1
+unlisted_of F d n c (j, x) = moved (Unlisted (F d n)) (next_of j) c x.0 x.1
 
 ended_in : (F : ℕ → ℕ → w.Lookahead → Type 0) (d n : ℕ) (c : w.Lookahead) → Ended (F d n) c → Reached l.Ended F d n c
 ended_in F d n w.closing x = (Closing, (refl, x))
 ended_in F d n w.assigning x = (Assigning, (refl, x))
 ended_in F d n w.listing x = (Listing, (refl, x))
-ended_in F d n w.going x = absurd x
-ended_in F d n w.repeating x = absurd x
-ended_in F d n w.operating x = absurd x
+ended_in y d n z x = absurd x
 
 ended_of : (F : ℕ → ℕ → w.Lookahead → Type 0) (d n : ℕ) (c : w.Lookahead) → Reached l.Ended F d n c → Ended (F d n) c
 ended_of F d n c (Closing, x) = moved (Ended (F d n)) w.closing c x.0 x.1
 ended_of F d n c (Assigning, x) = moved (Ended (F d n)) w.assigning c x.0 x.1
 ended_of F d n c (Listing, x) = moved (Ended (F d n)) w.listing c x.0 x.1
-ended_of F d n c (Going, x) = absurd x
-ended_of F d n c (Repeating, x) = absurd x
-ended_of F d n c (Operating, x) = absurd x
+ended_of F d n c (y, x) = absurd x
 
 closing_in : (F : ℕ → ℕ → w.Lookahead → Type 0) (d n : ℕ) (c : w.Lookahead) → AtClosing (F d n w.closing) c → Reached l.Closing F d n c
 closing_in F d n c x = let y : (w.closing ≡ c) × F d n w.closing = at_of w.closing c x in (Closing, y)
 
 closing_of : (F : ℕ → ℕ → w.Lookahead → Type 0) (d n : ℕ) (c : w.Lookahead) → Reached l.Closing F d n c → AtClosing (F d n w.closing) c
 closing_of F d n c (Closing, x) = at_in w.closing c x.0 x.1
-closing_of F d n c (Assigning, x) = absurd x
-closing_of F d n c (Listing, x) = absurd x
-closing_of F d n c (Going, x) = absurd x
-closing_of F d n c (Repeating, x) = absurd x
-closing_of F d n c (Operating, x) = absurd x
+closing_of F d n c (y, x) = absurd x
 
 then_in : (k : Lookahead) (F : ℕ → ℕ → w.Lookahead → Type 0) (d n : ℕ) (c : w.Lookahead) → next_of k ≡ c → Any (F d n) → Reached (l.Then k) F d n c
 then_in k F d n c e x = (from x.0, (e, moved (F d n) x.0 (next_of (from x.0)) (sym (from_is x.0)) x.1))
@@ -255,69 +208,46 @@ then_of : (k : Lookahead) (F : ℕ → ℕ → w.Lookahead → Type 0) (d n : �
 then_of k F d n c x = at_in (next_of k) c x.1.0 (next_of x.0, x.1.1)
 
 then_unlisted_in : (k : Lookahead) (F : ℕ → ℕ → w.Lookahead → Type 0) (d n : ℕ) (c : w.Lookahead) → next_of k ≡ c → Any (Unlisted (F d n)) → Reached (l.ThenUnlisted k) F d n c
-then_unlisted_in k F d n c e (w.closing, x) = (Closing, (e, x))
-then_unlisted_in k F d n c e (w.assigning, x) = (Assigning, (e, x))
 then_unlisted_in k F d n c e (w.listing, x) = absurd x
-then_unlisted_in k F d n c e (w.going, x) = (Going, (e, x))
-then_unlisted_in k F d n c e (w.repeating, x) = (Repeating, (e, x))
-then_unlisted_in k F d n c e (w.operating, x) = (Operating, (e, x))
+then_unlisted_in k F d n c e (y, x) = (from y, (e, x))
 
 then_unlisted_of : (k : Lookahead) (F : ℕ → ℕ → w.Lookahead → Type 0) (d n : ℕ) (c : w.Lookahead) → Reached (l.ThenUnlisted k) F d n c → At (next_of k) (Any (Unlisted (F d n))) c
-then_unlisted_of k F d n c (Closing, x) = at_in (next_of k) c x.0 (w.closing, x.1)
-then_unlisted_of k F d n c (Assigning, x) = at_in (next_of k) c x.0 (w.assigning, x.1)
 then_unlisted_of k F d n c (Listing, x) = absurd x
-then_unlisted_of k F d n c (Going, x) = at_in (next_of k) c x.0 (w.going, x.1)
-then_unlisted_of k F d n c (Repeating, x) = at_in (next_of k) c x.0 (w.repeating, x.1)
-then_unlisted_of k F d n c (Operating, x) = at_in (next_of k) c x.0 (w.operating, x.1)
+then_unlisted_of k F d n c (j, x) = at_in (next_of k) c x.0 (next_of j, x.1)
 
 -- one command more around it is no better where none has to be
 one_more : (F : ℕ → ℕ → w.Lookahead → Type 0) → Falls F → (k : Lookahead) (d n : ℕ) (c : w.Lookahead) → next_of k ≡ c → Any (F (d + 1) (n + 1)) → Reached (l.ThenClosed k) F d n c
-one_more F f k d n c e (w.closing, x) = (Closing, (e, f d (d + 1) n (n + 1) (omega arith) (omega arith) w.closing x))
-one_more F f k d n c e (w.assigning, x) = (Assigning, (e, f d (d + 1) n (n + 1) (omega arith) (omega arith) w.assigning x))
-one_more F f k d n c e (w.listing, x) = (Listing, (e, f d (d + 1) n (n + 1) (omega arith) (omega arith) w.listing x))
 one_more F f k d n c e (w.going, x) = (Going, (e, x))
 one_more F f k d n c e (w.repeating, x) = (Repeating, (e, x))
 one_more F f k d n c e (w.operating, x) = (Operating, (e, x))
+one_more F f k d n c e (y, x) = (from y, (e, f d (d + 1) n (n + 1) (omega arith) (omega arith) y x))
 
 then_closed_in : (F : ℕ → ℕ → w.Lookahead → Type 0) → Falls F → (k : Lookahead) (d n : ℕ) (c : w.Lookahead) → next_of k ≡ c → Any (Closed F d n) → Reached (l.ThenClosed k) F d n c
-then_closed_in F f k d n c e (w.closing, x) = (Closing, (e, x))
-then_closed_in F f k d n c e (w.assigning, x) = (Assigning, (e, x))
-then_closed_in F f k d n c e (w.listing, x) = (Listing, (e, x))
 then_closed_in F f k d n c e (w.going, x) = absurd x
 then_closed_in F f k d n c e (w.repeating, x) = one_more F f k d n c e x
 then_closed_in F f k d n c e (w.operating, x) = absurd x
+then_closed_in F f k d n c e (y, x) = (from y, (e, x))
 
 then_closed_of : (F : ℕ → ℕ → w.Lookahead → Type 0) (k : Lookahead) (d n : ℕ) (c : w.Lookahead) → Reached (l.ThenClosed k) F d n c → At (next_of k) (Any (Closed F d n)) c
-then_closed_of F k d n c (Closing, x) = at_in (next_of k) c x.0 (w.closing, x.1)
-then_closed_of F k d n c (Assigning, x) = at_in (next_of k) c x.0 (w.assigning, x.1)
-then_closed_of F k d n c (Listing, x) = at_in (next_of k) c x.0 (w.listing, x.1)
 then_closed_of F k d n c (Going, x) = at_in (next_of k) c x.0 (w.repeating, (w.going, x.1))
 then_closed_of F k d n c (Repeating, x) = at_in (next_of k) c x.0 (w.repeating, (w.repeating, x.1))
 then_closed_of F k d n c (Operating, x) = at_in (next_of k) c x.0 (w.repeating, (w.operating, x.1))
+then_closed_of F k d n c (j, x) = at_in (next_of k) c x.0 (next_of j, x.1)
 
 one_more_missing : (F : ℕ → ℕ → w.Lookahead → Type 0) → Falls F → (k : Lookahead) (d n : ℕ) (c : w.Lookahead) → next_of k ≡ c → Any (F (d + 1) (n + 1)) → Reached (l.ThenMissing k) F d n c
-one_more_missing F f k d n c e (w.closing, x) = (Closing, (e, f d (d + 1) n (n + 1) (omega arith) (omega arith) w.closing x))
-one_more_missing F f k d n c e (w.assigning, x) = (Assigning, (e, f d (d + 1) n (n + 1) (omega arith) (omega arith) w.assigning x))
-one_more_missing F f k d n c e (w.listing, x) = (Listing, (e, f d (d + 1) n (n + 1) (omega arith) (omega arith) w.listing x))
 one_more_missing F f k d n c e (w.going, x) = (Going, (e, x))
 one_more_missing F f k d n c e (w.repeating, x) = (Repeating, (e, x))
-one_more_missing F f k d n c e (w.operating, x) = (Operating, (e, f d (d + 1) n (n + 1) (omega arith) (omega arith) w.operating x))
+one_more_missing F f k d n c e (y, x) = (from y, (e, f d (d + 1) n (n + 1) (omega arith) (omega arith) y x))
 
 then_missing_in : (F : ℕ → ℕ → w.Lookahead → Type 0) → Falls F → (k : Lookahead) (d n : ℕ) (c : w.Lookahead) → next_of k ≡ c → Any (Missing F d n) → Reached (l.ThenMissing k) F d n c
-then_missing_in F f k d n c e (w.closing, x) = (Closing, (e, x))
-then_missing_in F f k d n c e (w.assigning, x) = (Assigning, (e, x))
-then_missing_in F f k d n c e (w.listing, x) = (Listing, (e, x))
 then_missing_in F f k d n c e (w.going, x) = absurd x
 then_missing_in F f k d n c e (w.repeating, x) = one_more_missing F f k d n c e x
-then_missing_in F f k d n c e (w.operating, x) = (Operating, (e, x))
+then_missing_in F f k d n c e (y, x) = (from y, (e, x))
 
 then_missing_of : (F : ℕ → ℕ → w.Lookahead → Type 0) (k : Lookahead) (d n : ℕ) (c : w.Lookahead) → Reached (l.ThenMissing k) F d n c → At (next_of k) (Any (Missing F d n)) c
-then_missing_of F k d n c (Closing, x) = at_in (next_of k) c x.0 (w.closing, x.1)
-then_missing_of F k d n c (Assigning, x) = at_in (next_of k) c x.0 (w.assigning, x.1)
-then_missing_of F k d n c (Listing, x) = at_in (next_of k) c x.0 (w.listing, x.1)
 then_missing_of F k d n c (Going, x) = at_in (next_of k) c x.0 (w.repeating, (w.going, x.1))
 then_missing_of F k d n c (Repeating, x) = at_in (next_of k) c x.0 (w.repeating, (w.repeating, x.1))
-then_missing_of F k d n c (Operating, x) = at_in (next_of k) c x.0 (w.operating, x.1)
+then_missing_of F k d n c (j, x) = at_in (next_of k) c x.0 (next_of j, x.1)
 
 -- ---- the test of a link
 

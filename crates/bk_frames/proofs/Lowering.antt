@@ -1,17 +1,6 @@
 -- What can be completed with a part can be completed with a smaller one.
-use Rattle.std.proofs.Common.{◌≤◌, ℕ, ◌+◌, max, Bool, true, false, ◌==◌, length, inl, inr, arith}
-use Rattle.bk_grammar.specs.declared.symbols.Guard.{Guard}
-use Rattle.bk_grammar.specs.declared.symbols.Guard.TheVariants as g
-use Rattle.bk_frames.specs.declared.size.Form.{Form}
-use Rattle.bk_frames.specs.declared.size.Form.TheVariants.{Label, Call, Callable, Other}
-use Rattle.bk_tree.specs.Limits.{depth, depth_of_each, depth_of_action, depth_of_actions, depth_of_declarations, depth_of_items, depth_of_definitions, depth_of_starts, nodes, nodes_of_each, nodes_of_action, nodes_of_actions, nodes_of_declarations, nodes_of_items, nodes_of_definitions, nodes_of_starts}
-use Rattle.std.specs.Prelude.{nat_lt}
-use Rattle.bk_grammar.specs.Rows.{inner}
-use Rattle.bk_tree.specs.Parts.{size, start_count}
-use Rattle.bk_grammar.specs.Machine.{Stack, in_section, in_block, in_let, in_parens, in_unary, in_binary, in_chain, in_then, in_else, in_args, in_table, in_start, in_dests, in_values, in_guard, in_test, in_result, in_while, in_from, in_to, in_by, in_item, in_function, in_value, in_vector, in_valof, in_label, in_guarded, in_default, in_do, in_or, in_for, in_routine}
-use Rattle.bk_frames.specs.Sizes.{owed}
-use Rattle.bk_frames.specs.Bounds.{AtMost, LevelsAtMost}
-use Rattle.bk_frames.specs.Completing.{Lookahead, closing, assigning, listing, going, repeating, operating, Any, AtClosing, AtListing, AtArgument, AtAssignment, Unlisted, AtPart, If, Closed, Missing, Started, Answered, Whole, Guarded, Taken, Gives, Does, Operates, Defines, Declares}
+use Rattle.bk_frames.proofs.Terms.{◌≤◌, ℕ, ◌+◌, max, Bool, true, false, ◌==◌, length, inl, inr, arith, Guard, Form, depth, depth_of_each, depth_of_action, depth_of_actions, depth_of_declarations, depth_of_items, depth_of_definitions, depth_of_starts, nodes, nodes_of_each, nodes_of_action, nodes_of_actions, nodes_of_declarations, nodes_of_items, nodes_of_definitions, nodes_of_starts, nat_lt, inner, size, start_count, Stack, in_section, in_block, in_let, in_parens, in_unary, in_binary, in_chain, in_then, in_else, in_args, in_table, in_start, in_dests, in_values, in_guard, in_test, in_result, in_while, in_from, in_to, in_by, in_item, in_function, in_value, in_vector, in_valof, in_label, in_guarded, in_default, in_do, in_or, in_for, in_routine, owed, AtMost, LevelsAtMost, Lookahead, closing, assigning, listing, going, repeating, operating, Any, AtClosing, AtListing, AtArgument, AtAssignment, Unlisted, AtPart, If, Closed, Missing, Started, Answered, Whole, Guarded, Taken, Gives, Does, Operates, Defines, Declares, Guard as g}
+use Rattle.bk_frames.specs.declared.size.Form.TheVariants.{Call, Callable, Other}
 
 -- a smaller section has the property too
 abbrev pub Down : (ℕ → ℕ → Type 0) → Type 0
@@ -28,74 +17,47 @@ Falls F = (d e n m : ℕ) → d ≤ e → n ≤ m → (c : Lookahead) → F e m 
 
 pub at_closing : {X Y : Type 0} → (X → Y) → (c : Lookahead) → AtClosing X c → AtClosing Y c
 at_closing f closing h = f h
-at_closing f assigning h = h
-at_closing f listing h = h
-at_closing f going h = h
-at_closing f operating h = h
-at_closing f repeating h = h
+at_closing f x h = h
 
 pub at_listing : {X Y : Type 0} → (X → Y) → (c : Lookahead) → AtListing X c → AtListing Y c
 at_listing f listing h = f h
-at_listing f closing h = h
-at_listing f assigning h = h
-at_listing f going h = h
-at_listing f operating h = h
-at_listing f repeating h = h
+at_listing f x h = h
 
 pub at_argument : {X Y A B : Type 0} → (X → Y) → (A → B) → (c : Lookahead) → AtArgument X A c → AtArgument Y B c
 at_argument f k closing h = f h
 at_argument f k listing h = k h
-at_argument f k assigning h = h
-at_argument f k going h = h
-at_argument f k operating h = h
-at_argument f k repeating h = h
+at_argument f k x h = h
 
 pub at_assignment : {X Y A B : Type 0} → (X → Y) → (A → B) → (c : Lookahead) → AtAssignment X A c → AtAssignment Y B c
 at_assignment f k assigning h = f h
 at_assignment f k listing h = k h
-at_assignment f k closing h = h
-at_assignment f k going h = h
-at_assignment f k operating h = h
-at_assignment f k repeating h = h
+at_assignment f k x h = h
 
 pub any : {F G : Lookahead → Type 0} → ((c : Lookahead) → F c → G c) → Any F → Any G
 any f h = (h.0, f h.0 h.1)
 
 pub unlisted : {F G : Lookahead → Type 0} → ((c : Lookahead) → F c → G c) → (c : Lookahead) → Unlisted F c → Unlisted G c
 unlisted f listing h = h
-unlisted f closing h = f closing h
-unlisted f assigning h = f assigning h
-unlisted f going h = f going h
-unlisted f operating h = f operating h
-unlisted f repeating h = f repeating h
+unlisted f x h = f x h
 
 pub at_part : {F G A B : Lookahead → Type 0} → ((c : Lookahead) → F c → G c) → ((c : Lookahead) → A c → B c) → (c : Lookahead) → AtPart F A c → AtPart G B c
 at_part f k listing h = any (unlisted k) h
-at_part f k closing h = f closing h
-at_part f k assigning h = f assigning h
-at_part f k going h = f going h
-at_part f k operating h = f operating h
-at_part f k repeating h = f repeating h
+at_part f k x h = f x h
 
 pub either : {F G A B : Lookahead → Type 0} → (b : Bool) → ((c : Lookahead) → F c → G c) → ((c : Lookahead) → A c → B c) → (c : Lookahead) → If b F A c → If b G B c
 either true f k c h = f c h
 either false f k c h = k c h
 
 pub closed_falls : (F : ℕ → ℕ → Lookahead → Type 0) → Falls F → Falls (Closed F)
-closed_falls F f d e n m p q closing h = f d e n m p q closing h
-closed_falls F f d e n m p q assigning h = f d e n m p q assigning h
-closed_falls F f d e n m p q listing h = f d e n m p q listing h
 closed_falls F f d e n m p q going h = h
 closed_falls F f d e n m p q operating h = h
 closed_falls F f d e n m p q repeating h = any (f (d + 1) (e + 1) (n + 1) (m + 1) (omega (arith, p)) (omega (arith, q))) h
+closed_falls F f d e n m p q x h = f d e n m p q x h
 
 pub missing_falls : (F : ℕ → ℕ → Lookahead → Type 0) → Falls F → Falls (Missing F)
-missing_falls F f d e n m p q closing h = f d e n m p q closing h
-missing_falls F f d e n m p q assigning h = f d e n m p q assigning h
-missing_falls F f d e n m p q listing h = f d e n m p q listing h
 missing_falls F f d e n m p q going h = h
-missing_falls F f d e n m p q operating h = f d e n m p q operating h
 missing_falls F f d e n m p q repeating h = any (f (d + 1) (e + 1) (n + 1) (m + 1) (omega (arith, p)) (omega (arith, q))) h
+missing_falls F f d e n m p q x h = f d e n m p q x h
 
 pub any_falls : (F : ℕ → ℕ → Lookahead → Type 0) → Falls F → (d e n m : ℕ) → d ≤ e → n ≤ m → Any (F e m) → Any (F d n)
 any_falls F f d e n m p q h = any (f d e n m p q) h
@@ -109,30 +71,15 @@ any_closed F f d e n m p q h = any (closed_falls F f d e n m p q) h
 started_falls : (F : ℕ → ℕ → Lookahead → Type 0) → Falls F → (f : Form) → Falls (Started F f)
 started_falls F k f d e n m p q assigning h = any_closed F k (max d 1 + 1) (max e 1 + 1) (n + 2) (m + 2) (omega (arith, p)) (omega (arith, q)) h
 started_falls F k f d e n m p q listing h = any_closed F k (max d 1 + 1) (max e 1 + 1) (n + 4) (m + 4) (omega (arith, p)) (omega (arith, q)) h
-started_falls F k Label d e n m p q closing h = h
 started_falls F k Call d e n m p q closing h = k d e n m p q closing h
 started_falls F k Call d e n m p q repeating h = any_falls F k (d + 1) (e + 1) (n + 1) (m + 1) (omega (arith, p)) (omega (arith, q)) h
-started_falls F k Label d e n m p q going h = h
-started_falls F k Label d e n m p q operating h = h
-started_falls F k Label d e n m p q repeating h = h
-started_falls F k Call d e n m p q going h = h
-started_falls F k Call d e n m p q operating h = h
-started_falls F k Callable d e n m p q closing h = h
-started_falls F k Callable d e n m p q going h = h
-started_falls F k Callable d e n m p q operating h = h
-started_falls F k Callable d e n m p q repeating h = h
-started_falls F k Other d e n m p q closing h = h
-started_falls F k Other d e n m p q going h = h
-started_falls F k Other d e n m p q operating h = h
-started_falls F k Other d e n m p q repeating h = h
+started_falls x k y d e n m p q z h = h
 
 answered_falls : (G : Form → ℕ → ℕ → Lookahead → Type 0) → ((f : Form) → Falls (G f)) → (H : ℕ → ℕ → Type 0) → Down H → Falls (Answered G H)
 answered_falls G k H j d e n m p q going h = any (k Call (d + 2) (e + 2) (n + 2) (m + 2) (omega (arith, p)) (omega (arith, q))) h
 answered_falls G k H j d e n m p q operating h = j (d + 1) (e + 1) (n + 1) (m + 1) (omega (arith, p)) (omega (arith, q)) h
 answered_falls G k H j d e n m p q repeating h = h
-answered_falls G k H j d e n m p q closing h = k Callable (d + 1) (e + 1) (n + 1) (m + 1) (omega (arith, p)) (omega (arith, q)) closing h
-answered_falls G k H j d e n m p q assigning h = k Callable (d + 1) (e + 1) (n + 1) (m + 1) (omega (arith, p)) (omega (arith, q)) assigning h
-answered_falls G k H j d e n m p q listing h = k Callable (d + 1) (e + 1) (n + 1) (m + 1) (omega (arith, p)) (omega (arith, q)) listing h
+answered_falls G k H j d e n m p q x h = k Callable (d + 1) (e + 1) (n + 1) (m + 1) (omega (arith, p)) (omega (arith, q)) x h
 
 pub whole_falls : (G : Form → ℕ → ℕ → Lookahead → Type 0) → ((f : Form) → Falls (G f)) → (f : Form) → (d e n m : ℕ) → d ≤ e → n ≤ m → Whole G f e m → Whole G f d n
 whole_falls G k f d e n m p q (inl h) = inl (any (k f d e n m p q) h)

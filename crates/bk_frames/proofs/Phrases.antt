@@ -1,26 +1,8 @@
 -- The ways of an expression that was begun, and of what waits for one, are the ways on.
-use Rattle.std.proofs.Common.{◌≡◌, ◌↔◌, ℕ, ◌+◌, ◌==◌, max, not, Bool, true, false, List, length, refl, arith}
-use Rattle.std.specs.Prelude.{nat_lt}
-use Rattle.bk_tree.specs.declared.tree.Operator.{Operator}
-use Rattle.bk_tree.specs.declared.tree.Prefix.{Prefix}
-use Rattle.bk_tree.specs.declared.tree.Sort.{Sort}
-use Rattle.bk_grammar.specs.declared.symbols.Guard.{Guard}
-use Rattle.bk_grammar.specs.declared.symbols.Guard.TheVariants as g
+use Rattle.bk_frames.proofs.Terms.{◌≡◌, ◌↔◌, ℕ, ◌+◌, ◌==◌, max, not, Bool, true, false, List, length, refl, arith, nat_lt, Operator, Prefix, Sort, Guard, Closing, Assigning, Listing, Repeating, Form, Mention, Expressions, Action, Items, Starts, none, more, depth, depth_of_each, depth_of_action, depth_of_items, depth_of_starts, nodes, nodes_of_each, nodes_of_action, nodes_of_items, nodes_of_starts, inner, size, start_count, Stack, in_parens, in_unary, in_binary, in_chain, in_then, in_else, in_args, in_table, in_start, in_dests, in_values, in_guard, in_test, in_result, in_while, in_from, in_to, in_by, in_item, in_function, in_value, in_vector, owed, Limit, is_tight, Tight, Closes, Part, led, goes_on, completions_of_binary, completions_of_values, completions_of_starts, Any, AtClosing, AtListing, If, Taken, Gives, Does, Operates, Defines, Guard as g, Link as l, Form as f}
 use Rattle.bk_frames.specs.declared.budget.Category.TheVariants.{Expression, Label, Call, Operated, Command, Definition, Declaration, Closed}
-use Rattle.bk_frames.specs.declared.budget.Lookahead.TheVariants.{Closing, Assigning, Listing, Repeating}
-use Rattle.bk_frames.specs.declared.completion.Link.TheVariants as l
-use Rattle.bk_frames.specs.declared.size.Form.{Form}
-use Rattle.bk_frames.specs.declared.size.Form.TheVariants as f
 use Rattle.bk_tree.specs.Tree as r
-use Rattle.bk_tree.specs.Tree.{Mention, Expressions, Action, Actions, Declarations, Items, Definitions, Starts, none, more, no_items, item}
-use Rattle.bk_tree.specs.Limits.{depth, depth_of_each, depth_of_action, depth_of_items, depth_of_starts, nodes, nodes_of_each, nodes_of_action, nodes_of_items, nodes_of_starts}
-use Rattle.bk_grammar.specs.Rows.{inner}
-use Rattle.bk_tree.specs.Parts.{size, start_count}
-use Rattle.bk_grammar.specs.Machine.{Stack, in_parens, in_unary, in_binary, in_chain, in_then, in_else, in_args, in_table, in_start, in_dests, in_values, in_guard, in_test, in_result, in_while, in_from, in_to, in_by, in_item, in_function, in_value, in_vector}
-use Rattle.bk_frames.specs.Sizes.{owed}
-use Rattle.bk_frames.specs.Budgets.{Limit, is_tight, Tight, Closes, Part, led, goes_on, completions_of_binary, completions_of_values, completions_of_starts}
 use Rattle.bk_frames.specs.Completing as w
-use Rattle.bk_frames.specs.Completing.{Any, AtClosing, AtListing, AtArgument, AtAssignment, AtPart, Unlisted, If, Started, Answered, Whole, Taken, Gives, Does, Operates, Defines, Declares, Misses}
 use Rattle.bk_frames.proofs.Lowering.{gives_falls, does_falls}
 use Rattle.bk_frames.proofs.Links.{link_test}
 use Rattle.bk_frames.proofs.Joints.{Budgets, limit_down, via, either, none_is, add_none, shut, closing_as, listing_as, closing_any, listing_any, sum_closing, split_argument, split_assignment, split_part, split_closed, split_start, split_start_call, split_start_label, label_closing, call_whole, callable, defined, declared, operated, defined_falls, declared_falls, operated_falls, loose, tight}
@@ -111,11 +93,7 @@ vector_ b st k xs is h g c d n = starts_by b st xs is h (length xs == start_coun
 
 pub guard_ : (b : Bool) (st : Stack) (k : Guard) (s : ℕ) → Budgets b st → (v : Form) (c : w.Lookahead) (d n : ℕ) → Gives (Limit b) (in_guard k s st) v d n c ↔ (goes_on b (in_guard k s st) Expression c d n ≡ true)
 guard_ b st g.Case s h v c d n = via (sum_closing _ _ c) (either (link_test (l.ThenMissing Closing) (Does (Limit b) st) (does_falls (Limit b) (limit_down b) st) (goes_on b st Command) (λ j e m. h Command j e m tt) (d + 1) _ (n + 1) _ c (omega arith) (omega arith)) (link_test (l.Then Closing) (Does (Limit b) st) (does_falls (Limit b) (limit_down b) st) (goes_on b st Command) (λ j e m. h Command j e m tt) (max d 1 + 1) _ (n + 2) _ c (omega arith) (omega arith)))
-guard_ b st g.If s h v c d n = link_test (l.Then Closing) (Does (Limit b) st) (does_falls (Limit b) (limit_down b) st) (goes_on b st Command) (λ j e m. h Command j e m tt) (max d 1 + 1) _ (n + 2) _ c (omega arith) (omega arith)
-guard_ b st g.Unless s h v c d n = link_test (l.Then Closing) (Does (Limit b) st) (does_falls (Limit b) (limit_down b) st) (goes_on b st Command) (λ j e m. h Command j e m tt) (max d 1 + 1) _ (n + 2) _ c (omega arith) (omega arith)
-guard_ b st g.While s h v c d n = link_test (l.Then Closing) (Does (Limit b) st) (does_falls (Limit b) (limit_down b) st) (goes_on b st Command) (λ j e m. h Command j e m tt) (max d 1 + 1) _ (n + 2) _ c (omega arith) (omega arith)
-guard_ b st g.Until s h v c d n = link_test (l.Then Closing) (Does (Limit b) st) (does_falls (Limit b) (limit_down b) st) (goes_on b st Command) (λ j e m. h Command j e m tt) (max d 1 + 1) _ (n + 2) _ c (omega arith) (omega arith)
-guard_ b st g.SwitchOn s h v c d n = link_test (l.Then Closing) (Does (Limit b) st) (does_falls (Limit b) (limit_down b) st) (goes_on b st Command) (λ j e m. h Command j e m tt) (max d 1 + 1) _ (n + 2) _ c (omega arith) (omega arith)
+guard_ b st x s h v c d n = link_test (l.Then Closing) (Does (Limit b) st) (does_falls (Limit b) (limit_down b) st) (goes_on b st Command) (λ j e m. h Command j e m tt) (max d 1 + 1) _ (n + 2) _ c (omega arith) (omega arith)
 
 pub binary_by : (b : Bool) (st : Stack) (a : r.Expression) → Budgets b st → (t u : Bool) (c : w.Lookahead) (d n : ℕ) → Gives (Limit b) st f.Other (max (depth a) d + 1) (nodes a + n + 1) c ↔ (led (completions_of_binary t u (depth a) (nodes a)) (goes_on b st) Expression c d n ≡ true)
 binary_by b st a h false u c d n = link_test l.Each (Gives (Limit b) st f.Other) (gives_falls (Limit b) (limit_down b) st f.Other) (goes_on b st Expression) (λ j e m. h Expression j e m tt) (max (depth a) d + 1) _ (nodes a + n + 1) _ c (omega arith) (omega arith)

@@ -1,18 +1,7 @@
 -- Each state that fits can be completed, if nothing is asked of the section.
-use Rattle.std.proofs.Common.{◌≡◌, ◌<◌, ℕ, ◌+◌, max, Bool, true, false, ◌==◌, List, [], ◌∷◌, length, inl, inr, refl, sym, subst, arith}
-use Rattle.std.specs.Prelude.{nat_lt}
-use Rattle.std.proofs.lemmas.Bool.Decides.{nat_tests}
-use Rattle.bk_grammar.specs.declared.symbols.Guard.{Guard}
-use Rattle.bk_grammar.specs.declared.symbols.Guard.TheVariants as g
-use Rattle.bk_frames.specs.declared.size.Form.{Form}
+use Rattle.bk_frames.proofs.Terms.{◌≡◌, ◌<◌, ℕ, ◌+◌, max, Bool, true, false, ◌==◌, List, [], ◌∷◌, length, inl, inr, refl, sym, subst, arith, nat_lt, nat_tests, Guard, Form, no_items, item, none, more, depth_of_each, nodes_of_each, size, start_count, Stack, in_section, in_block, in_let, at_name, at_formals, at_formal, at_formal_end, at_head, at_variable, at_variable_end, at_starts, at_opening, at_items, at_sign, at_goto, at_for, at_forward, at_default, in_parens, in_unary, in_binary, in_chain, in_then, in_else, in_args, in_table, in_start, in_dests, in_values, in_guard, in_test, in_result, in_while, in_from, in_to, in_by, in_item, in_function, in_value, in_vector, in_valof, in_label, in_guarded, in_default, in_do, in_or, in_for, in_routine, State, want, have, begin, maybe, did, due, bars, Always, ForExpression, ForCommand, ForDefinition, ForDeclaration, ForSymbol, Fits, Guard as g}
 use Rattle.bk_frames.specs.declared.size.Form.TheVariants.{Label, Call, Callable, Other}
-use Rattle.bk_tree.specs.Tree.{no_items, item, none, more}
-use Rattle.bk_tree.specs.Limits.{depth_of_each, nodes_of_each}
-use Rattle.bk_tree.specs.Parts.{size, start_count}
-use Rattle.bk_grammar.specs.Machine.{Stack, in_section, in_block, in_let, at_name, at_formals, at_formal, at_formal_end, at_head, at_variable, at_variable_end, at_starts, at_opening, at_items, at_sign, at_goto, at_for, at_forward, at_default, in_parens, in_unary, in_binary, in_chain, in_then, in_else, in_args, in_table, in_start, in_dests, in_values, in_guard, in_test, in_result, in_while, in_from, in_to, in_by, in_item, in_function, in_value, in_vector, in_valof, in_label, in_guarded, in_default, in_do, in_or, in_for, in_routine, State, want, have, begin, maybe, did, due, bars}
-use Rattle.bk_frames.specs.Bounds.{Always}
-use Rattle.bk_frames.specs.Completing.{Lookahead, closing, assigning, listing, going, repeating, operating, Any, AtListing, Unlisted, AtPart, If, Guarded, Gives, Does, Defines, Declares, Wants, Due, Completes}
-use Rattle.bk_grammar.proofs.Lemmas.{ForExpression, ForCommand, ForDefinition, ForDeclaration, ForSymbol, Fits}
+use Rattle.bk_frames.specs.Completing.{Lookahead, closing, assigning, listing, going, repeating, Any, AtListing, Unlisted, AtPart, If, Guarded, Gives, Does, Defines, Declares, Wants, Due, Completes}
 use Rattle.bk_frames.proofs.Lowering.{unlisted}
 
 -- behind an expression a comma is owed, or something else may come
@@ -21,12 +10,8 @@ GoesOn true F = F listing
 GoesOn false F = Any (Unlisted F)
 
 unlisted_any : (F : Lookahead → Type 0) → Any (Unlisted F) → Any F
-unlisted_any F (closing, h) = (closing, h)
-unlisted_any F (assigning, h) = (assigning, h)
 unlisted_any F (listing, h) = absurd h
-unlisted_any F (going, h) = (going, h)
-unlisted_any F (repeating, h) = (repeating, h)
-unlisted_any F (operating, h) = (operating, h)
+unlisted_any F (x, h) = (x, h)
 
 any_of : (b : Bool) (F : Lookahead → Type 0) → GoesOn b F → Any F
 any_of true F h = (listing, h)
@@ -39,12 +24,8 @@ same false F G f h = (h.0, unlisted f h.0 h.1)
 
 -- a TABLE takes the comma
 table_goes : (F G : Lookahead → Type 0) → Any (Unlisted F) → Any (Unlisted (AtPart F G))
-table_goes F G (closing, h) = (closing, h)
-table_goes F G (assigning, h) = (assigning, h)
 table_goes F G (listing, h) = absurd h
-table_goes F G (going, h) = (going, h)
-table_goes F G (repeating, h) = (repeating, h)
-table_goes F G (operating, h) = (operating, h)
+table_goes F G (x, h) = (x, h)
 
 -- the last value, or a comma
 list_goes : (w b : Bool) (F : Lookahead → Type 0) (X : Type 0) → (b ≡ true → w ≡ false) → (b ≡ false → w ≡ true) → Any (Unlisted F) → X → GoesOn w (If b F (AtListing X))
@@ -146,11 +127,8 @@ dues (at_variable xs st) os h = defines st os h 2 (length xs + 2)
 dues (at_variable_end xs st) os h = defines st os h.1 2 (length xs + 1)
 dues (at_starts xs is st) os h = any_gives (in_value xs is st) os h Label 1 1
 dues (at_opening l q st) os h = declares st os h 2 2
-dues (at_items l q no_items st) [] h = absurd h
 dues (at_items l q no_items st) (tag ∷ os) h = declares st os h.1 2 2
-dues (at_items l q (item b x e is) st) [] h = absurd h
 dues (at_items l q (item b x e is) st) (tag ∷ os) h = declares st os h.1 _ _
-dues (at_sign l q is x st) [] h = absurd h
 dues (at_sign l q is x st) (tag ∷ os) h = declares st os h.1 _ _
 dues (at_goto l st) os h = any_does st os h 1 1
 dues (at_for l st) os h = any_does st os h 2 4

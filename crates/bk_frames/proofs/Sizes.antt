@@ -1,7 +1,5 @@
 -- The arithmetic of sizes that are kept.
-use Rattle.std.proofs.Common.{◌≡◌, ℕ, ◌+◌, ap, ◌∙◌, arith}
-use Rattle.bk_frames.specs.declared.frame.Size.{Size}
-use Rattle.bk_frames.specs.Sizes.{kept, kept_size, node_of}
+use Rattle.bk_frames.proofs.Terms.{◌≡◌, ℕ, ◌+◌, ap, ◌∙◌, arith, Size, kept, kept_size, node_of}
 
 suc_kept : (a : ℕ) → kept (kept a + 1) ≡ kept (a + 1)
 suc_kept a = omega arith

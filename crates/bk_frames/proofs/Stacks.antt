@@ -1,20 +1,8 @@
 -- Frames as a stack.
-use Rattle.std.proofs.Common.{◌≡◌, ℕ, zero, suc, Bool, true, false, if◌then◌else◌, Option, Some, None, append-nil, slice_get, sym, subst, ◌+◌, ◌-◌, ◌<◌, ◌≤◌, List, [], ◌∷◌, ◌++◌, length, get_or, take, refl, sym, ap, ◌∙◌, ◌⊎◌, inl, inr, arith}
-use Rattle.std.specs.Prelude.{MatchOption}
+use Rattle.bk_frames.proofs.Terms.{◌≡◌, ℕ, zero, suc, Bool, true, false, if◌then◌else◌, Option, Some, None, append-nil, slice_get, sym, subst, ◌+◌, ◌-◌, ◌<◌, ◌≤◌, List, [], ◌∷◌, ◌++◌, length, get_or, take, refl, ap, ◌∙◌, ◌⊎◌, inl, inr, arith, MatchOption, take-append-add, take-length, Frame, Decl, declarations_in, Stack, in_section, unfinished_on, Size, Leaves, above, stack, spare_under, spare_below, Spared, Ample, AreBudgets, take_more, take_all, take-append-le, length-append}
 use Rattle.std.specs.Option.{option_to_list}
-use Rattle.std.proofs.lemmas.List.{take_more, take_all, take-append-le, length-append}
-use Rattle.std.proofs.Math.Seq.{take-append-add, take-length}
 use Rattle.std.proofs.lemmas.Option.{slice_get_within, get_or_from_slice_get, slice_get-get_or, slice_get_read}
-use Rattle.bk_frames.specs.declared.frame.Frame.{Frame}
-use Rattle.bk_tree.specs.declared.tree.Decl.{Decl}
-use Rattle.bk_tree.specs.Tree.{declarations_in}
-use Rattle.bk_grammar.specs.Machine.{Stack, in_section}
-use Rattle.bk_frames.specs.Unfinished.{unfinished_on}
-use Rattle.bk_frames.specs.declared.frame.Size.{Size}
 use Rattle.bk_frames.specs.declared.budget.FrameBudgets.{FrameBudgets}
-use Rattle.bk_frames.specs.Spares.{Leaves}
-use Rattle.bk_frames.specs.Stacked.{above, stack, spare_under, spare_below, Spared, Ample}
-use Rattle.bk_frames.specs.Budgets.{AreBudgets}
 
 above_push : (st : Stack) (xs : List Frame) (x : Frame) → above st (xs ++ x ∷ []) ≡ unfinished_on x.unfinished (above st xs)
 above_push st [] x = refl

@@ -1,37 +1,7 @@
 -- What is surely spare on a stack leaves what is surely spare above it.
-use Rattle.std.proofs.Common.{◌≡◌, ◌≤◌, ◌<◌, ℕ, zero, suc, List, [], ◌∷◌, cond, refl, ◌+◌, ◌==◌, max, Bool, true, false, length, inl, inr, ap, arith}
-use Rattle.bk_base.specs.declared.limit.TheConstants.{TREE_DEPTH}
-use Rattle.bk_grammar.specs.declared.symbols.Guard.{Guard}
-use Rattle.bk_grammar.specs.declared.symbols.Guard.TheVariants as g
-use Rattle.bk_frames.specs.declared.frame.Size.{Size}
-use Rattle.bk_frames.specs.declared.frame.Frame.{Frame}
-use Rattle.bk_tree.specs.declared.tree.Decl.{Decl}
-use Rattle.bk_frames.specs.declared.frame.OpenExpression.TheVariants as o
-use Rattle.bk_frames.specs.declared.frame.Phrase.TheVariants as p
-use Rattle.bk_frames.specs.declared.frame.Member.TheVariants as member
-use Rattle.bk_frames.specs.declared.frame.Clause.TheVariants as c
-use Rattle.bk_frames.specs.declared.frame.Place.TheVariants as a
-use Rattle.bk_frames.specs.declared.frame.Point.TheVariants as t
-use Rattle.bk_frames.specs.declared.frame.Unfinished.{Unfinished}
-use Rattle.bk_frames.specs.declared.frame.Unfinished.TheVariants as b
-use Rattle.bk_frames.specs.declared.frame.ParserState.{ParserState}
-use Rattle.bk_frames.specs.declared.frame.ParserState.TheVariants as n
-use Rattle.bk_frames.specs.declared.size.Form.{Form}
+use Rattle.bk_frames.proofs.Terms.{◌≡◌, ◌≤◌, ◌<◌, ℕ, zero, suc, List, [], ◌∷◌, cond, refl, ◌+◌, ◌==◌, max, Bool, true, false, length, inl, inr, ap, arith, TREE_DEPTH, Guard, Size, Frame, Decl, Unfinished, ParserState, Form, depth, depth_of_each, depth_of_action, depth_of_actions, depth_of_declarations, depth_of_items, depth_of_definitions, depth_of_starts, nodes, nodes_of_each, nodes_of_action, nodes_of_actions, nodes_of_declarations, nodes_of_items, nodes_of_definitions, nodes_of_starts, nat_lt, nat_le, map, nat_tests, inner, size, start_count, Stack, in_section, in_args, unfinished_on, kept, owed, form_of, size_of_declarations, held_depth, held_nodes, Always, Limit, owes, alone, spare_of_section, Leaves, IsSmall, above, stack, spare_under, spare_below, Spared, state, part_of, Guard as g, OpenExpression as o, Phrase as p, Member as member, Clause as c, Place as a, Point as t, Unfinished as b, ParserState as n}
 use Rattle.bk_frames.specs.declared.size.Form.TheVariants.{Label, Call, Callable, Other}
 use Rattle.bk_tree.specs.Tree.{Expression, Expressions, Items, Declarations, no_items, item, none, more, mention, expression, expressions_in, step_in, action, actions_in, declarations_in, items_in, definitions_in, starts_in}
-use Rattle.bk_tree.specs.Limits.{depth, depth_of_each, depth_of_action, depth_of_actions, depth_of_declarations, depth_of_items, depth_of_definitions, depth_of_starts, nodes, nodes_of_each, nodes_of_action, nodes_of_actions, nodes_of_declarations, nodes_of_items, nodes_of_definitions, nodes_of_starts}
-use Rattle.std.specs.Prelude.{nat_lt, nat_le, map}
-use Rattle.std.proofs.lemmas.Bool.Decides.{nat_tests}
-use Rattle.bk_grammar.specs.Rows.{inner}
-use Rattle.bk_tree.specs.Parts.{size, start_count}
-use Rattle.bk_grammar.specs.Machine.{Stack, in_section, in_args}
-use Rattle.bk_frames.specs.Unfinished.{unfinished_on}
-use Rattle.bk_frames.specs.Sizes.{kept, owed, form_of, size_of_declarations, held_depth, held_nodes}
-use Rattle.bk_frames.specs.Bounds.{Always}
-use Rattle.bk_frames.specs.Budgets.{Limit}
-use Rattle.bk_frames.specs.Spares.{owes, alone, spare_of_section, Leaves, IsSmall}
-use Rattle.bk_frames.specs.Stacked.{above, stack, spare_under, spare_below, Spared}
-use Rattle.bk_frames.specs.Frames.{state, part_of}
 use Rattle.bk_frames.specs.Completing.{Lookahead, closing, assigning, listing, going, repeating, operating, Closed, Missing, Started, Whole, Guarded, Taken, Gives, Does, Operates, Defines, Declares, Wants, Misses, Lists, Due, Completes}
 use Rattle.bk_frames.proofs.Lowering.{at_closing, at_listing, at_argument, at_assignment, any, at_part, either}
 
@@ -47,20 +17,15 @@ abbrev Lifts : ℕ → ℕ → Completions → Completions → Type 0
 Lifts e m F G = (d n : ℕ) → d ≤ e → n ≤ m → (c : Lookahead) → F d n c → G d n c
 
 closed_in : (e m : ℕ) (F G : Completions) → Lifts e m F G → (d n : ℕ) → d + 1 ≤ e → n + 1 ≤ m → (c : Lookahead) → Closed F d n c → Closed G d n c
-closed_in e m F G f d n p q closing h = f d n (omega (arith, p)) (omega (arith, q)) closing h
-closed_in e m F G f d n p q assigning h = f d n (omega (arith, p)) (omega (arith, q)) assigning h
-closed_in e m F G f d n p q listing h = f d n (omega (arith, p)) (omega (arith, q)) listing h
 closed_in e m F G f d n p q going h = h
 closed_in e m F G f d n p q operating h = h
 closed_in e m F G f d n p q repeating h = any (f (d + 1) (n + 1) p q) h
+closed_in e m F G f d n p q x h = f d n (omega (arith, p)) (omega (arith, q)) x h
 
 missing_in : (e m : ℕ) (F G : Completions) → Lifts e m F G → (d n : ℕ) → d + 1 ≤ e → n + 1 ≤ m → (c : Lookahead) → Missing F d n c → Missing G d n c
-missing_in e m F G f d n p q closing h = f d n (omega (arith, p)) (omega (arith, q)) closing h
-missing_in e m F G f d n p q assigning h = f d n (omega (arith, p)) (omega (arith, q)) assigning h
-missing_in e m F G f d n p q listing h = f d n (omega (arith, p)) (omega (arith, q)) listing h
-missing_in e m F G f d n p q operating h = f d n (omega (arith, p)) (omega (arith, q)) operating h
 missing_in e m F G f d n p q going h = h
 missing_in e m F G f d n p q repeating h = any (f (d + 1) (n + 1) p q) h
+missing_in e m F G f d n p q x h = f d n (omega (arith, p)) (omega (arith, q)) x h
 
 started_in : (e m : ℕ) (F G : Completions) → Lifts e m F G → (f : Form) (d n : ℕ) → max d 1 + 2 ≤ e → n + 5 ≤ m → (c : Lookahead) → Started F f d n c → Started G f d n c
 started_in e m F G k f d n p q assigning h = any (closed_in e m F G k (max d 1 + 1) (n + 2) (omega (arith, p)) (omega (arith, q))) h
@@ -69,19 +34,7 @@ started_in e m F G k Label d n p q closing (inl h) = inl (any (missing_in e m F 
 started_in e m F G k Label d n p q closing (inr h) = inr (any (k 2 2 (omega (arith, p)) (omega (arith, q))) h)
 started_in e m F G k Call d n p q closing h = k d n (omega (arith, p)) (omega (arith, q)) closing h
 started_in e m F G k Call d n p q repeating h = any (k (d + 1) (n + 1) (omega (arith, p)) (omega (arith, q))) h
-started_in e m F G k Label d n p q going h = h
-started_in e m F G k Label d n p q operating h = h
-started_in e m F G k Label d n p q repeating h = h
-started_in e m F G k Call d n p q going h = h
-started_in e m F G k Call d n p q operating h = h
-started_in e m F G k Callable d n p q closing h = h
-started_in e m F G k Callable d n p q going h = h
-started_in e m F G k Callable d n p q operating h = h
-started_in e m F G k Callable d n p q repeating h = h
-started_in e m F G k Other d n p q closing h = h
-started_in e m F G k Other d n p q going h = h
-started_in e m F G k Other d n p q operating h = h
-started_in e m F G k Other d n p q repeating h = h
+started_in e m x y k z d n p q u h = h
 
 whole_in : (e m : ℕ) (F G : Form → Completions) → ((f : Form) → Lifts e m (F f) (G f)) → (f : Form) (d n : ℕ) → d + 1 ≤ e → n + 1 ≤ m → Whole F f d n → Whole G f d n
 whole_in e m F G k f d n p q (inl h) = inl (any (k f d n (omega (arith, p)) (omega (arith, q))) h)
@@ -183,12 +136,10 @@ module _ (e m l k : ℕ) (st : Stack) (s : Sure l k st) where
       let few : owed (length xs) (start_count is) ≤ length xs = omega arith in
       either (length xs == start_count is + 1) (at_closing (s.defines (max (depth_of_starts is) d + 1) (nodes_of_starts is + n + 1) (omega (arith, u, v, p)) (omega (arith, w, q))))
       (at_listing (s.defines (max (depth_of_starts is) (max d 1) + 1) (nodes_of_starts is + n + owed (length xs) (start_count is) + 1) (omega (arith, u, v, y, p)) (omega (arith, w, q, few)))) c h
-  gives_on (b.Clause (c.Valof i)) _ f d n p q c h = h
-  gives_on (b.Clause _) _ f d n p q c h = h
-  gives_on (b.Place (a.Let i j)) _ f d n p q c h = h
-  gives_on (b.Place _) _ f d n p q c h = h
   gives_on (b.Point (t.Goto i)) _ f d n p q c h = h
-  gives_on (b.Point _) _ f d n p q c h = h
+  gives_on (b.Place (a.Let i j)) _ f d n p q c h = h
+  gives_on (b.Clause (c.Valof i)) _ f d n p q c h = h
+  gives_on x _ f d n p q c h = h
 
   does_on : (x : Unfinished) → Fewer e m l k x → (d n : ℕ) → d ≤ e → n ≤ m → (c : Lookahead) → Does Always (unfinished_on x st) d n c → Does Most (unfinished_on x st) d n c
   does_on (b.Clause (c.Valof i)) (u, v, w, y, z) d n p q going h = any (s.gives Call (d + 2) (n + 2) (omega (arith, u, p)) (omega (arith, w, q))) h
@@ -219,15 +170,11 @@ module _ (e m l k : ℕ) (st : Stack) (s : Sure l k st) where
       let ds = declarations_in x1.items in
       let cs = actions_in x2.items in
       at_closing (any (s.does (max (depth_of_declarations ds) (max (depth_of_actions cs) d) + 1) (nodes_of_declarations ds + (nodes_of_actions cs + n) + 1) (omega (arith, u, v, p)) (omega (arith, w, q)))) c h
-  does_on (b.OpenExpression (o.Parens i)) _ d n p q c h = h
-  does_on (b.OpenExpression _) _ d n p q c h = h
-  does_on (b.Phrase (p.Start)) _ d n p q c h = h
-  does_on (b.Phrase _) _ d n p q c h = h
-  does_on (b.Member (member.Function i j)) _ d n p q c h = h
-  does_on (b.Member _) _ d n p q c h = h
-  does_on (b.Place _) _ d n p q c h = h
   does_on (b.Point (t.Goto i)) _ d n p q c h = h
-  does_on (b.Point _) _ d n p q c h = h
+  does_on (b.Member (member.Function i j)) _ d n p q c h = h
+  does_on (b.Phrase (p.Start)) _ d n p q c h = h
+  does_on (b.OpenExpression (o.Parens i)) _ d n p q c h = h
+  does_on x _ d n p q c h = h
 
   operates_on : (x : Unfinished) → Fewer e m l k x → (d n : ℕ) → d + 1 ≤ e → n + 2 ≤ m → Operates Always (unfinished_on x st) (Gives Always (unfinished_on x st)) d n → Operates Most (unfinished_on x st) (Gives Most (unfinished_on x st)) d n
   operates_on (b.OpenExpression (o.Binary i j x1)) (u, v, w, y, z) d n p q h =
@@ -251,34 +198,24 @@ module _ (e m l k : ℕ) (st : Stack) (s : Sure l k st) where
   defines_on (b.Place (a.Let i x1)) (u, v, w, y, z) d n p q h =
       let ds = definitions_in x1.items in
       s.declares (max (depth_of_definitions ds) d) (nodes_of_definitions ds + n) (omega (arith, u, v, p)) (omega (arith, w, q)) h
-  defines_on (b.OpenExpression (o.Parens i)) _ d n p q h = h
-  defines_on (b.OpenExpression _) _ d n p q h = h
-  defines_on (b.Phrase (p.Start)) _ d n p q h = h
-  defines_on (b.Phrase _) _ d n p q h = h
-  defines_on (b.Member (member.Function i j)) _ d n p q h = h
-  defines_on (b.Member _) _ d n p q h = h
-  defines_on (b.Clause (c.Valof i)) _ d n p q h = h
-  defines_on (b.Clause _) _ d n p q h = h
-  defines_on (b.Place _) _ d n p q h = h
   defines_on (b.Point (t.Goto i)) _ d n p q h = h
-  defines_on (b.Point _) _ d n p q h = h
+  defines_on (b.Clause (c.Valof i)) _ d n p q h = h
+  defines_on (b.Member (member.Function i j)) _ d n p q h = h
+  defines_on (b.Phrase (p.Start)) _ d n p q h = h
+  defines_on (b.OpenExpression (o.Parens i)) _ d n p q h = h
+  defines_on x _ d n p q h = h
 
   declares_on : (x : Unfinished) → Fewer e m l k x → (d n : ℕ) → d ≤ e → n ≤ m → Declares Always (unfinished_on x st) d n → Declares Most (unfinished_on x st) d n
   declares_on (b.Place (a.Block i j x1 x2)) (u, v, w, y, z) d n p q h =
       let ds = declarations_in x1.items in
       let cs = actions_in x2.items in
       any (s.does (max (depth_of_declarations ds) (max (depth_of_actions cs) d) + 1) (nodes_of_declarations ds + (nodes_of_actions cs + n) + 1) (omega (arith, u, v, p)) (omega (arith, w, q))) h
-  declares_on (b.OpenExpression (o.Parens i)) _ d n p q h = h
-  declares_on (b.OpenExpression _) _ d n p q h = h
-  declares_on (b.Phrase (p.Start)) _ d n p q h = h
-  declares_on (b.Phrase _) _ d n p q h = h
-  declares_on (b.Member (member.Function i j)) _ d n p q h = h
-  declares_on (b.Member _) _ d n p q h = h
-  declares_on (b.Clause (c.Valof i)) _ d n p q h = h
-  declares_on (b.Clause _) _ d n p q h = h
-  declares_on (b.Place _) _ d n p q h = h
   declares_on (b.Point (t.Goto i)) _ d n p q h = h
-  declares_on (b.Point _) _ d n p q h = h
+  declares_on (b.Clause (c.Valof i)) _ d n p q h = h
+  declares_on (b.Member (member.Function i j)) _ d n p q h = h
+  declares_on (b.Phrase (p.Start)) _ d n p q h = h
+  declares_on (b.OpenExpression (o.Parens i)) _ d n p q h = h
+  declares_on x _ d n p q h = h
 
   args_want : (e1 : Expression) (es : Expressions) (i : ℕ) → depth e1 + 2 ≤ l → nodes e1 + 2 ≤ k → ((f : Form) (d n : ℕ) → d ≤ e → n ≤ m → (c : Lookahead) → Gives Always (in_args i e1 es st) f d n c → Gives Most (in_args i e1 es st) f d n c)
       → 1 ≤ e → 1 ≤ m → Wants Always (in_args i e1 es st) → Wants Most (in_args i e1 es st)
@@ -347,13 +284,10 @@ module _ (e m l k : ℕ) (st : Stack) (s : Sure l k st) where
   due_on (b.Point (t.Default i)) (u, v, w, y, z) (inl h) = inl (any (missing_in l k (Does Always st) (Does Most st) s.does 1 1 (omega (arith, u)) (omega (arith, w))) h)
   due_on (b.Point (t.Default i)) (u, v, w, y, z) (inr h) = inr (any (s.does 2 2 (omega (arith, u)) (omega (arith, w))) h)
   due_on (b.OpenExpression (o.Parens i)) _ h = h
-  due_on (b.OpenExpression _) _ h = h
   due_on (b.Phrase (p.Start)) _ h = h
-  due_on (b.Phrase _) _ h = h
   due_on (b.Member (member.Function i j)) _ h = h
-  due_on (b.Member _) _ h = h
   due_on (b.Clause (c.Valof i)) _ h = h
-  due_on (b.Clause _) _ h = h
+  due_on x _ h = h
 
   sure_on : (x : Unfinished) → Fewer e m l k x → Sure e m (unfinished_on x st)
   sure_on x a =

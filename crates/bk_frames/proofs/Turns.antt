@@ -1,34 +1,12 @@
 -- What the machine does with a symbol, by the tests that the parser makes in turn.
-use Rattle.std.proofs.Common.{◌≡◌, ◌≤◌, ◌+◌, max, ◌∙◌, [], ◌∷◌, length, arith, ℕ, List, Bool, true, false, cond, Option, Some, None, refl, ap}
-use Rattle.bk_lex.specs.declared.token.Kind.{Kind}
-use Rattle.bk_lex.specs.declared.token.Kind.TheVariants as k
-use Rattle.bk_tree.specs.declared.tree.Operator.{Operator}
-use Rattle.bk_tree.specs.declared.tree.Operator.TheVariants.{Both}
-use Rattle.bk_tree.specs.declared.tree.Prefix.{Prefix}
+use Rattle.bk_frames.proofs.Terms.{◌≡◌, ◌≤◌, ◌+◌, max, ◌∙◌, [], ◌∷◌, length, arith, ℕ, List, Bool, true, false, cond, Option, Some, None, refl, ap, Kind, Operator, Both, Prefix, Guard, depth, depth_of_action, nodes, nodes_of_action, leaf, goes, assigns, inner, behind, infix_of, prefix_of, simple_of, guard_of, is_arrow, is_both, is_comma, is_name, declaring_of, opening_of, heading_of, repetition_of, last, line_of, line_of_action, Stack, State, push, infixed, want, have, begin, due, did, in_args, in_then, in_parens, in_unary, in_valof, in_table, in_start, in_guard, in_dests, in_values, in_by, in_for, in_routine, in_function, in_while, at_variable, at_starts, at_formal, at_head, at_items, is_open, is_assign, is_equal, is_close, is_be, is_by, is_do, is_semicolon, closes, bars, no_args, take_operand, take_command, dests, in_names, in_formals, headed, to_or_do, in_constants, declared, again, named, in_section, in_block, take_declaration, declared_by, take_due, take_item, at_sign, give, finish, in_head, in_binary, guarded, Sort, related, heads, declaring, are_none, are_no_items, Kind as k, Guard as g, Opening, Opening as s, ConstItem, ConstItem as i, Repetition, Repetition as r}
 use Rattle.bk_tree.specs.declared.tree.Simple.{Simple}
-use Rattle.bk_grammar.specs.declared.symbols.Guard.{Guard}
-use Rattle.bk_grammar.specs.declared.symbols.Guard.TheVariants as g
-use Rattle.bk_tree.specs.Limits.{depth, depth_of_action, nodes, nodes_of_action}
-use Rattle.bk_grammar.specs.declared.symbols.Opening.{Opening}
-use Rattle.bk_grammar.specs.declared.symbols.Opening.TheVariants as s
 use Rattle.bk_grammar.specs.declared.symbols.Heading.{Heading}
 use Rattle.bk_tree.specs.declared.tree.Expr.{Expr}
 use Rattle.bk_tree.specs.declared.tree.Command.{Command}
-use Rattle.bk_tree.specs.declared.tree.ConstItem.{ConstItem}
-use Rattle.bk_tree.specs.declared.tree.ConstItem.TheVariants as i
-use Rattle.bk_tree.specs.Tree.{expressions_in, items_in, actions_in, call, Mention, Expression, Expressions, Action, Items, Declaration, name, number, text, truth, query, parens, unary, binary, choice, apply, valof, table, simple, repeat, constants, none, more, no_items, item, no_starts}
-use Rattle.bk_grammar.specs.Rows.{leaf, goes, assigns, inner, behind, infix_of, prefix_of, simple_of, guard_of, is_arrow, is_both, is_comma, is_name, declaring_of, opening_of, heading_of, repetition_of}
-use Rattle.bk_grammar.specs.Grammar.{last}
-use Rattle.bk_tree.specs.Parts.{line_of, line_of_action}
-use Rattle.bk_grammar.specs.Machine.{Stack, State, push, infixed, want, have, begin, due, did, in_args, in_then, in_parens, in_unary, in_valof, in_table, in_start, in_guard, in_dests, in_values, in_by, in_for, in_routine, in_function, in_while, at_variable, at_starts, at_formal, at_head, at_items, is_open, is_assign, is_equal, is_close, is_be, is_by, is_do, is_semicolon, closes, bars, no_args, take_operand, take_command, dests, in_names, in_formals, headed, to_or_do, in_constants, declared, again, named, in_section, in_block, take_declaration, declared_by, take_due, take_item, at_sign, give, finish, in_head, in_binary, guarded}
-use Rattle.bk_tree.specs.declared.tree.Sort.{Sort}
+use Rattle.bk_tree.specs.Tree.{expressions_in, items_in, actions_in, call, Mention, Expression, Expressions, Action, Items, Declaration, name, unary, binary, apply, simple, repeat, constants, none, more, no_items, item, no_starts}
 use Rattle.bk_lex.specs.Values.{upper_name}
-use Rattle.bk_grammar.specs.declared.symbols.Repetition.{Repetition}
-use Rattle.bk_grammar.specs.declared.symbols.Repetition.TheVariants as r
 use Rattle.bk_grammar.specs.declared.symbols.Declaring.{Declaring}
-use Rattle.bk_frames.specs.Frames.{related, heads, declaring}
-use Rattle.bk_frames.specs.Sizes.{are_none}
-use Rattle.bk_frames.specs.Sizes.{are_no_items}
 
 abbrev pub pushed : Stack → Expression → ℕ → Option Operator → Bool → Bool → Option State
 pushed st e l (Some o) round arrow = infixed st e l (Some o)
@@ -40,17 +18,6 @@ push_cases st e _ l = refl
 
 pub last_cases : (l : ℕ) (o : Operator) (m : ℕ) (a b : Expression) → last (binary l o m a b) ≡ cond (is_both o) (related b) (related (binary l o m a b))
 last_cases l Both m a (name i x) = refl
-last_cases l Both m a (number i n) = refl
-last_cases l Both m a (text i x) = refl
-last_cases l Both m a (truth i t) = refl
-last_cases l Both m a (query i) = refl
-last_cases l Both m a (parens i x) = refl
-last_cases l Both m a (unary i p x) = refl
-last_cases l Both m a (binary i p j x y) = refl
-last_cases l Both m a (choice i j x y z) = refl
-last_cases l Both m a (apply i j x xs) = refl
-last_cases l Both m a (valof i c) = refl
-last_cases l Both m a (table i xs) = refl
 last_cases l _ m a b = refl
 
 pub related_last : (e b : Expression) → related e ≡ Some b → last e ≡ Some b

@@ -8,7 +8,7 @@ ghost use Rattle.bk_frames.specs.Spares.{IsSmall};
 
 use bk_base::Line;
 use bk_grammar::symbols::Guard;
-use bk_tree::{Command, ConstItem, Decl, Def, Expr, Init, Name, Operator, Prefix, Sort};
+use bk_tree::{Command, ConstItem, Decl, Def, Expr, Init, Letters, Name, Operator, Prefix, Sort};
 use std::alloc::{AllocError, AllocFailed};
 use std::mem;
 
@@ -73,7 +73,7 @@ pub enum Member {
 #[derive(Drop)]
 pub enum Clause {
     Valof(Line),
-    Label(Line, Vec<u8>),
+    Label(Line, Letters),
     Guarded(Guard, Line, Box<Expr>),
     Default(Line),
     Then(Line, Box<Expr>),

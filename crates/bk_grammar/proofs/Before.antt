@@ -1,19 +1,6 @@
 -- What is read is in the grammar: what was begun, and expressions.
-use Rattle.std.proofs.Common.{◌≡◌, ℕ, zero, suc, ◌<◌, ◌≤◌, Bool, true, false, cond, List, [], ◌∷◌, Option, Some, None, refl, ap, subst, ◌⊎◌, inl, inr, arith}
-use Rattle.std.specs.Prelude.{nat_lt}
-use Rattle.std.proofs.lemmas.Bool.{ltb-false, le-ltb}
-use Rattle.bk_lex.specs.declared.token.Kind.{Kind}
-use Rattle.bk_lex.specs.declared.token.Kind.TheVariants as k
-use Rattle.bk_lex.specs.Symbol.{Symbol}
-use Rattle.bk_tree.specs.declared.tree.Operator.{Operator}
-use Rattle.bk_tree.specs.declared.tree.Operator.TheVariants as o
-use Rattle.bk_tree.specs.declared.tree.Prefix.{Prefix}
+use Rattle.bk_grammar.proofs.Terms.{◌≡◌, ℕ, zero, suc, ◌<◌, ◌≤◌, Bool, true, false, cond, List, [], ◌∷◌, Option, Some, None, refl, ap, subst, ◌⊎◌, inl, inr, arith, nat_lt, ltb-false, le-ltb, Kind, Kind as k, Symbol, Operator, Operator as o, Prefix, Guard as g, Mention, Expression, Expressions, Actions, Declarations, Items, Definitions, Starts, unary, binary, choice, apply, none, more, no_actions, also, no_declarations, declare, no_items, item, no_definitions, define, no_starts, value, vector, row, inner, left, behind, is_relation, infix_of, prefix_of, sort_of, guard_of, sign_of, is_and, is_comma, goes, SpellsName, Names, Formals, Semis, last, Full, Filled, repeats_while, Reads, Each, Does, Heads, Defines, Stack, in_section, in_block, in_let, at_name, at_formals, at_formal, at_formal_end, at_head, at_variable, at_variable_end, at_starts, at_opening, at_items, at_sign, at_goto, at_for, at_forward, at_default, in_parens, in_unary, in_binary, in_chain, in_then, in_else, in_args, in_table, in_start, in_dests, in_values, in_guard, in_test, in_result, in_while, in_from, in_to, in_by, in_item, in_function, in_value, in_vector, in_valof, in_label, in_guarded, in_default, in_do, in_or, in_for, in_routine, State, want, have, begin, maybe, did, due, limit, is_close, is_colon, is_do, is_or, is_to, is_equal, is_semicolon, opens, closes, is_vec, is_let, is_open, if_is, inside}
 use Rattle.bk_tree.specs.declared.tree.Prefix.TheVariants.{Contents}
-use Rattle.bk_grammar.specs.declared.symbols.Guard.TheVariants as g
-use Rattle.bk_tree.specs.Tree.{Mention, Expression, Expressions, Actions, Declarations, Items, Definitions, Starts, unary, binary, choice, apply, none, more, no_actions, also, no_declarations, declare, no_items, item, no_definitions, define, no_starts, value, vector}
-use Rattle.bk_grammar.specs.Rows.{row, inner, left, behind, is_relation, infix_of, prefix_of, sort_of, guard_of, sign_of, is_and, is_comma, goes}
-use Rattle.bk_grammar.specs.Grammar.{SpellsName, Names, Formals, Semis, last, Full, Filled, repeats_while, Reads, Each, Does, Heads, Defines}
-use Rattle.bk_grammar.specs.Machine.{Stack, in_section, in_block, in_let, at_name, at_formals, at_formal, at_formal_end, at_head, at_variable, at_variable_end, at_starts, at_opening, at_items, at_sign, at_goto, at_for, at_forward, at_default, in_parens, in_unary, in_binary, in_chain, in_then, in_else, in_args, in_table, in_start, in_dests, in_values, in_guard, in_test, in_result, in_while, in_from, in_to, in_by, in_item, in_function, in_value, in_vector, in_valof, in_label, in_guarded, in_default, in_do, in_or, in_for, in_routine, State, want, have, begin, maybe, did, due, limit, is_close, is_colon, is_do, is_or, is_to, is_equal, is_semicolon, opens, closes, is_vec, is_let, is_open, if_is, inside}
 
 pub is_close_kind : (t : Kind) → is_close t ≡ true → t ≡ k.Close
 is_close_kind k.Close h = refl

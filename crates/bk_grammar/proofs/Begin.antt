@@ -1,16 +1,5 @@
 -- What the grammar allows is read.
-use Rattle.std.proofs.Common.{◌≡◌, ℕ, ◌+◌, ◌<◌, ◌≤◌, Bool, true, false, cond, List, ◌∷◌, Some, None, refl, sym, ap, subst, ◌∙◌, inl, inr, arith}
-use Rattle.bk_lex.specs.declared.token.Kind.{Kind}
-use Rattle.bk_lex.specs.declared.token.Kind.TheVariants as k
-use Rattle.bk_lex.specs.Symbol.{Symbol}
-use Rattle.bk_tree.specs.declared.tree.Operator.{Operator}
-use Rattle.bk_tree.specs.declared.tree.Operator.TheVariants as o
-use Rattle.bk_tree.specs.Tree.{Expression, Expressions, Action, Actions, Declarations, name, number, text, truth, query, parens, unary, binary, choice, apply, valof, table, none, more, empty, assign, call, goto, label, case_of, default, when, test, while, for_loop, switch, result, simple, block, repeat, repeat_while, no_declarations, declare}
-use Rattle.bk_grammar.specs.Rows.{row, inner, left, is_relation, infix_of, begins_operand, begins_command, repeats, assigns, is_comma, goes, Fails, Stops}
-use Rattle.bk_grammar.specs.Grammar.{Leaf, last, Full, EndsCommand, Filled, if_or_unless, while_or_until, Reads, Each, Does}
-use Rattle.bk_tree.specs.Parts.{line_of, line_of_first, size}
-use Rattle.bk_grammar.specs.Machine.{Stack, in_block, in_binary, in_chain, in_table, in_start, in_values, State, want, have, begin, maybe, did, due, limit, linked, guarded, behind_sign, bars, give, finish, without, stepped_by, run}
-use Rattle.bk_tree.specs.Parts.{each_then}
+use Rattle.bk_grammar.proofs.Terms.{◌≡◌, ℕ, ◌+◌, ◌<◌, ◌≤◌, Bool, true, false, cond, List, ◌∷◌, Some, None, refl, sym, ap, subst, ◌∙◌, inl, inr, arith, Kind, Kind as k, Symbol, Operator, Operator as o, Expression, Expressions, Action, Actions, Declarations, name, parens, unary, binary, choice, apply, valof, table, none, more, empty, assign, call, goto, label, default, when, test, while, for_loop, result, simple, block, repeat, repeat_while, no_declarations, declare, row, inner, left, is_relation, infix_of, begins_operand, begins_command, repeats, assigns, is_comma, goes, Fails, Stops, Leaf, last, Full, EndsCommand, Filled, if_or_unless, while_or_until, Reads, Each, Does, line_of, line_of_first, size, Stack, in_block, in_binary, in_chain, in_table, in_start, in_values, State, want, have, begin, maybe, did, due, limit, linked, guarded, behind_sign, bars, give, finish, without, stepped_by, run, each_then}
 use Rattle.bk_grammar.proofs.Steps.{stepped, same_step, alike, takes, failing, failing_both, stops_alike, repeats_alike, pushes, row_le, infix_goes, push_infix, prefix_begins, leaf_begins, operand_begins, simple_begins, guard_begins, at_operand, at_item, same_eq, less_eq}
 
 -- ---- expressions
@@ -109,11 +98,6 @@ pub opens_leaf : (e : Expression) (ts us : List Symbol) → Leaf e ts us → Ope
 opens_leaf e ts us h = record { first = h.0; rest = us; is = h.1; good = leaf_begins h.0.kind h.0.line h.0.text e h.2 }
 
 pub opens_read : (rows : ℕ) (e : Expression) (ts us : List Symbol) → Reads rows e ts us → Opens begins_operand ts
-opens_read rows (name l n) ts us h = opens_leaf (name l n) ts us h
-opens_read rows (number l n) ts us h = opens_leaf (number l n) ts us h
-opens_read rows (text l n) ts us h = opens_leaf (text l n) ts us h
-opens_read rows (truth l n) ts us h = opens_leaf (truth l n) ts us h
-opens_read rows (query l) ts us h = opens_leaf (query l) ts us h
 opens_read rows (parens l x) ts us h = record { first = h.0; rest = h.1; is = h.3; good = ap begins_operand h.4 }
 opens_read rows (unary l p x) ts us h = record { first = h.1; rest = h.2; is = h.3; good = prefix_begins h.1.kind p h.4 }
 opens_read rows (binary l o.Both s x (binary m q n b c)) ts us (inl h) = opens_read 9 x ts (h.1 ∷ h.2) h.6
@@ -124,6 +108,7 @@ opens_read rows (apply l s f none) ts us h = opens_read 0 f ts (h.0 ∷ h.1 ∷ 
 opens_read rows (apply l s f (more x xs)) ts us h = opens_read 0 f ts (h.0 ∷ h.1) h.7
 opens_read rows (valof l c) ts us h = record { first = h.0; rest = h.1; is = h.2; good = ap begins_operand h.3 }
 opens_read rows (table l xs) ts us h = record { first = h.0; rest = h.1; is = h.2; good = ap begins_operand h.3 }
+opens_read rows y ts us h = opens_leaf y ts us h
 
 pub widen : (ts : List Symbol) → Opens begins_operand ts → Opens begins_command ts
 widen ts h = record { first = h.first; rest = h.rest; is = h.is; good = operand_begins h.first.kind h.good }
@@ -140,21 +125,18 @@ opens_does (call l f none) ts us full h = widen ts (opens_read 0 f ts (h.0 ∷ h
 opens_does (call l f (more x xs)) ts us full h = widen ts (opens_read 0 f ts (h.0 ∷ h.1) h.6)
 opens_does (goto l x) ts us full h = record { first = h.0; rest = h.1 ∷ us; is = h.2; good = ap begins_command h.3 }
 opens_does (label l x c) ts us full h = record { first = h.0; rest = h.1 ∷ h.2; is = h.3; good = ap begins_command h.4.0 }
-opens_does (case_of l e c) ts us full h = record { first = h.0; rest = h.1; is = h.4; good = guard_begins h.0.kind _ h.5 }
 opens_does (default l c) ts us full h = record { first = h.0; rest = h.1 ∷ h.2; is = h.3; good = ap begins_command h.4 }
-opens_does (when l b e c) ts us full h = record { first = h.0; rest = h.1; is = h.4; good = guard_begins h.0.kind _ h.5 }
 opens_does (test l e a b) ts us full h = record { first = h.0; rest = h.1; is = h.6; good = ap begins_command h.7 }
-opens_does (while l b e c) ts us full h = record { first = h.0; rest = h.1; is = h.4; good = guard_begins h.0.kind _ h.5 }
 opens_does (for_loop l x a b none c) ts us full h = record { first = h.0; rest = h.1 ∷ h.2 ∷ h.3; is = h.8; good = ap begins_command h.9 }
 opens_does (for_loop l x a b (more i none) c) ts us full h = record { first = h.0; rest = h.1 ∷ h.2 ∷ h.3; is = h.10; good = ap begins_command h.11 }
 opens_does (for_loop l x a b (more i (more j is)) c) ts us full h = absurd h
-opens_does (switch l e c) ts us full h = record { first = h.0; rest = h.1; is = h.4; good = guard_begins h.0.kind _ h.5 }
 opens_does (result l e) ts us full h = record { first = h.0; rest = h.1; is = h.2; good = ap begins_command h.3 }
 opens_does (simple l w) ts us full h = record { first = h.0; rest = us; is = h.1; good = simple_begins h.0.kind w h.2 }
 opens_does (block l no_declarations cs) ts us full h = record { first = h.0; rest = h.1; is = h.3; good = ap begins_command h.4 }
 opens_does (block l (declare d ds) cs) ts us full h = record { first = h.0; rest = h.1; is = h.4; good = ap begins_command h.5 }
 opens_does (repeat l c) ts us full h = opens_does c ts (h.0 ∷ us) h.3 h.4
 opens_does (repeat_while l b c e) ts us full h = opens_does c ts (h.0 ∷ h.1) h.4 h.5
+opens_does y ts us full h = record { first = h.0; rest = h.1; is = h.4; good = guard_begins h.0.kind _ h.5 }
 
 -- two states that take the first symbol alike
 pub at_first : (passes : Kind → Bool) (ts : List Symbol) (x y : State) → Opens passes ts → ((l : ℕ) (s : List ℕ) (t : Kind) → passes t ≡ true → stepped_by x l s t ≡ stepped_by y l s t) → run ts x ≡ run ts y

@@ -1,18 +1,5 @@
 -- What the grammar allows is read.
-use Rattle.std.proofs.Common.{◌≡◌, ℕ, ◌+◌, ◌<◌, ◌≤◌, Bool, true, false, cond, List, [], ◌∷◌, ◌++◌, Option, Some, None, Ok, length, refl, sym, ap, subst, ◌∙◌, ◌⊎◌, inl, inr, append_assoc, arith}
-use Rattle.std.proofs.lemmas.Bool.{le-ltb, lt-ltb}
-use Rattle.bk_lex.specs.declared.token.Kind.{Kind}
-use Rattle.bk_lex.specs.declared.token.Kind.TheVariants as k
-use Rattle.bk_lex.specs.Symbol.{Symbol}
-use Rattle.bk_tree.specs.declared.tree.Operator.TheVariants as o
-use Rattle.bk_tree.specs.declared.tree.Sort.{Sort}
-use Rattle.bk_grammar.specs.declared.symbols.Guard.TheVariants as g
-use Rattle.bk_tree.specs.Tree.{Mention, Expression, Expressions, Action, Actions, Declaration, Declarations, Items, Definition, Definitions, Starts, name, number, text, truth, query, parens, unary, binary, choice, apply, valof, table, none, more, empty, assign, call, goto, label, case_of, default, when, test, while, for_loop, switch, result, simple, block, repeat, repeat_while, no_actions, also, constants, definitions, no_declarations, declare, no_items, item, routine, function, variables, no_definitions, define, no_starts, value, vector}
-use Rattle.bk_grammar.specs.Rows.{inner, left, behind, infix_of, sort_of, begins_operand, repeats, is_and, is_comma, goes, Fails}
-use Rattle.bk_grammar.specs.Grammar.{SpellsName, Names, Formals, Semis, Filled, if_or_unless, while_or_until, repeats_while, Reads, Each, Does, Body, Parted, Heads, Declares, Listed, Defined, Defines, Started, Section}
-use Rattle.bk_tree.specs.Parts.{line_of, line_of_first, line_of_names, line_of_action, size, start_count}
-use Rattle.bk_grammar.specs.Machine.{Stack, in_section, in_block, in_let, at_name, at_formals, at_formal, at_formal_end, at_head, at_variable, at_variable_end, at_starts, at_opening, at_items, at_sign, at_goto, at_for, at_forward, at_default, in_parens, in_unary, in_binary, in_chain, in_then, in_else, in_args, in_table, in_start, in_dests, in_values, in_guard, in_test, in_result, in_while, in_from, in_to, in_by, in_item, in_function, in_value, in_vector, in_valof, in_label, in_guarded, in_default, in_do, in_or, in_for, in_routine, State, want, have, begin, maybe, did, due, limit, is_vec, named, guarded, behind_sign, take_command, sorted, declared, declared_by, defined_by, again, finish, inside, in_names, take_item, take_due, step, run}
-use Rattle.bk_tree.specs.Parts.{each_then, actions_then, declarations_then, items_then, definitions_then, starts_then}
+use Rattle.bk_grammar.proofs.Terms.{◌≡◌, ℕ, ◌+◌, ◌<◌, ◌≤◌, Bool, true, false, cond, List, [], ◌∷◌, ◌++◌, Option, Some, None, Ok, length, refl, sym, ap, subst, ◌∙◌, ◌⊎◌, inl, inr, append_assoc, arith, le-ltb, lt-ltb, Kind, Kind as k, Symbol, Operator as o, Sort, Guard as g, Mention, Expression, Expressions, Action, Actions, Declaration, Declarations, Items, Definition, Definitions, Starts, name, number, text, truth, query, parens, unary, binary, choice, apply, valof, table, none, more, empty, assign, call, goto, label, case_of, default, when, test, while, for_loop, switch, result, simple, block, repeat, repeat_while, no_actions, also, constants, definitions, no_declarations, declare, no_items, item, routine, function, variables, no_definitions, define, no_starts, value, vector, inner, left, behind, infix_of, sort_of, begins_operand, repeats, is_and, is_comma, goes, Fails, SpellsName, Names, Formals, Semis, Filled, if_or_unless, while_or_until, repeats_while, Reads, Each, Does, Body, Parted, Heads, Declares, Listed, Defined, Defines, Started, Section, line_of, line_of_first, line_of_names, line_of_action, size, start_count, Stack, in_section, in_block, in_let, at_name, at_formals, at_formal, at_formal_end, at_head, at_variable, at_variable_end, at_starts, at_opening, at_items, at_sign, at_goto, at_for, at_forward, at_default, in_parens, in_unary, in_binary, in_chain, in_then, in_else, in_args, in_table, in_start, in_dests, in_values, in_guard, in_test, in_result, in_while, in_from, in_to, in_by, in_item, in_function, in_value, in_vector, in_valof, in_label, in_guarded, in_default, in_do, in_or, in_for, in_routine, State, want, have, begin, maybe, did, due, limit, is_vec, named, guarded, behind_sign, take_command, sorted, declared, declared_by, defined_by, again, finish, inside, in_names, take_item, take_due, step, run, each_then, actions_then, declarations_then, items_then, definitions_then, starts_then}
 use Rattle.bk_grammar.proofs.Steps.{stepped, Takes, alike, failing, stops_alike, repeats_alike, pushes, repeated, left_le, leaf_step, prefix_step, simple_step, guard_step, sign_step, same_eq, less_eq, each_end, actions_end, declarations_end, declarations_all, items_end, definitions_end, value_end, vector_end, size_then, count_then}
 use Rattle.bk_grammar.proofs.Begin.{Free, Opens, joins, joins_chain, row_6, free_left, each_stops, at_infix, at_open, at_arrow, at_comma, table_ends, opens_read, opens_each, opens_does, at_first, opened, item_starts, full_filled, full_fails, perhaps, guarded_when, guarded_while, begins_if, begins_while, call_ends, value_ends, value_more}
 

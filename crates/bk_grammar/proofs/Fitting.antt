@@ -1,20 +1,6 @@
 -- Each step of the machine leads from a state that fits to one that fits.
-use Rattle.std.proofs.Common.{◌≡◌, ℕ, ◌+◌, ◌<◌, Bool, true, false, cond, List, [], ◌∷◌, ◌++◌, ◌==◌, length, length-append, Option, Some, None, refl, sym, subst, arith}
-use Rattle.std.proofs.lemmas.Bool.Decides.{nat_tests}
-use Rattle.bk_lex.specs.declared.token.Kind.{Kind}
-use Rattle.bk_lex.specs.declared.token.Kind.TheVariants as k
-use Rattle.bk_lex.specs.Symbol.{Symbol}
-use Rattle.bk_tree.specs.declared.tree.Operator.{Operator}
-use Rattle.bk_tree.specs.declared.tree.Sort.{Sort}
-use Rattle.bk_grammar.specs.declared.symbols.Guard.{Guard}
-use Rattle.bk_grammar.specs.declared.symbols.Guard.TheVariants as g
-use Rattle.bk_tree.specs.Tree.{Mention, Expression, Expressions, Action, Actions, Declaration, Declarations, Items, Definition, name, parens, unary, binary, choice, apply, valof, table, none, more, empty, assign, label, default, test, for_loop, result, block, repeat_while, no_actions, also, constants, definitions, no_declarations, declare, no_items, item, routine, function, variables, no_definitions, define, no_starts, value, vector}
+use Rattle.bk_grammar.proofs.Terms.{◌≡◌, ℕ, ◌+◌, ◌<◌, Bool, true, false, cond, List, [], ◌∷◌, ◌++◌, ◌==◌, length, length-append, Option, Some, None, refl, sym, subst, arith, nat_tests, Kind, Kind as k, Symbol, Operator, Sort, Guard, Guard as g, Mention, Expression, Expressions, Action, Actions, Declaration, Declarations, Items, Definition, name, parens, unary, binary, choice, apply, valof, table, none, more, empty, assign, label, default, test, for_loop, result, block, repeat_while, no_actions, also, constants, definitions, no_declarations, declare, no_items, item, routine, function, variables, no_definitions, define, no_starts, value, vector, inner, behind, is_relation, infix_of, sort_of, sign_of, begins_command, repeats, assigns, is_and, is_comma, goes, last, line_of, line_of_first, line_of_names, line_of_action, size, start_count, Stack, in_section, in_block, in_let, at_name, at_formals, at_formal, at_formal_end, at_head, at_variable, at_variable_end, at_starts, at_opening, at_items, at_sign, at_goto, at_for, at_forward, at_default, in_parens, in_unary, in_binary, in_chain, in_then, in_else, in_args, in_table, in_start, in_dests, in_values, in_guard, in_test, in_result, in_while, in_from, in_to, in_by, in_item, in_function, in_value, in_vector, in_valof, in_label, in_guarded, in_default, in_do, in_or, in_for, in_routine, State, want, have, begin, maybe, did, due, linked, infixed, push, is_close, is_colon, is_do, is_or, is_to, is_equal, is_semicolon, opens, closes, is_vec, is_let, is_open, is_sign_of, if_is, named, guarded, behind_sign, no_args, bars, take_operand, take_command, sorted, take_declaration, take_in_section, in_head, take_in_block, declared, declared_by, defined_by, again, dests, labelled, is_call, call_of, in_constants, to_or_do, give, finish, without, inside, in_names, in_formals, headed, take_item, take_due, step, each_then, actions_then, declarations_then, items_then, definitions_then, starts_then}
 use Rattle.bk_tree.specs.declared.tree.Operator.TheVariants.{Both}
-use Rattle.bk_grammar.specs.Rows.{inner, behind, is_relation, infix_of, sort_of, sign_of, begins_command, repeats, assigns, is_and, is_comma, goes}
-use Rattle.bk_grammar.specs.Grammar.{last}
-use Rattle.bk_tree.specs.Parts.{line_of, line_of_first, line_of_names, line_of_action, size, start_count}
-use Rattle.bk_grammar.specs.Machine.{Stack, in_section, in_block, in_let, at_name, at_formals, at_formal, at_formal_end, at_head, at_variable, at_variable_end, at_starts, at_opening, at_items, at_sign, at_goto, at_for, at_forward, at_default, in_parens, in_unary, in_binary, in_chain, in_then, in_else, in_args, in_table, in_start, in_dests, in_values, in_guard, in_test, in_result, in_while, in_from, in_to, in_by, in_item, in_function, in_value, in_vector, in_valof, in_label, in_guarded, in_default, in_do, in_or, in_for, in_routine, State, want, have, begin, maybe, did, due, linked, infixed, push, is_close, is_colon, is_do, is_or, is_to, is_equal, is_semicolon, opens, closes, is_vec, is_let, is_open, is_sign_of, if_is, named, guarded, behind_sign, no_args, bars, take_operand, take_command, sorted, take_declaration, take_in_section, in_head, take_in_block, declared, declared_by, defined_by, again, dests, labelled, is_call, call_of, in_constants, to_or_do, give, finish, without, inside, in_names, in_formals, headed, take_item, take_due, step}
-use Rattle.bk_tree.specs.Parts.{each_then, actions_then, declarations_then, items_then, definitions_then, starts_then}
 use Rattle.bk_grammar.proofs.Steps.{size_then, count_then}
 use Rattle.bk_grammar.proofs.Before.{is_close_kind, is_comma_kind, is_colon_kind, is_do_kind, is_or_kind, is_to_kind, is_and_kind, is_equal_kind, is_semicolon_kind, opens_kind, closes_kind, is_vec_kind, is_let_kind, is_open_kind}
 use Rattle.bk_grammar.proofs.Moves.{sign_is}
@@ -144,12 +130,8 @@ to_or_do_fits k.SectionClose l n a b st os h = tt
 to_or_do_fits _ l n a b st os h = tt
 
 guard_fits : (gd : Guard) (m : ℕ) (e : Expression) (st : Stack) (os : List (List ℕ)) → ForCommand st os → After (sign_of gd) (Some (behind_sign gd (in_guarded gd m e st))) os
-guard_fits g.If m e st os h = h
-guard_fits g.Unless m e st os h = h
-guard_fits g.While m e st os h = h
-guard_fits g.Until m e st os h = h
-guard_fits g.SwitchOn m e st os h = h
 guard_fits g.Case m e st os h = (tt, h)
+guard_fits x m e st os h = h
 
 -- ---- declarations
 

@@ -1,3 +1,4 @@
+mod Terms
 mod Steps
 mod Begin
 mod Complete

@@ -1,11 +1,5 @@
 -- What is read is in the grammar: lists, names and places.
-use Rattle.std.proofs.Common.{◌≡◌, ℕ, Bool, true, false, List, [], ◌∷◌, ◌++◌, refl, sym, ap, subst, ◌∙◌, ◌⊎◌, inl, inr}
-use Rattle.bk_lex.specs.declared.token.Kind.TheVariants as k
-use Rattle.bk_lex.specs.Symbol.{Symbol}
-use Rattle.bk_tree.specs.Tree.{Mention, Expression, Expressions, Action, Actions, Declaration, Declarations, Items, Definition, Definitions, Starts, none, more, block, no_actions, also, no_declarations, declare, no_items, item, no_definitions, define, no_starts, value, vector}
-use Rattle.bk_grammar.specs.Rows.{is_and, goes, Fails, Stops}
-use Rattle.bk_grammar.specs.Grammar.{SpellsName, Names, Formals, Semis, Full, Reads, Each, Does, Body, Parted, Heads, Declares, Listed, Defined, Defines, Started}
-use Rattle.bk_tree.specs.Parts.{each_then, actions_then, declarations_then, items_then, definitions_then, starts_then}
+use Rattle.bk_grammar.proofs.Terms.{◌≡◌, ℕ, Bool, true, false, List, [], ◌∷◌, ◌++◌, refl, sym, ap, subst, ◌∙◌, ◌⊎◌, inl, inr, Kind as k, Symbol, Mention, Expression, Expressions, Action, Actions, Declaration, Declarations, Items, Definition, Definitions, Starts, none, more, block, no_actions, also, no_declarations, declare, no_items, item, no_definitions, define, no_starts, value, vector, is_and, goes, Fails, Stops, SpellsName, Names, Formals, Semis, Full, Reads, Each, Does, Body, Parted, Heads, Declares, Listed, Defined, Defines, Started, each_then, actions_then, declarations_then, items_then, definitions_then, starts_then}
 use Rattle.bk_grammar.proofs.Before.{Commas, NamesThen, StartsThen, ItemsThen, DefinitionsThen, PartedThen, BodyThen, Some_ds, Inside}
 
 pub semis_refl : (a : List Symbol) → Semis a a

@@ -1,51 +1,10 @@
 -- What is read is in the grammar: each step.
-use Rattle.std.proofs.Common.{◌≡◌, ℕ, ◌≤◌, Bool, true, false, cond, List, ◌∷◌, Option, Some, None, refl, sym, ap, subst, ◌∙◌, inl, inr, arith}
-use Rattle.std.specs.Prelude.{nat_lt}
-use Rattle.std.proofs.lemmas.Bool.{ltb-true, cases_lt}
-use Rattle.bk_lex.specs.declared.token.Kind.{Kind}
-use Rattle.bk_lex.specs.declared.token.Kind.TheVariants as k
-use Rattle.bk_lex.specs.Symbol.{Symbol}
-use Rattle.bk_tree.specs.declared.tree.Operator.{Operator}
-use Rattle.bk_tree.specs.declared.tree.Operator.TheVariants as o
-use Rattle.bk_tree.specs.declared.tree.Prefix.{Prefix}
-use Rattle.bk_tree.specs.declared.tree.Sort.{Sort}
-use Rattle.bk_tree.specs.declared.tree.Simple.{Simple}
-use Rattle.bk_grammar.specs.declared.symbols.Guard.{Guard}
-use Rattle.bk_grammar.specs.declared.symbols.Guard.TheVariants as g
-use Rattle.bk_tree.specs.Tree.{Mention, Expression, Expressions, Action, Actions, Declaration, Declarations, Items, Definition, name, number, text, truth, query, apply, none, more, empty, simple, block, repeat, no_actions, also, constants, definitions, no_declarations, declare, no_definitions, define}
-use Rattle.bk_lex.specs.Values.{upper_name, number_word, string_bytes, character_byte}
-use Rattle.bk_grammar.specs.Rows.{row, left, is_relation, infix_of, prefix_of, leaf, simple_of, sort_of, guard_of, sign_of, repeats, is_and, goes, Fails}
-use Rattle.bk_grammar.specs.Grammar.{last, Full, EndsCommand, Filled, Reads, Does, Declares, Defines}
-use Rattle.bk_tree.specs.Parts.{line_of, line_of_action}
-use Rattle.bk_grammar.specs.Machine.{Stack, in_section, in_block, in_let, at_opening, at_items, at_goto, at_for, at_default, in_parens, in_unary, in_binary, in_chain, in_then, in_args, in_table, in_start, in_dests, in_values, in_guard, in_test, in_result, in_while, in_by, in_valof, in_label, in_guarded, in_for, State, want, have, begin, maybe, did, due, limit, linked, infixed, push, is_semicolon, closes, is_let, is_sign_of, guarded, behind_sign, prefixed, no_args, bars, leaved, take_operand, take_start, take_command, sorted, take_declaration, take_in_section, in_head, take_in_block, declared, declared_by, defined_by, again, dests, labelled, in_constants, to_or_do, inside}
-use Rattle.bk_tree.specs.Parts.{declarations_then, definitions_then}
+use Rattle.bk_grammar.proofs.Terms.{◌≡◌, ℕ, ◌≤◌, Bool, true, false, cond, List, ◌∷◌, Option, Some, None, refl, sym, ap, subst, ◌∙◌, inl, inr, arith, nat_lt, ltb-true, cases_lt, Kind, Kind as k, Symbol, Operator, Operator as o, Prefix, Sort, Simple, Guard, Guard as g, Mention, Expression, Expressions, Action, Actions, Declaration, Declarations, Items, Definition, name, number, text, truth, query, apply, none, more, empty, simple, block, repeat, no_actions, also, constants, definitions, no_declarations, declare, no_definitions, define, upper_name, number_word, string_bytes, character_byte, row, left, is_relation, infix_of, prefix_of, leaf, simple_of, sort_of, guard_of, sign_of, repeats, is_and, goes, Fails, last, Full, EndsCommand, Filled, Reads, Does, Declares, Defines, line_of, line_of_action, Stack, in_section, in_block, in_let, at_opening, at_items, at_goto, at_for, at_default, in_parens, in_unary, in_binary, in_chain, in_then, in_args, in_table, in_start, in_dests, in_values, in_guard, in_test, in_result, in_while, in_by, in_valof, in_label, in_guarded, in_for, State, want, have, begin, maybe, did, due, limit, linked, infixed, push, is_semicolon, closes, is_let, is_sign_of, guarded, behind_sign, prefixed, no_args, bars, leaved, take_operand, take_start, take_command, sorted, take_declaration, take_in_section, in_head, take_in_block, declared, declared_by, defined_by, again, dests, labelled, in_constants, to_or_do, inside, declarations_then, definitions_then}
 use Rattle.bk_grammar.proofs.Begin.{row_6}
-use Rattle.bk_grammar.proofs.Steps.{infix_goes}
+use Rattle.bk_grammar.proofs.Steps.{infix_goes, infix_row}
 use Rattle.bk_grammar.proofs.Complete.{after}
 use Rattle.bk_grammar.proofs.Before.{is_colon_kind, is_do_kind, is_and_kind, is_semicolon_kind, closes_kind, is_let_kind, in_block_is, At_head, Ready, Before, Inv, mono, split, to, Reached, zero_row, one_less}
 use Rattle.bk_grammar.proofs.Lists.{semis_refl, semis_snoc, heads_snoc, inside_semi, inside_declare, inside_shut, definitions_snoc, definitions_all}
-
-pub infix_row : (t : Kind) (q : Operator) (rows : ℕ) → infix_of t ≡ Some q → goes rows t ≡ true → row q ≤ rows
-infix_row k.Bang q rows h j = let e : o.Subscript ≡ q = cc in let r : 2 ≡ row q = ap row e in let l = ltb-true 1 rows j in omega (arith, r, l)
-infix_row k.Percent q rows h j = let e : o.Byte ≡ q = cc in let r : 2 ≡ row q = ap row e in let l = ltb-true 1 rows j in omega (arith, r, l)
-infix_row k.Star q rows h j = let e : o.Times ≡ q = cc in let r : 4 ≡ row q = ap row e in let l = ltb-true 3 rows j in omega (arith, r, l)
-infix_row k.Slash q rows h j = let e : o.Over ≡ q = cc in let r : 4 ≡ row q = ap row e in let l = ltb-true 3 rows j in omega (arith, r, l)
-infix_row k.Rem q rows h j = let e : o.Rem ≡ q = cc in let r : 4 ≡ row q = ap row e in let l = ltb-true 3 rows j in omega (arith, r, l)
-infix_row k.Plus q rows h j = let e : o.Add ≡ q = cc in let r : 5 ≡ row q = ap row e in let l = ltb-true 4 rows j in omega (arith, r, l)
-infix_row k.Minus q rows h j = let e : o.Subtract ≡ q = cc in let r : 5 ≡ row q = ap row e in let l = ltb-true 4 rows j in omega (arith, r, l)
-infix_row k.Equal q rows h j = let e : o.Equal ≡ q = cc in let r : 6 ≡ row q = ap row e in let l = ltb-true 5 rows j in omega (arith, r, l)
-infix_row k.NotEqual q rows h j = let e : o.Unequal ≡ q = cc in let r : 6 ≡ row q = ap row e in let l = ltb-true 5 rows j in omega (arith, r, l)
-infix_row k.Less q rows h j = let e : o.Less ≡ q = cc in let r : 6 ≡ row q = ap row e in let l = ltb-true 5 rows j in omega (arith, r, l)
-infix_row k.Greater q rows h j = let e : o.Greater ≡ q = cc in let r : 6 ≡ row q = ap row e in let l = ltb-true 5 rows j in omega (arith, r, l)
-infix_row k.LessEqual q rows h j = let e : o.AtMost ≡ q = cc in let r : 6 ≡ row q = ap row e in let l = ltb-true 5 rows j in omega (arith, r, l)
-infix_row k.GreaterEqual q rows h j = let e : o.AtLeast ≡ q = cc in let r : 6 ≡ row q = ap row e in let l = ltb-true 5 rows j in omega (arith, r, l)
-infix_row k.ShiftLeft q rows h j = let e : o.ShiftLeft ≡ q = cc in let r : 7 ≡ row q = ap row e in let l = ltb-true 6 rows j in omega (arith, r, l)
-infix_row k.ShiftRight q rows h j = let e : o.ShiftRight ≡ q = cc in let r : 7 ≡ row q = ap row e in let l = ltb-true 6 rows j in omega (arith, r, l)
-infix_row k.Ampersand q rows h j = let e : o.Both ≡ q = cc in let r : 9 ≡ row q = ap row e in let l = ltb-true 8 rows j in omega (arith, r, l)
-infix_row k.Bar q rows h j = let e : o.Either ≡ q = cc in let r : 10 ≡ row q = ap row e in let l = ltb-true 9 rows j in omega (arith, r, l)
-infix_row k.Eqv q rows h j = let e : o.Same ≡ q = cc in let r : 11 ≡ row q = ap row e in let l = ltb-true 10 rows j in omega (arith, r, l)
-infix_row k.Neqv q rows h j = let e : o.Differ ≡ q = cc in let r : 11 ≡ row q = ap row e in let l = ltb-true 10 rows j in omega (arith, r, l)
-infix_row _ q rows h j = absurd cc
 
 pub up_to : (j : ℕ) (q : Operator) (e : Expression) (ms us : List Symbol) (t : Symbol) → Reached j e ms us t → infix_of t.kind ≡ Some q → j ≤ row q
 up_to j q e ms us t r h = elim (cases_lt (row q) j) [
@@ -164,22 +123,15 @@ pub sign_is : (gd : Guard) (t : Kind) → is_sign_of gd t ≡ true → t ≡ sig
 sign_is g.SwitchOn k.Into h = refl
 sign_is g.SwitchOn _ h = absurd cc
 sign_is g.Case t h = is_colon_kind t h
-sign_is g.If t h = is_do_kind t h
-sign_is g.Unless t h = is_do_kind t h
-sign_is g.While t h = is_do_kind t h
-sign_is g.Until t h = is_do_kind t h
+sign_is x t h = is_do_kind t h
 
 pub behind_inv : (gd : Guard) (m : ℕ) (e : Expression) (st : Stack) (a us : List Symbol) → Before (in_guarded gd m e st) a us → Inv (behind_sign gd (in_guarded gd m e st)) a us
 behind_inv g.Case m e st a us b = (b, tt)
 behind_inv _ m e st a us b = (b, tt)
 
 pub guarded_does : (gd : Guard) (m : ℕ) (e : Expression) (c : Action) (t : Symbol) (ms : List Symbol) (d : Symbol) (ns z : List Symbol) → guard_of t.kind ≡ Some gd → t.line ≡ m → Reads 12 e ms (d ∷ ns) → d.kind ≡ sign_of gd → Does c ns z → Filled c → Fails repeats z → Does (guarded gd m e c) (t ∷ ms) z
-guarded_does g.If m e c t ms d ns z i l r s x f w = (t, ms, d, ns, refl, i, l, r, s, x, full_of c z f w)
-guarded_does g.Unless m e c t ms d ns z i l r s x f w = (t, ms, d, ns, refl, i, l, r, s, x, full_of c z f w)
-guarded_does g.While m e c t ms d ns z i l r s x f w = (t, ms, d, ns, refl, i, l, r, s, x, full_of c z f w)
-guarded_does g.Until m e c t ms d ns z i l r s x f w = (t, ms, d, ns, refl, i, l, r, s, x, full_of c z f w)
-guarded_does g.SwitchOn m e c t ms d ns z i l r s x f w = (t, ms, d, ns, refl, i, l, r, s, x, full_of c z f w)
 guarded_does g.Case m e c t ms d ns z i l r s x f w = (t, ms, d, ns, refl, i, l, r, s, x, ends_of c z f w)
+guarded_does y m e c t ms d ns z i l r s x f w = (t, ms, d, ns, refl, i, l, r, s, x, full_of c z f w)
 
 pub guarded_filled : (gd : Guard) (m : ℕ) (e : Expression) (c : Action) → Filled (guarded gd m e c)
 guarded_filled g.If m e c = tt

@@ -1,10 +1,7 @@
 -- Tags that are one, letter case ignored.
-use Rattle.std.proofs.Common.{◌≡◌, ℕ, Bool, true, false, cond, List, [], ◌∷◌, map, IsTrue, ◌==◌, ◌↔◌, refl, sym, ap, ◌∙◌, arith}
+use Rattle.bk_grammar.proofs.Terms.{◌≡◌, ℕ, Bool, true, false, cond, List, [], ◌∷◌, map, IsTrue, ◌==◌, ◌↔◌, refl, sym, ap, ◌∙◌, arith, nat_tests, upper_name, eq_is}
 use Rattle.std.specs.Char.{to_ascii_lowercase, to_ascii_uppercase}
 use Rattle.std.proofs.lemmas.Str.Ascii.{lowercase-uppercase}
-use Rattle.std.proofs.lemmas.Bool.Decides.{nat_tests}
-use Rattle.bk_lex.specs.Values.{upper_name}
-use Rattle.bk_tree.proofs.Lemmas.{eq_is}
 use Rattle.bk_grammar.specs.Brackets.{same_tag}
 
 upper_lower : (c : ℕ) → to_ascii_uppercase (to_ascii_lowercase c) ≡ to_ascii_uppercase c

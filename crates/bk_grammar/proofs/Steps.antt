@@ -1,22 +1,5 @@
 -- Steps of the machine, and where two states go on alike.
-use Rattle.std.proofs.Common.{◌≡◌, ℕ, ◌+◌, ◌<◌, ◌≤◌, Bool, true, false, cond, List, [], ◌∷◌, Option, Some, None, ◌==◌, refl, sym, ap, ◌∙◌, arith}
-use Rattle.std.proofs.lemmas.Bool.{lt-ltb}
-use Rattle.std.proofs.lemmas.Bool.Decides.{nat_tests}
-use Rattle.bk_lex.specs.declared.token.Kind.{Kind}
-use Rattle.bk_lex.specs.declared.token.Kind.TheVariants as k
-use Rattle.bk_lex.specs.Symbol.{Symbol}
-use Rattle.bk_tree.specs.declared.tree.Operator.{Operator}
-use Rattle.bk_tree.specs.declared.tree.Operator.TheVariants as o
-use Rattle.bk_tree.specs.declared.tree.Prefix.{Prefix}
-use Rattle.bk_tree.specs.declared.tree.Simple.{Simple}
-use Rattle.bk_grammar.specs.declared.symbols.Guard.{Guard}
-use Rattle.bk_grammar.specs.declared.symbols.Guard.TheVariants as g
-use Rattle.bk_tree.specs.Tree.{Expression, Expressions, Action, Actions, Declaration, Declarations, Items, Definition, Definitions, Starts, none, more, simple, no_actions, also, no_declarations, declare, no_items, item, no_definitions, define, no_starts, value, vector}
-use Rattle.bk_grammar.specs.Rows.{row, inner, left, is_relation, infix_of, prefix_of, leaf, simple_of, guard_of, sign_of, begins_operand, begins_command, repeats, assigns, is_comma, goes, Fails, Stops}
-use Rattle.bk_grammar.specs.Grammar.{last}
-use Rattle.bk_tree.specs.Parts.{size, start_count}
-use Rattle.bk_grammar.specs.Machine.{Stack, in_section, in_block, in_unary, in_binary, in_start, in_guard, in_guarded, State, want, have, did, limit, linked, infixed, push, behind_sign, prefixed, leaved, take_operand, take_start, take_command, in_head, take_in_block, again, give, finish, stepped_by, step, whole, going, run}
-use Rattle.bk_tree.specs.Parts.{each_then, actions_then, declarations_then, items_then, definitions_then, starts_then}
+use Rattle.bk_grammar.proofs.Terms.{◌≡◌, ℕ, ◌+◌, ◌<◌, ◌≤◌, Bool, true, false, cond, List, [], ◌∷◌, Option, Some, None, ◌==◌, refl, sym, ap, ◌∙◌, arith, lt-ltb, nat_tests, Kind, Kind as k, Symbol, Operator, Operator as o, Prefix, Simple, Guard, Guard as g, Expression, Expressions, Action, Actions, Declaration, Declarations, Items, Definition, Definitions, Starts, none, more, simple, no_actions, also, no_declarations, declare, no_items, item, no_definitions, define, no_starts, value, vector, row, inner, left, is_relation, infix_of, prefix_of, leaf, simple_of, guard_of, sign_of, begins_operand, begins_command, repeats, assigns, is_comma, goes, Fails, Stops, last, size, start_count, Stack, in_section, in_block, in_unary, in_binary, in_start, in_guard, in_guarded, State, want, have, did, limit, linked, infixed, push, behind_sign, prefixed, leaved, take_operand, take_start, take_command, in_head, take_in_block, again, give, finish, stepped_by, step, whole, going, run, each_then, actions_then, declarations_then, items_then, definitions_then, starts_then, nat_lt, ltb-true}
 
 -- one step
 pub stepped : (x next : State) (t : Symbol) (ts : List Symbol) → step x t ≡ Some next → run (t ∷ ts) x ≡ run ts next
@@ -80,27 +63,23 @@ pub inner_is : (o : Operator) → inner o + 1 ≡ row o
 inner_is o.Subscript = refl
 inner_is _ = refl
 
+-- an infix operator goes on in the rows from its own
+abbrev by_row : ℕ → Bool → Option Operator → Bool
+by_row rows other None = other
+by_row rows other (Some q) = nat_lt (inner q) rows
+
+goes_row : (t : Kind) (rows : ℕ) → goes rows t ≡ by_row rows (goes rows t) (infix_of t)
+goes_row k.Bang rows = refl
+goes_row t rows = refl
+
+goes_by : (t : Kind) (q : Operator) (rows : ℕ) → infix_of t ≡ Some q → goes rows t ≡ nat_lt (inner q) rows
+goes_by t q rows h = goes_row t rows ∙ ap (by_row rows (goes rows t)) h
+
 pub infix_goes : (t : Kind) (q : Operator) (rows : ℕ) → infix_of t ≡ Some q → row q ≤ rows → goes rows t ≡ true
-infix_goes k.Bang q rows h le = let e : o.Subscript ≡ q = cc in let r : 2 ≡ row q = ap row e in lt-ltb 1 rows (omega (arith, r, le))
-infix_goes k.Percent q rows h le = let e : o.Byte ≡ q = cc in let r : 2 ≡ row q = ap row e in lt-ltb 1 rows (omega (arith, r, le))
-infix_goes k.Star q rows h le = let e : o.Times ≡ q = cc in let r : 4 ≡ row q = ap row e in lt-ltb 3 rows (omega (arith, r, le))
-infix_goes k.Slash q rows h le = let e : o.Over ≡ q = cc in let r : 4 ≡ row q = ap row e in lt-ltb 3 rows (omega (arith, r, le))
-infix_goes k.Rem q rows h le = let e : o.Rem ≡ q = cc in let r : 4 ≡ row q = ap row e in lt-ltb 3 rows (omega (arith, r, le))
-infix_goes k.Plus q rows h le = let e : o.Add ≡ q = cc in let r : 5 ≡ row q = ap row e in lt-ltb 4 rows (omega (arith, r, le))
-infix_goes k.Minus q rows h le = let e : o.Subtract ≡ q = cc in let r : 5 ≡ row q = ap row e in lt-ltb 4 rows (omega (arith, r, le))
-infix_goes k.Equal q rows h le = let e : o.Equal ≡ q = cc in let r : 6 ≡ row q = ap row e in lt-ltb 5 rows (omega (arith, r, le))
-infix_goes k.NotEqual q rows h le = let e : o.Unequal ≡ q = cc in let r : 6 ≡ row q = ap row e in lt-ltb 5 rows (omega (arith, r, le))
-infix_goes k.Less q rows h le = let e : o.Less ≡ q = cc in let r : 6 ≡ row q = ap row e in lt-ltb 5 rows (omega (arith, r, le))
-infix_goes k.Greater q rows h le = let e : o.Greater ≡ q = cc in let r : 6 ≡ row q = ap row e in lt-ltb 5 rows (omega (arith, r, le))
-infix_goes k.LessEqual q rows h le = let e : o.AtMost ≡ q = cc in let r : 6 ≡ row q = ap row e in lt-ltb 5 rows (omega (arith, r, le))
-infix_goes k.GreaterEqual q rows h le = let e : o.AtLeast ≡ q = cc in let r : 6 ≡ row q = ap row e in lt-ltb 5 rows (omega (arith, r, le))
-infix_goes k.ShiftLeft q rows h le = let e : o.ShiftLeft ≡ q = cc in let r : 7 ≡ row q = ap row e in lt-ltb 6 rows (omega (arith, r, le))
-infix_goes k.ShiftRight q rows h le = let e : o.ShiftRight ≡ q = cc in let r : 7 ≡ row q = ap row e in lt-ltb 6 rows (omega (arith, r, le))
-infix_goes k.Ampersand q rows h le = let e : o.Both ≡ q = cc in let r : 9 ≡ row q = ap row e in lt-ltb 8 rows (omega (arith, r, le))
-infix_goes k.Bar q rows h le = let e : o.Either ≡ q = cc in let r : 10 ≡ row q = ap row e in lt-ltb 9 rows (omega (arith, r, le))
-infix_goes k.Eqv q rows h le = let e : o.Same ≡ q = cc in let r : 11 ≡ row q = ap row e in lt-ltb 10 rows (omega (arith, r, le))
-infix_goes k.Neqv q rows h le = let e : o.Differ ≡ q = cc in let r : 11 ≡ row q = ap row e in lt-ltb 10 rows (omega (arith, r, le))
-infix_goes _ q rows h le = absurd cc
+infix_goes t q rows h le = goes_by t q rows h ∙ lt-ltb (inner q) rows (omega (arith, inner_is q, le))
+
+pub infix_row : (t : Kind) (q : Operator) (rows : ℕ) → infix_of t ≡ Some q → goes rows t ≡ true → row q ≤ rows
+infix_row t q rows h j = omega (arith, inner_is q, ltb-true (inner q) rows (sym (goes_by t q rows h) ∙ j))
 
 pub push_infix : (t : Kind) (q : Operator) (st : Stack) (e : Expression) (s : ℕ) → infix_of t ≡ Some q → push st e t s ≡ Some (cond (is_relation q) (linked q s e st (last e)) (want (in_binary q s e st)))
 push_infix k.Open q st e s h = absurd cc

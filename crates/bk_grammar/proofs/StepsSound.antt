@@ -1,15 +1,5 @@
 -- What is read is in the grammar, and what is in the grammar is read: all of it.
-use Rattle.std.proofs.Common.{◌≡◌, ℕ, Bool, true, false, cond, List, [], ◌∷◌, ◌++◌, Some, None, refl, inl, inr, arith}
-use Rattle.bk_lex.specs.declared.token.Kind.{Kind}
-use Rattle.bk_lex.specs.declared.token.Kind.TheVariants as k
-use Rattle.bk_lex.specs.Symbol.{Symbol}
-use Rattle.bk_tree.specs.declared.tree.Sort.{Sort}
-use Rattle.bk_grammar.specs.declared.symbols.Guard.TheVariants as g
-use Rattle.bk_tree.specs.Tree.{Mention, Items, empty, goto, label, case_of, default, constants, no_items, item, no_starts}
-use Rattle.bk_lex.specs.Values.{upper_name}
-use Rattle.bk_grammar.specs.Rows.{begins_command}
-use Rattle.bk_grammar.specs.Grammar.{SpellsName}
-use Rattle.bk_grammar.specs.Machine.{Stack, in_section, in_block, in_let, at_name, at_formals, at_formal, at_formal_end, at_head, at_variable, at_variable_end, at_starts, at_opening, at_items, at_sign, at_goto, at_for, at_forward, at_default, in_from, in_item, in_function, in_value, in_vector, in_label, in_guarded, in_default, in_routine, State, want, have, begin, maybe, did, due, is_close, is_colon, is_equal, is_semicolon, opens, closes, is_vec, is_open, named, without, inside, in_names, in_formals, headed, take_item, take_due, step}
+use Rattle.bk_grammar.proofs.Terms.{◌≡◌, ℕ, Bool, true, false, cond, List, [], ◌∷◌, ◌++◌, Some, None, refl, inl, inr, arith, Kind, Kind as k, Symbol, Sort, Guard as g, Mention, Items, empty, goto, label, case_of, default, constants, no_items, item, no_starts, upper_name, begins_command, SpellsName, Stack, in_section, in_block, in_let, at_name, at_formals, at_formal, at_formal_end, at_head, at_variable, at_variable_end, at_starts, at_opening, at_items, at_sign, at_goto, at_for, at_forward, at_default, in_from, in_item, in_function, in_value, in_vector, in_label, in_guarded, in_default, in_routine, State, want, have, begin, maybe, did, due, is_close, is_colon, is_equal, is_semicolon, opens, closes, is_vec, is_open, named, without, inside, in_names, in_formals, headed, take_item, take_due, step}
 use Rattle.bk_grammar.proofs.Before.{is_close_kind, is_colon_kind, is_equal_kind, is_semicolon_kind, opens_kind, closes_kind, is_vec_kind, is_open_kind, Ready, Before, May_miss, Inv, split, some_state, to, if_at}
 use Rattle.bk_grammar.proofs.Lists.{names_snoc, names_comma, formals_of, items_semi, items_shut}
 use Rattle.bk_grammar.proofs.Moves.{operand_at, command_at, section_at, block_at, declared_at}

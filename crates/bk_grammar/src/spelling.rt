@@ -5,13 +5,14 @@ ghost use Rattle.bk_lex.specs.Values.{upper_name};
 ghost use Rattle.bk_grammar.specs.Spelling.{tag_of};
 ghost use Rattle.bk_grammar.specs.Brackets.{same_tag};
 
+use bk_tree::Letters;
 use std::alloc::{AllocError, Global};
 
 /// A name in upper case. Most names are short: their letters are put one by one, with no call that copies them first.
-pub fn name(alloc: Global, text: &[u8]) -> Result<Vec<u8>, AllocError>
+pub fn name(alloc: Global, text: &[u8]) -> Result<Letters, AllocError>
     ensures { IfOk result (λ letters. letters.items ≡ upper_name text.now) }
 {
-    let mut letters = Vec::with_capacity(alloc, text.len())?;
+    let mut letters = Letters::with_capacity(alloc, text.len())?;
     for letter in text {
         letters.push_reserved(letter.to_ascii_uppercase());
     }

@@ -3,21 +3,21 @@ ghost use Rattle.std.specs.Prelude.{◌≡◌, [], ◌∷◌, IfOk, map};
 ghost use Rattle.bk_tree.specs.Tree.{expression, expressions_in, action, actions_in, declaration, declarations_in, items_in, definition, definitions_in, starts_in, mention};
 
 use crate::make::{apply, assign, block, call, constants, for_loop, let_of, table, variables};
-use crate::tree::{Command, ConstItem, Decl, Def, Expr, Init, Name};
+use crate::tree::{Command, ConstItem, Decl, Def, Expr, Init, Letters, Name};
 use std::alloc::{AllocError, Global};
 
-/// A copy of letters or of bytes.
-fn copy_bytes(bytes: &Vec<u8>) -> Result<Vec<u8>, AllocError>
-    ensures { IfOk result (λ copy. copy.items ≡ bytes.now.items) }
+/// A copy of letters.
+fn copy_letters(letters: &Letters) -> Result<Letters, AllocError>
+    ensures { IfOk result (λ copy. copy.items ≡ letters.now.items) }
 {
-    bytes.clone()
+    Letters::from_slice(*letters.allocator(), letters.as_slice())
 }
 
 /// A copy of a name.
 fn copy_name(name: &Name) -> Result<Name, AllocError>
     ensures { IfOk result (λ copy. mention copy ≡ mention name.now) }
 {
-    let letters = name.letters.clone()?;
+    let letters = copy_letters(&name.letters)?;
     Ok(Name {
         line: name.line,
         letters,
@@ -43,7 +43,7 @@ pub fn copy(alloc: Global, expr: &Expr) -> Result<Expr, AllocError>
 {
     match expr {
         Expr::Name(line, letters) => {
-            let letters = letters.clone()?;
+            let letters = copy_letters(letters)?;
             Ok(Expr::Name(*line, letters))
         }
         Expr::Number(line, word) => Ok(Expr::Number(*line, *word)),
@@ -139,7 +139,7 @@ fn copy_command(alloc: Global, command: &Command) -> Result<Command, AllocError>
         }
         Command::Goto(line, name) => Ok(Command::Goto(*line, copy_name(name)?)),
         Command::Label(line, letters, body) => {
-            let letters = copy_bytes(letters)?;
+            let letters = copy_letters(letters)?;
             let body = copy_body(alloc, body)?;
             Ok(Command::Label(*line, letters, body))
         }
@@ -260,7 +260,7 @@ fn copy_item(alloc: Global, item: &ConstItem) -> Result<ConstItem, AllocError>
 {
     match item {
         ConstItem::Item(line, letters, expr) => {
-            let letters = letters.clone()?;
+            let letters = copy_letters(letters)?;
             let expr = copy(alloc, expr)?;
             Ok(ConstItem::Item(*line, letters, expr))
         }
@@ -288,13 +288,13 @@ fn copy_definition(alloc: Global, def: &Def) -> Result<Def, AllocError>
 {
     match def {
         Def::Routine(line, letters, formals, body) => {
-            let letters = letters.clone()?;
+            let letters = copy_letters(letters)?;
             let formals = copy_names(alloc, formals)?;
             let body = copy_body(alloc, body)?;
             Ok(Def::Routine(*line, letters, formals, body))
         }
         Def::Function(line, letters, formals, body) => {
-            let letters = letters.clone()?;
+            let letters = copy_letters(letters)?;
             let formals = copy_names(alloc, formals)?;
             let body = copy_boxed(alloc, body)?;
             Ok(Def::Function(*line, letters, formals, body))

@@ -8,4 +8,6 @@ mod tree;
 
 pub use copying::copy;
 pub use section::Section;
-pub use tree::{Command, ConstItem, Decl, Def, Expr, Init, Name, Operator, Prefix, Simple, Sort};
+pub use tree::{
+    Command, ConstItem, Decl, Def, Expr, Init, Letters, Name, Operator, Prefix, Simple, Sort,
+};

@@ -3,6 +3,13 @@
 //! Every node but an empty command has the line of its first symbol. Names are in upper case.
 
 use bk_base::Line;
+use smallvec::SmallVec;
+
+/// Most names have at most this number of bytes. These are kept without an allocation of their own.
+const USUAL_LETTERS: usize = 16;
+
+/// The letters, digits and dots of a name, in upper case.
+pub type Letters = SmallVec<u8, USUAL_LETTERS>;
 
 /// A name and its line.
 #[derive(Drop)]
@@ -10,7 +17,7 @@ pub struct Name {
     /// Its line.
     pub line: Line,
     /// Its letters, digits and dots, in upper case.
-    pub letters: Vec<u8>,
+    pub letters: Letters,
 }
 
 /// An operator before its operand.
@@ -102,7 +109,7 @@ pub enum Sort {
 #[cycle(tree)]
 pub enum Expr {
     /// A name.
-    Name(Line, Vec<u8>),
+    Name(Line, Letters),
     /// A number or a character constant, as a word.
     Number(Line, u32),
     /// The bytes of a string.
@@ -141,7 +148,7 @@ pub enum Command {
     /// `GOTO name`
     Goto(Line, Name),
     /// `name: C`
-    Label(Line, Vec<u8>, Box<Command>),
+    Label(Line, Letters, Box<Command>),
     /// `CASE E: C`
     Case(Line, Box<Expr>, Box<Command>),
     /// `DEFAULT: C`
@@ -182,7 +189,7 @@ pub enum Decl {
 #[derive(Drop)]
 #[cycle(tree)]
 pub enum ConstItem {
-    Item(Line, Vec<u8>, Expr),
+    Item(Line, Letters, Expr),
 }
 
 /// A definition of a LET.
@@ -190,9 +197,9 @@ pub enum ConstItem {
 #[cycle(tree)]
 pub enum Def {
     /// `name(names) BE C`
-    Routine(Line, Vec<u8>, Vec<Name>, Box<Command>),
+    Routine(Line, Letters, Vec<Name>, Box<Command>),
     /// `name(names) = E`
-    Function(Line, Vec<u8>, Vec<Name>, Box<Expr>),
+    Function(Line, Letters, Vec<Name>, Box<Expr>),
     /// `names = items`, with as many items as names.
     Variables(Line, Vec<Name>, Vec<Init>),
 }

@@ -1,5 +1,4 @@
-use Rattle.std.proofs.Common.{◌∙◌, ap, arith, get_or, List}
-use Rattle.bk_frames.specs.declared.budget.Budget.{Budget}
+use Rattle.bk_frames.proofs.Terms.{◌∙◌, ap, arith, get_or, List, Budget}
 use Rattle.bk_frames.proofs.Ample.{dropped_behind, held_already, pushed}
 use Rattle.bk_frames.proofs.budgets.add.Goals as goal
 

@@ -1,6 +1,4 @@
-use Rattle.std.proofs.Common.{take}
-use Rattle.bk_frames.specs.declared.completion.Completion.{Completion}
-use Rattle.bk_frames.specs.Budgets.{IsKept, AreAdded, by_completion}
+use Rattle.bk_frames.proofs.Terms.{take, Completion, IsKept, AreAdded, by_completion}
 use Rattle.bk_frames.proofs.budgets.add_completion.Given as goal
 
 abbrev pub invariant-loop-budget : goal.invariant-loop-budget

@@ -1,6 +1,4 @@
-use Rattle.std.proofs.Common.{Bool, ◌||◌, Option, ap, refl, sym, ◌∙◌}
-use Rattle.bk_frames.specs.declared.budget.Budget.{Budget}
-use Rattle.bk_frames.specs.Budgets.{covered, holds_if}
+use Rattle.bk_frames.proofs.Terms.{Bool, ◌||◌, Option, ap, refl, sym, ◌∙◌, Budget, covered, holds_if}
 use Rattle.bk_frames.proofs.Ample.{pushed}
 use Rattle.bk_frames.proofs.budgets.add_left.Goals as goal
 

@@ -1,6 +1,4 @@
-use Rattle.std.proofs.Common.{◌≡◌, drop, ℕ}
-use Rattle.bk_frames.specs.Sizes.{kept_size}
-use Rattle.bk_frames.specs.Budgets.{counted, has_budget}
+use Rattle.bk_frames.proofs.Terms.{◌≡◌, drop, ℕ, kept_size, counted, has_budget}
 use Rattle.bk_frames.proofs.budgets.has_budget.Given as goal
 
 abbrev pub invariant-loop-budget : goal.invariant-loop-budget

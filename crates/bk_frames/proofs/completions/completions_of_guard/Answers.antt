@@ -1,12 +1,4 @@
-use Rattle.std.proofs.Common.{◌≡◌, refl, sym, subst}
-use Rattle.bk_grammar.specs.declared.symbols.Guard.{Guard}
-use Rattle.bk_grammar.specs.declared.symbols.Guard.TheVariants as g
-use Rattle.bk_frames.specs.declared.budget.Category.TheVariants.{Expression, Command}
-use Rattle.bk_frames.specs.declared.budget.Lookahead.TheVariants.{Closing}
-use Rattle.bk_frames.specs.declared.completion.Link.TheVariants as l
-use Rattle.bk_frames.specs.declared.completion.Completion.{Completion}
-use Rattle.bk_frames.specs.declared.completion.Completions.TheVariants.{One, Two}
-use Rattle.bk_frames.specs.Budgets.{IsKept, AreKept, node, completions_of_guard}
+use Rattle.bk_frames.proofs.Terms.{◌≡◌, refl, sym, subst, Guard, Expression, Command, Closing, Completion, One, Two, IsKept, AreKept, node, completions_of_guard, Guard as g, Link as l}
 use Rattle.bk_frames.proofs.completions.completions_of_guard.Goals as goal
 
 case : (k : Guard) (x y : Completion) → k ≡ g.Case → AreKept (Two x y) (completions_of_guard g.Case) → AreKept (Two x y) (completions_of_guard k)

@@ -1,7 +1,4 @@
-use Rattle.std.proofs.Common.{◌≡◌, Bool, true, false, refl, sym, subst}
-use Rattle.bk_frames.specs.declared.completion.Completions.{Completions}
-use Rattle.bk_frames.specs.declared.completion.Completions.TheVariants.{Three}
-use Rattle.bk_frames.specs.Budgets.{AreKept, completions_of_valof}
+use Rattle.bk_frames.proofs.Terms.{◌≡◌, Bool, true, false, refl, sym, subst, Completions, Three, AreKept, completions_of_valof}
 use Rattle.bk_frames.proofs.completions.completions_of_valof.Goals as goal
 
 as_known : (t u : Bool) (x : Completions) → t ≡ u → AreKept x (completions_of_valof u) → AreKept x (completions_of_valof t)

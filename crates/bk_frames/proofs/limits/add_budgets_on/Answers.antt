@@ -1,7 +1,4 @@
-use Rattle.std.proofs.Common.{subst, List}
-use Rattle.bk_frames.specs.declared.budget.Budget.{Budget}
-use Rattle.bk_frames.specs.Unfinished.{unfinished_on}
-use Rattle.bk_frames.specs.Budgets.{completions, by_completions, AreAdded}
+use Rattle.bk_frames.proofs.Terms.{subst, List, Budget, unfinished_on, completions, by_completions, AreAdded}
 use Rattle.bk_frames.proofs.Below.{budgets_above}
 use Rattle.bk_frames.proofs.limits.add_budgets_on.Goals as goal
 

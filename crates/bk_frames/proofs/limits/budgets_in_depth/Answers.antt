@@ -1,9 +1,4 @@
-use Rattle.std.proofs.Common.{false, take, sym, subst, ap, ◌∙◌, List, arith}
-use Rattle.bk_frames.specs.declared.budget.Budget.{Budget}
-use Rattle.bk_tree.specs.Tree.{declarations_in}
-use Rattle.bk_grammar.specs.Machine.{Stack}
-use Rattle.bk_frames.specs.Stacked.{stack}
-use Rattle.bk_frames.specs.Budgets.{is_tight, AreBudgets}
+use Rattle.bk_frames.proofs.Terms.{false, take, sym, subst, ap, ◌∙◌, List, arith, Budget, declarations_in, Stack, stack, is_tight, AreBudgets}
 use Rattle.bk_frames.proofs.Stacks.{stack_take, stack_none}
 use Rattle.bk_frames.proofs.limits.budgets_in_depth.Goals as goal
 

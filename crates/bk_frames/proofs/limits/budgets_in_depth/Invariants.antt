@@ -1,6 +1,4 @@
-use Rattle.std.proofs.Common.{◌≡◌, false, take}
-use Rattle.bk_frames.specs.Stacked.{stack}
-use Rattle.bk_frames.specs.Budgets.{is_tight, AreBudgets}
+use Rattle.bk_frames.proofs.Terms.{◌≡◌, false, take, stack, is_tight, AreBudgets}
 use Rattle.bk_frames.proofs.limits.budgets_in_depth.Given as goal
 
 abbrev pub invariant-loop-frame : goal.invariant-loop-frame

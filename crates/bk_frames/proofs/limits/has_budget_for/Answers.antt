@@ -1,13 +1,4 @@
-use Rattle.std.proofs.Common.{◌≡◌, ◌↔◌, Bool, true, ◌||◌, ◌+◌, refl, sym, subst, ap, ◌∙◌}
-use Rattle.bk_frames.specs.declared.frame.ParserState.{ParserState}
-use Rattle.bk_frames.specs.declared.budget.Category.TheVariants.{Call}
-use Rattle.bk_tree.specs.Tree.{expression, action}
-use Rattle.bk_tree.specs.Limits.{depth, nodes, depth_of_action, nodes_of_action}
-use Rattle.bk_grammar.specs.Machine.{Stack, State}
-use Rattle.bk_frames.specs.Sizes.{node_of}
-use Rattle.bk_frames.specs.Budgets.{Limit, counted, has_budget, category_of}
-use Rattle.bk_frames.specs.Completing.{Completes}
-use Rattle.bk_frames.specs.Frames.{state}
+use Rattle.bk_frames.proofs.Terms.{◌≡◌, ◌↔◌, Bool, true, ◌||◌, ◌+◌, refl, sym, subst, ap, ◌∙◌, ParserState, Call, expression, action, depth, nodes, depth_of_action, nodes_of_action, Stack, State, node_of, Limit, counted, has_budget, category_of, Completes, state}
 use Rattle.bk_frames.proofs.Sizes.{node_kept}
 use Rattle.bk_frames.proofs.Asks.{asks_want, asks_have, asks_begin, asks_maybe, asks_did, asks_due}
 use Rattle.bk_frames.proofs.limits.has_budget_for.Goals as goal

@@ -1,9 +1,4 @@
-use Rattle.std.proofs.Common.{true, sym, subst, List, arith}
-use Rattle.bk_frames.specs.declared.budget.Budget.{Budget}
-use Rattle.bk_tree.specs.Tree.{declarations_in}
-use Rattle.bk_grammar.specs.Machine.{Stack}
-use Rattle.bk_frames.specs.Budgets.{AreBudgets}
-use Rattle.bk_frames.specs.Frames.{stack_of}
+use Rattle.bk_frames.proofs.Terms.{true, sym, subst, List, arith, Budget, declarations_in, Stack, AreBudgets, stack_of}
 use Rattle.bk_frames.proofs.Stacks.{budgets_last, stack_of_none}
 use Rattle.bk_frames.proofs.limits.has_budgets.Goals as goal
 

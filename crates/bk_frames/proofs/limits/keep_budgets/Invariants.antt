@@ -1,5 +1,4 @@
-use Rattle.std.proofs.Common.{◌≡◌, ◌-◌, length}
-use Rattle.bk_frames.specs.Frames.{stack_of}
+use Rattle.bk_frames.proofs.Terms.{◌≡◌, ◌-◌, length, stack_of}
 use Rattle.bk_frames.proofs.limits.keep_budgets.Given as goal
 
 abbrev pub invariant-loop-frames : goal.invariant-loop-frames

@@ -1,7 +1,4 @@
-use Rattle.std.proofs.Common.{◌<◌, sym, subst, arith}
-use Rattle.std.proofs.lemmas.Bool.Decides.{nat_tests}
-use Rattle.bk_frames.specs.declared.frame.Size.{Size}
-use Rattle.bk_frames.specs.Frames.{stack_of, part_of}
+use Rattle.bk_frames.proofs.Terms.{◌<◌, sym, subst, arith, nat_tests, Size, stack_of, part_of}
 use Rattle.bk_frames.proofs.Sure.{Spares, spare_of_all, goes_on_surely}
 use Rattle.bk_frames.proofs.spare.is_surely_bounded.Goals as goal
 

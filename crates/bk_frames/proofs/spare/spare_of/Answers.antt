@@ -1,5 +1,4 @@
-use Rattle.std.proofs.Common.{◌∙◌}
-use Rattle.bk_frames.specs.Spares.{spare_of_section}
+use Rattle.bk_frames.proofs.Terms.{◌∙◌, spare_of_section}
 use Rattle.bk_frames.proofs.Stacks.{spare_top, spare_none}
 use Rattle.bk_frames.proofs.spare.spare_of.Goals as goal
 

@@ -1,6 +1,4 @@
-use Rattle.std.proofs.Common.{subst}
-use Rattle.bk_frames.specs.declared.frame.Size.{Size}
-use Rattle.bk_frames.specs.Spares.{spare_of_section, Leaves}
+use Rattle.bk_frames.proofs.Terms.{subst, Size, spare_of_section, Leaves}
 use Rattle.bk_frames.proofs.Stacks.{spared_pushed, budgets_pushed}
 use Rattle.bk_frames.proofs.top.push_in_place.Goals as goal
 
