@@ -1,21 +1,7 @@
 -- Each way on that is counted from a state of the machine is one of a section.
-use Rattle.std.proofs.Common.{◌<◌, ℕ, ◌+◌, ◌-◌, max, min, Bool, true, false, cond, List, [], ◌∷◌, ◌++◌, length, length-append, refl, ap, inl, inr, arith}
-use Rattle.std.specs.Prelude.{nat_lt}
-use Rattle.bk_lex.specs.declared.token.Kind.TheVariants as k
+use Rattle.bk_syntax.proofs.Terms.{◌<◌, ℕ, ◌+◌, ◌-◌, max, min, Bool, true, false, cond, List, [], ◌∷◌, ◌++◌, length, length-append, refl, ap, inl, inr, arith, nat_lt, Label, Call, Mention, Expression, Action, Actions, Declaration, Declarations, Items, Definition, parens, unary, binary, choice, apply, valof, none, more, empty, goto, label, default, test, for_loop, result, block, repeat_while, no_actions, also, constants, definitions, no_declarations, declare, no_items, item, routine, function, no_definitions, define, no_starts, depth, depth_of_action, depth_of_actions, depth_of_declaration, depth_of_declarations, depth_of_items, depth_of_definition, depth_of_definitions, nodes, nodes_of_action, nodes_of_actions, nodes_of_declaration, nodes_of_declarations, nodes_of_items, nodes_of_definition, nodes_of_definitions, inner, behind, line_of, line_of_action, Stack, in_section, in_block, in_let, at_name, at_formals, at_formal, at_formal_end, at_head, at_variable, at_variable_end, at_starts, at_opening, at_items, at_sign, at_goto, at_for, at_forward, at_default, in_parens, in_unary, in_binary, in_chain, in_then, in_else, in_args, in_table, in_start, in_dests, in_values, in_guard, in_test, in_result, in_while, in_from, in_to, in_by, in_item, in_function, in_value, in_vector, in_valof, in_label, in_guarded, in_default, in_do, in_or, in_for, in_routine, State, want, have, begin, maybe, did, due, push, guarded, give, actions_then, declarations_then, items_then, definitions_then, form_of, Lookahead, closing, assigning, listing, going, repeating, operating, Any, Gives, Does, Operates, Defines, Declares, Wants, Misses, Lists, Due, Completes, pushes, falls, behind_ok, inner_ok, Tagged, ForExpression, ForCommand, ForDefinition, ForDeclaration, ForSymbol, Fits, more_names, unary_done, binary_done, guarded_depth, guarded_nodes, actions_depth, actions_nodes, declarations_depth, declarations_nodes, definitions_depth, definitions_nodes, items_depth, items_nodes, Kind as k}
 use Rattle.bk_tree.specs.declared.tree.Operator.TheVariants.{Both}
 use Rattle.bk_tree.specs.declared.tree.Sort.{Sort}
-use Rattle.bk_frames.specs.declared.size.Form.TheVariants.{Label, Call}
-use Rattle.bk_tree.specs.Tree.{Mention, Expression, Action, Actions, Declaration, Declarations, Items, Definition, parens, unary, binary, choice, apply, valof, none, more, empty, goto, label, default, test, for_loop, result, block, repeat_while, no_actions, also, constants, definitions, no_declarations, declare, no_items, item, routine, function, no_definitions, define, no_starts}
-use Rattle.bk_tree.specs.Limits.{depth, depth_of_action, depth_of_actions, depth_of_declaration, depth_of_declarations, depth_of_items, depth_of_definition, depth_of_definitions, nodes, nodes_of_action, nodes_of_actions, nodes_of_declaration, nodes_of_declarations, nodes_of_items, nodes_of_definition, nodes_of_definitions}
-use Rattle.bk_grammar.specs.Rows.{inner, behind}
-use Rattle.bk_tree.specs.Parts.{line_of, line_of_action}
-use Rattle.bk_grammar.specs.Machine.{Stack, in_section, in_block, in_let, at_name, at_formals, at_formal, at_formal_end, at_head, at_variable, at_variable_end, at_starts, at_opening, at_items, at_sign, at_goto, at_for, at_forward, at_default, in_parens, in_unary, in_binary, in_chain, in_then, in_else, in_args, in_table, in_start, in_dests, in_values, in_guard, in_test, in_result, in_while, in_from, in_to, in_by, in_item, in_function, in_value, in_vector, in_valof, in_label, in_guarded, in_default, in_do, in_or, in_for, in_routine, State, want, have, begin, maybe, did, due, push, guarded, give}
-use Rattle.bk_tree.specs.Parts.{actions_then, declarations_then, items_then, definitions_then}
-use Rattle.bk_frames.specs.Sizes.{form_of}
-use Rattle.bk_frames.specs.Completing.{Lookahead, closing, assigning, listing, going, repeating, operating, Any, Gives, Does, Operates, Defines, Declares, Wants, Misses, Lists, Due, Completes}
-use Rattle.bk_grammar.proofs.Lemmas.{pushes, falls, behind_ok, inner_ok, Tagged, ForExpression, ForCommand, ForDefinition, ForDeclaration, ForSymbol, Fits, more_names}
-use Rattle.bk_frames.proofs.Lemmas.{unary_done, binary_done, guarded_depth, guarded_nodes}
-use Rattle.bk_tree.proofs.Lemmas.{actions_depth, actions_nodes, declarations_depth, declarations_nodes, definitions_depth, definitions_nodes, items_depth, items_nodes}
 use Rattle.bk_syntax.proofs.Behind.{run_end}
 use Rattle.bk_syntax.proofs.Onward.{Completion, CompletionBy, sized, step_on, step_by, open_on, shut_by, end_completion, same_by, leaves_command, at_close, at_comma, at_assignment, GivesOn, DoesOn, DefinedCompletion, DefinesOn, DeclaredCompletion, given, done, name_here, mention_here, break_here, name_on, break_on}
 use Rattle.bk_syntax.proofs.Operands.{gives_as, calls_by, whole_completion, whole_sized, args_completion, choice_completion, table_completion, prefix_tight, operates_by, operand_completion}

@@ -1,21 +1,6 @@
 -- Ways on behind commands, values, variables and definitions.
-use Rattle.std.proofs.Common.{◌≡◌, ◌≤◌, ◌<◌, ℕ, zero, suc, ◌+◌, ◌-◌, max, min, Bool, true, false, cond, List, [], ◌==◌, length, Option, Some, refl, ap, ◌∙◌, inl, inr, arith}
+use Rattle.bk_syntax.proofs.Terms.{◌≡◌, ◌≤◌, ◌<◌, ℕ, zero, suc, ◌+◌, ◌-◌, max, min, Bool, true, false, cond, List, [], ◌==◌, length, Option, Some, refl, ap, ◌∙◌, inl, inr, arith, Kind, Guard, Mention, Expression, Expressions, Action, Starts, name, apply, none, more, empty, assign, call, label, test, for_loop, repeat, variables, no_starts, value, vector, depth, depth_of_each, depth_of_action, depth_of_starts, nodes, nodes_of_each, nodes_of_action, nodes_of_starts, begins_command, repeats, goes, line_of_first, line_of_names, line_of_action, size, start_count, Stack, at_starts, in_start, in_dests, in_values, in_guard, in_test, in_from, in_to, in_by, in_value, in_vector, in_label, in_guarded, in_do, in_or, in_for, State, want, have, begin, maybe, did, due, push, guarded, counted, defined_by, give, finish, stepped_by, each_then, starts_then, form_of, owed, Lookahead, closing, assigning, listing, going, repeating, operating, Any, AtClosing, AtListing, If, Closed, Missing, Started, Guarded, Gives, Does, Defines, repeated, same_eq, less_eq, size_then, count_then, call_done, guarded_depth, guarded_nodes, each_depth, each_nodes, starts_depth, starts_nodes, Kind as k, Guard as g}
 use Rattle.std.proofs.lemmas.Bool.Decides.{nat_tests}
-use Rattle.bk_lex.specs.declared.token.Kind.{Kind}
-use Rattle.bk_lex.specs.declared.token.Kind.TheVariants as k
-use Rattle.bk_grammar.specs.declared.symbols.Guard.{Guard}
-use Rattle.bk_grammar.specs.declared.symbols.Guard.TheVariants as g
-use Rattle.bk_tree.specs.Tree.{Mention, Expression, Expressions, Action, Starts, name, apply, none, more, empty, assign, call, label, test, for_loop, repeat, variables, no_starts, value, vector}
-use Rattle.bk_tree.specs.Limits.{depth, depth_of_each, depth_of_action, depth_of_starts, nodes, nodes_of_each, nodes_of_action, nodes_of_starts}
-use Rattle.bk_grammar.specs.Rows.{begins_command, repeats, goes}
-use Rattle.bk_tree.specs.Parts.{line_of_first, line_of_names, line_of_action, size, start_count}
-use Rattle.bk_grammar.specs.Machine.{Stack, at_starts, in_start, in_dests, in_values, in_guard, in_test, in_from, in_to, in_by, in_value, in_vector, in_label, in_guarded, in_do, in_or, in_for, State, want, have, begin, maybe, did, due, push, guarded, counted, defined_by, give, finish, stepped_by}
-use Rattle.bk_tree.specs.Parts.{each_then, starts_then}
-use Rattle.bk_frames.specs.Sizes.{form_of, owed}
-use Rattle.bk_frames.specs.Completing.{Lookahead, closing, assigning, listing, going, repeating, operating, Any, AtClosing, AtListing, If, Closed, Missing, Started, Guarded, Gives, Does, Defines}
-use Rattle.bk_grammar.proofs.Lemmas.{repeated, same_eq, less_eq, size_then, count_then}
-use Rattle.bk_frames.proofs.Lemmas.{call_done, guarded_depth, guarded_nodes}
-use Rattle.bk_tree.proofs.Lemmas.{each_depth, each_nodes, starts_depth, starts_nodes}
 use Rattle.bk_syntax.proofs.Onward.{Completion, CompletionBy, sized, step_on, step_by, same_by, at_close, at_comma, ends_expression, leaves_command, DoesOn, DefinesOn, done, name_here, break_here, name_on, break_on, depth_some}
 use Rattle.bk_syntax.proofs.Operands.{does_leave}
 
@@ -45,12 +30,10 @@ repeat_by os x st a s g h =
 -- an expression ends it
 pub closed_completion : {P : ℕ → ℕ → Type 0} (os : List (List ℕ)) (x : State) (st : Stack) (a : Action) → DoesOn P os st → ((l : ℕ) (s : List ℕ) (t : Kind) → goes 12 t ≡ false → stepped_by x l s t ≡ finish st a l s t)
     → (c : Lookahead) → Closed (Does P st) (depth_of_action a) (nodes_of_action a) c → CompletionBy P c os x
-closed_completion os x st a g h closing y = same_by closing os x (did st a) (λ l s t i. h l s t (ends_expression closing tt t i)) (g a closing y)
-closed_completion os x st a g h assigning y = same_by assigning os x (did st a) (λ l s t i. h l s t (ends_expression assigning tt t i)) (g a assigning y)
-closed_completion os x st a g h listing y = same_by listing os x (did st a) (λ l s t i. h l s t (ends_expression listing tt t i)) (g a listing y)
 closed_completion os x st a g h repeating y = repeat_by os x st a (h 1 [] k.Repeat refl) g y
 closed_completion os x st a g h going y = absurd y
 closed_completion os x st a g h operating y = absurd y
+closed_completion os x st a g h z y = same_by z os x (did st a) (λ l s t i. h l s t (ends_expression z tt t i)) (g a z y)
 
 -- none comes behind a colon
 missing_by : {P : ℕ → ℕ → Type 0} (os : List (List ℕ)) (x st : Stack) (a : Action) → DoesOn P os st → ((l : ℕ) (s : List ℕ) (t : Kind) → begins_command t ≡ false → stepped_by (maybe x) l s t ≡ finish st a l s t)

@@ -1,42 +1,14 @@
 -- What there is behind some symbols, and behind one more.
-use Rattle.std.proofs.Common.{◌≡◌, ℕ, zero, suc, ◌-◌, ◌+◌, ◌<◌, length, get_or, take, arith, List, [], ◌∷◌, ◌++◌, true, false, Option, Some, None, Result, Ok, Err, replicate, refl, sym, ap, subst, ◌∙◌, ◌⊎◌, inl, inr, append_assoc}
-use Rattle.std.proofs.lemmas.List.{append-nil, take_more, map-append}
-use Rattle.std.proofs.Math.Seq.{take-length}
-use Rattle.std.specs.Borrow.{Bor}
-use Rattle.bk_base.specs.declared.source_fault.SourceFault.{SourceFault}
-use Rattle.bk_base.specs.declared.refused.Refused.{Refused}
-use Rattle.bk_base.specs.declared.refused.Refused.TheVariants.{Fault}
-use Rattle.bk_base.specs.declared.source_fault.SourceKind.TheVariants.{UnexpectedSymbol, WrongSectionTag}
-use Rattle.bk_lex.specs.declared.token.Kind.{Kind}
-use Rattle.bk_lex.specs.declared.token.Kind.TheVariants as k
-use Rattle.bk_lex.specs.declared.token.Token.{Token}
-use Rattle.bk_lex.specs.Symbol.{Symbol, symbol_of, symbols_of}
+use Rattle.bk_syntax.proofs.Terms.{◌≡◌, ℕ, zero, suc, ◌-◌, ◌+◌, ◌<◌, length, get_or, take, arith, List, [], ◌∷◌, ◌++◌, true, false, Option, Some, None, Result, Ok, Err, replicate, refl, sym, ap, subst, ◌∙◌, ◌⊎◌, inl, inr, append_assoc, append-nil, take_more, map-append, take-length, Bor, SourceFault, Refused, Fault, UnexpectedSymbol, WrongSectionTag, Kind, Token, Symbol, symbol_of, symbols_of, Frames, ParserState, Declarations, declarations_in, no_declarations, tag_of, Closing, closed_by, in_front, plain_behind, plain_by, plain, Stands, unfinished_on, above, stack, stack_of, state, Steps, reading, tags, Closes, goes_to, steps, leads, AfterSymbols, answered, reached, error_of, Advances, AnswersAtEnd, stepped, opens_kind, closes_kind, stack_none, Kind as k, Unfinished, Unfinished as b, Stop, Stop as s}
 use Rattle.bk_frames.specs.declared.frame.OpenExpression.TheVariants as o
 use Rattle.bk_frames.specs.declared.frame.Phrase.TheVariants as p
 use Rattle.bk_frames.specs.declared.frame.Member.TheVariants as m
 use Rattle.bk_frames.specs.declared.frame.Clause.TheVariants as c
 use Rattle.bk_frames.specs.declared.frame.Place.TheVariants as a
 use Rattle.bk_frames.specs.declared.frame.Point.TheVariants as t
-use Rattle.bk_frames.specs.declared.frame.Unfinished.{Unfinished}
-use Rattle.bk_frames.specs.declared.frame.Unfinished.TheVariants as b
 use Rattle.bk_frames.specs.declared.frame.Frame.{Frame}
-use Rattle.bk_frames.specs.declared.frames.Frames.{Frames}
-use Rattle.bk_frames.specs.declared.frame.ParserState.{ParserState}
-use Rattle.bk_frames.specs.declared.frame.Stop.{Stop}
-use Rattle.bk_frames.specs.declared.frame.Stop.TheVariants as s
 use Rattle.bk_tree.specs.declared.tree.Decl.{Decl}
-use Rattle.bk_tree.specs.Tree.{Declarations, declarations_in, no_declarations}
-use Rattle.bk_grammar.specs.Spelling.{tag_of}
-use Rattle.bk_grammar.specs.Brackets.{Closing, closed_by, in_front, plain_behind, plain_by, plain}
-use Rattle.bk_grammar.specs.SyntaxFault.{Stands}
 use Rattle.bk_grammar.specs.Machine.{Stack, State, due, in_section, opens, closes, stepped_by, step, whole, going, run}
-use Rattle.bk_frames.specs.Unfinished.{unfinished_on}
-use Rattle.bk_frames.specs.Stacked.{above, stack}
-use Rattle.bk_frames.specs.Frames.{stack_of, state, Steps}
-use Rattle.bk_syntax.specs.SyntaxLaws.{reading}
-use Rattle.bk_syntax.specs.Parsing.{tags, Closes, goes_to, steps, leads, AfterSymbols, answered, reached, error_of, Advances, AnswersAtEnd}
-use Rattle.bk_grammar.proofs.Lemmas.{stepped, opens_kind, closes_kind}
-use Rattle.bk_frames.proofs.Lemmas.{stack_none}
 use Rattle.bk_syntax.proofs.Openings.{tags_none}
 use Rattle.bk_syntax.proofs.Tags.{tag_stands, symbol_stands}
 
@@ -167,18 +139,13 @@ last_unfinished st x [] = (x.unfinished, st, refl)
 last_unfinished st x (y ∷ ys) = last_unfinished (unfinished_on x.unfinished st) y ys
 
 unfinished_more : (x : Unfinished) (st : Stack) → whole (Some (due (unfinished_on x st))) ≡ Err []
-unfinished_more (b.OpenExpression (o.Parens l)) st = refl
-unfinished_more (b.OpenExpression _) st = refl
-unfinished_more (b.Phrase p.Start) st = refl
-unfinished_more (b.Phrase _) st = refl
-unfinished_more (b.Member (m.Function n fs)) st = refl
-unfinished_more (b.Member _) st = refl
-unfinished_more (b.Clause (c.Valof l)) st = refl
-unfinished_more (b.Clause _) st = refl
-unfinished_more (b.Place (a.Let l xs)) st = refl
-unfinished_more (b.Place _) st = refl
 unfinished_more (b.Point (t.Goto l)) st = refl
-unfinished_more (b.Point _) st = refl
+unfinished_more (b.Place (a.Let l xs)) st = refl
+unfinished_more (b.Clause (c.Valof l)) st = refl
+unfinished_more (b.Member (m.Function n fs)) st = refl
+unfinished_more (b.Phrase p.Start) st = refl
+unfinished_more (b.OpenExpression (o.Parens l)) st = refl
+unfinished_more x st = refl
 
 -- with something begun above the declarations the section is not whole
 pub not_whole : (ds : List Decl) (xs : List Frame) → 0 < length xs → whole (Some (due (stack ds xs))) ≡ Err []

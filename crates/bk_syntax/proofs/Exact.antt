@@ -1,19 +1,7 @@
 -- What is read to its end is in the grammar; with what the grammar has being read, the two are one.
-use Rattle.std.proofs.Common.{◌≡◌, ℕ, ◌+◌, ◌≤◌, Bool, true, false, List, [], ◌∷◌, Option, Some, None, Result, Ok, ◌==◌, length, refl, ap, subst, inl, inr, arith}
-use Rattle.bk_lex.specs.declared.token.Kind.TheVariants as k
-use Rattle.bk_lex.specs.Symbol.{Symbol}
-use Rattle.bk_tree.specs.declared.tree.Operator.TheVariants as o
-use Rattle.bk_grammar.specs.declared.symbols.Guard.{Guard}
-use Rattle.bk_grammar.specs.declared.symbols.Guard.TheVariants as g
-use Rattle.bk_tree.specs.Tree.{Expression, Action, Declaration, Declarations, Definition, unary, binary, choice, valof, table, none, more, empty, assign, label, case_of, default, test, for_loop, result, repeat_while, no_actions, definitions, no_declarations, declare, no_items, item, routine, function, variables, no_definitions, define, no_starts, value, vector}
-use Rattle.bk_grammar.specs.Rows.{row, inner, behind}
+use Rattle.bk_syntax.proofs.Terms.{◌≡◌, ℕ, ◌+◌, ◌≤◌, Bool, true, false, List, [], ◌∷◌, Option, Some, None, Result, Ok, ◌==◌, length, refl, ap, subst, inl, inr, arith, Symbol, Guard, Expression, Action, Declaration, Declarations, Definition, unary, binary, choice, valof, table, none, more, empty, assign, label, case_of, default, test, for_loop, result, repeat_while, no_actions, definitions, no_declarations, declare, no_items, item, routine, function, variables, no_definitions, define, no_starts, value, vector, row, inner, behind, line_of, line_of_first, line_of_names, line_of_action, size, start_count, each_then, declarations_then, definitions_then, starts_then, size_then, count_then, in_block_is, At_head, Ready, Before, May_miss, Inv, mono, split, limit_ok, semis_refl, definitions_all, each_of, value_last, vector_last, full_of, ends_of, guarded_does, guarded_filled, added, inside_of, of_let, complete, build_binary, call_filled, call_does, step_sound, reading, eq_is, Kind as k, Operator as o, Guard as g}
 use Rattle.bk_grammar.specs.Grammar.{Filled, Reads, Does, Declares, Defines, Section}
-use Rattle.bk_tree.specs.Parts.{line_of, line_of_first, line_of_names, line_of_action, size, start_count}
 use Rattle.bk_grammar.specs.Machine.{Stack, in_section, in_block, in_let, at_name, at_items, in_unary, in_binary, in_chain, in_else, in_table, in_start, in_values, in_guard, in_result, in_while, in_function, in_value, in_vector, in_valof, in_label, in_guarded, in_default, in_or, in_for, in_routine, State, want, have, begin, maybe, did, due, limit, is_sign_of, if_is, guarded, behind_sign, declared_by, defined_by, is_call, call_of, give, finish, without, inside, take_due, stepped_by, step, whole, going, run}
-use Rattle.bk_tree.specs.Parts.{each_then, declarations_then, definitions_then, starts_then}
-use Rattle.bk_grammar.proofs.Lemmas.{size_then, count_then, in_block_is, At_head, Ready, Before, May_miss, Inv, mono, split, limit_ok, semis_refl, definitions_all, each_of, value_last, vector_last, full_of, ends_of, guarded_does, guarded_filled, added, inside_of, of_let, complete, build_binary, call_filled, call_does, step_sound}
-use Rattle.bk_syntax.specs.SyntaxLaws.{reading}
-use Rattle.bk_tree.proofs.Lemmas.{eq_is}
 
 abbrev ended_as : Declarations → Option State
 ended_as ds = Some (due (in_section ds))

@@ -1,3 +1,4 @@
+mod Terms
 mod Stands
 mod Tags
 mod Rows

@@ -1,18 +1,6 @@
 -- Ways on: symbols that lead from a state of the machine to the end of a section, by the class of the first of them.
-use Rattle.std.proofs.Common.{◌≡◌, ◌≤◌, ℕ, arith, false, cond, List, [], ◌∷◌, Option, Some, None, Ok, refl, subst, ap, ◌∙◌}
-use Rattle.bk_lex.specs.declared.token.Kind.{Kind}
-use Rattle.bk_lex.specs.declared.token.Kind.TheVariants as k
-use Rattle.bk_lex.specs.Symbol.{Symbol, symbol}
-use Rattle.bk_lex.specs.Values.{upper_name}
+use Rattle.bk_syntax.proofs.Terms.{◌≡◌, ◌≤◌, ℕ, arith, false, cond, List, [], ◌∷◌, Option, Some, None, Ok, refl, subst, ap, ◌∙◌, Kind, Symbol, symbol, upper_name, Mention, Expression, Action, Declarations, Definition, Declaration, name, simple, depth, depth_of_action, depth_of_declarations, depth_of_definition, nodes, nodes_of_action, nodes_of_declarations, nodes_of_definition, begins_command, repeats, assigns, goes, one_more, up_to_tag, closed_by, in_front, plain, Stack, State, want, have, begin, did, opens, closes, declared, declared_by, defined_by, stepped_by, run, form_of, Lookahead, closing, assigning, listing, going, repeating, operating, Any, AtClosing, AtListing, AtArgument, AtAssignment, Gives, Does, Defines, Takes, stepped, alike, takes, one_tag, Tagged, Kind as k}
 use Rattle.bk_tree.specs.declared.tree.Simple.TheVariants as w
-use Rattle.bk_tree.specs.Tree.{Mention, Expression, Action, Declarations, Definition, Declaration, name, simple}
-use Rattle.bk_tree.specs.Limits.{depth, depth_of_action, depth_of_declarations, depth_of_definition, nodes, nodes_of_action, nodes_of_declarations, nodes_of_definition}
-use Rattle.bk_grammar.specs.Rows.{begins_command, repeats, assigns, goes}
-use Rattle.bk_grammar.specs.Brackets.{one_more, up_to_tag, closed_by, in_front, plain}
-use Rattle.bk_grammar.specs.Machine.{Stack, State, want, have, begin, did, opens, closes, declared, declared_by, defined_by, stepped_by, run}
-use Rattle.bk_frames.specs.Sizes.{form_of}
-use Rattle.bk_frames.specs.Completing.{Lookahead, closing, assigning, listing, going, repeating, operating, Any, AtClosing, AtListing, AtArgument, AtAssignment, Gives, Does, Defines}
-use Rattle.bk_grammar.proofs.Lemmas.{Takes, stepped, alike, takes, one_tag, Tagged}
 use Rattle.bk_syntax.proofs.Behind.{plain_end, plain_open, plain_other, plain_close}
 
 -- ---- ways on
@@ -128,53 +116,34 @@ Leaves _ = Unit {0}
 
 pub ends_expression : (c : Lookahead) → Ends c → (t : Kind) → IsOf c t → goes 12 t ≡ false
 ends_expression closing e t h = h.1
-ends_expression assigning e t h = rw h refl
-ends_expression listing e t h = rw h refl
-ends_expression repeating e t h = rw h refl
 ends_expression going e t h = absurd e
 ends_expression operating e t h = absurd e
+ends_expression x e t h = rw h refl
 
 pub leaves_command : (c : Lookahead) → Leaves c → (t : Kind) → IsOf c t → repeats t ≡ false
 leaves_command closing e t h = h.2
-leaves_command assigning e t h = rw h refl
-leaves_command listing e t h = rw h refl
-leaves_command going e t h = rw h refl
-leaves_command operating e t h = rw h refl
 leaves_command repeating e t h = absurd e
+leaves_command x e t h = rw h refl
 
 -- what only some symbols end
 
 pub at_close : {P : ℕ → ℕ → Type 0} {X : Type 0} (os : List (List ℕ)) (x : State) (c : Lookahead) → AtClosing X c → (X → CompletionBy P closing os x) → CompletionBy P c os x
 at_close os x closing h f = f h
-at_close os x assigning h f = absurd h
-at_close os x listing h f = absurd h
-at_close os x going h f = absurd h
-at_close os x repeating h f = absurd h
-at_close os x operating h f = absurd h
+at_close os x y h f = absurd h
 
 pub at_comma : {P : ℕ → ℕ → Type 0} {X : Type 0} (os : List (List ℕ)) (x : State) (c : Lookahead) → AtListing X c → (X → CompletionBy P listing os x) → CompletionBy P c os x
 at_comma os x listing h f = f h
-at_comma os x closing h f = absurd h
-at_comma os x assigning h f = absurd h
-at_comma os x going h f = absurd h
-at_comma os x repeating h f = absurd h
-at_comma os x operating h f = absurd h
+at_comma os x y h f = absurd h
 
 pub at_argument : {P : ℕ → ℕ → Type 0} {X Y : Type 0} (os : List (List ℕ)) (x : State) (c : Lookahead) → AtArgument X Y c → (X → CompletionBy P closing os x) → (Y → CompletionBy P listing os x) → CompletionBy P c os x
 at_argument os x closing h f g = f h
 at_argument os x listing h f g = g h
-at_argument os x assigning h f g = absurd h
-at_argument os x going h f g = absurd h
-at_argument os x repeating h f g = absurd h
-at_argument os x operating h f g = absurd h
+at_argument os x y h f g = absurd h
 
 pub at_assignment : {P : ℕ → ℕ → Type 0} {X Y : Type 0} (os : List (List ℕ)) (x : State) (c : Lookahead) → AtAssignment X Y c → (X → CompletionBy P assigning os x) → (Y → CompletionBy P listing os x) → CompletionBy P c os x
 at_assignment os x assigning h f g = f h
 at_assignment os x listing h f g = g h
-at_assignment os x closing h f g = absurd h
-at_assignment os x going h f g = absurd h
-at_assignment os x repeating h f g = absurd h
-at_assignment os x operating h f g = absurd h
+at_assignment os x y h f g = absurd h
 
 -- ---- what stands below
 

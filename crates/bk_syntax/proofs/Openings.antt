@@ -1,13 +1,5 @@
 -- The open sections, and what a `$)` closes of them.
-use Rattle.std.proofs.Common.{◌≡◌, ℕ, zero, suc, ◌+◌, ◌-◌, ◌<◌, Bool, true, false, cond, Option, Some, None, List, [], ◌∷◌, ◌++◌, length, get_or, take, replicate, ◌==◌, refl, sym, ap, ◌∙◌, arith}
-use Rattle.std.proofs.Math.Seq.{take-length}
-use Rattle.std.proofs.lemmas.List.{take_more}
-use Rattle.std.specs.Borrow.{Bor}
-use Rattle.bk_lex.specs.Symbol.{Symbol}
-use Rattle.bk_lex.specs.Values.{upper_name}
-use Rattle.bk_grammar.specs.Brackets.{Closing, same_tag, one_more, up_to_tag, without_tag, closed_by}
-use Rattle.bk_syntax.specs.Parsing.{tags_on, tags}
-use Rattle.bk_tree.proofs.Lemmas.{is_zero, is_more}
+use Rattle.bk_syntax.proofs.Terms.{◌≡◌, ℕ, zero, suc, ◌+◌, ◌-◌, ◌<◌, Bool, true, false, cond, Option, Some, None, List, [], ◌∷◌, ◌++◌, length, get_or, take, replicate, ◌==◌, refl, sym, ap, ◌∙◌, arith, take-length, take_more, Bor, Symbol, upper_name, Closing, same_tag, one_more, up_to_tag, without_tag, closed_by, tags_on, tags, is_zero, is_more}
 
 on_push : (opens : List (List ℕ)) (xs : List (Bor (List ℕ))) (x : Bor (List ℕ)) → tags_on opens (xs ++ x ∷ []) ≡ upper_name x.now ∷ tags_on opens xs
 on_push opens [] x = refl

@@ -1,25 +1,6 @@
 -- Ways on behind an expression, by what it stands in.
-use Rattle.std.proofs.Common.{◌≡◌, ℕ, ◌+◌, max, Bool, true, false, List, [], length, ◌==◌, Some, refl, inl, inr, arith}
-use Rattle.std.specs.Prelude.{nat_lt}
-use Rattle.bk_lex.specs.declared.token.Kind.{Kind}
-use Rattle.bk_lex.specs.declared.token.Kind.TheVariants as k
-use Rattle.bk_tree.specs.declared.tree.Operator.{Operator}
-use Rattle.bk_tree.specs.declared.tree.Operator.TheVariants as o
-use Rattle.bk_tree.specs.declared.tree.Prefix.{Prefix}
-use Rattle.bk_tree.specs.declared.tree.Prefix.TheVariants as p
+use Rattle.bk_syntax.proofs.Terms.{◌≡◌, ℕ, ◌+◌, max, Bool, true, false, List, [], length, ◌==◌, Some, refl, inl, inr, arith, nat_lt, Kind, Label, Call, Callable, Other, Expression, Expressions, binary, choice, apply, table, none, more, depth, depth_of_each, depth_of_action, nodes, nodes_of_each, nodes_of_action, inner, behind, is_comma, goes, line_of, size, start_count, Stack, in_unary, in_binary, in_chain, in_then, in_else, in_args, in_table, in_start, in_values, in_value, in_vector, in_label, in_guarded, in_default, in_or, in_for, State, want, have, limit, give, stepped_by, each_then, form_of, Lookahead, closing, assigning, listing, going, repeating, operating, Any, Unlisted, If, Whole, Taken, Gives, Does, Operates, pushes, no_comma, falls, binary_done, each_depth, each_nodes, Kind as k, Operator, Operator as o, Prefix, Prefix as p}
 use Rattle.bk_frames.specs.declared.size.Form.{Form}
-use Rattle.bk_frames.specs.declared.size.Form.TheVariants.{Label, Call, Callable, Other}
-use Rattle.bk_tree.specs.Tree.{Expression, Expressions, binary, choice, apply, table, none, more}
-use Rattle.bk_tree.specs.Limits.{depth, depth_of_each, depth_of_action, nodes, nodes_of_each, nodes_of_action}
-use Rattle.bk_grammar.specs.Rows.{inner, behind, is_comma, goes}
-use Rattle.bk_tree.specs.Parts.{line_of, size, start_count}
-use Rattle.bk_grammar.specs.Machine.{Stack, in_unary, in_binary, in_chain, in_then, in_else, in_args, in_table, in_start, in_values, in_value, in_vector, in_label, in_guarded, in_default, in_or, in_for, State, want, have, limit, give, stepped_by}
-use Rattle.bk_tree.specs.Parts.{each_then}
-use Rattle.bk_frames.specs.Sizes.{form_of}
-use Rattle.bk_frames.specs.Completing.{Lookahead, closing, assigning, listing, going, repeating, operating, Any, Unlisted, If, Whole, Taken, Gives, Does, Operates}
-use Rattle.bk_grammar.proofs.Lemmas.{pushes, no_comma, falls}
-use Rattle.bk_frames.proofs.Lemmas.{binary_done}
-use Rattle.bk_tree.proofs.Lemmas.{each_depth, each_nodes}
 use Rattle.bk_syntax.proofs.Onward.{Completion, CompletionBy, IsOf, sized, step_on, step_by, same_by, at_argument, Ends, Leaves, ends_expression, GivesOn, given, name_here, name_on, depth_some}
 
 -- ---- no symbol comes that the part would take
@@ -41,13 +22,7 @@ gives_ends P (in_else s x a st) f d n c h = gives_ends P st Other (max (depth x)
 gives_ends P (in_table l es st) f d n going h = gives_ends P st Other (max (depth_of_each es) d + 1) (nodes_of_each es + n + 1) going h
 gives_ends P (in_table l es st) f d n operating h = gives_ends P st Other (max (depth_of_each es) d + 1) (nodes_of_each es + n + 1) operating h
 gives_ends P (in_start st) Label d n going h = h
-gives_ends P (in_start st) Call d n going h = h
-gives_ends P (in_start st) Callable d n going h = h
-gives_ends P (in_start st) Other d n going h = h
 gives_ends P (in_start st) Label d n operating h = h
-gives_ends P (in_start st) Call d n operating h = h
-gives_ends P (in_start st) Callable d n operating h = h
-gives_ends P (in_start st) Other d n operating h = h
 gives_ends P (in_values xs ys st) f d n going h = if_ends _ _ (size xs == size ys + 1) going (λ z. z) (λ z. z) h
 gives_ends P (in_values xs ys st) f d n operating h = if_ends _ _ (size xs == size ys + 1) operating (λ z. z) (λ z. z) h
 gives_ends P (in_value xs is st) f d n going h = if_ends _ _ (length xs == start_count is + 1) going (λ z. z) (λ z. z) h
@@ -60,16 +35,13 @@ gives_ends P _ f d n operating h = h
 -- with the symbol behind a command none is repeated
 pub does_leave : (P : ℕ → ℕ → Type 0) (st : Stack) (d n : ℕ) (c : Lookahead) → Does P st d n c → Leaves c
 does_leave P st d n closing h = tt
-does_leave P st d n assigning h = tt
-does_leave P st d n listing h = tt
-does_leave P st d n going h = tt
-does_leave P st d n operating h = tt
 does_leave P (in_label l x st) d n repeating h = does_leave P st (d + 1) (n + 1) repeating h
 does_leave P (in_guarded q l e st) d n repeating h = does_leave P st (max (depth e) d + 1) (nodes e + n + 1) repeating h
 does_leave P (in_default l st) d n repeating h = does_leave P st (d + 1) (n + 1) repeating h
 does_leave P (in_or l e a st) d n repeating h = does_leave P st (max (depth e) (max (depth_of_action a) d) + 1) (nodes e + nodes_of_action a + n + 1) repeating h
 does_leave P (in_for l x a b y st) d n repeating h = does_leave P st (max (depth a) (max (depth b) (max (depth_of_each y) d)) + 1) (nodes a + nodes b + nodes_of_each y + n + 1) repeating h
 does_leave P _ d n repeating h = h
+does_leave P st d n z h = tt
 
 -- ---- an expression as the end of another one
 
@@ -144,9 +116,7 @@ last_ends : (c : Lookahead) → Last c → (t : Kind) → IsOf c t → (goes 12 
 last_ends closing e t h = (h.1, no_comma t h.3)
 last_ends assigning e t h = (rw h refl, rw h refl)
 last_ends repeating e t h = (rw h refl, rw h refl)
-last_ends listing e t h = absurd e
-last_ends going e t h = absurd e
-last_ends operating e t h = absurd e
+last_ends x e t h = absurd e
 
 table_last : {P : ℕ → ℕ → Type 0} (os : List (List ℕ)) (m : ℕ) (es : Expressions) (st : Stack) (e : Expression) (c : Lookahead) → GivesOn P os st → Last c → Gives P st Other (max (depth_of_each es) (depth e) + 1) (nodes_of_each es + nodes e + 1) c
     → CompletionBy P c os (have (in_table m es st) e)
@@ -158,12 +128,10 @@ table_last {P = P} os m es st e c g i h =
     (g (table m zs) c (sized (λ a b. Gives P st Other a b c) (max (depth_of_each es) (depth e) + 1) (depth_of_each zs + 1) (nodes_of_each es + nodes e + 1) (nodes_of_each zs + 1) (omega (arith, p)) (omega (arith, q)) h))
 
 unlisted_last : {F : Lookahead → Type 0} (c : Lookahead) → ((n : Lookahead) → F n → Ends n) → Unlisted F c → (Last c) × F c
-unlisted_last closing f h = (tt, h)
-unlisted_last assigning f h = (tt, h)
-unlisted_last repeating f h = (tt, h)
 unlisted_last listing f h = absurd h
 unlisted_last going f h = absurd (f going h)
 unlisted_last operating f h = absurd (f operating h)
+unlisted_last x f h = (tt, h)
 
 table_go : {P : ℕ → ℕ → Type 0} (os : List (List ℕ)) (m : ℕ) (es : Expressions) (st : Stack) (e : Expression) → GivesOn P os st
     → Any (Unlisted (Gives P st Other (max (depth_of_each es) (max (depth e) 1) + 1) (nodes_of_each es + nodes e + 2))) → CompletionBy P listing os (have (in_table m es st) e)

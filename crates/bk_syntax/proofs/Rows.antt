@@ -1,13 +1,5 @@
 -- Worked rows, read by the machine.
-use Rattle.std.proofs.Common.{◌≡◌, ℕ, true, List, [], ◌∷◌, None, Ok, Err, refl}
-use Rattle.bk_lex.specs.declared.token.Kind.{Kind}
-use Rattle.bk_lex.specs.declared.token.Kind.TheVariants as k
-use Rattle.bk_lex.specs.Symbol.{Symbol}
-use Rattle.bk_tree.specs.declared.tree.Operator.TheVariants as o
-use Rattle.bk_tree.specs.declared.tree.Prefix.TheVariants as p
-use Rattle.bk_tree.specs.Tree.{Expression, Action, name, unary, binary, choice, call, when, repeat, block, label, empty, none, also, no_actions, no_declarations, declare, definitions, define, no_definitions, routine, function}
-use Rattle.bk_grammar.specs.Machine.{run}
-use Rattle.bk_syntax.specs.SyntaxLaws.{reading}
+use Rattle.bk_syntax.proofs.Terms.{◌≡◌, ℕ, true, List, [], ◌∷◌, None, Ok, Err, refl, Kind, Symbol, Expression, Action, name, unary, binary, choice, call, when, repeat, block, label, empty, none, also, no_actions, no_declarations, declare, definitions, define, no_definitions, routine, function, run, reading, Kind as k, Operator as o, Prefix as p}
 
 -- the name of this letter
 abbrev v : ℕ → Symbol

@@ -1,13 +1,6 @@
 -- A list of symbols has at most one tree, and a fault stands whatever follows.
-use Rattle.std.proofs.Common.{◌≡◌, ◌≤◌, List, [], ◌∷◌, ◌++◌, Option, Some, None, Result, Err, length, refl, ap, ◌∙◌, ◌⊎◌, inl, inr, length-append, arith}
-use Rattle.bk_lex.specs.Symbol.{Symbol}
-use Rattle.bk_tree.specs.Tree.{Declarations, no_declarations}
-use Rattle.bk_grammar.specs.Grammar.{Section}
-use Rattle.bk_grammar.specs.SyntaxFault.{IsSection}
+use Rattle.bk_syntax.proofs.Terms.{◌≡◌, ◌≤◌, List, [], ◌∷◌, ◌++◌, Option, Some, None, Result, Err, length, refl, ap, ◌∙◌, ◌⊎◌, inl, inr, length-append, arith, Symbol, Declarations, no_declarations, Section, IsSection, stepped, complete, reading, Kind as k}
 use Rattle.bk_grammar.specs.Machine.{State, due, in_section, stepped_by, step, whole, going, run}
-use Rattle.bk_lex.specs.declared.token.Kind.TheVariants as k
-use Rattle.bk_grammar.proofs.Lemmas.{stepped, complete}
-use Rattle.bk_syntax.specs.SyntaxLaws.{reading}
 
 -- at most one tree
 pub one_tree : (ds es : Declarations) (ts : List Symbol) → IsSection ds ts → IsSection es ts → ds ≡ es

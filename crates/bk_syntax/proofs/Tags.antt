@@ -1,14 +1,5 @@
 -- A fault stands with section tags too.
-use Rattle.std.proofs.Common.{◌≡◌, ℕ, List, [], ◌∷◌, ◌++◌, Option, Some, None, Err, refl, sym, ap, subst, ◌∙◌, append_assoc}
-use Rattle.bk_lex.specs.declared.token.Kind.{Kind}
-use Rattle.bk_lex.specs.declared.token.Kind.TheVariants as k
-use Rattle.bk_lex.specs.Symbol.{Symbol}
-use Rattle.bk_tree.specs.Tree.{Declarations}
-use Rattle.bk_grammar.specs.Spelling.{tag_of}
-use Rattle.bk_grammar.specs.Grammar.{Section}
-use Rattle.bk_grammar.specs.Brackets.{plain, plain_by, plain_behind, in_front, closed_by, Closing}
-use Rattle.bk_grammar.specs.SyntaxFault.{IsSection}
-use Rattle.bk_syntax.specs.SyntaxLaws.{reading}
+use Rattle.bk_syntax.proofs.Terms.{◌≡◌, ℕ, List, [], ◌∷◌, ◌++◌, Option, Some, None, Err, refl, sym, ap, subst, ◌∙◌, append_assoc, Kind, Symbol, Declarations, tag_of, Section, plain, plain_by, plain_behind, in_front, closed_by, Closing, IsSection, reading, Kind as k}
 use Rattle.bk_syntax.proofs.Stands.{fault_stands}
 
 -- one list of plain symbols goes on from another

@@ -1,38 +1,15 @@
 -- What is told of the symbols, and what is answered behind them all.
-use Rattle.std.proofs.Common.{◌≡◌, ℕ, ◌+◌, ◌<◌, length, get_or, take, drop, List, [], ◌∷◌, ◌++◌, Result, Ok, Err, IfErr, refl, sym, ap, subst, ◌∙◌, inl, inr, append_assoc}
-use Rattle.std.proofs.lemmas.List.{map-append, take-append-drop, at_drop_more}
-use Rattle.std.specs.Borrow.{Bor}
+use Rattle.bk_syntax.proofs.Terms.{◌≡◌, ℕ, ◌+◌, ◌<◌, length, get_or, take, drop, List, [], ◌∷◌, ◌++◌, Result, Ok, Err, IfErr, refl, sym, ap, subst, ◌∙◌, inl, inr, append_assoc, map-append, take-append-drop, at_drop_more, Bor, SourceFault, UnexpectedSymbol, WrongSectionTag, NestedTooDeeply, TooManyNodes, Refused, Fault, Memory, Device, Token, Symbol, symbol_of, symbols_of, ParserState, Frames, ParseError, Declarations, Within, depth_of_declarations, nodes_of_declarations, Completes, plain, reading, BeginsCompletes, CompletesBegins, IsSection, Begins, Shallow, Stands, State, run, stack_of, state, Always, AtMost, LevelsAtMost, Bounded, Passed, Down, at_most_down, levels_down, run_completes, complete, ParseError as w}
 use Rattle.bk_base.specs.declared.limit.TheConstants.{TREE_DEPTH, TREE_NODES}
-use Rattle.bk_base.specs.declared.source_fault.SourceFault.{SourceFault}
 use Rattle.bk_base.specs.declared.source_fault.SourceKind.{SourceKind}
-use Rattle.bk_base.specs.declared.source_fault.SourceKind.TheVariants.{UnexpectedSymbol, WrongSectionTag, NestedTooDeeply, TooManyNodes}
-use Rattle.bk_base.specs.declared.refused.Refused.{Refused}
-use Rattle.bk_base.specs.declared.refused.Refused.TheVariants.{Fault, Memory, Device}
-use Rattle.bk_lex.specs.declared.token.Token.{Token}
-use Rattle.bk_lex.specs.Symbol.{Symbol, symbol_of, symbols_of}
-use Rattle.bk_frames.specs.declared.frame.ParserState.{ParserState}
-use Rattle.bk_frames.specs.declared.frames.Frames.{Frames}
-use Rattle.bk_syntax.specs.declared.error.ParseError.{ParseError}
-use Rattle.bk_syntax.specs.declared.error.ParseError.TheVariants as w
 use Rattle.bk_tree.specs.declared.section.Section.{Section}
-use Rattle.bk_tree.specs.Tree.{Declarations}
-use Rattle.bk_tree.specs.Limits.{Within, depth_of_declarations, nodes_of_declarations}
-use Rattle.bk_frames.specs.Completing.{Completes}
-use Rattle.bk_grammar.specs.Brackets.{plain}
-use Rattle.bk_syntax.specs.SyntaxLaws.{reading, BeginsCompletes, CompletesBegins}
 use Rattle.bk_grammar.specs.Grammar as G
-use Rattle.bk_grammar.specs.SyntaxFault.{IsSection, Begins, Shallow, Stands}
-use Rattle.bk_grammar.specs.Machine.{State, run}
-use Rattle.bk_frames.specs.Frames.{stack_of, state}
-use Rattle.bk_frames.specs.Bounds.{Always, AtMost, LevelsAtMost, Bounded, Passed}
 use Rattle.bk_syntax.specs.Parsing.{tags, AfterSymbols, IsLimit, told, answered, reached, IsPassed, Advances, AnswersAtEnd, Parses, Gives}
 use Rattle.bk_tree.specs.Section.{declarations_of}
 use Rattle.bk_syntax.proofs.Stands.{one_tree, end_stands}
 use Rattle.bk_syntax.proofs.Exact.{reads_the_grammar}
 use Rattle.bk_syntax.proofs.Tags.{tag_stands}
 use Rattle.bk_syntax.proofs.Behind.{reads, plain_all, reading_all}
-use Rattle.bk_frames.proofs.Lemmas.{Down, at_most_down, levels_down, run_completes}
-use Rattle.bk_grammar.proofs.Lemmas.{complete}
 use Rattle.bk_syntax.proofs.Unfinished.{in_front_some, completes_begins_with, behind_begins}
 
 -- what a section has behind the symbols with which it begins is read from there

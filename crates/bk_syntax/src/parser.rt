@@ -206,7 +206,9 @@ fn without_command(
     }
 }
 
-/// There is no command after a colon, and this symbol, which begins none, is taken.
+/// There is no command after a colon, and this symbol, which begins none, is taken. It is rare, and a function of its own, so that a
+/// step has no frame for it.
+#[inline(never)]
 fn step_over(
     alloc: Global,
     frames: &mut Frames,

@@ -1,12 +1,4 @@
-use Rattle.std.proofs.Common.{◌≡◌, false, rules, sym, ap, ◌∙◌}
-use Rattle.bk_tree.specs.Tree.{expression}
-use Rattle.bk_grammar.specs.Rows.{assigns}
-use Rattle.bk_frames.specs.Sizes.{size_of, size_of_action}
-use Rattle.bk_grammar.specs.Machine.{give, finish, in_start}
-use Rattle.bk_frames.specs.declared.frame.ParserState.TheVariants as n
-use Rattle.bk_frames.specs.Frames.{stack_of, given, after}
-use Rattle.bk_tree.proofs.Lemmas.{Apply_is}
-use Rattle.bk_frames.proofs.Lemmas.{call_done}
+use Rattle.bk_syntax.proofs.Terms.{◌≡◌, false, rules, sym, ap, ◌∙◌, expression, assigns, size_of, size_of_action, give, finish, in_start, stack_of, given, after, Apply_is, call_done, ParserState as n}
 use Rattle.bk_syntax.proofs.commands.complete_start.Goals as goal
 
 pub returns-in-Apply-clause-answers : goal.returns-in-Apply-clause-answers

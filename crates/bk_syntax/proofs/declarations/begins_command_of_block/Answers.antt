@@ -1,7 +1,4 @@
-use Rattle.std.proofs.Common.{◌≡◌, subst, sym, take, length, ◌-◌}
-use Rattle.bk_grammar.specs.Machine.{Stack, take_due, take_command}
-use Rattle.bk_frames.specs.Stacked.{stack}
-use Rattle.bk_frames.proofs.Lemmas.{last_on}
+use Rattle.bk_syntax.proofs.Terms.{◌≡◌, subst, sym, take, length, ◌-◌, Stack, take_due, take_command, stack, last_on}
 use Rattle.bk_syntax.proofs.declarations.begins_command_of_block.Goals as goal
 
 pub returns-in-Some : goal.returns-in-Some

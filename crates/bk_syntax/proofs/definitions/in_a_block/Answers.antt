@@ -1,6 +1,4 @@
-use Rattle.std.proofs.Common.{false, cond, sym, ap, ◌∙◌, arith}
-use Rattle.bk_frames.specs.Frames.{is_let_unfinished}
-use Rattle.bk_frames.proofs.Lemmas.{inside_short, inside_at}
+use Rattle.bk_syntax.proofs.Terms.{false, cond, sym, ap, ◌∙◌, arith, is_let_unfinished, inside_short, inside_at}
 use Rattle.bk_syntax.proofs.definitions.in_a_block.Goals as goal
 
 pub returns-then-count-lt2 : goal.returns-then-count-lt2

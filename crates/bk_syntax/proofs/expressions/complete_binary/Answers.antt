@@ -1,7 +1,4 @@
-use Rattle.std.proofs.Common.{◌≡◌, rules, ap, ◌∙◌}
-use Rattle.bk_tree.specs.Tree.{expression, binary}
-use Rattle.bk_grammar.specs.Grammar.{last}
-use Rattle.bk_frames.specs.Sizes.{size_if}
+use Rattle.bk_syntax.proofs.Terms.{◌≡◌, rules, ap, ◌∙◌, expression, binary, last, size_if}
 use Rattle.bk_syntax.proofs.expressions.complete_binary.Goals as goal
 
 pub invariant_of-pair-clause-shares : goal.invariant_of-pair-clause-shares

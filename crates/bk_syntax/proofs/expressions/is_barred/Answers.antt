@@ -1,7 +1,4 @@
-use Rattle.std.proofs.Common.{◌≡◌, ◌+◌, ◌-◌, take, sym, ap, ◌∙◌, arith}
-use Rattle.bk_grammar.specs.Machine.{bars}
-use Rattle.bk_frames.specs.Stacked.{stack}
-use Rattle.bk_frames.proofs.Lemmas.{stack_take}
+use Rattle.bk_syntax.proofs.Terms.{◌≡◌, ◌+◌, ◌-◌, take, sym, ap, ◌∙◌, arith, bars, stack, stack_take}
 use Rattle.bk_syntax.proofs.expressions.is_barred.Goals as goal
 
 pub returns-in-Some : goal.returns-in-Some

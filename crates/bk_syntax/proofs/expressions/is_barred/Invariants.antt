@@ -1,6 +1,4 @@
-use Rattle.std.proofs.Common.{◌≡◌, ◌≤◌, take, vec_len}
-use Rattle.bk_grammar.specs.Machine.{bars}
-use Rattle.bk_frames.specs.Stacked.{stack}
+use Rattle.bk_syntax.proofs.Terms.{◌≡◌, ◌≤◌, take, vec_len, bars, stack}
 use Rattle.bk_syntax.proofs.expressions.is_barred.Given as goal
 
 abbrev pub invariant-loop-i : goal.invariant-loop-i

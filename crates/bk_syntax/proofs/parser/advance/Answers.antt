@@ -1,8 +1,4 @@
-use Rattle.std.proofs.Common.{◌++◌, ◌∷◌, [], sym, subst}
-use Rattle.bk_lex.specs.Symbol.{symbol_of}
-use Rattle.bk_grammar.specs.Machine.{Stack}
-use Rattle.bk_frames.specs.Frames.{state}
-use Rattle.bk_syntax.specs.Parsing.{tags, AfterSymbols}
+use Rattle.bk_syntax.proofs.Terms.{◌++◌, ◌∷◌, [], sym, subst, symbol_of, Stack, state, tags, AfterSymbols}
 use Rattle.bk_syntax.proofs.Told.{limited}
 use Rattle.bk_syntax.proofs.parser.advance.Goals as goal
 

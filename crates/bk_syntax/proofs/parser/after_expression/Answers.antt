@@ -1,9 +1,4 @@
-use Rattle.std.proofs.Common.{◌≡◌, Option, rules, sym, ap, subst, ◌∙◌}
-use Rattle.bk_tree.specs.Tree.{expression}
-use Rattle.bk_grammar.specs.Machine.{State}
-use Rattle.bk_frames.specs.declared.frame.ParserState.TheVariants as n
-use Rattle.bk_frames.specs.Frames.{stack_of, given, Flows}
-use Rattle.bk_grammar.proofs.Lemmas.{pushes}
+use Rattle.bk_syntax.proofs.Terms.{◌≡◌, Option, rules, sym, ap, subst, ◌∙◌, expression, State, stack_of, given, Flows, pushes, ParserState as n}
 use Rattle.bk_syntax.proofs.parser.after_expression.Goals as goal
 
 pub returns-then-goes_on_with-clause-answers : goal.returns-then-goes_on_with-clause-answers

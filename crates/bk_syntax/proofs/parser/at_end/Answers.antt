@@ -1,11 +1,4 @@
-use Rattle.std.proofs.Common.{ℕ, Some, List, [], Result, sym, ap, subst, ◌∙◌}
-use Rattle.bk_lex.specs.declared.token.Kind.TheVariants as k
-use Rattle.bk_lex.specs.Symbol.{Symbol}
-use Rattle.bk_tree.specs.Tree.{Declarations}
-use Rattle.bk_grammar.specs.Machine.{stepped_by, whole}
-use Rattle.bk_frames.specs.Frames.{stack_of, state}
-use Rattle.bk_syntax.specs.Parsing.{AnswersAtEnd}
-use Rattle.bk_frames.proofs.Lemmas.{ends_within}
+use Rattle.bk_syntax.proofs.Terms.{ℕ, Some, List, [], Result, sym, ap, subst, ◌∙◌, Symbol, Declarations, stepped_by, whole, stack_of, state, AnswersAtEnd, ends_within, Kind as k}
 use Rattle.bk_syntax.proofs.Behind.{run_end, ends_wrong}
 use Rattle.bk_syntax.proofs.parser.at_end.Goals as goal
 

@@ -1,8 +1,4 @@
-use Rattle.std.proofs.Common.{Result, refl, sym, subst, arith}
-use Rattle.bk_lex.specs.Symbol.{symbol_of}
-use Rattle.bk_syntax.specs.declared.error.ParseError.{ParseError}
-use Rattle.bk_frames.specs.Frames.{stack_of, state}
-use Rattle.bk_syntax.specs.Parsing.{answered, reached, Advances}
+use Rattle.bk_syntax.proofs.Terms.{Result, refl, sym, subst, arith, symbol_of, ParseError, stack_of, state, answered, reached, Advances}
 use Rattle.bk_syntax.proofs.Behind.{closed, not_closed}
 use Rattle.bk_syntax.proofs.parser.close.Goals as goal
 

@@ -1,7 +1,4 @@
-use Rattle.std.proofs.Common.{◌≡◌, ℕ, suc, ◌+◌, ◌-◌, List, Some, length, take, replicate, ap, ◌∙◌, arith}
-use Rattle.bk_lex.specs.Values.{upper_name}
-use Rattle.bk_grammar.specs.Brackets.{up_to_tag}
-use Rattle.bk_syntax.specs.Parsing.{tags}
+use Rattle.bk_syntax.proofs.Terms.{◌≡◌, ℕ, suc, ◌+◌, ◌-◌, List, Some, length, take, replicate, ap, ◌∙◌, arith, upper_name, up_to_tag, tags}
 use Rattle.bk_syntax.proofs.Openings.{closing_more, more_none, closed_tagged, tags_none, passed, found}
 use Rattle.bk_syntax.proofs.parser.closings_tagged.Goals as goal
 

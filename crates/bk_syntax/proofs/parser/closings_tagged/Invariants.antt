@@ -1,8 +1,4 @@
-use Rattle.std.proofs.Common.{◌≡◌, ◌≤◌, ◌-◌, length, take}
-use Rattle.bk_lex.specs.Symbol.{Symbol}
-use Rattle.bk_lex.specs.Values.{upper_name}
-use Rattle.bk_grammar.specs.Brackets.{up_to_tag}
-use Rattle.bk_syntax.specs.Parsing.{tags}
+use Rattle.bk_syntax.proofs.Terms.{◌≡◌, ◌≤◌, ◌-◌, length, take, Symbol, upper_name, up_to_tag, tags}
 use Rattle.bk_syntax.proofs.Openings.{closing_more}
 use Rattle.bk_syntax.proofs.parser.closings_tagged.Given as goal
 

@@ -1,9 +1,4 @@
-use Rattle.std.proofs.Common.{sym, ap, ◌∙◌}
-use Rattle.bk_grammar.specs.Rows.{goes}
-use Rattle.bk_grammar.specs.Machine.{limit}
-use Rattle.bk_frames.specs.Unfinished.{unfinished_on}
-use Rattle.bk_frames.specs.Frames.{stack_of}
-use Rattle.bk_frames.proofs.Lemmas.{limit_phrase, limit_member}
+use Rattle.bk_syntax.proofs.Terms.{sym, ap, ◌∙◌, goes, limit, unfinished_on, stack_of, limit_phrase, limit_member}
 use Rattle.bk_syntax.proofs.parser.complete_part.Goals as goal
 
 pub complete-requires-clause-stops : goal.complete-requires-clause-stops

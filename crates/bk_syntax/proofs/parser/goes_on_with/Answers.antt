@@ -1,8 +1,4 @@
-use Rattle.std.proofs.Common.{sym, ap, ◌∙◌, take, length, ◌-◌}
-use Rattle.bk_grammar.specs.Rows.{goes}
-use Rattle.bk_grammar.specs.Machine.{limit}
-use Rattle.bk_frames.specs.Stacked.{stack}
-use Rattle.bk_frames.proofs.Lemmas.{last_on, none_on}
+use Rattle.bk_syntax.proofs.Terms.{sym, ap, ◌∙◌, take, length, ◌-◌, goes, limit, stack, last_on, none_on}
 use Rattle.bk_syntax.proofs.parser.goes_on_with.Goals as goal
 
 pub returns-in-Some : goal.returns-in-Some

@@ -1,9 +1,4 @@
-use Rattle.std.proofs.Common.{List, ◌∷◌, ℕ, Result, sym, ap, subst, ◌∙◌}
-use Rattle.bk_lex.specs.Symbol.{symbol_of}
-use Rattle.bk_syntax.specs.declared.error.ParseError.{ParseError}
-use Rattle.bk_grammar.specs.Spelling.{tag_of}
-use Rattle.bk_frames.specs.Frames.{stack_of, state}
-use Rattle.bk_syntax.specs.Parsing.{tags, answered, reached, Advances}
+use Rattle.bk_syntax.proofs.Terms.{List, ◌∷◌, ℕ, Result, sym, ap, subst, ◌∙◌, symbol_of, ParseError, tag_of, stack_of, state, tags, answered, reached, Advances}
 use Rattle.bk_syntax.proofs.Openings.{tags_push}
 use Rattle.bk_syntax.proofs.Behind.{step_answered, plain_open}
 use Rattle.bk_syntax.proofs.parser.open_section.Goals as goal

@@ -1,10 +1,6 @@
-use Rattle.std.proofs.Common.{◌+◌, Err, take, arith}
-use Rattle.bk_lex.specs.Symbol.{symbols_of}
-use Rattle.bk_frames.specs.Frames.{stack_of, state}
-use Rattle.bk_syntax.specs.Parsing.{tags, told}
+use Rattle.bk_syntax.proofs.Terms.{◌+◌, Err, take, arith, symbols_of, stack_of, state, tags, told, empty_bounded, within_limits}
 use Rattle.bk_syntax.proofs.Behind.{from_nothing, one_further, all_read}
 use Rattle.bk_syntax.proofs.Told.{behind_completes, told_of, ended, gives_only}
-use Rattle.bk_frames.proofs.Lemmas.{empty_bounded, within_limits}
 use Rattle.bk_syntax.proofs.parser.parse.Goals as goal
 
 pub loop-token-init : goal.loop-token-init

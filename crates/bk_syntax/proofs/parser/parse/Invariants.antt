@@ -1,8 +1,4 @@
-use Rattle.std.proofs.Common.{take}
-use Rattle.bk_lex.specs.Symbol.{symbols_of}
-use Rattle.bk_frames.specs.Frames.{stack_of, state}
-use Rattle.bk_frames.specs.Bounds.{Bounded}
-use Rattle.bk_syntax.specs.Parsing.{tags, AfterSymbols}
+use Rattle.bk_syntax.proofs.Terms.{take, symbols_of, stack_of, state, Bounded, tags, AfterSymbols}
 use Rattle.bk_syntax.proofs.parser.parse.Given as goal
 
 abbrev pub invariant-loop-token : goal.invariant-loop-token

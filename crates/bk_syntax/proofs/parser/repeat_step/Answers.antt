@@ -1,7 +1,4 @@
-use Rattle.std.proofs.Common.{◌≡◌, ℕ, ◌-◌, sym, ap, ◌∙◌, arith}
-use Rattle.bk_lex.specs.Symbol.{symbol_of}
-use Rattle.bk_frames.specs.Frames.{stack_of, state}
-use Rattle.bk_syntax.specs.Parsing.{goes_to, steps}
+use Rattle.bk_syntax.proofs.Terms.{◌≡◌, ℕ, ◌-◌, sym, ap, ◌∙◌, arith, symbol_of, stack_of, state, goes_to, steps}
 use Rattle.bk_syntax.proofs.Behind.{steps_more}
 use Rattle.bk_syntax.proofs.parser.repeat_step.Goals as goal
 

@@ -1,7 +1,4 @@
-use Rattle.std.proofs.Common.{◌≡◌}
-use Rattle.bk_lex.specs.Symbol.{symbol_of}
-use Rattle.bk_frames.specs.Frames.{stack_of, state}
-use Rattle.bk_syntax.specs.Parsing.{steps}
+use Rattle.bk_syntax.proofs.Terms.{◌≡◌, symbol_of, stack_of, state, steps}
 use Rattle.bk_syntax.proofs.parser.repeat_step.Given as goal
 
 abbrev pub invariant-loop-left : goal.invariant-loop-left

@@ -1,5 +1,4 @@
-use Rattle.std.proofs.Common.{◌≡◌, vec_len}
-use Rattle.bk_frames.specs.Frames.{stack_of, after}
+use Rattle.bk_syntax.proofs.Terms.{◌≡◌, vec_len, stack_of, after}
 use Rattle.bk_syntax.proofs.parser.settle.Given as goal
 
 abbrev pub invariant-loop : goal.invariant-loop

@@ -1,8 +1,4 @@
-use Rattle.std.proofs.Common.{Result, refl, sym, subst, ◌∙◌}
-use Rattle.bk_lex.specs.Symbol.{symbol_of}
-use Rattle.bk_syntax.specs.declared.error.ParseError.{ParseError}
-use Rattle.bk_frames.specs.Frames.{stack_of, state}
-use Rattle.bk_syntax.specs.Parsing.{tags, answered, reached, Advances}
+use Rattle.bk_syntax.proofs.Terms.{Result, refl, sym, subst, ◌∙◌, symbol_of, ParseError, stack_of, state, tags, answered, reached, Advances}
 use Rattle.bk_syntax.proofs.Behind.{step_answered, plain_other}
 use Rattle.bk_syntax.proofs.parser.take.Goals as goal
 

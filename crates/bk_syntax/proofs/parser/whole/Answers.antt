@@ -1,8 +1,4 @@
-use Rattle.std.proofs.Common.{◌≡◌, ◌<◌, Some, Ok, vec_len, ap, sym, ◌∙◌, arith}
-use Rattle.bk_tree.specs.Tree.{declarations_in}
-use Rattle.bk_grammar.specs.Machine.{whole}
-use Rattle.bk_frames.specs.Frames.{stack_of, state}
-use Rattle.bk_tree.proofs.Lemmas.{is_zero, is_more}
+use Rattle.bk_syntax.proofs.Terms.{◌≡◌, ◌<◌, Some, Ok, vec_len, ap, sym, ◌∙◌, arith, declarations_in, whole, stack_of, state, is_zero, is_more}
 use Rattle.bk_syntax.proofs.Behind.{due_empty, whole_empty, not_whole, ends_wrong}
 use Rattle.bk_syntax.proofs.parser.whole.Goals as goal
 
