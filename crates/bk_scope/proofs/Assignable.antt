@@ -1,23 +1,5 @@
 -- The pass and what is told, where a word is asked for: that an expression has none is told in front of it.
-use Rattle.std.proofs.Common.{◌≡◌, ℕ, ◌+◌, ◌<◌, ◌==◌, Bool, true, false, cond, not, Option, Some, None, List, [], ◌∷◌, ◌++◌, length, ◌≤◌, refl, sym, ap, ◌∙◌, subst, arith}
-use Rattle.std.proofs.lemmas.Bool.{false≢true}
-use Rattle.bk_tree.specs.Tree.{Expression, name, number, text, truth, query, parens, unary, binary, choice, apply, valof, table}
-use Rattle.bk_tree.specs.Parts.{size}
-use Rattle.bk_scope.specs.declared.bound.Bound.{Bound}
-use Rattle.bk_scope.specs.declared.bound.Bound.TheVariants.{Constant, Global, Static, Variable, Label}
-use Rattle.bk_scope.specs.declared.place.Enclosing.{Enclosing}
-use Rattle.bk_scope.specs.declared.role.Role.{Role}
-use Rattle.bk_scope.specs.declared.role.Role.TheVariants.{Value, Truth}
-use Rattle.bk_scope.specs.Scope.{Binding, bound_in}
-use Rattle.bk_scope.specs.Wrong.{not_assignable, dynamic_name, text_of}
-use Rattle.bk_scope.specs.Found.{Found, else_first, breaks}
-use Rattle.bk_scope.specs.Places.{deeper, labelled, valued}
-use Rattle.bk_scope.specs.Entering.{labels_of}
-use Rattle.bk_scope.specs.Scoping.{labels_in_scope}
-use Rattle.bk_scope.specs.Names.{is_usable, begins_wrong, unassignable, parenthesised, role_of_operand, role_of_operands, place_of_second}
-use Rattle.bk_scope.specs.Spots.{Spot, onward, past, behind, symbols, symbols_each, symbols_done}
-use Rattle.bk_scope.specs.Points.{Point, at, meaning}
-use Rattle.bk_scope.specs.Faults.{used_at, told}
+use Rattle.bk_scope.proofs.Terms.{◌≡◌, ℕ, ◌+◌, ◌<◌, ◌==◌, Bool, true, false, cond, not, Option, Some, None, List, [], ◌∷◌, ◌++◌, length, ◌≤◌, refl, sym, ap, ◌∙◌, subst, arith, false≢true, Expression, name, number, text, truth, query, parens, unary, binary, choice, apply, valof, table, size, Bound, Constant, Global, Static, Variable, Label, Enclosing, Role, Value, Truth, Binding, bound_in, not_assignable, dynamic_name, text_of, Found, else_first, breaks, deeper, labelled, valued, labels_of, labels_in_scope, is_usable, begins_wrong, unassignable, parenthesised, role_of_operand, role_of_operands, place_of_second, Spot, onward, past, behind, symbols, symbols_each, symbols_done, Point, at, meaning, used_at, told}
 use Rattle.bk_scope.proofs.Tied.{Tied, Spans, broken, both, among, wider, behind_it}
 use Rattle.bk_scope.proofs.Constants.{at_spans, each_constant_spans}
 use Rattle.bk_scope.proofs.Spine.{not_assignable_behind}
@@ -32,17 +14,11 @@ usable_late k n l i j x (Some (Variable q d)) h = variable_usable (q == k) h whe
   variable_usable : (b : Bool) → not b ≡ false → Spans i j (cond b (meaning (Variable q d) ∷ []) (at n l (dynamic_name (text_of x))))
   variable_usable true e = record { inside = tt }
   variable_usable false e = absurd (false≢true (sym e))
-usable_late k n l i j x (Some (Constant v)) h = record { inside = tt }
-usable_late k n l i j x (Some (Global v)) h = record { inside = tt }
-usable_late k n l i j x (Some (Static v)) h = record { inside = tt }
+usable_late k n l i j x (Some _) h = record { inside = tt }
 
 -- WHAT BEGINS WITH NO WRONG NAME: nothing is told at its first symbol
 pub late : (e : Expression) (r : Role) (bs : List Binding) (p : Enclosing) (s : Spot) → begins_wrong bs p.procedure e ≡ false → Spans (s.place + 1) (s.place + symbols e) (told r bs p s e)
 late (name l x) r bs p s h = among (usable_late p.procedure s.place l (s.place + 1) (s.place + 1) x (bound_in bs x) h) (depth_spans r (s.place + 1) p (bound_in bs x))
-late (number l n) r bs p s h = record { inside = tt }
-late (text l x) r bs p s h = record { inside = tt }
-late (truth l b) r bs p s h = record { inside = tt }
-late (query l) r bs p s h = record { inside = tt }
 late (parens l e) r bs p s h = wider _ _ (inside e (parenthesised r) bs p (past 1 s)) (omega arith) (omega arith)
 late (unary l f e) r bs p s h =
     let one : 1 ≤ symbols e = has_symbol e in
@@ -62,6 +38,7 @@ late (valof l c) r bs p s h =
     wider _ _ (both (done_inside c (labels_in_scope p.procedure (s.number + 1) (labels_of c) bs) (labelled s.number (valued p)) u) (pushed_spans (u.place + symbols_done c) p 1) (omega arith) (omega arith)) (omega arith) (omega arith)
 late (table l es) r bs p s h =
     wider _ _ (both (each_constant_spans es bs p.procedure (past 1 s)) (pushed_spans (s.place + 1 + symbols_each es) p 1) (omega arith) (omega arith)) (omega arith) (omega arith)
+late _ r bs p s h = record { inside = tt }
 
 -- n is the place of the first symbol: that of a parenthesis around, or the expression's own
 abbrev pub Begins : Bool → ℕ → ℕ → Type 0
@@ -70,8 +47,7 @@ Begins false n m = n ≡ m
 
 -- told in front
 in_front : {i m : ℕ} {xs : List Point} {f h : Found} (n l : ℕ) → Spans (n + 1) m xs → Tied xs i (breaks l not_assignable f) h → Tied (at n l not_assignable ++ xs) i f h
-in_front {i = i} {f = f} n l a t =
-    recount i (behind_it (at_spans n l not_assignable) a (omega arith) (broken n l f) t) (omega arith)
+in_front {i = i} {f = f} n l a t = recount i (behind_it (at_spans n l not_assignable) a (omega arith) (broken n l f) t) (omega arith)
 
 -- what begins with a wrong name hides it
 hidden : (e : Expression) (r : Role) (bs : List Binding) (p : Enclosing) (s : Spot) (l i : ℕ) (f h : Found) → begins_wrong bs p.procedure e ≡ true → Tied (told r bs p s e) i f h → Tied (at s.place l not_assignable ++ told r bs p s e) i f h

@@ -1,15 +1,6 @@
 -- What commands with parts in a row come to: calls, and blocks without declarations and with some.
-use Rattle.std.proofs.Common.{◌≡◌, ℕ, ◌+◌, ◌<◌, List, [], ◌∷◌, length, refl, ap, ◌∙◌, arith}
+use Rattle.bk_scope.proofs.Terms.{◌≡◌, ℕ, ◌+◌, ◌<◌, List, [], ◌∷◌, length, refl, ap, ◌∙◌, arith, Decl, Actions, block, expressions_in, declarations_in, size, Enclosing, Binding, Found, takes, labelled, Stage, labels_of_each, with_labels, AfterDeclarations, declared, done, each_done}
 use Rattle.bk_tree.specs.declared.tree.Expr.{Expr}
-use Rattle.bk_tree.specs.declared.tree.Decl.{Decl}
-use Rattle.bk_tree.specs.Tree.{Actions, block, expressions_in, declarations_in}
-use Rattle.bk_tree.specs.Parts.{size}
-use Rattle.bk_scope.specs.declared.place.Enclosing.{Enclosing}
-use Rattle.bk_scope.specs.Scope.{Binding}
-use Rattle.bk_scope.specs.Found.{Found, takes}
-use Rattle.bk_scope.specs.Places.{labelled}
-use Rattle.bk_scope.specs.Entering.{Stage, labels_of_each, with_labels}
-use Rattle.bk_scope.specs.Names.{AfterDeclarations, declared, done, each_done}
 
 -- a call has as many arguments as its list
 pub size_is_length : (xs : List Expr) → size (expressions_in xs) ≡ length xs

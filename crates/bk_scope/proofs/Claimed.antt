@@ -1,15 +1,9 @@
 -- What the program holds as claimed is what the definitions hold as claimed.
 use Rattle.std.proofs.Common.{◌≡◌, ◌⊎◌, inl, inr, ⊎_elim, subst, ℕ, Bool, true, false, cond, ◌||◌, ◌==◌, bytes_eq, List, [], ◌∷◌, ◌++◌, map, reverse, refl, sym, ap, ◌∙◌}
-use Rattle.std.proofs.lemmas.Cmp.{eq_by_cmp_equiv, nat_cmp_total, nat_list_eq_equiv}
-use Rattle.std.proofs.lemmas.List.{map-append, reverse-append}
-use Rattle.std.specs.BTreeMap.{is_at}
+use Rattle.bk_scope.proofs.Terms.{eq_by_cmp_equiv, nat_cmp_total, nat_list_eq_equiv, map-append, reverse-append, is_at, unsigned_tied, is_eq, nat_cmp, claim_of, claims_in, has, HasClaims, is_claimed, same_claim, cmp-value as keys}
 use Rattle.std.specs.BTreeSet.{contains, Updates}
-use Rattle.std.specs.Cmp.{unsigned_tied}
 use Rattle.std.specs.List.{list_any}
-use Rattle.std.specs.Ordering.{is_eq, nat_cmp}
-use Rattle.bk_scope.specs.Claims.{claim_of, claims_in, has, HasClaims}
 use Rattle.bk_scope.specs.Found as found
-use Rattle.bk_scope.specs.Found.{is_claimed, same_claim}
 use Rattle.bk_scope.specs.declared.claims.Listed.{Listed}
 use Rattle.bk_scope.specs.declared.claims.Claim.{Claim}
 use Rattle.bk_scope.specs.declared.claims.Claim.TheVariants.{Naming, Choosing, Defaulting, Setting}
@@ -17,7 +11,6 @@ use Rattle.bk_scope.specs.declared.claims.ClaimSet.{ClaimSet}
 use Rattle.bk_scope.specs.declared.claims.Claims.TheInside.{Inside}
 use Rattle.bk_scope.specs.contracts.claims.ListedOrd.TheImpl.{cmp-value as listed}
 use Rattle.bk_scope.specs.contracts.claims.ClaimOrd.TheImpl.{cmp-value}
-use Rattle.bk_scope.specs.contracts.name_key.NameKeyOrd.TheImpl.{cmp-value as keys}
 use Rattle.bk_scope.proofs.Keys.{both_tied, same_letters}
 
 swapped : (p q : Bool) → cond q p false ≡ cond p q false
@@ -39,21 +32,10 @@ listed-is-same k l =
 -- the order tells claims apart where the definitions do
 equal-is-same : (c d : Claim) → is_eq (cmp-value.it c d) ≡ same_claim (claim_of c) (claim_of d)
 equal-is-same (Naming n x) (Naming m y) = both_tied (nat_cmp n m) (keys.it x y) (n == m) (bytes_eq x.letters.now y.letters.now) (unsigned_tied n m) (same_letters x y)
-equal-is-same (Naming n x) (Choosing m v) = refl
-equal-is-same (Naming n x) (Defaulting m) = refl
-equal-is-same (Naming n x) (Setting h) = refl
-equal-is-same (Choosing n w) (Naming m y) = refl
 equal-is-same (Choosing n w) (Choosing m v) = both_tied (nat_cmp n m) (nat_cmp w v) (n == m) (w == v) (unsigned_tied n m) (unsigned_tied w v)
-equal-is-same (Choosing n w) (Defaulting m) = refl
-equal-is-same (Choosing n w) (Setting h) = refl
-equal-is-same (Defaulting n) (Naming m y) = refl
-equal-is-same (Defaulting n) (Choosing m v) = refl
 equal-is-same (Defaulting n) (Defaulting m) = unsigned_tied n m
-equal-is-same (Defaulting n) (Setting h) = refl
-equal-is-same (Setting g) (Naming m y) = refl
-equal-is-same (Setting g) (Choosing m v) = refl
-equal-is-same (Setting g) (Defaulting m) = refl
 equal-is-same (Setting g) (Setting h) = unsigned_tied g h
+equal-is-same _ _ = refl
 
 turned : (n m : ℕ) → (n == m) ≡ (m == n)
 turned n m = sym (unsigned_tied n m) ∙ (eq_by_cmp_equiv nat_cmp_total).symm n m ∙ unsigned_tied m n
@@ -63,20 +45,14 @@ both_turned a b c d e f = ap (λ p. cond p c false) e ∙ ap (λ q. cond b q fal
 
 same-turned : (c d : found.Claim) → same_claim c d ≡ same_claim d c
 same-turned (found.naming n x) (found.naming m y) = both_turned (n == m) (m == n) (bytes_eq x y) (bytes_eq y x) (turned n m) (nat_list_eq_equiv.symm x y)
-same-turned (found.naming n x) (found.choosing m v) = refl
-same-turned (found.naming n x) (found.defaulting m) = refl
 same-turned (found.naming n x) (found.setting h) = refl
-same-turned (found.choosing n w) (found.naming m y) = refl
 same-turned (found.choosing n w) (found.choosing m v) = both_turned (n == m) (m == n) (w == v) (v == w) (turned n m) (turned w v)
-same-turned (found.choosing n w) (found.defaulting m) = refl
 same-turned (found.choosing n w) (found.setting h) = refl
-same-turned (found.defaulting n) (found.naming m y) = refl
-same-turned (found.defaulting n) (found.choosing m v) = refl
 same-turned (found.defaulting n) (found.defaulting m) = turned n m
 same-turned (found.defaulting n) (found.setting h) = refl
-same-turned (found.setting g) (found.naming m y) = refl
-same-turned (found.setting g) (found.choosing m v) = refl
-same-turned (found.setting g) (found.defaulting m) = refl
+same-turned _ (found.naming m y) = refl
+same-turned _ (found.choosing m v) = refl
+same-turned _ (found.defaulting m) = refl
 same-turned (found.setting g) (found.setting h) = turned g h
 
 any-alike : {A : Type 0} (f g : A → Bool) → ((x : A) → f x ≡ g x) → (xs : List A) → list_any f xs ≡ list_any g xs
@@ -107,9 +83,7 @@ other-had s =
 pub listed-more : (s u : ClaimSet) (k : Listed) → Updates listed.it s.listed u.listed k true → u.others ≡ s.others → (q : Claim) → has u q ≡ cond (same_claim (listed_of k) (claim_of q)) true (has s q)
 listed-more s u k updates kept (Naming n x) =
     let l : Listed = record { name = x; list = n } in
-    sym (listed-had u l)
-    ∙ updates.0 l
-    ∙ ap (λ b. cond b true (contains listed.it s.listed l)) (listed-is-same k l)
+    sym (listed-had u l) ∙ updates.0 l ∙ ap (λ b. cond b true (contains listed.it s.listed l)) (listed-is-same k l)
     ∙ ap (cond (same_claim (listed_of k) (listed_of l)) true) (listed-had s l)
 listed-more s u k updates kept (Choosing n w) = ap (λ o. list_any (λ d. same_claim (found.choosing n w) (claim_of d)) o.keys) kept
 listed-more s u k updates kept (Defaulting n) = ap (λ o. list_any (λ d. same_claim (found.defaulting n) (claim_of d)) o.keys) kept
@@ -117,9 +91,7 @@ listed-more s u k updates kept (Setting g) = ap (λ o. list_any (λ d. same_clai
 
 other-updated : (s u : ClaimSet) (c q : Claim) → IsOther q → Updates cmp-value.it s.others u.others c true → has u q ≡ cond (same_claim (claim_of c) (claim_of q)) true (has s q)
 other-updated s u c q other updates =
-    sym (other-had u q other)
-    ∙ updates.0 q
-    ∙ ap (λ b. cond b true (contains cmp-value.it s.others q)) (equal-is-same c q)
+    sym (other-had u q other) ∙ updates.0 q ∙ ap (λ b. cond b true (contains cmp-value.it s.others q)) (equal-is-same c q)
     ∙ ap (cond (same_claim (claim_of c) (claim_of q)) true) (other-had s q other)
 
 -- one more of the others
@@ -137,7 +109,5 @@ claims_in-behind c cs = ap reverse (map-append claim_of cs (c ∷ [])) ∙ rever
 -- one claim more
 pub HasClaims-more : (t u : Inside) (c : Claim) → HasClaims t → ((q : Claim) → has u.claimed q ≡ cond (same_claim (claim_of c) (claim_of q)) true (has t.claimed q)) → u.in_turn.items ≡ t.in_turn.items ++ c ∷ [] → HasClaims u
 HasClaims-more t u c h more items q =
-    more q
-    ∙ ap (λ b. cond b true (has t.claimed q)) (same-turned (claim_of c) (claim_of q))
-    ∙ ap (cond (same_claim (claim_of q) (claim_of c)) true) (h q)
+    more q ∙ ap (λ b. cond b true (has t.claimed q)) (same-turned (claim_of c) (claim_of q)) ∙ ap (cond (same_claim (claim_of q) (claim_of c)) true) (h q)
     ∙ sym (ap (is_claimed (claim_of q)) (ap claims_in items ∙ claims_in-behind c t.in_turn.items))

@@ -1,25 +1,5 @@
 -- The pass and what is told: commands.
-use Rattle.std.proofs.Common.{◌≡◌, ℕ, ◌+◌, ◌==◌, Bool, true, false, cond, Option, Some, None, List, [], ◌∷◌, ◌++◌, length, refl, sym, ap, ◌∙◌, subst, arith}
-use Rattle.std.proofs.lemmas.List.{append-nil}
-use Rattle.bk_tree.specs.declared.tree.Simple.{Simple}
-use Rattle.bk_tree.specs.declared.tree.Simple.TheVariants as w
-use Rattle.bk_tree.specs.Tree.{Mention, Expression, Expressions, Action, Actions, empty, assign, call, goto, label, case_of, default, when, test, while, for_loop, result, simple, block, repeat, repeat_while, no_actions, also, no_declarations}
-use Rattle.bk_tree.specs.Parts.{size}
-use Rattle.bk_scope.specs.declared.bound.Bound.{Bound}
-use Rattle.bk_scope.specs.declared.bound.Bound.TheVariants.{Constant, Global, Static, Variable, Label}
-use Rattle.bk_scope.specs.declared.place.Enclosing.{Enclosing}
-use Rattle.bk_scope.specs.declared.role.Role.TheVariants.{Value, Truth}
-use Rattle.bk_scope.specs.Scope.{Binding, bound_in, bind}
-use Rattle.bk_scope.specs.Wrong.{Wrong, text_of, case_repeated, default_repeated, dynamic_name, label_not_here, no_loop, no_switchon, no_result_or_return}
-use Rattle.bk_scope.specs.Constants.{constant_word, wrongs}
-use Rattle.bk_scope.specs.Found.{Found, choosing, defaulting, is_claimed, else_first, first_of, breaks_first, breaks, claims_new, holds, reaches}
-use Rattle.bk_scope.specs.Places.{deeper, looping, labelled}
-use Rattle.bk_scope.specs.Entering.{Stage, labels_of}
-use Rattle.bk_scope.specs.Names.{evaluated, destinations, done, reached, listed, named_as, switched, chosen, defaulted, single, constant_found, constants_found}
-use Rattle.bk_scope.specs.Spots.{Spot, onward, past, numbered, behind, behind_each, behind_done, behind_constant, symbols_each, numbers, numbers_each, numbers_done}
-use Rattle.bk_scope.specs.Points.{at, word, claim, in_order, first_told}
-use Rattle.bk_scope.specs.Scoping.{labels_in_scope}
-use Rattle.bk_scope.specs.Faults.{unless, gone_to, chosen_at, defaulted_at, single_at, its_meaning, one_of, its_word, constant, each_constant, pushed, told, told_destinations, told_done}
+use Rattle.bk_scope.proofs.Terms.{◌≡◌, ℕ, ◌+◌, ◌==◌, Bool, true, false, cond, Option, Some, None, List, [], ◌∷◌, ◌++◌, length, refl, sym, ap, ◌∙◌, subst, arith, append-nil, Simple, Simple as w, Mention, Expression, Expressions, Action, Actions, empty, assign, call, goto, label, case_of, default, when, test, while, for_loop, result, simple, block, repeat, repeat_while, no_actions, also, no_declarations, size, Bound, Constant, Global, Static, Variable, Label, Enclosing, Value, Truth, Binding, bound_in, bind, Wrong, text_of, case_repeated, default_repeated, dynamic_name, label_not_here, no_loop, no_switchon, no_result_or_return, constant_word, wrongs, Found, choosing, defaulting, is_claimed, else_first, first_of, breaks_first, breaks, claims_new, holds, reaches, deeper, looping, labelled, Stage, labels_of, evaluated, destinations, done, reached, listed, named_as, switched, chosen, defaulted, single, constant_found, constants_found, Spot, onward, past, numbered, behind, behind_each, behind_done, behind_constant, symbols_each, numbers, numbers_each, numbers_done, at, word, claim, in_order, first_told, labels_in_scope, unless, gone_to, chosen_at, defaulted_at, single_at, its_meaning, one_of, its_word, constant, each_constant, pushed, told, told_destinations, told_done}
 use Rattle.bk_scope.proofs.Worded.{no_wrong}
 use Rattle.bk_scope.proofs.Tied.{Tied, Spans, broken, both, wider, behind_it, else_none, nothing_told}
 use Rattle.bk_scope.proofs.Operators.{ETied, EsTied, CTied}
@@ -47,23 +27,19 @@ elsewhere_first false n l x f = record {
 }
 
 gone_tied : (k n l : ℕ) (x : List ℕ) (y : Option Bound) (f : Found) → Tied (gone_to k n l x y) 0 f (reached k l x y f)
-gone_tied k n l x None f = broken n l f
 gone_tied k n l x (Some (Label j m)) f = meant_or_wrong (j == k) (Label j m) n l (label_not_here (text_of x)) f
 gone_tied k n l x (Some (Variable j d)) f = elsewhere_first (j == k) n l x f
-gone_tied k n l x (Some (Constant w)) f = broken n l f
-gone_tied k n l x (Some (Global w)) f = broken n l f
-gone_tied k n l x (Some (Static w)) f = broken n l f
+gone_tied k n l x _ f = broken n l f
 
 unless_broken : (q : Bool) (n l : ℕ) (v : Wrong) (f : Found) → Tied (unless q (at n l v)) 0 f (cond q f (breaks l v f))
 unless_broken true n l v f = nothing_told f
 unless_broken false n l v f = broken n l f
 
 single_tied : (p : Enclosing) (n l : ℕ) (k : Simple) (f : Found) → Tied (single_at p n l k) 0 f (single p l k f)
-single_tied p n l w.Break f = unless_broken p.in_loop n l no_loop f
-single_tied p n l w.Loop f = unless_broken p.in_loop n l no_loop f
 single_tied p n l w.EndCase f = unless_broken p.in_switch n l no_switchon f
 single_tied p n l w.Return f = unless_broken p.in_routine n l no_result_or_return f
 single_tied p n l w.Finish f = nothing_told f
+single_tied p n l _ f = unless_broken p.in_loop n l no_loop f
 
 defaulted_tied : (m : Option ℕ) (n l : ℕ) (f : Found) → Tied (defaulted_at m n l) 0 f (defaulted m l (switched m l f))
 defaulted_tied None n l f = broken n l f

@@ -1,118 +1,65 @@
 -- The pass and what is told, where a constant is asked for.
-use Rattle.std.proofs.Common.{◌≡◌, ℕ, ◌+◌, ◌*◌, ◌≤◌, ◌==◌, Bool, true, false, cond, Option, Some, None, List, [], ◌∷◌, ◌++◌, refl, sym, ap, ◌∙◌, append_assoc, subst, arith}
-use Rattle.std.specs.Prelude.{nat_lt}
-use Rattle.std.proofs.lemmas.List.{append-nil}
-use Rattle.std.proofs.lemmas.Option.{none-some}
-use Rattle.std.proofs.lemmas.Bool.{eq-eqb, false≢true, le-ltb, ltb-true}
-use Rattle.bk_tree.specs.declared.tree.Operator.{Operator}
-use Rattle.bk_tree.specs.declared.tree.Operator.TheVariants as o
-use Rattle.bk_tree.specs.Tree.{Expression, Expressions, name, number, text, truth, query, parens, unary, binary, choice, apply, valof, table, none, more}
-use Rattle.bk_scope.specs.declared.bound.Bound.{Bound}
-use Rattle.bk_scope.specs.declared.bound.Bound.TheVariants.{Constant, Global, Static, Variable, Label}
-use Rattle.bk_scope.specs.Scope.{Binding, bound_in}
-use Rattle.bk_scope.specs.Wrong.{Wrong, Breach, dynamic_name, not_constant, divided_by_zero, label_not_here, text_of}
-use Rattle.bk_scope.specs.Constants.{named_word, constant_word, is_prefix_of_constants, is_infix_of_constants, divides, divides_by_zero, wrong_name, wrongs}
-use Rattle.bk_scope.specs.Found.{Found, Claim, first_of, else_first, breaks_first, holds}
-use Rattle.bk_scope.specs.Names.{constant_found, constants_found}
-use Rattle.bk_scope.specs.Spots.{Spot, past, behind_constant, symbols, symbols_each}
-use Rattle.bk_scope.specs.Points.{Point, meaning, word, depth, wrong, claim, at, claims_behind, judged, in_order, first_told, meanings_of, words_of, deepest, number_of}
-use Rattle.bk_scope.specs.Faults.{unless, constant_name, constant_wrongs, constant_wrongs_each, its_word, constant, each_constant}
+use Rattle.bk_scope.proofs.Terms.{◌≡◌, ℕ, ◌+◌, ◌*◌, ◌≤◌, ◌==◌, Bool, true, false, cond, Option, Some, None, List, [], ◌∷◌, ◌++◌, refl, sym, ap, ◌∙◌, append_assoc, subst, arith, nat_lt, append-nil, none-some, eq-eqb, false≢true, le-ltb, ltb-true, Operator, Operator as o, Expression, Expressions, name, number, text, truth, query, parens, unary, binary, choice, apply, valof, table, none, more, Bound, Constant, Global, Static, Variable, Label, Binding, bound_in, Wrong, Breach, dynamic_name, not_constant, divided_by_zero, label_not_here, text_of, named_word, constant_word, is_prefix_of_constants, is_infix_of_constants, divides, divides_by_zero, wrong_name, wrongs, Found, Claim, first_of, else_first, breaks_first, holds, constant_found, constants_found, Spot, past, behind_constant, symbols, symbols_each, Point, meaning, word, depth, wrong, claim, at, claims_behind, judged, in_order, first_told, meanings_of, words_of, deepest, number_of, unless, constant_name, constant_wrongs, constant_wrongs_each, its_word, constant, each_constant}
 use Rattle.bk_scope.proofs.Firsts.{first_of-append}
 use Rattle.bk_scope.proofs.Worded.{prefix_right, infix_right}
-use Rattle.bk_scope.proofs.Lists.{below_32, inside_wider, first_of_both}
+use Rattle.bk_scope.proofs.Lists.{below_32, inside_wider, first_of_both, claims_append, meanings_append, words_append, deepest_append}
 use Rattle.bk_scope.proofs.Tied.{Tied, Spans, both, among, wider, behind_it, else_none, nothing_told}
 use Rattle.bk_scope.proofs.Scopes.{recount, no_span}
 
--- some points say only what is wrong
-abbrev pub OnlyWrong : List Point → Type 0
-OnlyWrong [] = Unit {0}
-OnlyWrong (wrong f ∷ xs) = OnlyWrong xs
-OnlyWrong (_ ∷ xs) = ⊥
+-- these points say only what is wrong
+pub record Silent (xs : List Point) : Type 0 where
+  claims_so : (cs : List Claim) → claims_behind cs xs ≡ cs
+  meanings_so : meanings_of xs ≡ []
+  words_so : words_of xs ≡ []
+  deepest_so : (d : ℕ) → deepest d xs ≡ d
 
-only_append : (xs ys : List Point) → OnlyWrong xs → OnlyWrong ys → OnlyWrong (xs ++ ys)
-only_append [] ys h g = g
-only_append (wrong f ∷ xs) ys h g = only_append xs ys h g
-only_append (meaning f ∷ xs) ys h g = absurd h
-only_append (word f ∷ xs) ys h g = absurd h
-only_append (depth f ∷ xs) ys h g = absurd h
-only_append (claim c f ∷ xs) ys h g = absurd h
+silent_both : {xs ys : List Point} → Silent xs → Silent ys → Silent (xs ++ ys)
+silent_both {xs} {ys} h g = record {
+  claims_so = λ cs. claims_append xs ys cs ∙ ap (λ c. claims_behind c ys) (h.claims_so cs) ∙ g.claims_so cs;
+  meanings_so = meanings_append xs ys ∙ ap (λ c. c ++ meanings_of ys) h.meanings_so ∙ g.meanings_so;
+  words_so = words_append xs ys ∙ ap (λ c. c ++ words_of ys) h.words_so ∙ g.words_so;
+  deepest_so = λ d. deepest_append xs ys d ∙ ap (λ c. deepest c ys) (h.deepest_so d) ∙ g.deepest_so d;
+}
 
-only_claims : (xs : List Point) (cs : List Claim) → OnlyWrong xs → claims_behind cs xs ≡ cs
-only_claims [] cs h = refl
-only_claims (wrong f ∷ xs) cs h = only_claims xs cs h
-only_claims (meaning f ∷ xs) cs h = absurd h
-only_claims (word f ∷ xs) cs h = absurd h
-only_claims (depth f ∷ xs) cs h = absurd h
-only_claims (claim c f ∷ xs) cs h = absurd h
+none_silent : Silent []
+none_silent = record { claims_so = λ cs. refl; meanings_so = refl; words_so = refl; deepest_so = λ d. refl }
 
-only_meanings : (xs : List Point) → OnlyWrong xs → meanings_of xs ≡ []
-only_meanings [] h = refl
-only_meanings (wrong f ∷ xs) h = only_meanings xs h
-only_meanings (meaning f ∷ xs) h = absurd h
-only_meanings (word f ∷ xs) h = absurd h
-only_meanings (depth f ∷ xs) h = absurd h
-only_meanings (claim c f ∷ xs) h = absurd h
+at_silent : (n l : ℕ) (w : Wrong) → Silent (at n l w)
+at_silent n l w = record { claims_so = λ cs. refl; meanings_so = refl; words_so = refl; deepest_so = λ d. refl }
 
-only_words : (xs : List Point) → OnlyWrong xs → words_of xs ≡ []
-only_words [] h = refl
-only_words (wrong f ∷ xs) h = only_words xs h
-only_words (meaning f ∷ xs) h = absurd h
-only_words (word f ∷ xs) h = absurd h
-only_words (depth f ∷ xs) h = absurd h
-only_words (claim c f ∷ xs) h = absurd h
+unless_silent : (b : Bool) (n l : ℕ) (w : Wrong) → Silent (unless b (at n l w))
+unless_silent true n l w = none_silent
+unless_silent false n l w = at_silent n l w
 
-only_deepest : (xs : List Point) (d : ℕ) → OnlyWrong xs → deepest d xs ≡ d
-only_deepest [] d h = refl
-only_deepest (wrong f ∷ xs) d h = only_deepest xs d h
-only_deepest (meaning f ∷ xs) d h = absurd h
-only_deepest (word f ∷ xs) d h = absurd h
-only_deepest (depth f ∷ xs) d h = absurd h
-only_deepest (claim c f ∷ xs) d h = absurd h
+when_silent : (b : Bool) (n l : ℕ) (w : Wrong) → Silent (cond b (at n l w) [])
+when_silent true n l w = at_silent n l w
+when_silent false n l w = none_silent
 
-unless_only : (b : Bool) (n l : ℕ) (w : Wrong) → OnlyWrong (unless b (at n l w))
-unless_only true n l w = tt
-unless_only false n l w = tt
-
-when_only : (b : Bool) (n l : ℕ) (w : Wrong) → OnlyWrong (cond b (at n l w) [])
-when_only true n l w = tt
-when_only false n l w = tt
-
-name_only : (k n l : ℕ) (x : List ℕ) (y : Option Bound) → OnlyWrong (constant_name k n l x y)
-name_only k n l x None = tt
-name_only k n l x (Some (Constant w)) = tt
-name_only k n l x (Some (Global w)) = tt
-name_only k n l x (Some (Static w)) = tt
-name_only k n l x (Some (Variable j d)) = only_append (unless (j == k) (at n l (dynamic_name (text_of x)))) (at n l not_constant) (unless_only (j == k) n l _) tt
-name_only k n l x (Some (Label j m)) = tt
+name_silent : (k n l : ℕ) (x : List ℕ) (y : Option Bound) → Silent (constant_name k n l x y)
+name_silent k n l x (Some (Constant w)) = none_silent
+name_silent k n l x (Some (Variable j d)) = silent_both (unless_silent (j == k) n l _) (at_silent n l _)
+name_silent k n l x (Some (Label j m)) = silent_both (at_silent n l _) (at_silent n l _)
+name_silent k n l x _ = at_silent n l _
 
 mutual
-  pub constant_only : (e : Expression) (bs : List Binding) (k : ℕ) (s : Spot) → OnlyWrong (constant_wrongs bs k s e)
-  constant_only (name l x) bs k s = name_only k s.place l x (bound_in bs x)
-  constant_only (number l n) bs k s = tt
-  constant_only (truth l b) bs k s = tt
-  constant_only (parens l e) bs k s = constant_only e bs k (past 1 s)
-  constant_only (unary l r e) bs k s = only_append (unless (is_prefix_of_constants r) (at s.place l not_constant)) (constant_wrongs bs k (past 1 s) e) (unless_only (is_prefix_of_constants r) s.place l not_constant) (constant_only e bs k (past 1 s))
-  constant_only (binary l r m a b) bs k s =
-      let d : Bool = divides_by_zero r (constant_word bs a) (constant_word bs b) in
-      only_append (cond d (at s.place l divided_by_zero) [] ++ constant_wrongs bs k s a ++ unless (is_infix_of_constants r) (at (behind_constant a s).place m not_constant)) (constant_wrongs bs k (past 1 (behind_constant a s)) b)
-      (only_append (cond d (at s.place l divided_by_zero) [] ++ constant_wrongs bs k s a) (unless (is_infix_of_constants r) (at (behind_constant a s).place m not_constant))
-      (only_append (cond d (at s.place l divided_by_zero) []) (constant_wrongs bs k s a) (when_only d s.place l divided_by_zero) (constant_only a bs k s))
-      (unless_only (is_infix_of_constants r) (behind_constant a s).place m not_constant))
-      (constant_only b bs k (past 1 (behind_constant a s)))
-  constant_only (choice l m c a b) bs k s =
-      only_append (constant_wrongs bs k s c ++ at (behind_constant c s).place m not_constant ++ constant_wrongs bs k (past 1 (behind_constant c s)) a) (constant_wrongs bs k (behind_constant a (past 1 (behind_constant c s))) b)
-      (only_append (constant_wrongs bs k s c ++ at (behind_constant c s).place m not_constant) (constant_wrongs bs k (past 1 (behind_constant c s)) a)
-      (only_append (constant_wrongs bs k s c) (at (behind_constant c s).place m not_constant) (constant_only c bs k s) tt) (constant_only a bs k (past 1 (behind_constant c s))))
-      (constant_only b bs k (behind_constant a (past 1 (behind_constant c s))))
-  constant_only (apply l m f es) bs k s =
-      only_append (constant_wrongs bs k s f ++ at (behind_constant f s).place m not_constant) (constant_wrongs_each bs k (past 1 (behind_constant f s)) es)
-      (only_append (constant_wrongs bs k s f) (at (behind_constant f s).place m not_constant) (constant_only f bs k s) tt) (constants_only es bs k (past 1 (behind_constant f s)))
-  constant_only (text l x) bs k s = tt
-  constant_only _ bs k s = tt
+  pub constant_silent : (e : Expression) (bs : List Binding) (k : ℕ) (s : Spot) → Silent (constant_wrongs bs k s e)
+  constant_silent (name l x) bs k s = name_silent k s.place l x (bound_in bs x)
+  constant_silent (parens l e) bs k s = constant_silent e bs k (past 1 s)
+  constant_silent (unary l r e) bs k s = silent_both (unless_silent (is_prefix_of_constants r) s.place l not_constant) (constant_silent e bs k (past 1 s))
+  constant_silent (binary l r m a b) bs k s =
+      silent_both (silent_both (silent_both (when_silent (divides_by_zero r (constant_word bs a) (constant_word bs b)) s.place l divided_by_zero) (constant_silent a bs k s))
+      (unless_silent (is_infix_of_constants r) (behind_constant a s).place m not_constant)) (constant_silent b bs k (past 1 (behind_constant a s)))
+  constant_silent (choice l m c a b) bs k s =
+      let t : Spot = past 1 (behind_constant c s) in
+      silent_both (silent_both (silent_both (constant_silent c bs k s) (at_silent _ m _)) (constant_silent a bs k t)) (constant_silent b bs k (behind_constant a t))
+  constant_silent (apply l m f es) bs k s = silent_both (silent_both (constant_silent f bs k s) (at_silent _ m _)) (constants_silent es bs k (past 1 (behind_constant f s)))
+  constant_silent (number l n) bs k s = none_silent
+  constant_silent (truth l b) bs k s = none_silent
+  constant_silent _ bs k s = at_silent _ _ _
 
-  pub constants_only : (es : Expressions) (bs : List Binding) (k : ℕ) (s : Spot) → OnlyWrong (constant_wrongs_each bs k s es)
-  constants_only none bs k s = tt
-  constants_only (more e es) bs k s = only_append (constant_wrongs bs k s e) (constant_wrongs_each bs k (behind_constant e s) es) (constant_only e bs k s) (constants_only es bs k (behind_constant e s))
+  pub constants_silent : (es : Expressions) (bs : List Binding) (k : ℕ) (s : Spot) → Silent (constant_wrongs_each bs k s es)
+  constants_silent none bs k s = none_silent
+  constants_silent (more e es) bs k s = silent_both (constant_silent e bs k s) (constants_silent es bs k (behind_constant e s))
 
 -- where they stand
 pub at_spans : (n l : ℕ) (w : Wrong) → Spans n (n + 1) (at n l w)
@@ -127,18 +74,14 @@ when_spans true n l w = at_spans n l w
 when_spans false n l w = wider n (n + 1) (no_span n) (omega arith) (omega arith)
 
 name_spans : (k n l : ℕ) (x : List ℕ) (y : Option Bound) → Spans n (n + 1) (constant_name k n l x y)
-name_spans k n l x None = at_spans n l _
 name_spans k n l x (Some (Constant w)) = wider n (n + 1) (no_span n) (omega arith) (omega arith)
-name_spans k n l x (Some (Global w)) = at_spans n l _
-name_spans k n l x (Some (Static w)) = at_spans n l _
 name_spans k n l x (Some (Variable j d)) = among (unless_spans (j == k) n l (dynamic_name (text_of x))) (at_spans n l not_constant)
 name_spans k n l x (Some (Label j m)) = among (at_spans n l not_constant) (at_spans n l (label_not_here (text_of x)))
+name_spans k n l x _ = at_spans n l _
 
 mutual
   pub constant_spans : (e : Expression) (bs : List Binding) (k : ℕ) (s : Spot) → Spans s.place (s.place + symbols e) (constant_wrongs bs k s e)
   constant_spans (name l x) bs k s = name_spans k s.place l x (bound_in bs x)
-  constant_spans (number l n) bs k s = wider _ _ (no_span s.place) (omega arith) (omega arith)
-  constant_spans (truth l b) bs k s = wider _ _ (no_span s.place) (omega arith) (omega arith)
   constant_spans (parens l e) bs k s = wider _ _ (constant_spans e bs k (past 1 s)) (omega arith) (omega arith)
   constant_spans (unary l r e) bs k s = wider _ _ (both (unless_spans (is_prefix_of_constants r) s.place l not_constant) (constant_spans e bs k (past 1 s)) (omega arith) (omega arith)) (omega arith) (omega arith)
   constant_spans (binary l r m a b) bs k s =
@@ -164,6 +107,7 @@ mutual
   constant_spans (query l) bs k s = at_spans s.place l not_constant
   constant_spans (valof l c) bs k s = wider _ _ (at_spans s.place l not_constant) (omega arith) (omega arith)
   constant_spans (table l es) bs k s = wider _ _ (at_spans s.place l not_constant) (omega arith) (omega arith)
+  constant_spans _ bs k s = wider _ _ (no_span s.place) (omega arith) (omega arith)
 
   pub constants_spans : (es : Expressions) (bs : List Binding) (k : ℕ) (s : Spot) → Spans s.place (s.place + symbols_each es) (constant_wrongs_each bs k s es)
   constants_spans none bs k s = wider _ _ (no_span s.place) (omega arith) (omega arith)
@@ -172,11 +116,7 @@ mutual
 -- what has a word as a constant is not wrong
 named_right : (k n l : ℕ) (x : List ℕ) (y : Option Bound) (w : ℕ) → named_word y ≡ Some w → constant_name k n l x y ≡ []
 named_right k n l x (Some (Constant c)) w e = refl
-named_right k n l x (Some (Global g)) w e = absurd (none-some w e)
-named_right k n l x (Some (Static m)) w e = absurd (none-some w e)
-named_right k n l x (Some (Variable j d)) w e = absurd (none-some w e)
-named_right k n l x (Some (Label j m)) w e = absurd (none-some w e)
-named_right k n l x None w e = absurd (none-some w e)
+named_right k n l x _ w e = absurd (none-some w e)
 
 pub constant_right : (e : Expression) (bs : List Binding) (k : ℕ) (s : Spot) (w : ℕ) → constant_word bs e ≡ Some w → constant_wrongs bs k s e ≡ []
 constant_right (name l x) bs k s w e = named_right k s.place l x (bound_in bs x) w e
@@ -189,12 +129,7 @@ constant_right (unary l p x) bs k s w e =
 constant_right (binary l o m a b) bs k s w e =
     let h : (is_infix_of_constants o ≡ true) × (divides_by_zero o (constant_word bs a) (constant_word bs b) ≡ false) × ((x : ℕ) × (constant_word bs a ≡ Some x)) × (y : ℕ) × (constant_word bs b ≡ Some y) = infix_right o (constant_word bs a) (constant_word bs b) w e in
     rw h.0 (rw h.1 (rw (constant_right a bs k s h.2.0 h.2.1) (constant_right b bs k (past 1 (behind_constant a s)) h.3 h.4)))
-constant_right (choice l m c a b) bs k s w e = absurd (none-some w e)
-constant_right (apply l m f es) bs k s w e = absurd (none-some w e)
-constant_right (text l x) bs k s w e = absurd (none-some w e)
-constant_right (query l) bs k s w e = absurd (none-some w e)
-constant_right (valof l c) bs k s w e = absurd (none-some w e)
-constant_right (table l es) bs k s w e = absurd (none-some w e)
+constant_right _ bs k s w e = absurd (none-some w e)
 
 -- the first of what is wrong, whatever was claimed
 abbrev FirstIs : List Point → Option Breach → Type 0
@@ -221,12 +156,9 @@ variable_first true n l x cs = refl
 variable_first false n l x cs = lower_one n l l (dynamic_name (text_of x)) not_constant cs refl
 
 name_first : (k n l : ℕ) (x : List ℕ) (y : Option Bound) → FirstIs (constant_name k n l x y) (first_of (wrong_name k l x y))
-name_first k n l x None cs = refl
-name_first k n l x (Some (Constant w)) cs = refl
-name_first k n l x (Some (Global w)) cs = refl
-name_first k n l x (Some (Static w)) cs = refl
 name_first k n l x (Some (Variable j d)) cs = variable_first (j == k) n l x cs
 name_first k n l x (Some (Label j m)) cs = lower_one n l l not_constant (label_not_here (text_of x)) cs refl
+name_first k n l x _ cs = refl
 
 prefix_first : (b : Bool) (n l i : ℕ) (xs : List Point) (ws : List Breach) → Spans (n + 1) i xs → FirstIs xs (first_of ws) → FirstIs (unless b (at n l not_constant) ++ xs) (first_of (cond b ws (record { line = l; wrong = not_constant } ∷ [])))
 prefix_first true n l i xs ws a h cs = h cs
@@ -261,22 +193,17 @@ dividing true c e = refl
 dividing false c e = absurd (false≢true e)
 
 divides_infix : (r : Operator) → divides r ≡ true → is_infix_of_constants r ≡ true
-divides_infix o.Over e = refl
-divides_infix o.Rem e = refl
 divides_infix o.Subscript e = absurd (false≢true e)
 divides_infix o.Byte e = absurd (false≢true e)
 divides_infix _ e = refl
 
 zero_between : (r : Operator) (x y : Option ℕ) → divides_by_zero r x y ≡ true → (is_infix_of_constants r ≡ true) × ((v : ℕ) × (x ≡ Some v)) × (w : ℕ) × (y ≡ Some w)
-zero_between r None y e = absurd (false≢true e)
-zero_between r (Some x) None e = absurd (false≢true e)
 zero_between r (Some x) (Some y) e = (divides_infix r (dividing (divides r) (y == 0) e), (x, refl), y, refl)
+zero_between r _ _ e = absurd (false≢true e)
 
 mutual
   pub constant_first : (e : Expression) (bs : List Binding) (k : ℕ) (s : Spot) → FirstIs (constant_wrongs bs k s e) (first_of (wrongs bs k e))
   constant_first (name l x) bs k s cs = name_first k s.place l x (bound_in bs x) cs
-  constant_first (number l n) bs k s cs = refl
-  constant_first (truth l b) bs k s cs = refl
   constant_first (parens l e) bs k s cs = constant_first e bs k (past 1 s) cs
   constant_first (unary l r e) bs k s cs = prefix_first (is_prefix_of_constants r) s.place l (s.place + 1 + symbols e) (constant_wrongs bs k (past 1 s) e) (wrongs bs k e) (constant_spans e bs k (past 1 s)) (constant_first e bs k (past 1 s)) cs
   constant_first (binary l r m a b) bs k s cs =
@@ -298,7 +225,6 @@ mutual
       let r : (c : Option Breach) × FirstIs (constant_wrongs_each bs k (past 1 t) es) c = constants_first es bs k (past 1 t) in
       operator_first s.place t.place m (t.place + 1 + symbols_each es) (constant_wrongs bs k s f) (constant_wrongs_each bs k (past 1 t) es) (wrongs bs k f) r.0 (omega arith)
       (constant_spans f bs k s) (constants_spans es bs k (past 1 t)) (constant_first f bs k s) r.1 cs
-  constant_first (text l x) bs k s cs = refl
   constant_first _ bs k s cs = refl
 
   constants_first : (es : Expressions) (bs : List Binding) (k : ℕ) (s : Spot) → (c : Option Breach) × FirstIs (constant_wrongs_each bs k s es) c
@@ -310,14 +236,14 @@ mutual
 -- A CONSTANT
 pub wrongs_tied : (e : Expression) (bs : List Binding) (k : ℕ) (s : Spot) (f : Found) → Tied (constant_wrongs bs k s e) 0 f (breaks_first (first_of (wrongs bs k e)) f)
 wrongs_tied e bs k s f =
-    let o : OnlyWrong (constant_wrongs bs k s e) = constant_only e bs k s in
+    let o = constant_silent e bs k s in
     record {
       first = ap (else_first f.first) (sym (constant_first e bs k s f.claims));
-      claims = sym (only_claims (constant_wrongs bs k s e) f.claims o);
-      meanings = sym (ap (λ c. f.meanings ++ c) (only_meanings (constant_wrongs bs k s e) o) ∙ append-nil f.meanings);
-      words = sym (ap (λ c. f.words ++ c) (only_words (constant_wrongs bs k s e) o) ∙ append-nil f.words);
+      claims = sym (o.claims_so f.claims);
+      meanings = sym (ap (λ c. f.meanings ++ c) o.meanings_so ∙ append-nil f.meanings);
+      words = sym (ap (λ c. f.words ++ c) o.words_so ∙ append-nil f.words);
       next = omega arith;
-      deepest = sym (only_deepest (constant_wrongs bs k s e) f.deepest o);
+      deepest = sym (o.deepest_so f.deepest);
     }
 
 word_tied : (w : Option ℕ) (f : Found) → Tied (its_word w) 0 f (holds w f)

@@ -1,10 +1,5 @@
 -- Four numbers a node at most, labels counted where their commands begin.
-use Rattle.std.proofs.Common.{◌+◌, ◌*◌, ◌≤◌, length, arith, length-append}
-use Rattle.bk_tree.specs.declared.tree.Sort.TheVariants as sort
-use Rattle.bk_tree.specs.Tree.{Expression, Expressions, Action, Actions, Declaration, Declarations, Items, Definitions, Starts, name, number, text, truth, query, parens, unary, binary, choice, apply, valof, table, none, more, empty, assign, call, goto, label, case_of, default, when, test, while, for_loop, switch, result, simple, block, repeat, repeat_while, no_actions, also, constants, definitions, no_declarations, declare, no_items, item, routine, function, variables, no_definitions, define, no_starts, value, vector}
-use Rattle.bk_tree.specs.Limits.{nodes, nodes_of_each, nodes_of_action, nodes_of_actions, nodes_of_declaration, nodes_of_declarations, nodes_of_items, nodes_of_definitions, nodes_of_starts}
-use Rattle.bk_scope.specs.Entering.{labels_of, labels_of_each}
-use Rattle.bk_scope.specs.Spots.{procedures_in, numbers, numbers_each, numbers_done, numbers_done_each, numbers_declared, numbers_one_declared, numbers_items, numbers_defined, numbers_started}
+use Rattle.bk_scope.proofs.Terms.{◌+◌, ◌*◌, ◌≤◌, length, arith, length-append, Sort as sort, Expression, Expressions, Action, Actions, Declaration, Declarations, Items, Definitions, Starts, name, number, text, truth, query, parens, unary, binary, choice, apply, valof, table, none, more, empty, assign, call, goto, label, case_of, default, when, test, while, for_loop, switch, result, simple, block, repeat, repeat_while, no_actions, also, constants, definitions, no_declarations, declare, no_items, item, routine, function, variables, no_definitions, define, no_starts, value, vector, nodes, nodes_of_each, nodes_of_action, nodes_of_actions, nodes_of_declaration, nodes_of_declarations, nodes_of_items, nodes_of_definitions, nodes_of_starts, labels_of, labels_of_each, procedures_in, numbers, numbers_each, numbers_done, numbers_done_each, numbers_declared, numbers_one_declared, numbers_items, numbers_defined, numbers_started}
 use Rattle.bk_scope.specs.Few.{FewNumbers}
 
 few_items : (is : Items) → numbers_items sort.Static is ≤ nodes_of_items is
@@ -13,27 +8,19 @@ few_items (item l x e is) = omega (arith, few_items is)
 
 mutual
   few : (e : Expression) → numbers e ≤ 4 * nodes e
-  few (name l x) = omega arith
-  few (number l n) = omega arith
-  few (text l x) = omega arith
-  few (truth l b) = omega arith
-  few (query l) = omega arith
-  few (table l es) = omega arith
   few (parens l e) = omega (arith, few e)
   few (unary l o e) = omega (arith, few e)
   few (binary l o m a b) = omega (arith, few a, few b)
   few (choice l m c a b) = omega (arith, few c, few a, few b)
   few (apply l m e es) = omega (arith, few e, few_each es)
   few (valof l c) = omega (arith, few_done c)
+  few _ = omega arith
 
   few_each : (es : Expressions) → numbers_each es ≤ 4 * nodes_of_each es
   few_each none = omega arith
   few_each (more e es) = omega (arith, few e, few_each es)
 
   few_done : (c : Action) → numbers_done c + length (labels_of c) ≤ 4 * nodes_of_action c
-  few_done empty = omega arith
-  few_done (goto l x) = omega arith
-  few_done (simple l k) = omega arith
   few_done (assign l xs es) = omega (arith, few_each xs, few_each es)
   few_done (call l e es) = omega (arith, few e, few_each es)
   few_done (label l x c) = omega (arith, few_done c)
@@ -49,6 +36,7 @@ mutual
   few_done (block l (declare d ds) cs) = omega (arith, few_one_declared d, few_declared ds, few_done_each cs)
   few_done (repeat l c) = omega (arith, few_done c)
   few_done (repeat_while l b c e) = omega (arith, few_done c, few e)
+  few_done _ = omega arith
 
   few_done_each : (cs : Actions) → numbers_done_each cs + length (labels_of_each cs) ≤ 4 * nodes_of_actions cs
   few_done_each no_actions = omega arith

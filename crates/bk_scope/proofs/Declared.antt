@@ -1,25 +1,5 @@
 -- The pass and what is told: items, what variables begin with, declarations.
-use Rattle.std.proofs.Common.{◌≡◌, ℕ, ◌+◌, ◌^◌, ◌<◌, Bool, true, false, cond, Option, Some, None, List, [], ◌∷◌, ◌++◌, length, refl, sym, ap, ◌∙◌, append_assoc, subst, arith}
-use Rattle.std.specs.Prelude.{nat_lt}
-use Rattle.std.proofs.lemmas.List.{append-nil}
-use Rattle.bk_base.specs.declared.limit.TheConstants.{GLOBAL_NUMBER, VEC_NUMBER}
-use Rattle.bk_tree.specs.declared.tree.Sort.TheVariants as sort
-use Rattle.bk_tree.specs.Tree.{Mention, Expression, Declaration, Declarations, Items, Definitions, Starts, constants, definitions, no_declarations, declare, no_items, item, no_definitions, define, variables, no_starts, value, vector}
-use Rattle.bk_tree.specs.Parts.{line_of}
-use Rattle.bk_scope.specs.declared.bound.Bound.TheVariants.{Constant, Global, Static}
-use Rattle.bk_scope.specs.declared.place.Enclosing.{Enclosing}
-use Rattle.bk_scope.specs.declared.role.Role.TheVariants.{Value}
-use Rattle.bk_scope.specs.Scope.{Binding, bind}
-use Rattle.bk_scope.specs.Wrong.{Wrong, global_out_of_range, vec_out_of_range}
-use Rattle.bk_scope.specs.Constants.{constant_word}
-use Rattle.bk_scope.specs.Found.{Found, breaks, means, takes, reaches}
-use Rattle.bk_scope.specs.Places.{deeper}
-use Rattle.bk_scope.specs.Entering.{Stage}
-use Rattle.bk_scope.specs.Names.{AfterDeclarations, evaluated, listed, all_listed, constant_found, bounded, within, words_of_start, manifests, statics, globals, started, declared, one_declared}
-use Rattle.bk_scope.specs.Spots.{Spot, past, numbered, behind, behind_constant, behind_one_declared, symbols, numbers, numbers_items, numbers_declared, numbers_one_declared, numbers_started}
-use Rattle.bk_scope.specs.Points.{Point, at, meaning, word}
-use Rattle.bk_scope.specs.Scoping.{manifests_in_scope, statics_in_scope, globals_in_scope, scope_behind_one, place_behind_one, scope_behind, place_behind_all}
-use Rattle.bk_scope.specs.Faults.{at_most, one_of, each_of, its_word, constant, pushed, manifest_items, static_items, global_items, told, told_declared, told_one_declared, told_started}
+use Rattle.bk_scope.proofs.Terms.{◌≡◌, ℕ, ◌+◌, ◌^◌, ◌<◌, Bool, true, false, cond, Option, Some, None, List, [], ◌∷◌, ◌++◌, length, refl, sym, ap, ◌∙◌, append_assoc, subst, arith, nat_lt, append-nil, GLOBAL_NUMBER, VEC_NUMBER, Sort as sort, Mention, Expression, Declaration, Declarations, Items, Definitions, Starts, constants, definitions, no_declarations, declare, no_items, item, no_definitions, define, variables, no_starts, value, vector, line_of, Constant, Global, Static, Enclosing, Value, Binding, bind, Wrong, global_out_of_range, vec_out_of_range, constant_word, Found, breaks, means, takes, reaches, deeper, Stage, AfterDeclarations, evaluated, listed, all_listed, constant_found, bounded, within, words_of_start, manifests, statics, globals, started, declared, one_declared, Spot, past, numbered, behind, behind_constant, behind_one_declared, symbols, numbers, numbers_items, numbers_declared, numbers_one_declared, numbers_started, Point, at, meaning, word, manifests_in_scope, statics_in_scope, globals_in_scope, scope_behind_one, place_behind_one, scope_behind, place_behind_all, at_most, one_of, each_of, its_word, constant, pushed, manifest_items, static_items, global_items, told, told_declared, told_one_declared, told_started}
 use Rattle.bk_scope.proofs.Tied.{Tied, Spans, broken, both, among, wider, behind_it, nothing_told}
 use Rattle.bk_scope.proofs.Operators.{ETied}
 use Rattle.bk_scope.proofs.Scopes.{DsTied, moved_tied, recount, no_span, pushed_tied, pushed_spans}

@@ -1,17 +1,6 @@
 -- What stands behind a declaration and a definition.
-use Rattle.std.proofs.Common.{◌≡◌, ℕ, ◌<◌, List, [], ◌∷◌, ◌++◌, length, Result, Ok, Err, OnOk, IfOk, refl, arith}
+use Rattle.bk_scope.proofs.Terms.{◌≡◌, ℕ, ◌<◌, List, [], ◌∷◌, ◌++◌, length, Result, Ok, Err, OnOk, IfOk, refl, arith, Def, ConstItem, ConstItem as i, Sort, Sort as s, Mention, constants, definitions, items_in, definitions_in, Starts, no_starts, variables, Enclosing, Binding, bind_all, Found, takes, Stage, with_procedures, AfterDeclarations, Defined, manifests, statics, globals, variables_of, all_listed, started, place_behind, defined, one_declared, one_defined}
 use Rattle.std.specs.declared.alloc.AllocError.{AllocError}
-use Rattle.bk_tree.specs.declared.tree.Def.{Def}
-use Rattle.bk_tree.specs.declared.tree.ConstItem.{ConstItem}
-use Rattle.bk_tree.specs.declared.tree.ConstItem.TheVariants as i
-use Rattle.bk_tree.specs.declared.tree.Sort.{Sort}
-use Rattle.bk_tree.specs.declared.tree.Sort.TheVariants as s
-use Rattle.bk_tree.specs.Tree.{Mention, constants, definitions, items_in, definitions_in, Starts, no_starts, variables}
-use Rattle.bk_scope.specs.declared.place.Enclosing.{Enclosing}
-use Rattle.bk_scope.specs.Scope.{Binding, bind_all}
-use Rattle.bk_scope.specs.Found.{Found, takes}
-use Rattle.bk_scope.specs.Entering.{Stage, with_procedures}
-use Rattle.bk_scope.specs.Names.{AfterDeclarations, Defined, manifests, statics, globals, variables_of, all_listed, started, place_behind, defined, one_declared, one_defined}
 
 -- what stands behind a declaration that leaves the place as it was
 abbrev pub at : Enclosing → Stage → AfterDeclarations

@@ -1,17 +1,6 @@
 -- Names that come into scope one after another: what is left of them, one name further.
-use Rattle.std.proofs.Common.{arith, ◌≡◌, ℕ, ◌+◌, ◌<◌, List, [], ◌∷◌, ◌++◌, length, get_or, drop, map, refl, sym, ap, ◌∙◌}
-use Rattle.std.proofs.lemmas.List.{at_drop_more}
-use Rattle.bk_tree.specs.declared.tree.Name.{Name}
+use Rattle.bk_scope.proofs.Terms.{arith, ◌≡◌, ℕ, ◌+◌, ◌<◌, List, [], ◌∷◌, ◌++◌, length, get_or, drop, map, refl, sym, ap, ◌∙◌, at_drop_more, Name, Def, Decl, Actions, block, define, mention, action, actions_in, declarations_in, definition, definitions_in, Variable, Label, Binding, bind, kept, Found, takes, Stage, labels_of, labels_of_each, with_labels, with_formals, with_procedures, listed, all_listed}
 use Rattle.bk_tree.specs.declared.tree.Command.{Command}
-use Rattle.bk_tree.specs.declared.tree.Def.{Def}
-use Rattle.bk_tree.specs.declared.tree.Decl.{Decl}
-use Rattle.bk_tree.specs.Tree.{Actions, block, define, mention, action, actions_in, declarations_in, definition, definitions_in}
-use Rattle.bk_scope.specs.declared.bound.Bound.TheVariants.{Variable, Label}
-use Rattle.bk_scope.specs.Scope.{Binding, bind}
-use Rattle.bk_scope.specs.Places.{kept}
-use Rattle.bk_scope.specs.Found.{Found, takes}
-use Rattle.bk_scope.specs.Entering.{Stage, labels_of, labels_of_each, with_labels, with_formals, with_procedures}
-use Rattle.bk_scope.specs.Names.{listed, all_listed}
 
 -- what depends on the rest of a list, by the first of the rest
 one_further : {A : Type 0} {B : Type 0} (F : List A → B) (xs : List A) (i : ℕ) (x : A) → i < length xs → x ≡ get_or xs i x → F (x ∷ drop (i + 1) xs) ≡ F (drop i xs)

@@ -1,25 +1,5 @@
 -- The pass and what is told: expressions, in each role.
-use Rattle.std.proofs.Common.{◌≡◌, ℕ, ◌+◌, ◌^◌, ◌<◌, ◌==◌, Bool, true, false, cond, Option, Some, None, List, [], ◌∷◌, ◌++◌, refl, sym, subst, arith}
-use Rattle.std.proofs.lemmas.List.{append-nil}
-use Rattle.bk_tree.specs.declared.tree.Operator.{Operator}
-use Rattle.bk_tree.specs.declared.tree.Operator.TheVariants as o
-use Rattle.bk_tree.specs.declared.tree.Prefix.{Prefix}
-use Rattle.bk_tree.specs.declared.tree.Prefix.TheVariants as q
-use Rattle.bk_tree.specs.Tree.{Expression, Expressions, Action, name, number, text, truth, query, parens, unary, binary, choice, apply, valof, table, none, more}
-use Rattle.bk_tree.specs.Parts.{line_of}
-use Rattle.bk_scope.specs.declared.bound.Bound.{Bound}
-use Rattle.bk_scope.specs.declared.bound.Bound.TheVariants.{Constant, Global, Static, Variable, Label}
-use Rattle.bk_scope.specs.declared.place.Enclosing.{Enclosing}
-use Rattle.bk_scope.specs.declared.role.Role.{Role}
-use Rattle.bk_scope.specs.declared.role.Role.TheVariants.{Value, Truth, Address, Destination}
-use Rattle.bk_scope.specs.Scope.{Binding, bound_in, has_address}
-use Rattle.bk_scope.specs.Wrong.{Wrong, not_assignable, dynamic_name, text_of}
-use Rattle.bk_scope.specs.Found.{Found, means, breaks, reaches}
-use Rattle.bk_scope.specs.Places.{deeper}
-use Rattle.bk_scope.specs.Names.{evaluated, destinations, used, unassignable, without_word, constants_found, parenthesised}
-use Rattle.bk_scope.specs.Spots.{Spot, past, behind, symbols_each, numbers, numbers_each}
-use Rattle.bk_scope.specs.Points.{at, meaning, depth}
-use Rattle.bk_scope.specs.Faults.{unless, used_at, addressed, assigned, pushed, told, told_destinations}
+use Rattle.bk_scope.proofs.Terms.{◌≡◌, ℕ, ◌+◌, ◌^◌, ◌<◌, ◌==◌, Bool, true, false, cond, Option, Some, None, List, [], ◌∷◌, ◌++◌, refl, sym, subst, arith, append-nil, Operator, Operator as o, Prefix, Prefix as q, Expression, Expressions, Action, name, number, text, truth, query, parens, unary, binary, choice, apply, valof, table, none, more, line_of, Bound, Constant, Global, Static, Variable, Label, Enclosing, Role, Value, Truth, Address, Destination, Binding, bound_in, has_address, Wrong, not_assignable, dynamic_name, text_of, Found, means, breaks, reaches, deeper, evaluated, destinations, used, unassignable, without_word, constants_found, parenthesised, Spot, past, behind, symbols_each, numbers, numbers_each, at, meaning, depth, unless, used_at, addressed, assigned, pushed, told, told_destinations}
 use Rattle.bk_scope.proofs.Tied.{Tied, broken, both, behind_it, else_none, nothing_told}
 use Rattle.bk_scope.proofs.Operators.{Plain, ETied, EsTied, CTied, binary_tied, apply_tied, without_plain}
 use Rattle.bk_scope.proofs.Scopes.{recount, pushed_tied, pushed_spans, valof_tied}
@@ -48,12 +28,11 @@ meant_or_wrong false b n l w f = broken n l f
 
 -- a name
 pub used_tied : (k n l : ℕ) (x : List ℕ) (y : Option Bound) (f : Found) → Tied (used_at k n l x y) 0 f (used k l x y f)
-used_tied k n l x None f = broken n l f
 used_tied k n l x (Some (Variable j d)) f = meant_or_wrong (j == k) (Variable j d) n l (dynamic_name (text_of x)) f
-used_tied k n l x (Some (Label j m)) f = broken n l f
 used_tied k n l x (Some (Constant w)) f = meant (Constant w) f
 used_tied k n l x (Some (Global w)) f = meant (Global w) f
 used_tied k n l x (Some (Static w)) f = meant (Static w) f
+used_tied k n l x _ f = broken n l f
 
 name_deep : (l : ℕ) (x : List ℕ) (bs : List Binding) (p : Enclosing) (n : ℕ) (f : Found)
     → Tied (used_at p.procedure n l x (bound_in bs x) ++ (depth (p.depth + 1) ∷ [])) 0 f (reaches (p.depth + 1) (used p.procedure l x (bound_in bs x) f))
@@ -66,8 +45,7 @@ name_set l x bs p n f = subst (λ xs. Tied xs 0 f (used p.procedure l x (bound_i
 name_plain : (l : ℕ) (x : List ℕ) → ETied (name l x)
 name_plain l x Value h bs p s f e fits = name_deep l x bs p s.place f
 name_plain l x Truth h bs p s f e fits = name_deep l x bs p s.place f
-name_plain l x (Address b m) h bs p s f e fits = absurd h
-name_plain l x (Destination b m) h bs p s f e fits = absurd h
+name_plain l x _ h bs p s f e fits = absurd h
 
 name_address : (q : Bool) (b : Bool) (m l : ℕ) (x : List ℕ) (bs : List Binding) (p : Enclosing) (s : Spot) (n : ℕ) (f : Found) → Begins b n s.place → f.next ≡ s.number
     → Tied (unless q (at n m not_assignable) ++ told (Address b m) bs p s (name l x)) 0 f (reaches (p.depth + 1) (used p.procedure l x (bound_in bs x) (cond q f (unassignable bs p.procedure b m (name l x) f))))
@@ -92,52 +70,40 @@ name_tied l x = record {
   };
 }
 
+-- what has no word of its own, whatever the role
+without_tied : (e : Expression) → ETied e → ((b : Bool) (l : ℕ) (bs : List Binding) (p : Enclosing) (s : Spot) (n : ℕ) (f : Found) → Begins b n s.place → f.next ≡ s.number → s.number + numbers e < 2 ^ 32
+    → Tied (at n l not_assignable ++ told Value bs p s e) (numbers e) f (evaluated Value bs p e (unassignable bs p.procedure b l e f)))
+without_tied e t b l bs p s n f z a fits = unassignable_tied b e Value bs p s n l (numbers e) f (λ h. evaluated Value bs p e h) z (λ h c. t Value tt bs p s h c fits) a
+
 -- what only takes a word of the frame
 leaf : (e : Expression) (r : Role) → Plain r → (bs : List Binding) (p : Enclosing) (f : Found) → Tied (pushed p 1) 0 f (reaches (p.depth + 1) (without_word r bs p.procedure e f))
 leaf e r h bs p f = subst (λ v. Tied (pushed p 1) 0 f (reaches (p.depth + 1) v)) (sym (without_plain r bs p.procedure e f h)) (pushed_tied p 1 f)
 
 pub number_tied : (l m : ℕ) → ExpressionTied (number l m)
-number_tied l m = record {
-  plain = λ r h bs p s f e fits. leaf (number l m) r h bs p f;
-  word = record {
-    address = λ b i bs p s n f z a fits. unassignable_tied b (number l m) (Address b i) bs p s n i 0 f (reaches (p.depth + 1)) z (λ h c. pushed_tied p 1 h) a;
-    destination = λ b i bs p s n f z a fits. unassignable_tied b (number l m) (Destination b i) bs p s n i 0 f (reaches (p.depth + 1)) z (λ h c. pushed_tied p 1 h) a;
-  };
-}
+number_tied l m =
+    let z : ETied (number l m) = λ r h bs p s f e fits. leaf (number l m) r h bs p f in
+    record { plain = z; word = record { address = without_tied (number l m) z; destination = without_tied (number l m) z } }
 
 pub text_tied : (l : ℕ) (x : List ℕ) → ExpressionTied (text l x)
-text_tied l x = record {
-  plain = λ r h bs p s f e fits. leaf (text l x) r h bs p f;
-  word = record {
-    address = λ b i bs p s n f z a fits. unassignable_tied b (text l x) (Address b i) bs p s n i 0 f (reaches (p.depth + 1)) z (λ h c. pushed_tied p 1 h) a;
-    destination = λ b i bs p s n f z a fits. unassignable_tied b (text l x) (Destination b i) bs p s n i 0 f (reaches (p.depth + 1)) z (λ h c. pushed_tied p 1 h) a;
-  };
-}
+text_tied l x =
+    let z : ETied (text l x) = λ r h bs p s f e fits. leaf (text l x) r h bs p f in
+    record { plain = z; word = record { address = without_tied (text l x) z; destination = without_tied (text l x) z } }
 
 pub truth_tied : (l : ℕ) (t : Bool) → ExpressionTied (truth l t)
-truth_tied l t = record {
-  plain = λ r h bs p s f e fits. leaf (truth l t) r h bs p f;
-  word = record {
-    address = λ b i bs p s n f z a fits. unassignable_tied b (truth l t) (Address b i) bs p s n i 0 f (reaches (p.depth + 1)) z (λ h c. pushed_tied p 1 h) a;
-    destination = λ b i bs p s n f z a fits. unassignable_tied b (truth l t) (Destination b i) bs p s n i 0 f (reaches (p.depth + 1)) z (λ h c. pushed_tied p 1 h) a;
-  };
-}
+truth_tied l t =
+    let z : ETied (truth l t) = λ r h bs p s f e fits. leaf (truth l t) r h bs p f in
+    record { plain = z; word = record { address = without_tied (truth l t) z; destination = without_tied (truth l t) z } }
 
 pub query_tied : (l : ℕ) → ExpressionTied (query l)
-query_tied l = record {
-  plain = λ r h bs p s f e fits. leaf (query l) r h bs p f;
-  word = record {
-    address = λ b i bs p s n f z a fits. unassignable_tied b (query l) (Address b i) bs p s n i 0 f (reaches (p.depth + 1)) z (λ h c. pushed_tied p 1 h) a;
-    destination = λ b i bs p s n f z a fits. unassignable_tied b (query l) (Destination b i) bs p s n i 0 f (reaches (p.depth + 1)) z (λ h c. pushed_tied p 1 h) a;
-  };
-}
+query_tied l =
+    let z : ETied (query l) = λ r h bs p s f e fits. leaf (query l) r h bs p f in
+    record { plain = z; word = record { address = without_tied (query l) z; destination = without_tied (query l) z } }
 
 -- parentheses
 parens_plain : (r : Role) → Plain r → Plain (parenthesised r)
 parens_plain Value h = tt
 parens_plain Truth h = tt
-parens_plain (Address b l) h = absurd h
-parens_plain (Destination b l) h = absurd h
+parens_plain _ h = absurd h
 
 begins_before : (b : Bool) (n m : ℕ) → Begins b n m → n < m + 1
 begins_before true n m h = omega (arith, h)
@@ -162,8 +128,7 @@ unary_plain q.Plus l e t r h bs p s f a fits = subst (λ v. Tied (told r bs p s 
 unary_plain q.Minus l e t r h bs p s f a fits = subst (λ v. Tied (told r bs p s (unary l q.Minus e)) (numbers e) f (evaluated Value bs p e v)) (sym (without_plain r bs p.procedure (unary l q.Minus e) f h)) (t.plain Value tt bs p (past 1 s) f (omega (arith, a)) (omega (arith, fits)))
 unary_plain q.Not l e t Value h bs p s f a fits = t.plain Value tt bs p (past 1 s) f (omega (arith, a)) (omega (arith, fits))
 unary_plain q.Not l e t Truth h bs p s f a fits = t.plain Truth tt bs p (past 1 s) f (omega (arith, a)) (omega (arith, fits))
-unary_plain q.Not l e t (Address b i) h bs p s f a fits = absurd h
-unary_plain q.Not l e t (Destination b i) h bs p s f a fits = absurd h
+unary_plain q.Not l e t _ h bs p s f a fits = absurd h
 
 unary_word : (f : Prefix) (l : ℕ) (e : Expression) → ExpressionTied e → WTied (unary l f e)
 unary_word q.Contents l e t = record {
@@ -201,11 +166,6 @@ pub infix_tied : (f : Operator) (l m : ℕ) (a b : Expression) → ExpressionTie
 infix_tied f l m a b t u =
     let z : ETied (binary l f m a b) = binary_tied l m f a b t.plain (inside a) u.plain (inside b) in
     record { plain = z; word = binary_word f l m a b z }
-
--- what has no word of its own, whatever the role
-without_tied : (e : Expression) → ETied e → ((b : Bool) (l : ℕ) (bs : List Binding) (p : Enclosing) (s : Spot) (n : ℕ) (f : Found) → Begins b n s.place → f.next ≡ s.number → s.number + numbers e < 2 ^ 32
-    → Tied (at n l not_assignable ++ told Value bs p s e) (numbers e) f (evaluated Value bs p e (unassignable bs p.procedure b l e f)))
-without_tied e t b l bs p s n f z a fits = unassignable_tied b e Value bs p s n l (numbers e) f (λ h. evaluated Value bs p e h) z (λ h c. t Value tt bs p s h c fits) a
 
 choice_plain : (l m : ℕ) (c a b : Expression) → ETied c → ETied a → ETied b → ETied (choice l m c a b)
 choice_plain l m c a b tc ta tb r h bs p s f e fits =

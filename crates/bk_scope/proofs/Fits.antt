@@ -1,24 +1,13 @@
 -- What names in scope mean where nothing is wrong: constants have words, globals numbers, and the variables of a procedure
 -- words of its frame from 2 on, below the depth.
-use Rattle.std.proofs.Common.{◌≡◌, ℕ, ◌+◌, ◌≤◌, ◌<◌, Bool, true, false, cond, Option, Some, List, [], ◌∷◌, ◌++◌, length, subst, arith}
-use Rattle.std.specs.Str.{bytes_eq}
-use Rattle.std.proofs.lemmas.Option.{none-some}
-use Rattle.bk_base.specs.declared.limit.TheConstants.{GLOBAL_NUMBER, FRAME_WORDS}
-use Rattle.bk_tree.specs.Tree.{Mention, Definitions, routine, function, variables, no_definitions, define}
-use Rattle.bk_scope.specs.declared.bound.Bound.{Bound}
-use Rattle.bk_scope.specs.declared.bound.Bound.TheVariants.{Constant, Global, Static, Variable, Label}
-use Rattle.bk_scope.specs.Scope.{Binding, bound_in, bind, bind_all, is_global}
-use Rattle.bk_scope.specs.Places.{kept}
-use Rattle.bk_scope.specs.Entering.{with_formals}
-use Rattle.bk_scope.specs.Scoping.{labels_in_scope, procedure_in_scope, procedures_in_scope}
+use Rattle.bk_scope.proofs.Terms.{◌≡◌, ℕ, ◌+◌, ◌≤◌, ◌<◌, Bool, true, false, cond, Option, Some, List, [], ◌∷◌, ◌++◌, length, subst, arith, bytes_eq, none-some, GLOBAL_NUMBER, FRAME_WORDS, Mention, Definitions, routine, function, variables, no_definitions, define, Bound, Constant, Global, Static, Variable, Label, Binding, bound_in, bind, bind_all, is_global, kept, with_formals, labels_in_scope, procedure_in_scope, procedures_in_scope}
 
 -- in procedure k, at depth d, where the procedures so far have numbers below n
 abbrev pub FitsBound : ℕ → ℕ → ℕ → Bound → Type 0
 FitsBound k d n (Constant v) = (w : ℕ) × (v ≡ Some w)
 FitsBound k d n (Global g) = (m : ℕ) × (g ≡ Some m) × (m ≤ GLOBAL_NUMBER)
-FitsBound k d n (Static m) = Unit {0}
 FitsBound k d n (Variable j i) = (j < n) × (j ≡ k → 1 ≤ k → (2 ≤ i) × (i < d))
-FitsBound k d n (Label j m) = Unit {0}
+FitsBound k d n _ = Unit {0}
 
 abbrev pub Fits : ℕ → ℕ → ℕ → List Binding → Type 0
 Fits k d n [] = Unit {0}
@@ -27,9 +16,8 @@ Fits k d n (b ∷ bs) = FitsBound k d n b.bound × Fits k d n bs
 bound_more : (k d e n m : ℕ) (b : Bound) → d ≤ e → n ≤ m → FitsBound k d n b → FitsBound k e m b
 bound_more k d e n m (Constant v) a b h = h
 bound_more k d e n m (Global g) a b h = h
-bound_more k d e n m (Static i) a b h = tt
 bound_more k d e n m (Variable j i) a b h = (omega (arith, h.0, b), λ s t. ((h.1 s t).0, omega (arith, a, (h.1 s t).1)))
-bound_more k d e n m (Label j i) a b h = tt
+bound_more k d e n m _ a b h = tt
 
 pub fits_more : (k d e n m : ℕ) (bs : List Binding) → d ≤ e → n ≤ m → Fits k d n bs → Fits k e m bs
 fits_more k d e n m [] a b h = tt
@@ -39,9 +27,8 @@ fits_more k d e n m (x ∷ bs) a b h = (bound_more k d e n m x.bound a b h.0, fi
 bound_inner : (k d n e m : ℕ) (b : Bound) → n < m → FitsBound k d n b → FitsBound n e m b
 bound_inner k d n e m (Constant v) a h = h
 bound_inner k d n e m (Global g) a h = h
-bound_inner k d n e m (Static i) a h = tt
 bound_inner k d n e m (Variable j i) a h = (omega (arith, h.0, a), λ s t. absurd (omega (arith, s, h.0)))
-bound_inner k d n e m (Label j i) a h = tt
+bound_inner k d n e m _ a h = tt
 
 pub fits_inner : (k d n e m : ℕ) (bs : List Binding) → n < m → Fits k d n bs → Fits n e m bs
 fits_inner k d n e m [] a h = tt

@@ -1,6 +1,5 @@
 -- Bindings that come into scope together: one more.
-use Rattle.std.proofs.Common.{◌≡◌, List, [], ◌∷◌, ◌++◌, refl}
-use Rattle.bk_scope.specs.Scope.{Binding, bind_all}
+use Rattle.bk_scope.proofs.Terms.{◌≡◌, List, [], ◌∷◌, ◌++◌, refl, Binding, bind_all}
 
 pub bind_all-push : (xs : List Binding) (x : Binding) (bs : List Binding) → bind_all (xs ++ x ∷ []) bs ≡ x ∷ bind_all xs bs
 bind_all-push [] x bs = refl

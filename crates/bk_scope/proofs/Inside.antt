@@ -1,7 +1,5 @@
 -- Commands with names of their own inside: the scope behind them is the one around them again.
-use Rattle.std.proofs.Common.{◌≡◌, ℕ, ◌-◌, ◌≤◌, List, length, drop, ap, ◌∙◌}
-use Rattle.bk_scope.specs.Scope.{Binding}
-use Rattle.bk_scope.specs.Entering.{Stage, with_labels}
+use Rattle.bk_scope.proofs.Terms.{◌≡◌, ℕ, ◌-◌, ◌≤◌, List, length, drop, ap, ◌∙◌, Binding, Stage, with_labels}
 use Rattle.bk_scope.proofs.Leaving.{Above, both, back, longer, labels_above}
 
 -- the scope cs of labels around which bs is in scope

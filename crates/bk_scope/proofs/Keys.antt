@@ -1,17 +1,9 @@
 -- Names as keys of a map by order: the order tells them apart where their letters differ, so a map of them is one of letters.
 use Rattle.std.proofs.Common.{◌≡◌, ℕ, Ordering, Less, Equal, Greater, Bool, true, false, cond, ◌==◌, bytes_eq, Option, Some, List, [], ◌∷◌, refl, sym, ap, ◌∙◌, ⊎_elim, subst}
-use Rattle.std.proofs.lemmas.Bool.{cases_Bool, cond-true, cond-false}
-use Rattle.std.proofs.lemmas.Cmp.{eq_by_cmp_equiv, nat_cmp_total, nat_list_eq_equiv}
+use Rattle.bk_scope.proofs.Terms.{cases_Bool, cond-true, cond-false, eq_by_cmp_equiv, nat_cmp_total, nat_list_eq_equiv, bytes_eq-Decides, BTreeMap, is_at, UpdatesBy, lookup, KeepsOthers, unsigned_tied, is_eq, nat_cmp, ordering_then, eq_by_cmp, NameKey, cmp-value}
 use Rattle.std.proofs.lemmas.Map.Text.{is_eq-slice_cmp}
-use Rattle.std.proofs.lemmas.Slice.Eq.{bytes_eq-Decides}
-use Rattle.std.specs.BTreeMap.{BTreeMap, is_at, UpdatesBy}
-use Rattle.std.specs.Map.{lookup, KeepsOthers}
-use Rattle.std.specs.Cmp.{unsigned_tied}
 use Rattle.std.specs.Cmp.Lexicographic.{slice_cmp}
-use Rattle.std.specs.Ordering.{is_eq, nat_cmp, ordering_then, eq_by_cmp}
 use Rattle.bk_scope.specs.NameKey.{first_bytes, next_bytes}
-use Rattle.bk_scope.specs.declared.name_key.NameKey.{NameKey}
-use Rattle.bk_scope.specs.contracts.name_key.NameKeyOrd.TheImpl.{cmp-value}
 
 pub both_tied : (a b : Ordering) (p q : Bool) → is_eq a ≡ p → is_eq b ≡ q → is_eq (ordering_then a b) ≡ cond p q false
 both_tied Less b p q e f = ap (λ r. cond r q false) e
@@ -45,8 +37,7 @@ others_kept : {X : Type 0} (k : NameKey) (old new : List (NameKey × X)) → Kee
     → lookup (λ (l : NameKey). bytes_eq x l.letters.now) new ≡ lookup (λ (l : NameKey). bytes_eq x l.letters.now) old
 unfolding KeepsOthers
 others_kept k old new h x n =
-    h (λ (l : NameKey). bytes_eq x l.letters.now)
-    (λ a b t. sym (same_letters a b ∙ sym (nat_list_eq_equiv.congr x a.letters.now b.letters.now t)))
+    h (λ (l : NameKey). bytes_eq x l.letters.now) (λ a b t. sym (same_letters a b ∙ sym (nat_list_eq_equiv.congr x a.letters.now b.letters.now t)))
     (λ l t. let e = sym (same_letters k l) ∙ t in nat_list_eq_equiv.symm x l.letters.now ∙ sym (nat_list_eq_equiv.congr k.letters.now l.letters.now x e) ∙ n)
 
 -- what a change at a key leaves at any letters
@@ -54,7 +45,5 @@ pub updates_letters : {X : Type 0} (k : NameKey) (m n : BTreeMap NameKey X) (w :
     → (x : List ℕ) → lookup (λ (l : NameKey). bytes_eq x l.letters.now) n.entries ≡ cond (bytes_eq k.letters.now x) w (lookup (λ (l : NameKey). bytes_eq x l.letters.now) m.entries)
 updates_letters {X} k m n w h x =
     let P : List ℕ → Type 0 = λ y. lookup (λ (l : NameKey). bytes_eq y l.letters.now) n.entries ≡ w in
-    ⊎_elim
-    (λ y. subst P ((bytes_eq-Decides k.letters.now x).0 y) (sym (found_by_letters k n.entries) ∙ h.1) ∙ sym (cond-true (bytes_eq k.letters.now x) w _ y))
-    (λ f. others_kept k m.entries n.entries h.3 x f ∙ sym (cond-false (bytes_eq k.letters.now x) w _ f))
-    (cases_Bool (bytes_eq k.letters.now x))
+    ⊎_elim (λ y. subst P ((bytes_eq-Decides k.letters.now x).0 y) (sym (found_by_letters k n.entries) ∙ h.1) ∙ sym (cond-true (bytes_eq k.letters.now x) w _ y))
+    (λ f. others_kept k m.entries n.entries h.3 x f ∙ sym (cond-false (bytes_eq k.letters.now x) w _ f)) (cases_Bool (bytes_eq k.letters.now x))

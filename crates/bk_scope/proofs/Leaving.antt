@@ -1,15 +1,6 @@
 -- Scopes that something was added to, and that are left again.
-use Rattle.std.proofs.Common.{arith, ◌≡◌, ℕ, ◌+◌, ◌-◌, ◌≤◌, Bool, true, false, cond, List, [], ◌∷◌, ◌++◌, length, drop, refl, sym, ap, ◌∙◌}
-use Rattle.std.proofs.lemmas.List.{append_assoc, length-append}
+use Rattle.bk_scope.proofs.Terms.{arith, ◌≡◌, ℕ, ◌+◌, ◌-◌, ◌≤◌, Bool, true, false, cond, List, [], ◌∷◌, ◌++◌, length, drop, refl, sym, ap, ◌∙◌, append_assoc, length-append, Sort as s, Mention, Items, no_items, item, Definitions, no_definitions, define, routine, function, variables, Declaration, Declarations, no_declarations, declare, constants, definitions, Enclosing, Binding, bound_in, bind_all, is_global, Found, takes, kept, Stage, with_labels, with_formals, with_procedure, with_procedures, AfterDeclarations, manifests, statics, globals, defined, one_declared, declared}
 use Rattle.std.proofs.Math.Seq.{drop-append_seam}
-use Rattle.bk_tree.specs.declared.tree.Sort.TheVariants as s
-use Rattle.bk_tree.specs.Tree.{Mention, Items, no_items, item, Definitions, no_definitions, define, routine, function, variables, Declaration, Declarations, no_declarations, declare, constants, definitions}
-use Rattle.bk_scope.specs.declared.place.Enclosing.{Enclosing}
-use Rattle.bk_scope.specs.Scope.{Binding, bound_in, bind_all, is_global}
-use Rattle.bk_scope.specs.Found.{Found, takes}
-use Rattle.bk_scope.specs.Places.{kept}
-use Rattle.bk_scope.specs.Entering.{Stage, with_labels, with_formals, with_procedure, with_procedures}
-use Rattle.bk_scope.specs.Names.{AfterDeclarations, manifests, statics, globals, defined, one_declared, declared}
 
 -- the scope cs has these declarations inside bs
 abbrev pub Above : List Binding → List Binding → Type 0
@@ -72,15 +63,14 @@ globals_above bs n k no_items t = same t.scope
 globals_above bs n k (item l x e is) t = one_above _ t.scope _ (globals_above bs n k is _)
 
 one_declared_above : (bs : List Binding) (p : Enclosing) (d : Declaration) (f : Found) → Above bs ((one_declared bs p d f).scope)
-one_declared_above bs p (constants l w no_items) f = same bs
 one_declared_above bs p (constants l s.Manifest (item m x e is)) f = manifests_above f.next p.procedure (item m x e is) (record { scope = bs; found = takes f })
 one_declared_above bs p (constants l s.Static (item m x e is)) f = statics_above bs f.next p.procedure (item m x e is) (record { scope = bs; found = takes f })
 one_declared_above bs p (constants l s.Global (item m x e is)) f = globals_above bs f.next p.procedure (item m x e is) (record { scope = bs; found = takes f })
-one_declared_above bs p (definitions l no_definitions) f = same bs
 one_declared_above bs p (definitions l (define x xs)) f =
     let ds : Definitions = define x xs in
     let t : Stage = with_procedures ds (record { scope = bs; found = takes f }) in
     both bs t.scope _ (procedures_above ds (record { scope = bs; found = takes f })) (all_above ((defined f.next t.scope ds (record { fresh = []; place = p; found = t.found })).fresh) t.scope)
+one_declared_above bs p _ f = same bs
 
 pub declared_above : (ds : Declarations) (bs : List Binding) (p : Enclosing) (f : Found) → Above bs ((declared bs p ds f).scope)
 declared_above no_declarations bs p f = same bs

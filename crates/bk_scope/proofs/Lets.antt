@@ -1,15 +1,5 @@
 -- The pass and what is told: the definitions of a LET.
-use Rattle.std.proofs.Common.{◌≡◌, ℕ, ◌+◌, ◌^◌, ◌<◌, List, [], ◌++◌, refl, sym, ap, ◌∙◌, subst, append_assoc, arith}
-use Rattle.std.proofs.lemmas.List.{append-nil}
-use Rattle.bk_tree.specs.Tree.{Mention, Expression, Action, Definition, Definitions, definitions, routine, function, variables, no_definitions, define}
-use Rattle.bk_scope.specs.declared.place.Enclosing.{Enclosing}
-use Rattle.bk_scope.specs.Scope.{Binding, bind_all}
-use Rattle.bk_scope.specs.Found.{Found, takes}
-use Rattle.bk_scope.specs.Entering.{Stage, with_procedures}
-use Rattle.bk_scope.specs.Names.{Defined, variables_of, defined, one_defined, one_declared}
-use Rattle.bk_scope.specs.Spots.{Spot, procedures_in, numbered, behind_one_defined, symbols_defined, symbols_one_defined, numbers_defined, numbers_one_defined, numbers_one_declared}
-use Rattle.bk_scope.specs.Scoping.{procedure_in_scope, procedures_in_scope, place_behind_one_defined, place_behind_defined, variables_in_scope, scope_behind_one, place_behind_one}
-use Rattle.bk_scope.specs.Faults.{told_one_defined, told_defined, told_one_declared}
+use Rattle.bk_scope.proofs.Terms.{◌≡◌, ℕ, ◌+◌, ◌^◌, ◌<◌, List, [], ◌++◌, refl, sym, ap, ◌∙◌, subst, append_assoc, arith, append-nil, Mention, Expression, Action, Definition, Definitions, definitions, routine, function, variables, no_definitions, define, Enclosing, Binding, bind_all, Found, takes, Stage, with_procedures, Defined, variables_of, defined, one_defined, one_declared, Spot, procedures_in, numbered, behind_one_defined, symbols_defined, symbols_one_defined, numbers_defined, numbers_one_defined, numbers_one_declared, procedure_in_scope, procedures_in_scope, place_behind_one_defined, place_behind_defined, variables_in_scope, scope_behind_one, place_behind_one, told_one_defined, told_defined, told_one_declared}
 use Rattle.bk_scope.proofs.Tied.{Tied, Spans, behind_it, nothing_told}
 use Rattle.bk_scope.proofs.Operators.{ETied, EInside, CTied, CInside}
 use Rattle.bk_scope.proofs.Scopes.{moved, moved_tied, no_span, taken}
@@ -36,8 +26,7 @@ fresh_of bs p _ = []
 
 fresh_first : (bs : List Binding) (p : Enclosing) (d : Definition) (ds : Definitions) → variables_in_scope bs p (define d ds) ≡ fresh_of bs p d ++ variables_in_scope bs (place_behind_one_defined bs p d) ds
 fresh_first bs p (variables l xs is) ds = refl
-fresh_first bs p (routine l x fs c) ds = refl
-fresh_first bs p (function l x fs e) ds = refl
+fresh_first bs p _ ds = refl
 
 abbrev pub start : List Binding → Enclosing → Found → Defined
 start zs p f = record { fresh = zs; place = p; found = f }
@@ -71,8 +60,7 @@ pub define_tied : (d : Definition) (ds : Definitions) → OneTied d → OneInsid
 define_tied d ds t i u j = record {
   fresh = λ m bs p zs f.
       let r : Defined = one_defined m bs d (start zs p f) in
-      u.fresh m bs r.place r.fresh r.found
-      ∙ ap (λ ys. ys ++ variables_in_scope bs r.place ds) (t.fresh m bs p zs f)
+      u.fresh m bs r.place r.fresh r.found ∙ ap (λ ys. ys ++ variables_in_scope bs r.place ds) (t.fresh m bs p zs f)
       ∙ ap (λ (q : Enclosing). zs ++ fresh_of bs p d ++ variables_in_scope bs q ds) (t.place m bs p zs f)
       ∙ append_assoc zs (fresh_of bs p d) _ ∙ ap (λ ys. zs ++ ys) (sym (fresh_first bs p d ds));
   place = λ m bs p zs f.

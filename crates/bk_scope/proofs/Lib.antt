@@ -1,3 +1,4 @@
+mod Terms
 mod Leaving
 mod Worded
 mod Texts
@@ -34,4 +35,5 @@ mod Safe
 mod Soundness
 mod Repeated
 mod Numbers
+mod Starts
 pub mod Lemmas

@@ -1,52 +1,33 @@
 -- Lists of points, one behind another.
-use Rattle.std.proofs.Common.{◌≡◌, ℕ, ◌+◌, ◌*◌, ◌<◌, ◌≤◌, ◌==◌, Bool, true, false, cond, List, [], ◌∷◌, ◌++◌, refl, sym, ap, ◌∙◌, append_assoc, arith}
-use Rattle.std.specs.Prelude.{nat_lt}
-use Rattle.std.proofs.lemmas.Bool.{le-ltb, eqb-true}
-use Rattle.bk_scope.specs.Wrong.{Wrong, not_declared, declared_twice, dynamic_name, not_constant, divided_by_zero, case_repeated, default_repeated, no_loop, no_switchon, no_result_or_return, label_not_here, global_out_of_range, vec_out_of_range, frame_too_large, not_assignable, two_procedures, elsewhere}
-use Rattle.bk_scope.specs.Found.{Claim, is_claimed, else_first}
-use Rattle.bk_scope.specs.Points.{Fault, Point, meaning, word, depth, wrong, claim, number_of, claimed, claims_behind, judged, comes_before, put, in_order, first_told, meanings_of, words_of, deepest}
+use Rattle.bk_scope.proofs.Terms.{◌≡◌, ℕ, ◌+◌, ◌*◌, ◌<◌, ◌≤◌, ◌==◌, Bool, true, false, cond, List, [], ◌∷◌, ◌++◌, refl, sym, ap, ◌∙◌, append_assoc, arith, nat_lt, le-ltb, eqb-true, Wrong, not_declared, declared_twice, dynamic_name, not_constant, divided_by_zero, case_repeated, default_repeated, no_loop, no_switchon, no_result_or_return, label_not_here, global_out_of_range, vec_out_of_range, frame_too_large, not_assignable, two_procedures, elsewhere, Claim, is_claimed, else_first, Fault, Point, meaning, word, depth, wrong, claim, number_of, claimed, claims_behind, judged, comes_before, put, in_order, first_told, meanings_of, words_of, deepest}
 
 -- each part of what is told
 pub claims_append : (xs ys : List Point) (cs : List Claim) → claims_behind cs (xs ++ ys) ≡ claims_behind (claims_behind cs xs) ys
 claims_append [] ys cs = refl
-claims_append (meaning b ∷ xs) ys cs = claims_append xs ys cs
-claims_append (word v ∷ xs) ys cs = claims_append xs ys cs
-claims_append (depth m ∷ xs) ys cs = claims_append xs ys cs
-claims_append (wrong f ∷ xs) ys cs = claims_append xs ys cs
 claims_append (claim c f ∷ xs) ys cs = claims_append xs ys (claimed c cs)
+claims_append (_ ∷ xs) ys cs = claims_append xs ys cs
 
 pub judged_append : (xs ys : List Point) (cs : List Claim) → judged cs (xs ++ ys) ≡ judged cs xs ++ judged (claims_behind cs xs) ys
 judged_append [] ys cs = refl
-judged_append (meaning b ∷ xs) ys cs = judged_append xs ys cs
-judged_append (word v ∷ xs) ys cs = judged_append xs ys cs
-judged_append (depth m ∷ xs) ys cs = judged_append xs ys cs
 judged_append (wrong f ∷ xs) ys cs = ap (λ l. f ∷ l) (judged_append xs ys cs)
 judged_append (claim c f ∷ xs) ys cs =
     ap (λ l. cond (is_claimed c cs) (f ∷ []) [] ++ l) (judged_append xs ys (claimed c cs)) ∙ sym (append_assoc (cond (is_claimed c cs) (f ∷ []) []) (judged (claimed c cs) xs) _)
+judged_append (_ ∷ xs) ys cs = judged_append xs ys cs
 
 pub meanings_append : (xs ys : List Point) → meanings_of (xs ++ ys) ≡ meanings_of xs ++ meanings_of ys
 meanings_append [] ys = refl
 meanings_append (meaning b ∷ xs) ys = ap (λ l. b ∷ l) (meanings_append xs ys)
-meanings_append (word v ∷ xs) ys = meanings_append xs ys
-meanings_append (depth m ∷ xs) ys = meanings_append xs ys
-meanings_append (wrong f ∷ xs) ys = meanings_append xs ys
-meanings_append (claim c f ∷ xs) ys = meanings_append xs ys
+meanings_append (_ ∷ xs) ys = meanings_append xs ys
 
 pub words_append : (xs ys : List Point) → words_of (xs ++ ys) ≡ words_of xs ++ words_of ys
 words_append [] ys = refl
-words_append (meaning b ∷ xs) ys = words_append xs ys
 words_append (word v ∷ xs) ys = ap (λ l. v ∷ l) (words_append xs ys)
-words_append (depth m ∷ xs) ys = words_append xs ys
-words_append (wrong f ∷ xs) ys = words_append xs ys
-words_append (claim c f ∷ xs) ys = words_append xs ys
+words_append (_ ∷ xs) ys = words_append xs ys
 
 pub deepest_append : (xs ys : List Point) (d : ℕ) → deepest d (xs ++ ys) ≡ deepest (deepest d xs) ys
 deepest_append [] ys d = refl
-deepest_append (meaning b ∷ xs) ys d = deepest_append xs ys d
-deepest_append (word v ∷ xs) ys d = deepest_append xs ys d
 deepest_append (depth m ∷ xs) ys d = deepest_append xs ys _
-deepest_append (wrong f ∷ xs) ys d = deepest_append xs ys d
-deepest_append (claim c f ∷ xs) ys d = deepest_append xs ys d
+deepest_append (_ ∷ xs) ys d = deepest_append xs ys d
 
 -- faults by place and then by number, as one number
 abbrev pub key : Fault → ℕ
@@ -72,16 +53,14 @@ inside_append n m [] ys h g = g
 inside_append n m (meaning b ∷ xs) ys h g = inside_append n m xs ys h g
 inside_append n m (word v ∷ xs) ys h g = inside_append n m xs ys h g
 inside_append n m (depth d ∷ xs) ys h g = inside_append n m xs ys h g
-inside_append n m (wrong f ∷ xs) ys h g = (h.0, h.1, inside_append n m xs ys h.2 g)
-inside_append n m (claim c f ∷ xs) ys h g = (h.0, h.1, inside_append n m xs ys h.2 g)
+inside_append n m (_ ∷ xs) ys h g = (h.0, h.1, inside_append n m xs ys h.2 g)
 
 pub inside_wider : (n m i j : ℕ) (xs : List Point) → i ≤ n → m ≤ j → Inside n m xs → Inside i j xs
 inside_wider n m i j [] a b h = tt
 inside_wider n m i j (meaning c ∷ xs) a b h = inside_wider n m i j xs a b h
 inside_wider n m i j (word v ∷ xs) a b h = inside_wider n m i j xs a b h
 inside_wider n m i j (depth d ∷ xs) a b h = inside_wider n m i j xs a b h
-inside_wider n m i j (wrong f ∷ xs) a b h = (omega (arith, a, h.0), omega (arith, b, h.1), inside_wider n m i j xs a b h.2)
-inside_wider n m i j (claim c f ∷ xs) a b h = (omega (arith, a, h.0), omega (arith, b, h.1), inside_wider n m i j xs a b h.2)
+inside_wider n m i j (_ ∷ xs) a b h = (omega (arith, a, h.0), omega (arith, b, h.1), inside_wider n m i j xs a b h.2)
 
 if_claimed : (b : Bool) (n m : ℕ) (f : Fault) (fs : List Fault) → n ≤ key f → key f < m → AllInside n m fs → AllInside n m (cond b (f ∷ []) [] ++ fs)
 if_claimed true n m f fs a b h = (a, b, h)
@@ -89,11 +68,9 @@ if_claimed false n m f fs a b h = h
 
 pub judged_inside : (n m : ℕ) (xs : List Point) (cs : List Claim) → Inside n m xs → AllInside n m (judged cs xs)
 judged_inside n m [] cs h = tt
-judged_inside n m (meaning b ∷ xs) cs h = judged_inside n m xs cs h
-judged_inside n m (word v ∷ xs) cs h = judged_inside n m xs cs h
-judged_inside n m (depth d ∷ xs) cs h = judged_inside n m xs cs h
 judged_inside n m (wrong f ∷ xs) cs h = (h.0, h.1, judged_inside n m xs cs h.2)
 judged_inside n m (claim c f ∷ xs) cs h = if_claimed (is_claimed c cs) n m f _ h.0 h.1 (judged_inside n m xs (claimed c cs) h.2)
+judged_inside n m (_ ∷ xs) cs h = judged_inside n m xs cs h
 
 -- put in order
 put_which : (q : Bool) (n m : ℕ) (f g : Fault) (gs hs : List Fault) → n ≤ key f → key f < m → AllInside n m (g ∷ gs) → AllInside n m hs → AllInside n m (cond q (g ∷ hs) (f ∷ (g ∷ gs)))

@@ -1,10 +1,5 @@
 -- Numbers rise in the order in which they are given, and so differ.
-use Rattle.std.proofs.Common.{◌≡◌, ℕ, zero, suc, ◌+◌, ◌≤◌, ◌<◌, List, [], ◌∷◌, ◌++◌, length, refl, arith}
-use Rattle.bk_tree.specs.declared.tree.Sort.TheVariants as sort
-use Rattle.bk_tree.specs.Tree.{Expression, Expressions, Action, Actions, Declaration, Declarations, Definition, Definitions, Starts, name, number, text, truth, query, parens, unary, binary, choice, apply, valof, table, none, more, empty, assign, call, goto, label, case_of, default, when, test, while, for_loop, switch, result, simple, block, repeat, repeat_while, no_actions, also, constants, definitions, no_declarations, declare, no_items, item, routine, function, variables, no_definitions, define, no_starts, value, vector}
-use Rattle.bk_scope.specs.Entering.{labels_of, labels_of_each}
-use Rattle.bk_scope.specs.Spots.{Spot, procedures_in, numbers, numbers_each, numbers_done, numbers_done_each, numbers_declared, numbers_one_declared, numbers_items, numbers_defined, numbers_one_defined, numbers_started, numbered, behind, behind_each, behind_done, behind_declared, behind_one_declared, behind_one_defined, beginning}
-use Rattle.bk_scope.specs.Cases.{NoneOf, AllDiffer}
+use Rattle.bk_scope.proofs.Terms.{◌≡◌, ℕ, zero, suc, ◌+◌, ◌≤◌, ◌<◌, List, [], ◌∷◌, ◌++◌, length, refl, arith, Sort as sort, Expression, Expressions, Action, Actions, Declaration, Declarations, Definition, Definitions, Starts, name, number, text, truth, query, parens, unary, binary, choice, apply, valof, table, none, more, empty, assign, call, goto, label, case_of, default, when, test, while, for_loop, switch, result, simple, block, repeat, repeat_while, no_actions, also, constants, definitions, no_declarations, declare, no_items, item, routine, function, variables, no_definitions, define, no_starts, value, vector, labels_of, labels_of_each, Spot, procedures_in, numbers, numbers_each, numbers_done, numbers_done_each, numbers_declared, numbers_one_declared, numbers_items, numbers_defined, numbers_one_defined, numbers_started, numbered, behind, behind_each, behind_done, behind_declared, behind_one_declared, behind_one_defined, beginning, NoneOf, AllDiffer}
 use Rattle.bk_scope.specs.Given.{counted, given, given_each, given_done, given_done_each, given_declared, given_one_declared, given_defined, given_one_defined, given_started, NumbersDiffer}
 
 -- each is above the one before it, from n on and below m
@@ -64,27 +59,19 @@ let_rises l (define d ds) s h = more_rises _ _ (both_rise (counted_rise (s.numbe
 
 mutual
   rise : (e : Expression) (s : Spot) → Rises s.number (numbers e) (given s e)
-  rise (name l x) s = nothing_rises _ _
-  rise (number l n) s = nothing_rises _ _
-  rise (text l x) s = nothing_rises _ _
-  rise (truth l b) s = nothing_rises _ _
-  rise (query l) s = nothing_rises _ _
-  rise (table l es) s = nothing_rises _ _
   rise (parens l e) s = rise e s
   rise (unary l o e) s = rise e s
   rise (binary l o m a b) s = both_rise (rise a s) (rise b (behind a s)) refl
   rise (choice l m c a b) s = both_rise (rise c s) (both_rise (rise a (behind c s)) (rise b (behind a (behind c s))) refl) refl
   rise (apply l m e es) s = both_rise (rise e s) (rise_each es (behind e s)) refl
   rise (valof l c) s = more_rises _ _ (both_rise (counted_rise (s.number + 1) (length (labels_of c))) (rise_done c (numbered (1 + length (labels_of c)) s)) (omega arith)) (omega arith) (omega arith)
+  rise _ s = nothing_rises _ _
 
   rise_each : (es : Expressions) (s : Spot) → Rises s.number (numbers_each es) (given_each s es)
   rise_each none s = nothing_rises _ _
   rise_each (more e es) s = both_rise (rise e s) (rise_each es (behind e s)) refl
 
   rise_done : (c : Action) (s : Spot) → Rises s.number (numbers_done c) (given_done s c)
-  rise_done empty s = nothing_rises _ _
-  rise_done (goto l x) s = nothing_rises _ _
-  rise_done (simple l k) s = nothing_rises _ _
   rise_done (assign l xs es) s = both_rise (rise_each xs s) (rise_each es (behind_each xs s)) refl
   rise_done (call l e es) s = both_rise (rise e s) (rise_each es (behind e s)) refl
   rise_done (label l x c) s = rise_done c s
@@ -110,6 +97,7 @@ mutual
       both_rise heads own refl
   rise_done (repeat l c) s = rise_done c s
   rise_done (repeat_while l b c e) s = both_rise (rise_done c s) (rise e (behind_done c s)) refl
+  rise_done _ s = nothing_rises _ _
 
   rise_done_each : (cs : Actions) (s : Spot) → Rises s.number (numbers_done_each cs) (given_done_each s cs)
   rise_done_each no_actions s = nothing_rises _ _
@@ -120,10 +108,8 @@ mutual
   rise_declared (declare d ds) s = both_rise (rise_one_declared d s) (rise_declared ds (behind_one_declared d s)) refl
 
   rise_one_declared : (d : Declaration) (s : Spot) → Rises s.number (numbers_one_declared d) (given_one_declared s d)
-  rise_one_declared (constants l sort.Static no_items) s = nothing_rises _ _
   rise_one_declared (constants l sort.Static (item m x e is)) s = more_rises _ _ (counted_rise (s.number + 1) (numbers_items sort.Static (item m x e is))) (omega arith) (omega arith)
-  rise_one_declared (constants l sort.Manifest is) s = nothing_rises _ _
-  rise_one_declared (constants l sort.Global is) s = nothing_rises _ _
+  rise_one_declared (constants l _ _) s = nothing_rises _ _
   rise_one_declared (definitions l ds) s = let_rises l ds s (rise_defined ds (numbered (1 + procedures_in ds) s))
 
   rise_defined : (ds : Definitions) (s : Spot) → Rises s.number (numbers_defined ds) (given_defined s ds)

@@ -1,18 +1,5 @@
 -- The pass and what is told: operators and calls.
-use Rattle.std.proofs.Common.{◌≡◌, ℕ, ◌+◌, ◌^◌, ◌<◌, List, refl, sym, subst, arith}
-use Rattle.bk_tree.specs.declared.tree.Operator.{Operator}
-use Rattle.bk_tree.specs.declared.tree.Operator.TheVariants as o
-use Rattle.bk_tree.specs.Tree.{Expression, Expressions, Action, binary, apply}
-use Rattle.bk_tree.specs.Parts.{size}
-use Rattle.bk_scope.specs.declared.place.Enclosing.{Enclosing}
-use Rattle.bk_scope.specs.declared.role.Role.{Role}
-use Rattle.bk_scope.specs.declared.role.Role.TheVariants.{Value, Truth, Address, Destination}
-use Rattle.bk_scope.specs.Scope.{Binding}
-use Rattle.bk_scope.specs.Found.{Found}
-use Rattle.bk_scope.specs.Places.{deeper}
-use Rattle.bk_scope.specs.Names.{evaluated, each_evaluated, done, fit_infix, without_word, role_of_operands, place_of_second}
-use Rattle.bk_scope.specs.Spots.{Spot, past, behind, symbols, symbols_each, symbols_done, numbers, numbers_each, numbers_done}
-use Rattle.bk_scope.specs.Faults.{told, told_each, told_done}
+use Rattle.bk_scope.proofs.Terms.{◌≡◌, ℕ, ◌+◌, ◌^◌, ◌<◌, List, refl, sym, subst, arith, Operator, Operator as o, Expression, Expressions, Action, binary, apply, size, Enclosing, Role, Value, Truth, Address, Destination, Binding, Found, deeper, evaluated, each_evaluated, done, fit_infix, without_word, role_of_operands, place_of_second, Spot, past, behind, symbols, symbols_each, symbols_done, numbers, numbers_each, numbers_done, told, told_each, told_done}
 use Rattle.bk_scope.proofs.Tied.{Tied, Spans, behind_it}
 
 -- an expression that is there for its value or its truth
@@ -42,24 +29,15 @@ CInside c = (bs : List Binding) (p : Enclosing) (s : Spot) → Spans s.place (s.
 -- binary
 pub fit_plain : (q : Operator) (r : Role) (bs : List Binding) (k : ℕ) (e : Expression) (f : Found) → Plain r → fit_infix q r bs k e f ≡ f
 fit_plain o.Subscript r bs k e f h = refl
-fit_plain o.Byte Value bs k e f h = refl
-fit_plain o.Byte Truth bs k e f h = refl
-fit_plain o.Byte (Address b l) bs k e f h = absurd h
-fit_plain o.Byte (Destination b l) bs k e f h = absurd h
 fit_plain _ Value bs k e f h = refl
 fit_plain _ Truth bs k e f h = refl
-fit_plain _ (Address b l) bs k e f h = absurd h
-fit_plain _ (Destination b l) bs k e f h = absurd h
+fit_plain _ _ bs k e f h = absurd h
 
 operands_plain : (q : Operator) (r : Role) → Plain r → Plain (role_of_operands q r)
-operands_plain o.Both Value h = tt
-operands_plain o.Either Value h = tt
 operands_plain o.Both Truth h = tt
-operands_plain o.Either Truth h = tt
 operands_plain _ Truth h = tt
 operands_plain _ Value h = tt
-operands_plain _ (Address b l) h = absurd h
-operands_plain _ (Destination b l) h = absurd h
+operands_plain _ _ h = absurd h
 
 pub binary_tied : (l m : ℕ) (q : Operator) (a b : Expression) → ETied a → EInside a → ETied b → EInside b → ETied (binary l q m a b)
 binary_tied l m q a b ta ia tb ib r h bs p s f e fits =
@@ -69,15 +47,13 @@ binary_tied l m q a b ta ia tb ib r h bs p s f e fits =
     let u : Spot = past 1 (behind a s) in
     let two : Tied (told (role_of_operands q r) bs z u b) (numbers b) g (evaluated (role_of_operands q r) bs z b g) = tb (role_of_operands q r) (operands_plain q r h) bs z u g (omega (arith, one.next, e)) (omega (arith, fits)) in
     subst (λ v. Tied (told r bs p s (binary l q m a b)) (numbers a + numbers b) f (evaluated (role_of_operands q r) bs z b (evaluated (role_of_operands q r) bs p a v)))
-    (sym (fit_plain q r bs p.procedure (binary l q m a b) f h))
-    (behind_it (ia _ bs p s) (ib (role_of_operands q r) bs z u) (omega arith) one two)
+    (sym (fit_plain q r bs p.procedure (binary l q m a b) f h)) (behind_it (ia _ bs p s) (ib (role_of_operands q r) bs z u) (omega arith) one two)
 
 -- apply
 pub without_plain : (r : Role) (bs : List Binding) (k : ℕ) (e : Expression) (f : Found) → Plain r → without_word r bs k e f ≡ f
 without_plain Value bs k e f h = refl
 without_plain Truth bs k e f h = refl
-without_plain (Address b l) bs k e f h = absurd h
-without_plain (Destination b l) bs k e f h = absurd h
+without_plain _ bs k e f h = absurd h
 
 pub apply_tied : (l m : ℕ) (a : Expression) (es : Expressions) → ETied a → EInside a → EsTied es → EsInside es → ETied (apply l m a es)
 apply_tied l m a es ta ia tb ib r h bs p s f e fits =

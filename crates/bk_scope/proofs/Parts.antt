@@ -1,10 +1,5 @@
 -- Where a whole has no fault, each part has none.
-use Rattle.std.proofs.Common.{◌≡◌, Bool, true, false, cond, List, [], ◌∷◌, ◌++◌, refl, sym, ◌∙◌}
-use Rattle.bk_tree.specs.Tree.{Declarations}
-use Rattle.bk_scope.specs.Found.{Claim, is_claimed}
-use Rattle.bk_scope.specs.Points.{Fault, Point, meaning, word, depth, wrong, claim, claimed, claims_behind, comes_before, put, in_order, judged}
-use Rattle.bk_scope.specs.Faults.{told_of, faults}
-use Rattle.bk_scope.specs.Laws.{Clean, NoWrong}
+use Rattle.bk_scope.proofs.Terms.{◌≡◌, Bool, true, false, cond, List, [], ◌∷◌, ◌++◌, refl, sym, ◌∙◌, Declarations, Claim, is_claimed, Fault, Point, meaning, word, depth, wrong, claim, claimed, claims_behind, comes_before, put, in_order, judged, told_of, faults, Clean, NoWrong}
 use Rattle.bk_scope.proofs.Lists.{judged_append}
 
 cons_nil : (f : Fault) (fs : List Fault) → (f ∷ fs) ≡ [] → ⊥
@@ -43,8 +38,6 @@ second_clean cs xs ys e = right_none (judged cs xs) (judged (claims_behind cs xs
 -- whatever was claimed before, nothing is wrong by itself
 pub no_wrong : (xs : List Point) (cs : List Claim) → Clean cs xs → NoWrong xs
 no_wrong [] cs e = tt
-no_wrong (meaning b ∷ xs) cs e = no_wrong xs cs e
-no_wrong (word v ∷ xs) cs e = no_wrong xs cs e
-no_wrong (depth m ∷ xs) cs e = no_wrong xs cs e
 no_wrong (wrong f ∷ xs) cs e = cons_nil f (judged cs xs) e
 no_wrong (claim c f ∷ xs) cs e = no_wrong xs (claimed c cs) (right_none (cond (is_claimed c cs) (f ∷ []) []) (judged (claimed c cs) xs) e)
+no_wrong (_ ∷ xs) cs e = no_wrong xs cs e

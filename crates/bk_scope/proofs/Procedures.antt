@@ -1,23 +1,6 @@
 -- The pass and what is told: procedures.
-use Rattle.std.proofs.Common.{◌≡◌, ℕ, ◌+◌, ◌*◌, ◌^◌, ◌≤◌, ◌<◌, Bool, true, false, cond, Option, Some, None, List, [], ◌∷◌, ◌++◌, length, refl, sym, ap, ◌∙◌, subst, append_assoc, arith}
-use Rattle.std.specs.Prelude.{nat_lt}
-use Rattle.std.proofs.lemmas.List.{append-nil}
-use Rattle.bk_base.specs.declared.limit.TheConstants.{FRAME_WORDS}
-use Rattle.bk_tree.specs.Tree.{Mention, Expression, Action, routine, function}
-use Rattle.bk_scope.specs.declared.bound.Bound.{Bound}
-use Rattle.bk_scope.specs.declared.bound.Bound.TheVariants.{Constant, Global, Static, Variable, Label}
-use Rattle.bk_scope.specs.declared.place.Enclosing.{Enclosing}
-use Rattle.bk_scope.specs.declared.role.Role.TheVariants.{Value}
-use Rattle.bk_scope.specs.Scope.{Binding, bound_in}
-use Rattle.bk_scope.specs.Wrong.{text_of, declared_twice, frame_too_large, two_procedures}
+use Rattle.bk_scope.proofs.Terms.{◌≡◌, ℕ, ◌+◌, ◌*◌, ◌^◌, ◌≤◌, ◌<◌, Bool, true, false, cond, Option, Some, None, List, [], ◌∷◌, ◌++◌, length, refl, sym, ap, ◌∙◌, subst, append_assoc, arith, nat_lt, append-nil, FRAME_WORDS, Mention, Expression, Action, routine, function, Bound, Constant, Global, Static, Variable, Label, Enclosing, Value, Binding, bound_in, text_of, declared_twice, frame_too_large, two_procedures, kept, labelled, called, Stage, labels_of, with_labels, with_formals, Defined, evaluated, done, one_defined, listed, all_listed, sets, named_as, headed, frame_wrong, Spot, onward, symbols, symbols_done, numbers, numbers_done, Fault, Point, meaning, word, depth, wrong, claim, at, claimed, claims_behind, judged, in_order, first_told, meanings_of, words_of, deepest, without_depths, labels_in_scope, told, told_done, told_one_defined, one_of, each_of, its_meaning, its_global, its_frame, inside_procedure, procedure}
 use Rattle.bk_scope.specs.Found.{Found, Claim, naming, setting, is_claimed, else_first, breaks, claims_new, claims_once, takes, opens, behind}
-use Rattle.bk_scope.specs.Places.{kept, labelled, called}
-use Rattle.bk_scope.specs.Entering.{Stage, labels_of, with_labels, with_formals}
-use Rattle.bk_scope.specs.Names.{Defined, evaluated, done, one_defined, listed, all_listed, sets, named_as, headed, frame_wrong}
-use Rattle.bk_scope.specs.Spots.{Spot, onward, symbols, symbols_done, numbers, numbers_done}
-use Rattle.bk_scope.specs.Points.{Fault, Point, meaning, word, depth, wrong, claim, at, claimed, claims_behind, judged, in_order, first_told, meanings_of, words_of, deepest, without_depths}
-use Rattle.bk_scope.specs.Scoping.{labels_in_scope}
-use Rattle.bk_scope.specs.Faults.{told, told_done, told_one_defined, one_of, each_of, its_meaning, its_global, its_frame, inside_procedure, procedure}
 use Rattle.bk_scope.proofs.Lists.{Inside, AllInside, inside_append, inside_wider, judged_inside, order_apart, first_append, meanings_append}
 use Rattle.bk_scope.proofs.Tied.{Tied, Spans, both, wider, behind_it, else_none, nothing_told, then}
 use Rattle.bk_scope.proofs.Operators.{ETied, EInside, CTied, CInside}
@@ -57,43 +40,22 @@ each_tied m n (x ∷ xs) f =
     recount 0 (behind_it (one_spans m n x.line x.letters) (each_spans m (n + 1) xs) (omega arith) (listed_tied m n x.line x.letters f) (each_tied m (n + 1) xs (listed m x.line x.letters f))) (omega arith)
 
 global_tied : (n l : ℕ) (x : List ℕ) (b : Option Bound) (f : Found) → Tied (its_global n l x b) 0 f (sets l x b f)
-global_tied n l x None f = nothing_told f
-global_tied n l x (Some (Global None)) f = nothing_told f
 global_tied n l x (Some (Global (Some g))) f = claim_tied (setting g) (record { place = n; line = l; wrong = two_procedures (text_of x) }) f
-global_tied n l x (Some (Constant w)) f = nothing_told f
-global_tied n l x (Some (Static w)) f = nothing_told f
-global_tied n l x (Some (Variable j w)) f = nothing_told f
-global_tied n l x (Some (Label j w)) f = nothing_told f
+global_tied n l x _ f = nothing_told f
 
 global_inside : (n l : ℕ) (x : List ℕ) (b : Option Bound) → Inside (32 * n + 27) (32 * (n + 1)) (its_global n l x b)
-global_inside n l x None = tt
-global_inside n l x (Some (Global None)) = tt
 global_inside n l x (Some (Global (Some g))) = (omega arith, omega arith, tt)
-global_inside n l x (Some (Constant w)) = tt
-global_inside n l x (Some (Static w)) = tt
-global_inside n l x (Some (Variable j w)) = tt
-global_inside n l x (Some (Label j w)) = tt
+global_inside n l x _ = tt
 
 module _ (n l : ℕ) (xs : List Point) where
   frame_judged : (b : Bool) (cs : List Claim) → judged cs (cond b (at n l frame_too_large) [] ++ xs) ≡ cond b (record { place = n; line = l; wrong = frame_too_large } ∷ []) [] ++ judged cs xs
   frame_judged true cs = refl
   frame_judged false cs = refl
 
-  frame_claims : (b : Bool) (cs : List Claim) → claims_behind cs (cond b (at n l frame_too_large) [] ++ xs) ≡ claims_behind cs xs
-  frame_claims true cs = refl
-  frame_claims false cs = refl
-
-  frame_meanings : (b : Bool) → meanings_of (cond b (at n l frame_too_large) [] ++ xs) ≡ meanings_of xs
-  frame_meanings true = refl
-  frame_meanings false = refl
-
-  frame_words : (b : Bool) → words_of (cond b (at n l frame_too_large) [] ++ xs) ≡ words_of xs
-  frame_words true = refl
-  frame_words false = refl
-
-  frame_deepest : (b : Bool) (d : ℕ) → deepest d (cond b (at n l frame_too_large) [] ++ xs) ≡ deepest d xs
-  frame_deepest true d = refl
-  frame_deepest false d = refl
+  frame_silent : (b : Bool) → let ys : List Point = cond b (at n l frame_too_large) [] ++ xs in
+      ((cs : List Claim) → claims_behind cs ys ≡ claims_behind cs xs) × (meanings_of ys ≡ meanings_of xs) × (words_of ys ≡ words_of xs) × ((d : ℕ) → deepest d ys ≡ deepest d xs)
+  frame_silent true = (λ cs. refl, refl, refl, λ d. refl)
+  frame_silent false = (λ cs. refl, refl, refl, λ d. refl)
 
   frame_inside : (b : Bool) (e : ℕ) → Inside (32 * n + 15) e xs → 32 * n + 27 ≤ e → Inside (32 * n + 15) e (cond b (at n l frame_too_large) [] ++ xs)
   frame_inside true e h g = (omega arith, omega (arith, g), h)
@@ -107,79 +69,51 @@ frame_faults : (b : Bool) (n l : ℕ) → AllInside (32 * n + 15) (32 * n + 27) 
 frame_faults true n l = (omega arith, omega arith, tt)
 frame_faults false n l = tt
 
+-- these say the same of faults, claims, words and the frame, and stand as far
+record Same (xs ys : List Point) : Type 0 where
+  judged_so : (cs : List Claim) → judged cs xs ≡ judged cs ys
+  claims_so : (cs : List Claim) → claims_behind cs xs ≡ claims_behind cs ys
+  words_so : words_of xs ≡ words_of ys
+  within_so : (n m : ℕ) → Inside n m ys → Inside n m xs
+
 -- a name's meaning says nothing of the rest
-name_judged : (b : Option Bound) (xs : List Point) (cs : List Claim) → judged cs (its_meaning b ++ xs) ≡ judged cs xs
-name_judged None xs cs = refl
-name_judged (Some b) xs cs = refl
-
-name_claims : (b : Option Bound) (xs : List Point) (cs : List Claim) → claims_behind cs (its_meaning b ++ xs) ≡ claims_behind cs xs
-name_claims None xs cs = refl
-name_claims (Some b) xs cs = refl
-
-name_words : (b : Option Bound) (xs : List Point) → words_of (its_meaning b ++ xs) ≡ words_of xs
-name_words None xs = refl
-name_words (Some b) xs = refl
+name_same : (b : Option Bound) (xs : List Point) → Same (its_meaning b ++ xs) xs
+name_same None xs = record { judged_so = λ cs. refl; claims_so = λ cs. refl; words_so = refl; within_so = λ n m h. h }
+name_same (Some b) xs = record { judged_so = λ cs. refl; claims_so = λ cs. refl; words_so = refl; within_so = λ n m h. h }
 
 name_deepest : (b : Option Bound) (xs : List Point) (d : ℕ) → deepest d (its_meaning b ++ xs) ≡ deepest d xs
 name_deepest None xs d = refl
 name_deepest (Some b) xs d = refl
-
-name_inside : (b : Option Bound) (xs : List Point) (n m : ℕ) → Inside n m xs → Inside n m (its_meaning b ++ xs)
-name_inside None xs n m h = h
-name_inside (Some b) xs n m h = h
 
 named_found : (b : Option Bound) (f : Found) → ((named_as b f).claims ≡ f.claims) × ((named_as b f).meanings ≡ f.meanings ++ meanings_of (its_meaning b)) × ((named_as b f).words ≡ f.words) × ((named_as b f).next ≡ f.next)
 named_found None f = (refl, sym (append-nil f.meanings), refl, refl)
 named_found (Some b) f = (refl, refl, refl, refl)
 
 -- without the depths
-flat_judged : (xs : List Point) (cs : List Claim) → judged cs (without_depths xs) ≡ judged cs xs
-flat_judged [] cs = refl
-flat_judged (meaning b ∷ xs) cs = flat_judged xs cs
-flat_judged (word v ∷ xs) cs = flat_judged xs cs
-flat_judged (depth m ∷ xs) cs = flat_judged xs cs
-flat_judged (wrong f ∷ xs) cs = ap (λ l. f ∷ l) (flat_judged xs cs)
-flat_judged (claim c f ∷ xs) cs = ap (λ l. cond (is_claimed c cs) (f ∷ []) [] ++ l) (flat_judged xs (claimed c cs))
-
-flat_claims : (xs : List Point) (cs : List Claim) → claims_behind cs (without_depths xs) ≡ claims_behind cs xs
-flat_claims [] cs = refl
-flat_claims (meaning b ∷ xs) cs = flat_claims xs cs
-flat_claims (word v ∷ xs) cs = flat_claims xs cs
-flat_claims (depth m ∷ xs) cs = flat_claims xs cs
-flat_claims (wrong f ∷ xs) cs = flat_claims xs cs
-flat_claims (claim c f ∷ xs) cs = flat_claims xs (claimed c cs)
+flat_same : (xs : List Point) → Same (without_depths xs) xs
+flat_same [] = record { judged_so = λ cs. refl; claims_so = λ cs. refl; words_so = refl; within_so = λ n m h. h }
+flat_same (wrong f ∷ xs) =
+    let h = flat_same xs in record { judged_so = λ cs. ap (λ l. f ∷ l) (h.judged_so cs); claims_so = h.claims_so; words_so = h.words_so; within_so = λ n m i. (i.0, i.1, h.within_so n m i.2) }
+flat_same (claim c f ∷ xs) =
+    let h = flat_same xs in
+    record {
+      judged_so = λ cs. ap (λ l. cond (is_claimed c cs) (f ∷ []) [] ++ l) (h.judged_so (claimed c cs));
+      claims_so = λ cs. h.claims_so (claimed c cs);
+      words_so = h.words_so;
+      within_so = λ n m i. (i.0, i.1, h.within_so n m i.2);
+    }
+flat_same (word v ∷ xs) = let h = flat_same xs in record { judged_so = h.judged_so; claims_so = h.claims_so; words_so = ap (λ l. v ∷ l) h.words_so; within_so = h.within_so }
+flat_same (_ ∷ xs) = let h = flat_same xs in record { judged_so = h.judged_so; claims_so = h.claims_so; words_so = h.words_so; within_so = h.within_so }
 
 flat_meanings : (xs : List Point) → meanings_of (without_depths xs) ≡ meanings_of xs
 flat_meanings [] = refl
 flat_meanings (meaning b ∷ xs) = ap (λ l. b ∷ l) (flat_meanings xs)
-flat_meanings (word v ∷ xs) = flat_meanings xs
-flat_meanings (depth m ∷ xs) = flat_meanings xs
-flat_meanings (wrong f ∷ xs) = flat_meanings xs
-flat_meanings (claim c f ∷ xs) = flat_meanings xs
-
-flat_words : (xs : List Point) → words_of (without_depths xs) ≡ words_of xs
-flat_words [] = refl
-flat_words (meaning b ∷ xs) = flat_words xs
-flat_words (word v ∷ xs) = ap (λ l. v ∷ l) (flat_words xs)
-flat_words (depth m ∷ xs) = flat_words xs
-flat_words (wrong f ∷ xs) = flat_words xs
-flat_words (claim c f ∷ xs) = flat_words xs
+flat_meanings (_ ∷ xs) = flat_meanings xs
 
 flat_deepest : (xs : List Point) (d : ℕ) → deepest d (without_depths xs) ≡ d
 flat_deepest [] d = refl
-flat_deepest (meaning b ∷ xs) d = flat_deepest xs d
-flat_deepest (word v ∷ xs) d = flat_deepest xs d
 flat_deepest (depth m ∷ xs) d = flat_deepest xs d
-flat_deepest (wrong f ∷ xs) d = flat_deepest xs d
-flat_deepest (claim c f ∷ xs) d = flat_deepest xs d
-
-flat_inside : (n m : ℕ) (xs : List Point) → Inside n m xs → Inside n m (without_depths xs)
-flat_inside n m [] h = tt
-flat_inside n m (meaning b ∷ xs) h = flat_inside n m xs h
-flat_inside n m (word v ∷ xs) h = flat_inside n m xs h
-flat_inside n m (depth d ∷ xs) h = flat_inside n m xs h
-flat_inside n m (wrong f ∷ xs) h = (h.0, h.1, flat_inside n m xs h.2)
-flat_inside n m (claim c f ∷ xs) h = (h.0, h.1, flat_inside n m xs h.2)
+flat_deepest (_ ∷ xs) d = flat_deepest xs d
 
 -- a procedure behind its name, where all that is told of it inside is `xs`
 inside_tied : (n l j e d : ℕ) (y : Option Bound) (xs : List Point) (f h : Found) → f.next + 1 < 2 ^ 32 → Inside (32 * n + 27) e xs → Tied xs j (opens d (named_as y (takes f))) h
@@ -188,7 +122,7 @@ inside_tied n l j e d y xs f h fits a t =
     let q : Bool = nat_lt FRAME_WORDS (deepest d xs) in
     let zs : List Point = its_meaning y ++ without_depths xs in
     let v : ((named_as y (takes f)).claims ≡ f.claims) × ((named_as y (takes f)).meanings ≡ f.meanings ++ meanings_of (its_meaning y)) × ((named_as y (takes f)).words ≡ f.words) × ((named_as y (takes f)).next ≡ (takes f).next) = named_found y (takes f) in
-    let rest : judged f.claims zs ≡ judged f.claims xs = name_judged y (without_depths xs) f.claims ∙ flat_judged xs f.claims in
+    let rest : judged f.claims zs ≡ judged f.claims xs = (name_same y (without_depths xs)).judged_so f.claims ∙ (flat_same xs).judged_so f.claims in
     record {
       first =
           ap (λ b. else_first f.first (else_first (cond (nat_lt FRAME_WORDS b) (Some (record { line = l; wrong = frame_too_large })) None) h.first)) t.deepest
@@ -198,13 +132,13 @@ inside_tied n l j e d y xs f h fits a t =
           ap (λ b. first_told (in_order b)) (frame_judged n l zs q f.claims ∙ ap (λ b. cond q (record { place = n; line = l; wrong = frame_too_large } ∷ []) [] ++ b) rest)
           ∙ ap first_told (order_apart (32 * n + 15) (32 * n + 27) e _ (judged f.claims xs) (frame_faults q n l) (judged_inside _ _ xs f.claims a))
           ∙ first_append (in_order (cond q (record { place = n; line = l; wrong = frame_too_large } ∷ []) [])) _));
-      claims = t.claims ∙ ap (λ c. claims_behind c xs) v.0 ∙ sym (frame_claims n l zs q f.claims ∙ name_claims y (without_depths xs) f.claims ∙ flat_claims xs f.claims);
+      claims = t.claims ∙ ap (λ c. claims_behind c xs) v.0 ∙ sym ((frame_silent n l zs q).0 f.claims ∙ (name_same y (without_depths xs)).claims_so f.claims ∙ (flat_same xs).claims_so f.claims);
       meanings =
           t.meanings ∙ ap (λ c. c ++ meanings_of xs) v.1 ∙ append_assoc f.meanings (meanings_of (its_meaning y)) (meanings_of xs)
-          ∙ ap (λ c. f.meanings ++ c) (sym (frame_meanings n l zs q ∙ meanings_append (its_meaning y) (without_depths xs) ∙ ap (λ c. meanings_of (its_meaning y) ++ c) (flat_meanings xs)));
-      words = t.words ∙ ap (λ c. c ++ words_of xs) v.2 ∙ ap (λ c. f.words ++ c) (sym (frame_words n l zs q ∙ name_words y (without_depths xs) ∙ flat_words xs));
+          ∙ ap (λ c. f.meanings ++ c) (sym ((frame_silent n l zs q).1 ∙ meanings_append (its_meaning y) (without_depths xs) ∙ ap (λ c. meanings_of (its_meaning y) ++ c) (flat_meanings xs)));
+      words = t.words ∙ ap (λ c. c ++ words_of xs) v.2 ∙ ap (λ c. f.words ++ c) (sym ((frame_silent n l zs q).2 ∙ (name_same y (without_depths xs)).words_so ∙ (flat_same xs).words_so));
       next = omega (arith, t.next, v.3, fits);
-      deepest = sym (frame_deepest n l zs q f.deepest ∙ name_deepest y (without_depths xs) f.deepest ∙ flat_deepest xs f.deepest);
+      deepest = sym ((frame_silent n l zs q).3 f.deepest ∙ name_deepest y (without_depths xs) f.deepest ∙ flat_deepest xs f.deepest);
     }
 
 pub procedure_tied : (m k l i j : ℕ) (s : Spot) (x : List ℕ) (fs : List Mention) (y : Option Bound) (body : List Point) (f h : Found)
@@ -223,7 +157,7 @@ procedure_tied m k l i j s x fs y body f h fits a t =
     (behind_it (each_spans k (n + 1) fs) a (omega arith) (each_tied k (n + 1) fs f2) t) in
     let q : Bool = nat_lt FRAME_WORDS (deepest (kept (length fs + 2)) xs) in
     recount (1 + j) (then (32 * n) (32 * n + 15) e _ _ (one_of m n l x) _ f (listed m l x f) _ (omega arith, omega arith, tt)
-    (frame_inside n l (its_meaning y ++ without_depths xs) q e (name_inside y (without_depths xs) (32 * n + 15) e (flat_inside (32 * n + 15) e xs (inside_wider (32 * n + 27) e (32 * n + 15) e xs (omega arith) (omega arith) where_inside))) (omega arith))
+    (frame_inside n l (its_meaning y ++ without_depths xs) q e ((name_same y (without_depths xs)).within_so (32 * n + 15) e ((flat_same xs).within_so (32 * n + 15) e (inside_wider (32 * n + 27) e (32 * n + 15) e xs (omega arith) (omega arith) where_inside))) (omega arith))
     (listed_tied m n l x f) (inside_tied n l (0 + (0 + j)) e _ y xs (listed m l x f) h (omega (arith, (listed_tied m n l x f).next, fits)) where_inside told_inside)) (omega arith)
 
 headed_next : (k l : ℕ) (x : List ℕ) (fs : List Mention) (y : Option Bound) (f : Found) → (headed k l x fs y f).next ≡ f.next
@@ -287,5 +221,5 @@ procedure_spans m k l i s x fs y body a =
     let where_inside : Inside (32 * n + 15) e xs = inside_append (32 * n + 15) e (its_global n l x y) (each_of k (n + 1) fs ++ body) (inside_wider (32 * n + 27) (32 * (n + 1)) (32 * n + 15) e (its_global n l x y) (omega arith) (omega arith) (global_inside n l x y)) (inside_wider (32 * (n + 1)) e (32 * n + 15) e (each_of k (n + 1) fs ++ body) (omega arith) (omega arith) formals_and_body.inside) in
     let q : Bool = nat_lt FRAME_WORDS (deepest (kept (length fs + 2)) xs) in
     let rest : List Point = its_frame n l (deepest (kept (length fs + 2)) xs) ++ (its_meaning y ++ without_depths xs) in
-    let late : Inside (32 * n + 15) e rest = frame_inside n l (its_meaning y ++ without_depths xs) q e (name_inside y (without_depths xs) (32 * n + 15) e (flat_inside (32 * n + 15) e xs where_inside)) (omega arith) in
+    let late : Inside (32 * n + 15) e rest = frame_inside n l (its_meaning y ++ without_depths xs) q e ((name_same y (without_depths xs)).within_so (32 * n + 15) e ((flat_same xs).within_so (32 * n + 15) e where_inside)) (omega arith) in
     wider n (n + (1 + (length fs + i))) (record { inside = inside_append (32 * n) (32 * (n + 1 + length fs + i)) (one_of m n l x) rest (omega arith, omega arith, tt) (inside_wider (32 * n + 15) e (32 * n) e rest (omega arith) (omega arith) late) }) (omega arith) (omega arith)

@@ -1,20 +1,5 @@
 -- Of the claims of a list without faults none is made twice: the CASEs and the DEFAULT of a SWITCHON.
-use Rattle.std.proofs.Common.{◌≡◌, ℕ, zero, suc, ◌+◌, ◌≤◌, Bool, true, false, cond, Option, Some, None, List, [], ◌∷◌, ◌++◌, refl, sym, ap, ◌∙◌, subst, arith}
-use Rattle.std.proofs.lemmas.Bool.{eq-eqb, false≢true}
-use Rattle.std.proofs.lemmas.List.{append-nil}
-use Rattle.bk_tree.specs.Tree.{Action, Actions, empty, assign, call, goto, for_loop, result, simple, label, case_of, default, when, test, while, switch, block, repeat, repeat_while, no_actions, also, no_declarations, declare}
-use Rattle.bk_scope.specs.declared.place.Enclosing.{Enclosing}
-use Rattle.bk_scope.specs.declared.role.Role.TheVariants.{Value, Truth}
-use Rattle.bk_scope.specs.Scope.{Binding, bound_in}
-use Rattle.bk_scope.specs.Wrong.{case_repeated, default_repeated}
-use Rattle.bk_scope.specs.Constants.{constant_word}
-use Rattle.bk_scope.specs.Found.{Claim, choosing, defaulting, same_claim, is_claimed}
-use Rattle.bk_scope.specs.Places.{looping, switching}
-use Rattle.bk_scope.specs.Spots.{Spot, past, numbered, behind, behind_done, behind_constant}
-use Rattle.bk_scope.specs.Points.{Fault, Point, meaning, word, depth, wrong, claim, claiming, claimed, claims_behind}
-use Rattle.bk_scope.specs.Faults.{chosen_at, defaulted_at, its_meaning, one_of, constant, told, told_done, told_done_each}
-use Rattle.bk_scope.specs.Laws.{Clean}
-use Rattle.bk_scope.specs.Cases.{word_if_any, case_words, case_words_each, defaults, defaults_each, NoneOf, AllDiffer, CasesDiffer}
+use Rattle.bk_scope.proofs.Terms.{◌≡◌, ℕ, zero, suc, ◌+◌, ◌≤◌, Bool, true, false, cond, Option, Some, None, List, [], ◌∷◌, ◌++◌, refl, sym, ap, ◌∙◌, subst, arith, eq-eqb, false≢true, append-nil, Action, Actions, empty, assign, call, goto, for_loop, result, simple, label, case_of, default, when, test, while, switch, block, repeat, repeat_while, no_actions, also, no_declarations, declare, Enclosing, Value, Truth, Binding, bound_in, case_repeated, default_repeated, constant_word, Claim, choosing, defaulting, same_claim, is_claimed, looping, switching, Spot, past, numbered, behind, behind_done, behind_constant, Fault, Point, meaning, word, depth, wrong, claim, claiming, claimed, claims_behind, chosen_at, defaulted_at, its_meaning, one_of, constant, told, told_done, told_done_each, Clean, word_if_any, case_words, case_words_each, defaults, defaults_each, NoneOf, AllDiffer, CasesDiffer}
 use Rattle.bk_scope.proofs.Lists.{claims_append}
 use Rattle.bk_scope.proofs.Parts.{first_clean, second_clean}
 
@@ -28,11 +13,8 @@ stays_behind_one false c d cs h = stays_in (same_claim c d) where
 
 stays : (xs : List Point) (c : Claim) (cs : List Claim) → is_claimed c cs ≡ true → is_claimed c (claims_behind cs xs) ≡ true
 stays [] c cs h = h
-stays (meaning b ∷ xs) c cs h = stays xs c cs h
-stays (word v ∷ xs) c cs h = stays xs c cs h
-stays (depth m ∷ xs) c cs h = stays xs c cs h
-stays (wrong f ∷ xs) c cs h = stays xs c cs h
 stays (claim d f ∷ xs) c cs h = stays xs c (claimed d cs) (stays_behind_one (is_claimed d cs) c d cs h)
+stays (_ ∷ xs) c cs h = stays xs c cs h
 
 not_before : (q : Bool) (xs : List Point) (c : Claim) (cs : List Claim) → is_claimed c cs ≡ q → is_claimed c (claims_behind cs xs) ≡ false → q ≡ false
 not_before false xs c cs e h = refl
@@ -152,10 +134,6 @@ in_front {m = m} {n = n} {vs = vs} {xs = xs} ys a = subst (λ i. Made m (xs ++ y
 
 mutual
   made : (c : Action) (m : ℕ) (bs : List Binding) (p : Enclosing) (s : Spot) → p.switch ≡ Some m → Made m (told_done bs p s c) (case_words bs c) (defaults c)
-  made empty m bs p s e = made_none m _
-  made (assign l xs es) m bs p s e = made_none m _
-  made (call l f es) m bs p s e = made_none m _
-  made (goto l x) m bs p s e = made_none m _
   made (label l x c) m bs p s e = behind_other (one_of p.labels s.place l x ++ its_meaning (bound_in bs x)) (made c m bs p (past 1 s) e)
   made (case_of l f c) m bs p s e =
       let u : Spot = behind_constant f (past 1 s) in
@@ -165,14 +143,10 @@ mutual
   made (when l b f c) m bs p s e = behind_other (told Truth bs p s f) (made c m bs p (behind f s) e)
   made (test l f c d) m bs p s e = made_both (behind_other (told Truth bs p s f) (made c m bs p (behind f s) e)) (made d m bs p (behind_done c (behind f s)) e)
   made (while l b f c) m bs p s e = behind_other (told Truth bs p s f) (made c m bs (looping p) (behind f s) e)
-  made (for_loop l x a b h c) m bs p s e = made_none m _
-  made (switch l f c) m bs p s e = made_none m _
-  made (result l f) m bs p s e = made_none m _
-  made (simple l k) m bs p s e = made_none m _
   made (block l no_declarations cs) m bs p s e = made_each cs m bs p s e
-  made (block l (declare d ds) cs) m bs p s e = made_none m _
   made (repeat l c) m bs p s e = made c m bs (looping p) s e
   made (repeat_while l b c f) m bs p s e = in_front (told Truth bs p (behind_done c s) f) (made c m bs (looping p) s e)
+  made _ m bs p s e = made_none m _
 
   made_each : (cs : Actions) (m : ℕ) (bs : List Binding) (p : Enclosing) (s : Spot) → p.switch ≡ Some m → Made m (told_done_each bs p s cs) (case_words_each bs cs) (defaults_each cs)
   made_each no_actions m bs p s e = made_none m _

@@ -1,18 +1,5 @@
 -- Lists of points in which nothing is wrong by itself, and in a procedure no depth past the limit.
-use Rattle.std.proofs.Common.{◌≡◌, ℕ, ◌+◌, ◌≤◌, Bool, true, false, cond, Option, Some, None, List, [], ◌∷◌, ◌++◌, length, refl, ◌∙◌, arith}
-use Rattle.std.specs.Prelude.{nat_lt, max}
-use Rattle.std.proofs.lemmas.Bool.{ltb-false}
-use Rattle.bk_base.specs.declared.limit.TheConstants.{FRAME_WORDS}
-use Rattle.bk_tree.specs.Tree.{Mention}
-use Rattle.bk_scope.specs.declared.bound.Bound.{Bound}
-use Rattle.bk_scope.specs.declared.bound.Bound.TheVariants.{Constant, Global, Static, Variable, Label}
-use Rattle.bk_scope.specs.Wrong.{Wrong, frame_too_large}
-use Rattle.bk_scope.specs.Places.{kept}
-use Rattle.bk_scope.specs.Spots.{Spot}
-use Rattle.bk_scope.specs.Points.{Point, meaning, word, depth, wrong, claim, at, deepest, without_depths}
-use Rattle.bk_scope.specs.Faults.{unless, at_most, its_meaning, its_global, each_of, inside_procedure, procedure}
-use Rattle.bk_scope.specs.Laws.{NoWrong}
-use Rattle.bk_scope.specs.Sound.{FrameSound}
+use Rattle.bk_scope.proofs.Terms.{◌≡◌, ℕ, ◌+◌, ◌≤◌, Bool, true, false, cond, Option, Some, None, List, [], ◌∷◌, ◌++◌, length, refl, ◌∙◌, arith, nat_lt, max, ltb-false, FRAME_WORDS, Mention, Bound, Constant, Global, Static, Variable, Label, Wrong, frame_too_large, kept, Spot, Point, meaning, word, depth, wrong, claim, at, deepest, without_depths, unless, at_most, its_meaning, its_global, each_of, inside_procedure, procedure, NoWrong, FrameSound}
 
 abbrev pub AllSafe : ℕ → List Point → Type 0
 AllSafe k [] = Unit {0}
@@ -28,23 +15,26 @@ first_all : (k : ℕ) (xs ys : List Point) → AllSafe k (xs ++ ys) → AllSafe 
 first_all k [] ys h = tt
 first_all k (wrong f ∷ xs) ys h = absurd h
 first_all k (depth m ∷ xs) ys h = (h.0, first_all k xs ys h.1)
-first_all k (meaning b ∷ xs) ys h = first_all k xs ys h
-first_all k (word v ∷ xs) ys h = first_all k xs ys h
-first_all k (claim c f ∷ xs) ys h = first_all k xs ys h
+first_all k (_ ∷ xs) ys h = first_all k xs ys h
 
 second_all : (k : ℕ) (xs ys : List Point) → AllSafe k (xs ++ ys) → AllSafe k ys
 second_all k [] ys h = h
 second_all k (wrong f ∷ xs) ys h = absurd h
 second_all k (depth m ∷ xs) ys h = second_all k xs ys h.1
-second_all k (meaning b ∷ xs) ys h = second_all k xs ys h
-second_all k (word v ∷ xs) ys h = second_all k xs ys h
-second_all k (claim c f ∷ xs) ys h = second_all k xs ys h
+second_all k (_ ∷ xs) ys h = second_all k xs ys h
 
 pub in_first : {k : ℕ} (xs ys : List Point) → Safe k (xs ++ ys) → Safe k xs
 in_first {k = k} xs ys h = record { all = first_all k xs ys h.all }
 
 pub in_second : {k : ℕ} (xs ys : List Point) → Safe k (xs ++ ys) → Safe k ys
 in_second {k = k} xs ys h = record { all = second_all k xs ys h.all }
+
+-- the parts of what is told
+pub in_both : {k : ℕ} (xs ys : List Point) → Safe k (xs ++ ys) → Safe k xs × Safe k ys
+in_both xs ys h = (in_first xs ys h, in_second xs ys h)
+
+pub in_three : {k : ℕ} (xs ys zs : List Point) → Safe k (xs ++ ys ++ zs) → Safe k xs × Safe k ys × Safe k zs
+in_three xs ys zs h = let i = in_both xs ys (in_first (xs ++ ys) zs h) in (i.0, i.1, in_second (xs ++ ys) zs h)
 
 pub unless_true : {k : ℕ} (b : Bool) (n l : ℕ) (w : Wrong) → Safe k (unless b (at n l w)) → b ≡ true
 unless_true true n l w h = refl
@@ -60,11 +50,8 @@ bounded_safe most n l w v h = ltb-false most v (when_false (nat_lt most v) n l w
 -- a procedure: its frame is within the limit, and its body is safe
 grows : (xs : List Point) (d : ℕ) → d ≤ deepest d xs
 grows [] d = omega arith
-grows (meaning b ∷ xs) d = grows xs d
-grows (word v ∷ xs) d = grows xs d
 grows (depth m ∷ xs) d = omega (arith, grows xs (max d (kept m)))
-grows (wrong f ∷ xs) d = grows xs d
-grows (claim c f ∷ xs) d = grows xs d
+grows (_ ∷ xs) d = grows xs d
 
 -- the depths at which a frame begins
 pub begins_within : (xs : List Point) (d : ℕ) → deepest d xs ≤ FRAME_WORDS → d ≤ FRAME_WORDS
@@ -72,24 +59,18 @@ begins_within xs d h = omega (arith, grows xs d, h)
 
 all_flat : (k j : ℕ) (xs : List Point) (d : ℕ) → AllSafe j (without_depths xs) → deepest d xs ≤ FRAME_WORDS → AllSafe k xs
 all_flat k j [] d h e = tt
-all_flat k j (meaning b ∷ xs) d h e = all_flat k j xs d h e
-all_flat k j (word v ∷ xs) d h e = all_flat k j xs d h e
 all_flat k j (depth m ∷ xs) d h e = ((λ t. omega (arith, grows xs (max d (kept m)), e)), all_flat k j xs (max d (kept m)) h e)
 all_flat k j (wrong f ∷ xs) d h e = absurd h
-all_flat k j (claim c f ∷ xs) d h e = all_flat k j xs d h e
+all_flat k j (_ ∷ xs) d h e = all_flat k j xs d h e
 
 meaning_all : (j : ℕ) (y : Option Bound) (xs : List Point) → AllSafe j (its_meaning y ++ xs) → AllSafe j xs
 meaning_all j None xs h = h
 meaning_all j (Some b) xs h = h
 
 global_deepest : (n l : ℕ) (x : List ℕ) (y : Option Bound) (xs : List Point) (d : ℕ) → deepest d (its_global n l x y ++ xs) ≡ deepest d xs
-global_deepest n l x None xs d = refl
 global_deepest n l x (Some (Global None)) xs d = refl
 global_deepest n l x (Some (Global (Some g))) xs d = refl
-global_deepest n l x (Some (Constant w)) xs d = refl
-global_deepest n l x (Some (Static w)) xs d = refl
-global_deepest n l x (Some (Variable j w)) xs d = refl
-global_deepest n l x (Some (Label j w)) xs d = refl
+global_deepest n l x _ xs d = refl
 
 names_deepest : (m n : ℕ) (fs : List Mention) (xs : List Point) (d : ℕ) → deepest d (each_of m n fs ++ xs) ≡ deepest d xs
 names_deepest m n [] xs d = refl
@@ -113,9 +94,7 @@ no_depths : (xs : List Point) → NoWrong xs → AllSafe 0 xs
 no_depths [] h = tt
 no_depths (wrong f ∷ xs) h = absurd h
 no_depths (depth m ∷ xs) h = ((λ t. absurd (omega (arith, t))), no_depths xs h)
-no_depths (meaning b ∷ xs) h = no_depths xs h
-no_depths (word v ∷ xs) h = no_depths xs h
-no_depths (claim c f ∷ xs) h = no_depths xs h
+no_depths (_ ∷ xs) h = no_depths xs h
 
 pub safe_outside : (xs : List Point) → NoWrong xs → Safe 0 xs
 safe_outside xs h = record { all = no_depths xs h }

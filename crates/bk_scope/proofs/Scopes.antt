@@ -1,19 +1,5 @@
 -- The pass and what is told, where names come into scope: VALOF, SWITCHON, a block with declarations.
-use Rattle.std.proofs.Common.{◌≡◌, ℕ, ◌+◌, ◌^◌, ◌<◌, List, [], ◌∷◌, length, refl, sym, ap, ◌∙◌, subst, arith}
-use Rattle.std.proofs.lemmas.List.{append-nil}
-use Rattle.bk_tree.specs.Tree.{Expression, Action, Actions, Declaration, Declarations, valof, switch, block, declare}
-use Rattle.bk_scope.specs.declared.bound.Bound.TheVariants.{Label}
-use Rattle.bk_scope.specs.declared.place.Enclosing.{Enclosing}
-use Rattle.bk_scope.specs.declared.role.Role.TheVariants.{Value}
-use Rattle.bk_scope.specs.Scope.{Binding, bind}
-use Rattle.bk_scope.specs.Found.{Found, takes, reaches}
-use Rattle.bk_scope.specs.Places.{switching, labelled, valued}
-use Rattle.bk_scope.specs.Entering.{Stage, labels_of, labels_of_each, with_labels}
-use Rattle.bk_scope.specs.Names.{AfterDeclarations, evaluated, done, each_done, declared}
-use Rattle.bk_scope.specs.Spots.{Spot, onward, numbered, behind, behind_declared, symbols, symbols_done, symbols_done_each, symbols_declared, numbers, numbers_done, numbers_done_each, numbers_declared}
-use Rattle.bk_scope.specs.Points.{Point}
-use Rattle.bk_scope.specs.Scoping.{labels_in_scope, scope_behind, place_behind_all}
-use Rattle.bk_scope.specs.Faults.{told, told_done, told_done_each, told_declared, pushed}
+use Rattle.bk_scope.proofs.Terms.{◌≡◌, ℕ, ◌+◌, ◌^◌, ◌<◌, List, [], ◌∷◌, length, refl, sym, ap, ◌∙◌, subst, arith, append-nil, Expression, Action, Actions, Declaration, Declarations, valof, switch, block, declare, Label, Enclosing, Value, Binding, bind, Found, takes, reaches, switching, labelled, valued, Stage, labels_of, labels_of_each, with_labels, AfterDeclarations, evaluated, done, each_done, declared, Spot, onward, numbered, behind, behind_declared, symbols, symbols_done, symbols_done_each, symbols_declared, numbers, numbers_done, numbers_done_each, numbers_declared, Point, labels_in_scope, scope_behind, place_behind_all, told, told_done, told_done_each, told_declared, pushed}
 use Rattle.bk_scope.proofs.Tied.{Tied, Spans, behind_it, else_none}
 use Rattle.bk_scope.proofs.Operators.{ETied, EInside, CTied, CInside, without_plain}
 

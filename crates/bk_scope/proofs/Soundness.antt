@@ -1,39 +1,8 @@
 -- Where nothing that is told is wrong, each node is sound.
-use Rattle.std.proofs.Common.{◌≡◌, ℕ, ◌+◌, ◌≤◌, ◌<◌, ◌==◌, Bool, true, false, cond, Option, Some, None, List, [], ◌∷◌, ◌++◌, length, refl, sym, ap, ◌∙◌, subst, arith}
-use Rattle.std.proofs.lemmas.Bool.{eqb-true, le-ltb, false≢true}
-use Rattle.std.proofs.lemmas.Option.{none-some}
-use Rattle.std.specs.Str.{bytes_eq}
-use Rattle.std.proofs.lemmas.Slice.Eq.{bytes_eq-Decides}
-use Rattle.std.specs.Option.{option_and_then}
-use Rattle.bk_base.specs.declared.limit.TheConstants.{GLOBAL_NUMBER, VEC_NUMBER, FRAME_WORDS}
-use Rattle.bk_tree.specs.declared.tree.Operator.{Operator}
-use Rattle.bk_tree.specs.declared.tree.Operator.TheVariants as o
-use Rattle.bk_tree.specs.declared.tree.Prefix.{Prefix}
-use Rattle.bk_tree.specs.declared.tree.Prefix.TheVariants as q
-use Rattle.bk_tree.specs.declared.tree.Simple.{Simple}
-use Rattle.bk_tree.specs.declared.tree.Simple.TheVariants as w
-use Rattle.bk_tree.specs.declared.tree.Sort.TheVariants as sort
-use Rattle.bk_tree.specs.Tree.{Mention, Expression, Expressions, Action, Actions, Declaration, Declarations, Items, Definition, Definitions, Starts, name, number, text, truth, query, parens, unary, binary, choice, apply, valof, table, none, more, empty, assign, call, goto, label, case_of, default, when, test, while, for_loop, switch, result, simple, block, repeat, repeat_while, no_actions, also, constants, definitions, no_declarations, declare, no_items, item, routine, function, variables, no_definitions, define, no_starts, value, vector}
-use Rattle.bk_tree.specs.Parts.{line_of, size}
-use Rattle.bk_scope.specs.declared.bound.Bound.{Bound}
-use Rattle.bk_scope.specs.declared.bound.Bound.TheVariants.{Constant, Global, Static, Variable, Label}
-use Rattle.bk_scope.specs.declared.place.Enclosing.{Enclosing}
-use Rattle.bk_scope.specs.declared.role.Role.{Role}
-use Rattle.bk_scope.specs.declared.role.Role.TheVariants.{Value, Truth, Address, Destination}
-use Rattle.bk_scope.specs.Scope.{Binding, bound_in, bind, is_global}
-use Rattle.bk_scope.specs.Wrong.{Wrong, text_of, dynamic_name, label_not_here, not_constant, divided_by_zero, not_assignable, no_loop, no_switchon, no_result_or_return, global_out_of_range, vec_out_of_range}
-use Rattle.bk_scope.specs.Constants.{named_word, prefix_word, infix_word, constant_word, is_prefix_of_constants, is_infix_of_constants, divides, divides_by_zero}
-use Rattle.bk_scope.specs.Places.{kept, deeper, looping, switching, labelled, valued, called, outermost}
-use Rattle.bk_scope.specs.Entering.{labels_of, labels_of_each, with_formals}
-use Rattle.bk_scope.specs.Names.{parenthesised, role_of_operand, role_of_operands, place_of_second, within, words_of_start, variables_of, place_behind}
-use Rattle.bk_scope.specs.Spots.{Spot, procedures_in, onward, past, numbered, behind, behind_each, behind_done, behind_declared, behind_one_declared, behind_one_defined, behind_constant, symbols_each, beginning}
-use Rattle.bk_scope.specs.Points.{Point, meaning, at}
-use Rattle.bk_scope.specs.Scoping.{labels_in_scope, procedure_in_scope, procedures_in_scope, place_behind_one_defined, place_behind_defined, variables_in_scope, manifests_in_scope, statics_in_scope, globals_in_scope, scope_behind_one, place_behind_one, scope_behind, place_behind_all}
-use Rattle.bk_scope.specs.Faults.{unless, used_at, gone_to, constant_name, constant_wrongs, its_word, constant, each_constant, at_most, addressed, assigned, prefixed, depth_named, pushed, chosen_at, defaulted_at, single_at, its_meaning, one_of, each_of, manifest_items, static_items, global_items, told, told_each, told_destinations, told_done, told_done_each, told_declared, told_one_declared, told_defined, told_one_defined, told_started, told_of, faults}
-use Rattle.bk_scope.specs.Sound.{Usable, GoesTo, HasWord, HasWordUpTo, HaveWords, Callable, PrefixSound, Stands, ManifestsSound, StaticsSound, GlobalsSound, FrameSound, Sound, SoundEach, SoundDestinations, SoundDone, SoundDoneEach, SoundDeclared, SoundOneDeclared, SoundDefined, SoundOneDefined, SoundStarted, SoundSection}
+use Rattle.bk_scope.proofs.Terms.{◌≡◌, ℕ, ◌+◌, ◌≤◌, ◌<◌, ◌==◌, Bool, true, false, cond, Option, Some, None, List, [], ◌∷◌, ◌++◌, length, refl, sym, ap, ◌∙◌, subst, arith, eqb-true, le-ltb, false≢true, none-some, bytes_eq, bytes_eq-Decides, option_and_then, GLOBAL_NUMBER, VEC_NUMBER, FRAME_WORDS, Operator, Operator as o, Prefix, Prefix as q, Simple, Simple as w, Sort as sort, Mention, Expression, Expressions, Action, Actions, Declaration, Declarations, Items, Definition, Definitions, Starts, name, number, text, truth, query, parens, unary, binary, choice, apply, valof, table, none, more, empty, assign, call, goto, label, case_of, default, when, test, while, for_loop, switch, result, simple, block, repeat, repeat_while, no_actions, also, constants, definitions, no_declarations, declare, no_items, item, routine, function, variables, no_definitions, define, no_starts, value, vector, line_of, size, Bound, Constant, Global, Static, Variable, Label, Enclosing, Role, Value, Truth, Address, Destination, Binding, bound_in, bind, is_global, Wrong, text_of, dynamic_name, label_not_here, not_constant, divided_by_zero, not_assignable, no_loop, no_switchon, no_result_or_return, global_out_of_range, vec_out_of_range, named_word, prefix_word, infix_word, constant_word, is_prefix_of_constants, is_infix_of_constants, divides, divides_by_zero, kept, deeper, looping, switching, labelled, valued, called, outermost, labels_of, labels_of_each, with_formals, parenthesised, role_of_operand, role_of_operands, place_of_second, within, words_of_start, variables_of, place_behind, Spot, procedures_in, onward, past, numbered, behind, behind_each, behind_done, behind_declared, behind_one_declared, behind_one_defined, behind_constant, symbols_each, beginning, Point, meaning, at, labels_in_scope, procedure_in_scope, procedures_in_scope, place_behind_one_defined, place_behind_defined, variables_in_scope, manifests_in_scope, statics_in_scope, globals_in_scope, scope_behind_one, place_behind_one, scope_behind, place_behind_all, unless, used_at, gone_to, constant_name, constant_wrongs, its_word, constant, each_constant, at_most, addressed, assigned, prefixed, depth_named, pushed, chosen_at, defaulted_at, single_at, its_meaning, one_of, each_of, manifest_items, static_items, global_items, told, told_each, told_destinations, told_done, told_done_each, told_declared, told_one_declared, told_defined, told_one_defined, told_started, told_of, faults, Usable, GoesTo, HasWord, HasWordUpTo, HaveWords, Callable, PrefixSound, Stands, ManifestsSound, StaticsSound, GlobalsSound, FrameSound, Sound, SoundEach, SoundDestinations, SoundDone, SoundDoneEach, SoundDeclared, SoundOneDeclared, SoundDefined, SoundOneDefined, SoundStarted, SoundSection}
 use Rattle.bk_scope.proofs.Fits.{FitsBound, Fits, fits_more, fits_inner, bound_fits, labels_fit, procedures_fit, append_fits, all_fit, formals_fit}
 use Rattle.bk_scope.proofs.Parts.{section_clean, no_wrong}
-use Rattle.bk_scope.proofs.Safe.{safe_outside, Safe, in_first, in_second, unless_true, when_false, bounded_safe, begins_within, procedure_safe}
+use Rattle.bk_scope.proofs.Safe.{safe_outside, Safe, in_first, in_second, in_both, in_three, unless_true, when_false, bounded_safe, begins_within, procedure_safe}
 
 -- what stands around a node in procedure k, at depth d, where n numbers are given
 pub record Around (bs : List Binding) (k d n : ℕ) : Type 0 where
@@ -61,40 +30,32 @@ variable_usable true k d n j i m l x e f h = (eqb-true j k e, f.1 (eqb-true j k 
 variable_usable false k d n j i m l x e f h = absurd h.all
 
 usable : (y : Option Bound) (k d n m l : ℕ) (x : List ℕ) → ((z : Bound) → y ≡ Some z → FitsBound k d n z) → Safe k (used_at k m l x y) → Usable k d y
-usable None k d n m l x f h = absurd h.all
 usable (Some (Constant v)) k d n m l x f h = f (Constant v) refl
 usable (Some (Global g)) k d n m l x f h = f (Global g) refl
 usable (Some (Static i)) k d n m l x f h = tt
 usable (Some (Variable j i)) k d n m l x f h = variable_usable (j == k) k d n j i m l x refl (f (Variable j i) refl) h
-usable (Some (Label j i)) k d n m l x f h = absurd h.all
+usable _ k d n m l x f h = absurd h.all
 
 label_goes : (c : Bool) (k j i m l : ℕ) (x : List ℕ) → (j == k) ≡ c → Safe k (cond c (meaning (Label j i) ∷ []) (at m l (label_not_here (text_of x)))) → GoesTo k (Some (Label j i))
 label_goes true k j i m l x e h = (i, ap (λ u. Some (Label u i)) (eqb-true j k e))
 label_goes false k j i m l x e h = absurd h.all
 
 goes : (y : Option Bound) (k m l : ℕ) (x : List ℕ) → Safe k (gone_to k m l x y) → GoesTo k y
-goes None k m l x h = absurd h.all
 goes (Some (Label j i)) k m l x h = label_goes (j == k) k j i m l x refl h
 goes (Some (Variable j i)) k m l x h = absurd ((in_second (unless (j == k) (at m l (dynamic_name (text_of x)))) (at m l (label_not_here (text_of x))) h).all)
-goes (Some (Constant v)) k m l x h = absurd h.all
-goes (Some (Global v)) k m l x h = absurd h.all
-goes (Some (Static v)) k m l x h = absurd h.all
+goes _ k m l x h = absurd h.all
 
 -- constants
 name_worded : (y : Option Bound) (k d n m l : ℕ) (x : List ℕ) → ((z : Bound) → y ≡ Some z → FitsBound k d n z) → Safe k (constant_name k m l x y) → HasWord (named_word y)
-name_worded None k d n m l x f h = absurd h.all
 name_worded (Some (Constant v)) k d n m l x f h = f (Constant v) refl
 name_worded (Some (Variable j i)) k d n m l x f h = absurd ((in_second (unless (j == k) (at m l (dynamic_name (text_of x)))) (at m l not_constant) h).all)
-name_worded (Some (Label j i)) k d n m l x f h = absurd h.all
-name_worded (Some (Global g)) k d n m l x f h = absurd h.all
-name_worded (Some (Static g)) k d n m l x f h = absurd h.all
+name_worded _ k d n m l x f h = absurd h.all
 
 prefix_worded : (f : Prefix) (y : Option ℕ) → is_prefix_of_constants f ≡ true → HasWord y → HasWord (option_and_then (prefix_word f) y)
-prefix_worded q.Contents y h u = absurd (false≢true h)
-prefix_worded q.Address y h u = absurd (false≢true h)
 prefix_worded q.Plus y h u = subst (λ z. HasWord (option_and_then (prefix_word q.Plus) z)) (sym u.1) (_, refl)
 prefix_worded q.Minus y h u = subst (λ z. HasWord (option_and_then (prefix_word q.Minus) z)) (sym u.1) (_, refl)
 prefix_worded q.Not y h u = subst (λ z. HasWord (option_and_then (prefix_word q.Not) z)) (sym u.1) (_, refl)
+prefix_worded _ y h u = absurd (false≢true h)
 
 quotient_worded : (c : Bool) (v : ℕ) → c ≡ false → HasWord (cond c None (Some v))
 quotient_worded true v h = absurd (false≢true (sym h))
@@ -141,10 +102,7 @@ worded (apply l m g es) bs k d n s f h =
     let t : Spot = behind_constant g s in
     let xs : List Point = constant_wrongs bs k s g in
     absurd ((in_second xs (at t.place m not_constant) (in_first (xs ++ at t.place m not_constant) _ h)).all)
-worded (text l x) bs k d n s f h = absurd h.all
-worded (query l) bs k d n s f h = absurd h.all
-worded (valof l c) bs k d n s f h = absurd h.all
-worded (table l es) bs k d n s f h = absurd h.all
+worded _ bs k d n s f h = absurd h.all
 
 constant_worded : (e : Expression) (bs : List Binding) (k d n : ℕ) (s : Spot) → Fits k d n bs → Safe k (constant bs k s e) → HasWord (constant_word bs e)
 constant_worded e bs k d n s f h = worded e bs k d n s f (in_first (constant_wrongs bs k s e) (its_word (constant_word bs e)) h)
@@ -169,44 +127,24 @@ Pushing (Destination b l) = ⊥
 Pushing _ = Unit {0}
 
 within_parens : (r : Role) → Pushing r → Pushing (parenthesised r)
-within_parens Value h = tt
-within_parens Truth h = tt
-within_parens (Address b l) h = tt
 within_parens (Destination b l) h = absurd h
+within_parens _ h = tt
 
 operand_pushing : (f : Prefix) (r : Role) (e : Expression) → Pushing (role_of_operand f r e)
 operand_pushing q.Not Value e = tt
-operand_pushing q.Not Truth e = tt
-operand_pushing q.Not (Address b l) e = tt
-operand_pushing q.Not (Destination b l) e = tt
-operand_pushing q.Address r e = tt
-operand_pushing q.Contents r e = tt
-operand_pushing q.Plus r e = tt
-operand_pushing q.Minus r e = tt
+operand_pushing _ _ e = tt
 
 operands_pushing : (f : Operator) (r : Role) → Pushing (role_of_operands f r)
-operands_pushing o.Both Value = tt
 operands_pushing o.Both Truth = tt
-operands_pushing o.Both (Address b l) = tt
-operands_pushing o.Both (Destination b l) = tt
-operands_pushing o.Either Value = tt
 operands_pushing o.Either Truth = tt
-operands_pushing o.Either (Address b l) = tt
-operands_pushing o.Either (Destination b l) = tt
 operands_pushing _ r = tt
 
 name_pushes : (r : Role) (p : Enclosing) (k : ℕ) (y : Option Bound) → Pushing r → Safe k (depth_named r p y) → 1 ≤ k → p.depth + 1 ≤ FRAME_WORDS
-name_pushes Value p k y u h t = h.all.0 t
-name_pushes Truth p k y u h t = h.all.0 t
-name_pushes (Address b l) p k y u h t = h.all.0 t
 name_pushes (Destination b l) p k y u h t = absurd u
+name_pushes _ p k y u h t = h.all.0 t
 
 pub pushes : (e : Expression) (r : Role) (bs : List Binding) (p : Enclosing) (s : Spot) (k : ℕ) → Pushing r → Safe k (told r bs p s e) → 1 ≤ k → p.depth + 1 ≤ FRAME_WORDS
 pushes (name l x) r bs p s k u h t = name_pushes r p k (bound_in bs x) u (in_second (used_at p.procedure s.place l x (bound_in bs x)) (depth_named r p (bound_in bs x)) h) t
-pushes (number l n) r bs p s k u h t = h.all.0 t
-pushes (text l x) r bs p s k u h t = h.all.0 t
-pushes (truth l b) r bs p s k u h t = h.all.0 t
-pushes (query l) r bs p s k u h t = h.all.0 t
 pushes (parens l e) r bs p s k u h t = pushes e (parenthesised r) bs p (past 1 s) k (within_parens r u) h t
 pushes (unary l f e) r bs p s k u h t = pushes e (role_of_operand f r e) bs p (past 1 s) k (operand_pushing f r e) (in_second (prefixed f bs (past 1 s) e) (told (role_of_operand f r e) bs p (past 1 s) e) h) t
 pushes (binary l f m a b) r bs p s k u h t =
@@ -220,18 +158,13 @@ pushes (apply l m e es) r bs p s k u h t =
 pushes (valof l c) r bs p s k u h t =
     (in_second (told_done (labels_in_scope p.procedure (s.number + 1) (labels_of c) bs) (labelled s.number (valued p)) (onward 1 (1 + length (labels_of c)) s) c) (pushed p 1) h).all.0 t
 pushes (table l es) r bs p s k u h t = (in_second (each_constant bs p.procedure (past 1 s) es) (pushed p 1) h).all.0 t
+pushes _ r bs p s k u h t = h.all.0 t
 
 -- the second operand, by its place
 second : (f : Operator) (r : Role) (p : Enclosing) (P : Enclosing → Type 0) → P p → P (deeper 1 p) → P (place_of_second f r p)
 second o.Both Truth p P a b = a
 second o.Either Truth p P a b = a
-second o.Both Value p P a b = b
-second o.Both (Address c l) p P a b = b
-second o.Both (Destination c l) p P a b = b
-second o.Either Value p P a b = b
-second o.Either (Address c l) p P a b = b
-second o.Either (Destination c l) p P a b = b
-second _ r p P a b = b
+second _ _ p P a b = b
 
 -- the procedure is the same behind declarations
 same_behind_starts : (is : Starts) (bs : List Binding) (p : Enclosing) → (place_behind bs p is).procedure ≡ p.procedure
@@ -241,8 +174,7 @@ same_behind_starts (vector l e is) bs p = same_behind_starts is bs (deeper (word
 
 same_behind_one_defined : (d : Definition) (bs : List Binding) (p : Enclosing) → (place_behind_one_defined bs p d).procedure ≡ p.procedure
 same_behind_one_defined (variables l xs is) bs p = same_behind_starts is bs p
-same_behind_one_defined (routine l x fs c) bs p = refl
-same_behind_one_defined (function l x fs e) bs p = refl
+same_behind_one_defined _ bs p = refl
 
 same_behind_defined : (ds : Definitions) (bs : List Binding) (p : Enclosing) → (place_behind_defined bs p ds).procedure ≡ p.procedure
 same_behind_defined no_definitions bs p = refl
@@ -269,8 +201,7 @@ grow_starts (vector l e is) bs p h =
 
 grow_one_defined : (d : Definition) (bs : List Binding) (p : Enclosing) → p.depth ≤ FRAME_WORDS + 1 → (p.depth ≤ (place_behind_one_defined bs p d).depth) × ((place_behind_one_defined bs p d).depth ≤ FRAME_WORDS + 1)
 grow_one_defined (variables l xs is) bs p h = grow_starts is bs p h
-grow_one_defined (routine l x fs c) bs p h = (omega arith, h)
-grow_one_defined (function l x fs e) bs p h = (omega arith, h)
+grow_one_defined _ bs p h = (omega arith, h)
 
 grow_defined : (ds : Definitions) (bs : List Binding) (p : Enclosing) → p.depth ≤ FRAME_WORDS + 1 → (p.depth ≤ (place_behind_defined bs p ds).depth) × ((place_behind_defined bs p ds).depth ≤ FRAME_WORDS + 1)
 grow_defined no_definitions bs p h = (omega arith, h)
@@ -281,10 +212,6 @@ grow_defined (define d ds) bs p h =
 
 -- VARIABLES OF A LET
 variables_fit : (is : Starts) (xs : List Mention) (bs : List Binding) (p : Enclosing) (s : Spot) (k n : ℕ) → k < n → p.procedure ≡ k → 2 ≤ p.depth → p.depth ≤ FRAME_WORDS + 1 → Safe k (told_started bs p s is) → Fits k (place_behind bs p is).depth n (variables_of bs p xs is)
-variables_fit no_starts [] bs p s k n a e two most h = tt
-variables_fit no_starts (x ∷ xs) bs p s k n a e two most h = tt
-variables_fit (value v is) [] bs p s k n a e two most h = tt
-variables_fit (vector l v is) [] bs p s k n a e two most h = tt
 variables_fit (value v is) (x ∷ xs) bs p s k n a e two most h =
     let g : ((deeper 1 p).depth ≤ (place_behind bs (deeper 1 p) is).depth) × ((place_behind bs (deeper 1 p) is).depth ≤ FRAME_WORDS + 1) = grow_starts is bs (deeper 1 p) (omega arith) in
     let rest : List Point = told_started bs (deeper 1 p) (behind v s) is in (
@@ -309,6 +236,8 @@ variables_fit (vector l v is) (x ∷ xs) bs p s k n a e two most h =
       ),
       variables_fit is xs bs (deeper (w + 1) p) (behind_constant v s) k n a e (omega (arith, two)) (omega arith) (in_second (ys ++ pushed p (w + 1)) rest h),
     )
+variables_fit no_starts (x ∷ xs) bs p s k n a e two most h = tt
+variables_fit _ [] bs p s k n a e two most h = tt
 
 let_fits : (ds : Definitions) (m : ℕ) (bs : List Binding) (p : Enclosing) (s : Spot) (k n : ℕ) → k < n → p.procedure ≡ k → 2 ≤ p.depth → p.depth ≤ FRAME_WORDS + 1 → Safe k (told_defined m bs p s ds) → Fits k (place_behind_defined bs p ds).depth n (variables_in_scope bs p ds)
 let_fits no_definitions m bs p s k n a e two most h = tt
@@ -330,12 +259,10 @@ let_fits (define (function l x fs c) ds) m bs p s k n a e two most h =
 manifest_sound : (is : Items) (m : ℕ) (bs : List Binding) (k d n : ℕ) (s : Spot) → Fits k d n bs → Safe k (manifest_items m bs k s is) → ManifestsSound bs is × Fits k d n (manifests_in_scope bs is)
 manifest_sound no_items m bs k d n s f h = (tt, f)
 manifest_sound (item l x e is) m bs k d n s f h =
-    let xs : List Point = one_of m s.place l x in
-    let ys : List Point = constant bs k (past 1 s) e in
     let cs : List Binding = bind x (Constant (constant_word bs e)) bs in
-    let zs : List Point = manifest_items m cs k (behind_constant e (past 1 s)) is in
-    let v : HasWord (constant_word bs e) = constant_worded e bs k d n (past 1 s) f (in_second xs ys (in_first (xs ++ ys) zs h)) in
-    let r : ManifestsSound cs is × Fits k d n (manifests_in_scope cs is) = manifest_sound is m cs k d n (behind_constant e (past 1 s)) (v, f) (in_second (xs ++ ys) zs h) in
+    let i = in_three (one_of m s.place l x) (constant bs k (past 1 s) e) _ h in
+    let v : HasWord (constant_word bs e) = constant_worded e bs k d n (past 1 s) f i.1 in
+    let r : ManifestsSound cs is × Fits k d n (manifests_in_scope cs is) = manifest_sound is m cs k d n (behind_constant e (past 1 s)) (v, f) i.2 in
     ((v, r.0), r.1)
 
 statics_fit : (is : Items) (k d n i : ℕ) (cs : List Binding) → Fits k d n cs → Fits k d n (statics_in_scope i is cs)
@@ -421,15 +348,13 @@ same_safe {xs = xs} z p e a = subst (λ k. Safe k xs) (sym e) a
 
 prefix_sound : (f : Prefix) (bs : List Binding) (s : Spot) (e : Expression) (k : ℕ) → Safe k (prefixed f bs s e) → PrefixSound f bs e
 prefix_sound q.Address bs s e k h = unless_true (addressed bs e) s.place (line_of e) not_assignable h
-prefix_sound q.Contents bs s e k h = tt
 prefix_sound _ bs s e k h = tt
 
 stands : (p : Enclosing) (n l : ℕ) (f : Simple) (k : ℕ) → Safe k (single_at p n l f) → Stands p f
-stands p n l w.Break k h = unless_true p.in_loop n l no_loop h
-stands p n l w.Loop k h = unless_true p.in_loop n l no_loop h
 stands p n l w.EndCase k h = unless_true p.in_switch n l no_switchon h
 stands p n l w.Return k h = unless_true p.in_routine n l no_result_or_return h
 stands p n l w.Finish k h = tt
+stands p n l _ k h = unless_true p.in_loop n l no_loop h
 
 case_in : (y : Option ℕ) (n l : ℕ) (v : Option ℕ) (k : ℕ) → Safe k (chosen_at y n l v) → (m : ℕ) × (y ≡ Some m)
 case_in None n l v k h = absurd h.all
@@ -492,12 +417,8 @@ callable_stays (define (function l y fs e) ds) n x bs h = callable_stays ds (n +
 callable_stays (define (variables l xs is) ds) n x bs h = callable_stays ds n x bs h
 
 global_callable : (y : Option Bound) (k d n : ℕ) → ((z : Bound) → y ≡ Some z → FitsBound k d n z) → is_global y ≡ true → Callable y
-global_callable None k d n f e = absurd (false≢true e)
 global_callable (Some (Global g)) k d n f e = f (Global g) refl
-global_callable (Some (Constant v)) k d n f e = absurd (false≢true e)
-global_callable (Some (Static i)) k d n f e = absurd (false≢true e)
-global_callable (Some (Variable j i)) k d n f e = absurd (false≢true e)
-global_callable (Some (Label j i)) k d n f e = absurd (false≢true e)
+global_callable _ k d n f e = absurd (false≢true e)
 
 callable_there : (g : Bool) (n : ℕ) (x : List ℕ) (bs : List Binding) → (g ≡ true → Callable (bound_in bs x)) → Callable (bound_in (cond g bs (bind x (Static n) bs)) x)
 callable_there true n x bs h = h refl
@@ -520,9 +441,8 @@ OneCallable (function l x fs e) bs = Callable (bound_in bs x)
 OneCallable (variables l xs is) bs = Unit {0}
 
 one_callable : (d : Definition) (ds : Definitions) (bs : List Binding) → AllCallable (define d ds) bs → OneCallable d bs × AllCallable ds bs
-one_callable (routine l x fs c) ds bs h = (h.0, h.1)
-one_callable (function l x fs e) ds bs h = (h.0, h.1)
 one_callable (variables l xs is) ds bs h = (tt, h)
+one_callable _ ds bs h = (h.0, h.1)
 
 -- inside a procedure with so many formals
 inner_around : (bs : List Binding) (k d : ℕ) (s : Spot) (fs : List Mention) (body : List Point) (n : ℕ) → Around bs k d s.number → FrameSound (length fs) body → s.number < n → Around (with_formals s.number 2 fs bs) s.number (kept (length fs + 2)) n
@@ -540,15 +460,10 @@ mutual
   pub sound : (e : Expression) (r : Role) (bs : List Binding) (p : Enclosing) (s : Spot) → Around bs p.procedure p.depth s.number → Safe p.procedure (told r bs p s e) → Sound r bs p s e
   sound (name l x) r bs p s a h =
       usable (bound_in bs x) p.procedure p.depth s.number s.place l x (λ z e. bound_fits p.procedure p.depth s.number bs x z a.fits e) (in_first (used_at p.procedure s.place l x (bound_in bs x)) (depth_named r p (bound_in bs x)) h)
-  sound (number l n) r bs p s a h = tt
-  sound (text l x) r bs p s a h = tt
-  sound (truth l b) r bs p s a h = tt
-  sound (query l) r bs p s a h = tt
   sound (parens l e) r bs p s a h = sound e (parenthesised r) bs p (past 1 s) (onto (past 1 s).number a (omega arith)) h
   sound (unary l f e) r bs p s a h =
-      let xs : List Point = prefixed f bs (past 1 s) e in
-      let ys : List Point = told (role_of_operand f r e) bs p (past 1 s) e in
-      (prefix_sound f bs (past 1 s) e p.procedure (in_first xs ys h), sound e (role_of_operand f r e) bs p (past 1 s) (onto (past 1 s).number a (omega arith)) (in_second xs ys h))
+      let i = in_both (prefixed f bs (past 1 s) e) _ h in
+      (prefix_sound f bs (past 1 s) e p.procedure i.0, sound e (role_of_operand f r e) bs p (past 1 s) (onto (past 1 s).number a (omega arith)) i.1)
   sound (binary l f m c d) r bs p s a h =
       let t : Role = role_of_operands f r in
       let u : Spot = past 1 (behind c s) in
@@ -561,83 +476,65 @@ mutual
   sound (choice l m c d e) r bs p s a h =
       let u : Spot = past 1 (behind c s) in
       let v : Spot = behind d u in
-      let xs : List Point = told Truth bs p s c in
-      let ys : List Point = told Value bs p u d in
-      let zs : List Point = told Value bs p v e in
-      (sound c Truth bs p s a (in_first xs ys (in_first (xs ++ ys) zs h)), sound d Value bs p u (onto u.number a (omega arith)) (in_second xs ys (in_first (xs ++ ys) zs h)), sound e Value bs p v (onto v.number a (omega arith)) (in_second (xs ++ ys) zs h))
+      let i = in_three (told Truth bs p s c) (told Value bs p u d) _ h in
+      (sound c Truth bs p s a i.0, sound d Value bs p u (onto u.number a (omega arith)) i.1, sound e Value bs p v (onto v.number a (omega arith)) i.2)
   sound (apply l m e es) r bs p s a h =
       let q : Enclosing = deeper (size es + 2) p in
       let u : Spot = past 1 (behind e s) in
-      let xs : List Point = told Value bs q s e in
-      let ys : List Point = told_each 1 bs (deeper 2 p) u es in
-      (sound e Value bs q s (below (size es + 2) s.number a (omega arith)) (in_first xs ys h), sound_each es 1 bs (deeper 2 p) u (below 2 u.number a (omega arith)) (in_second xs ys h))
+      let i = in_both (told Value bs q s e) _ h in
+      (sound e Value bs q s (below (size es + 2) s.number a (omega arith)) i.0, sound_each es 1 bs (deeper 2 p) u (below 2 u.number a (omega arith)) i.1)
   sound (valof l c) r bs p s a h =
       let cs : List Binding = labels_in_scope p.procedure (s.number + 1) (labels_of c) bs in
       let q : Enclosing = labelled s.number (valued p) in
       let u : Spot = onward 1 (1 + length (labels_of c)) s in
       sound_done c cs q u (all_go (labels_of c) p.procedure (s.number + 1) bs) (with_labels_around (s.number + 1) (labels_of c) (onto u.number a (omega arith))) (in_first (told_done cs q u c) (pushed p 1) h)
   sound (table l es) r bs p s a h = constants_worded es bs p.procedure p.depth s.number (past 1 s) a.fits (in_first (each_constant bs p.procedure (past 1 s) es) (pushed p 1) h)
+  sound _ r bs p s a h = tt
 
   pub sound_each : (es : Expressions) (n : ℕ) (bs : List Binding) (p : Enclosing) (s : Spot) → Around bs p.procedure p.depth s.number → Safe p.procedure (told_each n bs p s es) → SoundEach n bs p s es
   sound_each none n bs p s a h = tt
   sound_each (more e es) n bs p s a h =
-      let xs : List Point = told Value bs p s e in
-      let ys : List Point = told_each n bs (deeper n p) (behind e s) es in
-      (sound e Value bs p s a (in_first xs ys h), sound_each es n bs (deeper n p) (behind e s) (below n (behind e s).number a (omega arith)) (in_second xs ys h))
+      (sound e Value bs p s a (in_first _ _ h), sound_each es n bs (deeper n p) (behind e s) (below n (behind e s).number a (omega arith)) (in_second _ _ h))
 
   pub sound_destinations : (es : Expressions) (bs : List Binding) (p : Enclosing) (s : Spot) → Around bs p.procedure p.depth s.number → Safe p.procedure (told_destinations bs p s es) → SoundDestinations bs p s es
   sound_destinations none bs p s a h = tt
   sound_destinations (more e es) bs p s a h =
-      let xs : List Point = unless (assigned bs e) (at s.place (line_of e) not_assignable) in
-      let ys : List Point = told (Destination false (line_of e)) bs p s e in
-      let zs : List Point = told_destinations bs p (behind e s) es in (
-        unless_true (assigned bs e) s.place (line_of e) not_assignable (in_first xs ys (in_first (xs ++ ys) zs h)),
-        sound e (Destination false (line_of e)) bs p s a (in_second xs ys (in_first (xs ++ ys) zs h)),
-        sound_destinations es bs p (behind e s) (onto (behind e s).number a (omega arith)) (in_second (xs ++ ys) zs h),
+      let i = in_three (unless (assigned bs e) (at s.place (line_of e) not_assignable)) (told (Destination false (line_of e)) bs p s e) _ h in (
+        unless_true (assigned bs e) s.place (line_of e) not_assignable i.0,
+        sound e (Destination false (line_of e)) bs p s a i.1,
+        sound_destinations es bs p (behind e s) (onto (behind e s).number a (omega arith)) i.2,
       )
 
   pub sound_done : (c : Action) (bs : List Binding) (p : Enclosing) (s : Spot) → AllGo p.procedure (labels_of c) bs → Around bs p.procedure p.depth s.number → Safe p.procedure (told_done bs p s c) → SoundDone bs p s c
   sound_done empty bs p s g a h = tt
   sound_done (assign l us es) bs p s g a h =
-      let xs : List Point = told_destinations bs (deeper 1 p) s us in
-      let ys : List Point = told_each 0 bs p (behind_each us s) es in
-      (sound_destinations us bs (deeper 1 p) s (below 1 s.number a (omega arith)) (in_first xs ys h), sound_each es 0 bs p (behind_each us s) (onto (behind_each us s).number a (omega arith)) (in_second xs ys h))
+      let i = in_both (told_destinations bs (deeper 1 p) s us) _ h in
+      (sound_destinations us bs (deeper 1 p) s (below 1 s.number a (omega arith)) i.0, sound_each es 0 bs p (behind_each us s) (onto (behind_each us s).number a (omega arith)) i.1)
   sound_done (call l e es) bs p s g a h =
       let q : Enclosing = deeper (size es + 2) p in
-      let xs : List Point = told Value bs q s e in
-      let ys : List Point = told_each 1 bs (deeper 2 p) (behind e s) es in
-      (sound e Value bs q s (below (size es + 2) s.number a (omega arith)) (in_first xs ys h), sound_each es 1 bs (deeper 2 p) (behind e s) (below 2 (behind e s).number a (omega arith)) (in_second xs ys h))
+      let i = in_both (told Value bs q s e) _ h in
+      (sound e Value bs q s (below (size es + 2) s.number a (omega arith)) i.0, sound_each es 1 bs (deeper 2 p) (behind e s) (below 2 (behind e s).number a (omega arith)) i.1)
   sound_done (goto l x) bs p s g a h = goes (bound_in bs x.letters) p.procedure s.place x.line x.letters h
   sound_done (label l x c) bs p s g a h =
       let xs : List Point = one_of p.labels s.place l x ++ its_meaning (bound_in bs x) in
       (g.0, sound_done c bs p (past 1 s) g.1 (onto (past 1 s).number a (omega arith)) (in_second xs (told_done bs p (past 1 s) c) h))
   sound_done (case_of l e c) bs p s g a h =
-      let xs : List Point = chosen_at p.switch s.place l (constant_word bs e) in
-      let ys : List Point = constant bs p.procedure (past 1 s) e in
       let u : Spot = behind_constant e (past 1 s) in
-      let zs : List Point = told_done bs p u c in (
-        case_in p.switch s.place l (constant_word bs e) p.procedure (in_first xs ys (in_first (xs ++ ys) zs h)),
-        constant_worded e bs p.procedure p.depth s.number (past 1 s) a.fits (in_second xs ys (in_first (xs ++ ys) zs h)),
-        sound_done c bs p u g (onto u.number a (omega arith)) (in_second (xs ++ ys) zs h),
+      let i = in_three (chosen_at p.switch s.place l (constant_word bs e)) (constant bs p.procedure (past 1 s) e) _ h in (
+        case_in p.switch s.place l (constant_word bs e) p.procedure i.0,
+        constant_worded e bs p.procedure p.depth s.number (past 1 s) a.fits i.1,
+        sound_done c bs p u g (onto u.number a (omega arith)) i.2,
       )
   sound_done (default l c) bs p s g a h =
-      let xs : List Point = defaulted_at p.switch s.place l in
-      let zs : List Point = told_done bs p (past 1 s) c in
-      (default_in p.switch s.place l p.procedure (in_first xs zs h), sound_done c bs p (past 1 s) g (onto (past 1 s).number a (omega arith)) (in_second xs zs h))
+      (default_in p.switch s.place l p.procedure (in_first _ _ h), sound_done c bs p (past 1 s) g (onto (past 1 s).number a (omega arith)) (in_second _ _ h))
   sound_done (when l b e c) bs p s g a h =
-      let xs : List Point = told Truth bs p s e in
-      let zs : List Point = told_done bs p (behind e s) c in
-      (sound e Truth bs p s a (in_first xs zs h), sound_done c bs p (behind e s) g (onto (behind e s).number a (omega arith)) (in_second xs zs h))
+      (sound e Truth bs p s a (in_first _ _ h), sound_done c bs p (behind e s) g (onto (behind e s).number a (omega arith)) (in_second _ _ h))
   sound_done (test l e c d) bs p s g a h =
       let u : Spot = behind_done c (behind e s) in
-      let xs : List Point = told Truth bs p s e in
-      let ys : List Point = told_done bs p (behind e s) c in
-      let zs : List Point = told_done bs p u d in
-      (sound e Truth bs p s a (in_first xs ys (in_first (xs ++ ys) zs h)), sound_done c bs p (behind e s) (go_first p.procedure (labels_of c) (labels_of d) bs g) (onto (behind e s).number a (omega arith)) (in_second xs ys (in_first (xs ++ ys) zs h)), sound_done d bs p u (go_second p.procedure (labels_of c) (labels_of d) bs g) (onto u.number a (omega arith)) (in_second (xs ++ ys) zs h))
+      let i = in_three (told Truth bs p s e) (told_done bs p (behind e s) c) _ h in
+      (sound e Truth bs p s a i.0, sound_done c bs p (behind e s) (go_first p.procedure (labels_of c) (labels_of d) bs g) (onto (behind e s).number a (omega arith)) i.1, sound_done d bs p u (go_second p.procedure (labels_of c) (labels_of d) bs g) (onto u.number a (omega arith)) i.2)
   sound_done (while l b e c) bs p s g a h =
-      let xs : List Point = told Truth bs p s e in
-      let zs : List Point = told_done bs (looping p) (behind e s) c in
-      (sound e Truth bs p s a (in_first xs zs h), sound_done c bs (looping p) (behind e s) g (onto (behind e s).number a (omega arith)) (in_second xs zs h))
+      (sound e Truth bs p s a (in_first _ _ h), sound_done c bs (looping p) (behind e s) g (onto (behind e s).number a (omega arith)) (in_second _ _ h))
   sound_done (for_loop l x b c d e) bs p s g a h =
       let u : Spot = behind b s in
       let v : Spot = behind c u in
@@ -667,13 +564,10 @@ mutual
   sound_done (switch l e c) bs p s g a h =
       let u : Spot = numbered 1 (behind e s) in
       let q : Enclosing = switching (behind e s).number p in
-      let xs : List Point = told Value bs p s e in
-      let zs : List Point = told_done bs q u c in
-      (sound e Value bs p s a (in_first xs zs h), sound_done c bs q u g (onto u.number a (omega arith)) (in_second xs zs h))
+      (sound e Value bs p s a (in_first _ _ h), sound_done c bs q u g (onto u.number a (omega arith)) (in_second _ _ h))
   sound_done (result l e) bs p s g a h =
-      let xs : List Point = unless p.in_valof (at s.place l no_result_or_return) in
-      let zs : List Point = told Value bs p (past 1 s) e in
-      (unless_true p.in_valof s.place l no_result_or_return (in_first xs zs h), sound e Value bs p (past 1 s) (onto (past 1 s).number a (omega arith)) (in_second xs zs h))
+      let i = in_both (unless p.in_valof (at s.place l no_result_or_return)) _ h in
+      (unless_true p.in_valof s.place l no_result_or_return i.0, sound e Value bs p (past 1 s) (onto (past 1 s).number a (omega arith)) i.1)
   sound_done (simple l f) bs p s g a h = stands p s.place l f p.procedure h
   sound_done (block l no_declarations cs) bs p s g a h = sound_done_each cs bs p s g a h
   sound_done (block l (declare d ds) cs) bs p s g a h =
@@ -697,16 +591,14 @@ mutual
       )
   sound_done (repeat l c) bs p s g a h = sound_done c bs (looping p) s g a h
   sound_done (repeat_while l b c e) bs p s g a h =
-      let xs : List Point = told_done bs (looping p) s c in
-      let zs : List Point = told Truth bs p (behind_done c s) e in
-      (sound_done c bs (looping p) s g a (in_first xs zs h), sound e Truth bs p (behind_done c s) (onto (behind_done c s).number a (omega arith)) (in_second xs zs h))
+      let i = in_both (told_done bs (looping p) s c) _ h in
+      (sound_done c bs (looping p) s g a i.0, sound e Truth bs p (behind_done c s) (onto (behind_done c s).number a (omega arith)) i.1)
 
   pub sound_done_each : (cs : Actions) (bs : List Binding) (p : Enclosing) (s : Spot) → AllGo p.procedure (labels_of_each cs) bs → Around bs p.procedure p.depth s.number → Safe p.procedure (told_done_each bs p s cs) → SoundDoneEach bs p s cs
   sound_done_each no_actions bs p s g a h = tt
   sound_done_each (also c cs) bs p s g a h =
-      let xs : List Point = told_done bs p s c in
-      let zs : List Point = told_done_each bs p (behind_done c s) cs in
-      (sound_done c bs p s (go_first p.procedure (labels_of c) (labels_of_each cs) bs g) a (in_first xs zs h), sound_done_each cs bs p (behind_done c s) (go_second p.procedure (labels_of c) (labels_of_each cs) bs g) (onto (behind_done c s).number a (omega arith)) (in_second xs zs h))
+      let i = in_both (told_done bs p s c) _ h in
+      (sound_done c bs p s (go_first p.procedure (labels_of c) (labels_of_each cs) bs g) a i.0, sound_done_each cs bs p (behind_done c s) (go_second p.procedure (labels_of c) (labels_of_each cs) bs g) (onto (behind_done c s).number a (omega arith)) i.1)
 
   pub sound_declared : (ds : Declarations) (bs : List Binding) (p : Enclosing) (s : Spot) → Around bs p.procedure p.depth s.number → Safe p.procedure (told_declared bs p s ds) → SoundDeclared bs p s ds
   sound_declared no_declarations bs p s a h = tt
@@ -714,10 +606,9 @@ mutual
       let v : Spot = behind_one_declared d s in
       let z : Enclosing = place_behind_one bs p s d in
       let cs : List Binding = scope_behind_one bs p s d in
-      let xs : List Point = told_one_declared bs p s d in
-      let ys : List Point = told_declared cs z v ds in
+      let i = in_both (told_one_declared bs p s d) _ h in
       let same : z.procedure ≡ p.procedure = same_behind_one d bs p s in
-      (sound_one_declared d bs p s a (in_first xs ys h), sound_declared ds cs z v (same_around z p same (behind_one_around d bs p s p.procedure v.number refl (omega arith) a (in_first xs ys h))) (same_safe z p same (in_second xs ys h)))
+      (sound_one_declared d bs p s a i.0, sound_declared ds cs z v (same_around z p same (behind_one_around d bs p s p.procedure v.number refl (omega arith) a i.0)) (same_safe z p same i.1))
 
   pub sound_one_declared : (d : Declaration) (bs : List Binding) (p : Enclosing) (s : Spot) → Around bs p.procedure p.depth s.number → Safe p.procedure (told_one_declared bs p s d) → SoundOneDeclared bs p s d
   sound_one_declared (constants l sort.Manifest is) bs p s a h = (manifest_sound is s.number bs p.procedure p.depth s.number (numbered 1 s) a.fits h).0
@@ -760,9 +651,7 @@ mutual
   pub sound_started : (is : Starts) (bs : List Binding) (p : Enclosing) (s : Spot) → Around bs p.procedure p.depth s.number → Safe p.procedure (told_started bs p s is) → SoundStarted bs p s is
   sound_started no_starts bs p s a h = tt
   sound_started (value e is) bs p s a h =
-      let xs : List Point = told Value bs p s e in
-      let ys : List Point = told_started bs (deeper 1 p) (behind e s) is in
-      (sound e Value bs p s a (in_first xs ys h), sound_started is bs (deeper 1 p) (behind e s) (below 1 (behind e s).number a (omega arith)) (in_second xs ys h))
+      (sound e Value bs p s a (in_first _ _ h), sound_started is bs (deeper 1 p) (behind e s) (below 1 (behind e s).number a (omega arith)) (in_second _ _ h))
   sound_started (vector l e is) bs p s a h =
       let v : ℕ = words_of_start bs e in
       let us : List Point = constant bs p.procedure s e in

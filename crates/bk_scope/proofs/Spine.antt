@@ -1,22 +1,5 @@
 -- Where an expression begins with a name that is wrong, that comes before all else there, and before `not assignable`.
-use Rattle.std.proofs.Common.{◌≡◌, ℕ, ◌+◌, ◌*◌, ◌<◌, ◌==◌, Bool, true, false, cond, not, Option, Some, None, List, [], ◌∷◌, ◌++◌, refl, sym, ap, subst, arith}
-use Rattle.std.specs.Prelude.{nat_lt}
-use Rattle.std.proofs.lemmas.Bool.{eqb-true, eqb-false, lt-ltb, ltb-true, false≢true}
-use Rattle.bk_tree.specs.Tree.{Expression, name, number, text, truth, query, parens, unary, binary, choice, apply, valof, table}
-use Rattle.bk_tree.specs.Parts.{size}
-use Rattle.bk_scope.specs.declared.bound.Bound.{Bound}
-use Rattle.bk_scope.specs.declared.bound.Bound.TheVariants.{Constant, Global, Static, Variable, Label}
-use Rattle.bk_scope.specs.declared.place.Enclosing.{Enclosing}
-use Rattle.bk_scope.specs.declared.role.Role.{Role}
-use Rattle.bk_scope.specs.declared.role.Role.TheVariants.{Value, Truth}
-use Rattle.bk_scope.specs.Scope.{Binding, bound_in}
-use Rattle.bk_scope.specs.Wrong.{not_assignable}
-use Rattle.bk_scope.specs.Found.{Claim}
-use Rattle.bk_scope.specs.Places.{deeper}
-use Rattle.bk_scope.specs.Names.{is_usable, begins_wrong, role_of_operands}
-use Rattle.bk_scope.specs.Spots.{Spot, past, behind}
-use Rattle.bk_scope.specs.Points.{Fault, Point, number_of, comes_before, put, in_order, judged, claims_behind, first_told}
-use Rattle.bk_scope.specs.Faults.{used_at, depth_named, told}
+use Rattle.bk_scope.proofs.Terms.{◌≡◌, ℕ, ◌+◌, ◌*◌, ◌<◌, ◌==◌, Bool, true, false, cond, not, Option, Some, None, List, [], ◌∷◌, ◌++◌, refl, sym, ap, subst, arith, nat_lt, eqb-true, eqb-false, lt-ltb, ltb-true, false≢true, Expression, name, number, text, truth, query, parens, unary, binary, choice, apply, valof, table, size, Bound, Constant, Global, Static, Variable, Label, Enclosing, Role, Value, Truth, Binding, bound_in, not_assignable, Claim, deeper, is_usable, begins_wrong, role_of_operands, Spot, past, behind, Fault, Point, number_of, comes_before, put, in_order, judged, claims_behind, first_told, used_at, depth_named, told}
 use Rattle.bk_scope.proofs.Lists.{key, below_32, judged_append}
 
 -- the first of some faults stands at this place, with a number below that of `not assignable`
@@ -40,9 +23,7 @@ name_early : (y : Option Bound) (k n l : ℕ) (x : List ℕ) (us : List Point) (
 name_early None k n l x us cs h = record { one = _; rest = _; are = refl; early = omega arith }
 name_early (Some (Label j m)) k n l x us cs h = record { one = _; rest = _; are = refl; early = omega arith }
 name_early (Some (Variable j d)) k n l x us cs h = variable_early (j == k) k n l x j d us cs refl h
-name_early (Some (Constant w)) k n l x us cs h = absurd (false≢true h)
-name_early (Some (Global w)) k n l x us cs h = absurd (false≢true h)
-name_early (Some (Static w)) k n l x us cs h = absurd (false≢true h)
+name_early (Some _) k n l x us cs h = absurd (false≢true h)
 
 pub begins_early : (e : Expression) (r : Role) (bs : List Binding) (p : Enclosing) (s : Spot) (cs : List Claim) → begins_wrong bs p.procedure e ≡ true → Early s.place (judged cs (told r bs p s e))
 begins_early (name l x) r bs p s cs h = name_early (bound_in bs x) p.procedure s.place l x (depth_named r p (bound_in bs x)) cs h
@@ -51,14 +32,7 @@ begins_early (choice l m c a b) r bs p s cs h =
     early_before s.place cs (told Truth bs p s c ++ told Value bs p (past 1 (behind c s)) a) (told Value bs p (behind a (past 1 (behind c s))) b)
     (early_before s.place cs (told Truth bs p s c) (told Value bs p (past 1 (behind c s)) a) (begins_early c Truth bs p s cs h))
 begins_early (apply l m a es) r bs p s cs h = early_before s.place cs (told Value bs (deeper (size es + 2) p) s a) _ (begins_early a Value bs (deeper (size es + 2) p) s cs h)
-begins_early (number l n) r bs p s cs h = absurd (false≢true h)
-begins_early (text l n) r bs p s cs h = absurd (false≢true h)
-begins_early (truth l n) r bs p s cs h = absurd (false≢true h)
-begins_early (query l) r bs p s cs h = absurd (false≢true h)
-begins_early (parens l e) r bs p s cs h = absurd (false≢true h)
-begins_early (unary l q e) r bs p s cs h = absurd (false≢true h)
-begins_early (valof l c) r bs p s cs h = absurd (false≢true h)
-begins_early (table l es) r bs p s cs h = absurd (false≢true h)
+begins_early _ r bs p s cs h = absurd (false≢true h)
 
 -- in order
 before_by : (q : Bool) (f g : Fault) → (f.place == g.place) ≡ q → key f < key g → cond q (nat_lt (number_of f.wrong) (number_of g.wrong)) (nat_lt f.place g.place) ≡ true

@@ -1,29 +1,5 @@
 -- Where each part's faults stand: from its first symbol on, before what follows.
-use Rattle.std.proofs.Common.{ℕ, ◌+◌, ◌≤◌, ◌==◌, Bool, true, false, cond, Option, Some, None, List, [], ◌∷◌, ◌++◌, length, arith}
-use Rattle.std.specs.Prelude.{nat_lt}
-use Rattle.bk_base.specs.declared.limit.TheConstants.{GLOBAL_NUMBER, VEC_NUMBER}
-use Rattle.bk_tree.specs.declared.tree.Prefix.{Prefix}
-use Rattle.bk_tree.specs.declared.tree.Prefix.TheVariants as q
-use Rattle.bk_tree.specs.declared.tree.Simple.{Simple}
-use Rattle.bk_tree.specs.declared.tree.Simple.TheVariants as w
-use Rattle.bk_tree.specs.declared.tree.Sort.TheVariants as sort
-use Rattle.bk_tree.specs.Tree.{Expression, Expressions, Action, Actions, Declaration, Declarations, Items, Definition, Definitions, Starts, name, number, text, truth, query, parens, unary, binary, choice, apply, valof, table, none, more, empty, assign, call, goto, label, case_of, default, when, test, while, for_loop, switch, result, simple, block, repeat, repeat_while, no_actions, also, constants, definitions, no_declarations, declare, no_items, item, routine, function, variables, no_definitions, define, no_starts, value, vector}
-use Rattle.bk_tree.specs.Parts.{line_of, size}
-use Rattle.bk_scope.specs.declared.bound.Bound.{Bound}
-use Rattle.bk_scope.specs.declared.bound.Bound.TheVariants.{Constant, Global, Static, Variable, Label}
-use Rattle.bk_scope.specs.declared.place.Enclosing.{Enclosing}
-use Rattle.bk_scope.specs.declared.role.Role.{Role}
-use Rattle.bk_scope.specs.declared.role.Role.TheVariants.{Value, Truth, Address, Destination}
-use Rattle.bk_scope.specs.Scope.{Binding, bound_in, bind, has_address}
-use Rattle.bk_scope.specs.Wrong.{Wrong, text_of, dynamic_name, label_not_here, no_switchon, no_loop, no_result_or_return, not_assignable, global_out_of_range, vec_out_of_range}
-use Rattle.bk_scope.specs.Constants.{constant_word}
-use Rattle.bk_scope.specs.Places.{deeper, looping, switching, labelled, valued, called}
-use Rattle.bk_scope.specs.Entering.{labels_of, labels_of_each, with_formals}
-use Rattle.bk_scope.specs.Names.{parenthesised, role_of_operand, role_of_operands, place_of_second, words_of_start}
-use Rattle.bk_scope.specs.Spots.{Spot, procedures_in, onward, past, numbered, behind, behind_each, behind_done, behind_declared, behind_one_declared, behind_one_defined, behind_constant, symbols, symbols_each, symbols_done, symbols_done_each, symbols_declared, symbols_one_declared, symbols_items, symbols_defined, symbols_one_defined, symbols_started}
-use Rattle.bk_scope.specs.Points.{at, meaning}
-use Rattle.bk_scope.specs.Scoping.{labels_in_scope, procedures_in_scope, place_behind_one_defined, scope_behind_one, place_behind_one, scope_behind, place_behind_all}
-use Rattle.bk_scope.specs.Faults.{unless, used_at, gone_to, at_most, addressed, assigned, prefixed, depth_named, pushed, chosen_at, defaulted_at, single_at, its_meaning, manifest_items, static_items, global_items, told, told_each, told_destinations, told_done, told_done_each, told_declared, told_one_declared, told_defined, told_one_defined, told_started}
+use Rattle.bk_scope.proofs.Terms.{ℕ, ◌+◌, ◌≤◌, ◌==◌, Bool, true, false, cond, Option, Some, None, List, [], ◌∷◌, ◌++◌, length, arith, nat_lt, GLOBAL_NUMBER, VEC_NUMBER, Prefix, Prefix as q, Simple, Simple as w, Sort as sort, Expression, Expressions, Action, Actions, Declaration, Declarations, Items, Definition, Definitions, Starts, name, number, text, truth, query, parens, unary, binary, choice, apply, valof, table, none, more, empty, assign, call, goto, label, case_of, default, when, test, while, for_loop, switch, result, simple, block, repeat, repeat_while, no_actions, also, constants, definitions, no_declarations, declare, no_items, item, routine, function, variables, no_definitions, define, no_starts, value, vector, line_of, size, Bound, Constant, Global, Static, Variable, Label, Enclosing, Role, Value, Truth, Address, Destination, Binding, bound_in, bind, has_address, Wrong, text_of, dynamic_name, label_not_here, no_switchon, no_loop, no_result_or_return, not_assignable, global_out_of_range, vec_out_of_range, constant_word, deeper, looping, switching, labelled, valued, called, labels_of, labels_of_each, with_formals, parenthesised, role_of_operand, role_of_operands, place_of_second, words_of_start, Spot, procedures_in, onward, past, numbered, behind, behind_each, behind_done, behind_declared, behind_one_declared, behind_one_defined, behind_constant, symbols, symbols_each, symbols_done, symbols_done_each, symbols_declared, symbols_one_declared, symbols_items, symbols_defined, symbols_one_defined, symbols_started, at, meaning, labels_in_scope, procedures_in_scope, place_behind_one_defined, scope_behind_one, place_behind_one, scope_behind, place_behind_all, unless, used_at, gone_to, at_most, addressed, assigned, prefixed, depth_named, pushed, chosen_at, defaulted_at, single_at, its_meaning, manifest_items, static_items, global_items, told, told_each, told_destinations, told_done, told_done_each, told_declared, told_one_declared, told_defined, told_one_defined, told_started}
 use Rattle.bk_scope.proofs.Tied.{Spans, both, among, wider}
 use Rattle.bk_scope.proofs.Scopes.{no_span, pushed_spans}
 use Rattle.bk_scope.proofs.Procedures.{one_spans, each_spans, procedure_spans}
@@ -54,17 +30,12 @@ pub used_spans : (k n l : ℕ) (x : List ℕ) (y : Option Bound) → Spans n (n 
 used_spans k n l x None = at_spans n l _
 used_spans k n l x (Some (Variable j d)) = variable_spans (j == k) n l j d (dynamic_name (text_of x))
 used_spans k n l x (Some (Label j m)) = at_spans n l _
-used_spans k n l x (Some (Constant v)) = record { inside = tt }
-used_spans k n l x (Some (Global g)) = record { inside = tt }
-used_spans k n l x (Some (Static m)) = record { inside = tt }
+used_spans k n l x (Some _) = record { inside = tt }
 
 pub gone_spans : (k n l : ℕ) (x : List ℕ) (y : Option Bound) → Spans n (n + 1) (gone_to k n l x y)
-gone_spans k n l x None = at_spans n l _
 gone_spans k n l x (Some (Label j m)) = label_spans (j == k) n l j m (label_not_here (text_of x))
 gone_spans k n l x (Some (Variable j d)) = among (unless_spans (j == k) n l (dynamic_name (text_of x))) (at_spans n l (label_not_here (text_of x)))
-gone_spans k n l x (Some (Constant v)) = at_spans n l _
-gone_spans k n l x (Some (Global g)) = at_spans n l _
-gone_spans k n l x (Some (Static m)) = at_spans n l _
+gone_spans k n l x _ = at_spans n l _
 
 unless_depth : (b : Bool) (n d : ℕ) (p : Enclosing) → Spans n n (unless b (pushed p d))
 unless_depth true n d p = record { inside = tt }
@@ -72,9 +43,7 @@ unless_depth false n d p = record { inside = tt }
 
 pub depth_spans : (r : Role) (n : ℕ) (p : Enclosing) (y : Option Bound) → Spans n n (depth_named r p y)
 depth_spans (Destination b l) n p y = unless_depth (has_address y) n 1 p
-depth_spans Value n p y = record { inside = tt }
-depth_spans Truth n p y = record { inside = tt }
-depth_spans (Address b l) n p y = record { inside = tt }
+depth_spans _ n p y = record { inside = tt }
 
 pub most_spans : (most n l : ℕ) (w : Wrong) (v : Option ℕ) → Spans n (n + 1) (at_most most n l w v)
 most_spans most n l w None = nothing_spans n (n + 1) (omega arith)
@@ -82,10 +51,7 @@ most_spans most n l w (Some v) = when_spans (nat_lt most v) n l w
 
 pub prefixed_spans : (f : Prefix) (bs : List Binding) (s : Spot) (e : Expression) → Spans s.place (s.place + 1) (prefixed f bs s e)
 prefixed_spans q.Address bs s e = unless_spans (addressed bs e) s.place (line_of e) not_assignable
-prefixed_spans q.Contents bs s e = nothing_spans _ _ (omega arith)
-prefixed_spans q.Plus bs s e = nothing_spans _ _ (omega arith)
-prefixed_spans q.Minus bs s e = nothing_spans _ _ (omega arith)
-prefixed_spans q.Not bs s e = nothing_spans _ _ (omega arith)
+prefixed_spans _ bs s e = nothing_spans _ _ (omega arith)
 
 pub chosen_spans : (m : Option ℕ) (n l : ℕ) (v : Option ℕ) → Spans n (n + 1) (chosen_at m n l v)
 chosen_spans None n l v = at_spans n l no_switchon
@@ -97,11 +63,10 @@ defaulted_spans None n l = at_spans n l no_switchon
 defaulted_spans (Some m) n l = record { inside = (omega arith, omega arith, tt) }
 
 pub single_spans : (p : Enclosing) (n l : ℕ) (f : Simple) → Spans n (n + 1) (single_at p n l f)
-single_spans p n l w.Break = unless_spans p.in_loop n l no_loop
-single_spans p n l w.Loop = unless_spans p.in_loop n l no_loop
 single_spans p n l w.EndCase = unless_spans p.in_switch n l no_switchon
 single_spans p n l w.Return = unless_spans p.in_routine n l no_result_or_return
 single_spans p n l w.Finish = nothing_spans n (n + 1) (omega arith)
+single_spans p n l _ = unless_spans p.in_loop n l no_loop
 
 -- items
 pub manifest_spans : (is : Items) (m : ℕ) (bs : List Binding) (k : ℕ) (s : Spot) → Spans s.place (s.place + symbols_items is) (manifest_items m bs k s is)
@@ -130,10 +95,6 @@ global_spans (item l x e is) m bs k s =
 mutual
   pub inside : (e : Expression) (r : Role) (bs : List Binding) (p : Enclosing) (s : Spot) → Spans s.place (s.place + symbols e) (told r bs p s e)
   inside (name l x) r bs p s = both (used_spans p.procedure s.place l x (bound_in bs x)) (depth_spans r (s.place + 1) p (bound_in bs x)) (omega arith) (omega arith)
-  inside (number l n) r bs p s = wider _ _ (pushed_spans s.place p 1) (omega arith) (omega arith)
-  inside (text l x) r bs p s = wider _ _ (pushed_spans s.place p 1) (omega arith) (omega arith)
-  inside (truth l b) r bs p s = wider _ _ (pushed_spans s.place p 1) (omega arith) (omega arith)
-  inside (query l) r bs p s = wider _ _ (pushed_spans s.place p 1) (omega arith) (omega arith)
   inside (parens l e) r bs p s = wider _ _ (inside e (parenthesised r) bs p (past 1 s)) (omega arith) (omega arith)
   inside (unary l f e) r bs p s =
       let one : 1 ≤ symbols e = has_symbol e in
@@ -150,6 +111,7 @@ mutual
       wider _ _ (both (done_inside c (labels_in_scope p.procedure (s.number + 1) (labels_of c) bs) (labelled s.number (valued p)) u) (pushed_spans (u.place + symbols_done c) p 1) (omega arith) (omega arith)) (omega arith) (omega arith)
   inside (table l es) r bs p s =
       wider _ _ (both (each_constant_spans es bs p.procedure (past 1 s)) (pushed_spans (s.place + 1 + symbols_each es) p 1) (omega arith) (omega arith)) (omega arith) (omega arith)
+  inside _ r bs p s = wider _ _ (pushed_spans s.place p 1) (omega arith) (omega arith)
 
   pub each_inside : (es : Expressions) (n : ℕ) (bs : List Binding) (p : Enclosing) (s : Spot) → Spans s.place (s.place + symbols_each es) (told_each n bs p s es)
   each_inside none n bs p s = nothing_spans _ _ (omega arith)

@@ -1,19 +1,6 @@
 -- The steps of a table of names: one binding more, one less, and what stands at a name's place.
-use Rattle.std.proofs.Common.{◌≡◌, ℕ, ◌+◌, ◌-◌, ◌<◌, Bool, true, false, cond, Option, Some, None, List, [], ◌∷◌, ◌++◌, map, length, drop, get_or, refl, sym, ap, ◌∙◌, subst, ⊎_elim, arith, rules, IsSome}
-use Rattle.std.specs.Prelude.{reverse}
-use Rattle.std.specs.Option.{option_flatten}
-use Rattle.std.specs.Str.{bytes_eq}
-use Rattle.std.specs.BTreeMap.{get_by, UpdatesBy}
-use Rattle.std.specs.Map.{lookup}
-use Rattle.std.proofs.lemmas.Bool.{cases_Bool, cond-true, cond-false}
-use Rattle.std.proofs.lemmas.List.{reverse-append, length-map, length-reverse, length-drop, drop-drop, reverse-reverse, get_or_at, get_or_append_left}
-use Rattle.std.proofs.lemmas.Slice.Eq.{bytes_eq-Decides}
-use Rattle.bk_scope.specs.Scope.{Binding, bound_in}
-use Rattle.bk_scope.specs.declared.name_key.NameKey.{NameKey}
-use Rattle.bk_scope.specs.declared.table.Entry.{Entry}
+use Rattle.bk_scope.proofs.Terms.{◌≡◌, ℕ, ◌+◌, ◌-◌, ◌<◌, Bool, true, false, cond, Option, Some, None, List, [], ◌∷◌, ◌++◌, map, length, drop, get_or, refl, sym, ap, ◌∙◌, subst, ⊎_elim, arith, rules, IsSome, reverse, option_flatten, bytes_eq, get_by, UpdatesBy, lookup, cases_Bool, cond-true, cond-false, reverse-append, length-map, length-reverse, length-drop, drop-drop, reverse-reverse, get_or_at, get_or_append_left, bytes_eq-Decides, Binding, bound_in, NameKey, Entry, binding_of, scope_of, place_in, HaveHidden, mapped_place, IsTable, cmp-value}
 use Rattle.bk_scope.specs.declared.table.Table.TheInside.{Inside}
-use Rattle.bk_scope.specs.TableView.{binding_of, scope_of, place_in, HaveHidden, mapped_place, IsTable}
-use Rattle.bk_scope.specs.contracts.name_key.NameKeyOrd.TheImpl.{cmp-value}
 use Rattle.bk_scope.proofs.Keys.{found_by_letters, updates_letters}
 
 scope_of-push : (es : List Entry) (e : Entry) → scope_of (es ++ e ∷ []) ≡ binding_of e ∷ scope_of es
@@ -57,8 +44,7 @@ place_in-uncovered : (bs : List Binding) (x y : List ℕ) (k : ℕ) (o h : Optio
     → cond (bytes_eq x y) h o ≡ place_in bs y
 place_in-uncovered bs x y k o h before hidden =
     ⊎_elim (λ e. cond-true _ h o e ∙ hidden ∙ ap (place_in bs) ((bytes_eq-Decides x y).0 e))
-    (λ e. cond-false _ h o e ∙ before ∙ cond-false _ (Some k) (place_in bs y) e)
-    (cases_Bool (bytes_eq x y))
+    (λ e. cond-false _ h o e ∙ before ∙ cond-false _ (Some k) (place_in bs y) e) (cases_Bool (bytes_eq x y))
 
 -- one binding less
 pub IsTable-pop : (t u : Inside) (e : Entry) → IsTable t → t.bindings.items ≡ u.bindings.items ++ e ∷ [] → Puts t e.name e.hidden u → IsTable u
@@ -104,11 +90,9 @@ bound_in-without_place (b ∷ bs) x h =
 pub place_in-below : (bs : List Binding) (x : List ℕ) (i : ℕ) → place_in bs x ≡ Some i → i < length bs
 place_in-below [] x i h = let f : ◌≡◌ {A = Option ℕ} None (Some i) = h in absurd (cc)
 place_in-below (b ∷ bs) x i h =
-    ⊎_elim
-    (λ e. let f : Some (length bs) ≡ Some i = sym (cond-true _ (Some (length bs)) (place_in bs x) e) ∙ h in
+    ⊎_elim (λ e. let f : Some (length bs) ≡ Some i = sym (cond-true _ (Some (length bs)) (place_in bs x) e) ∙ h in
     let g : length bs ≡ i = cc in omega arith)
-    (λ e. omega (arith, place_in-below bs x i (sym (cond-false _ (Some (length bs)) (place_in bs x) e) ∙ h)))
-    (cases_Bool (bytes_eq b.name x))
+    (λ e. omega (arith, place_in-below bs x i (sym (cond-false _ (Some (length bs)) (place_in bs x) e) ∙ h))) (cases_Bool (bytes_eq b.name x))
 
 -- of entries with the innermost first
 bound_at_reversed : (es : List Entry) (x : List ℕ) (i : ℕ) (d : Entry) → place_in (map binding_of es) x ≡ Some i
@@ -116,16 +100,13 @@ bound_at_reversed : (es : List Entry) (x : List ℕ) (i : ℕ) (d : Entry) → p
 bound_at_reversed [] x i d h = let f : ◌≡◌ {A = Option ℕ} None (Some i) = h in absurd (cc)
 bound_at_reversed (e ∷ es) x i d h =
     let bs = map binding_of es in
-    ⊎_elim
-    (λ t. let f : Some (length bs) ≡ Some i = sym (cond-true _ (Some (length bs)) (place_in bs x) t) ∙ h in
+    ⊎_elim (λ t. let f : Some (length bs) ≡ Some i = sym (cond-true _ (Some (length bs)) (place_in bs x) t) ∙ h in
     let g : length bs ≡ i = cc in
-    cond-true _ (Some e.bound) (bound_in bs x) t
-    ∙ ap (λ (r : Entry). Some r.bound) (sym (ap (λ l. get_or l i d) (reverse-append (e ∷ []) es)
+    cond-true _ (Some e.bound) (bound_in bs x) t ∙ ap (λ (r : Entry). Some r.bound) (sym (ap (λ l. get_or l i d) (reverse-append (e ∷ []) es)
     ∙ get_or_at (reverse es) e [] d i (length-reverse es ∙ sym (length-map es binding_of) ∙ g))))
     (λ f. let rest = sym (cond-false _ (Some (length bs)) (place_in bs x) f) ∙ h in
     let below : i < length (reverse es) = omega (arith, place_in-below bs x i rest, length-map es binding_of, length-reverse es) in
-    cond-false _ (Some e.bound) (bound_in bs x) f
-    ∙ bound_at_reversed es x i d rest
+    cond-false _ (Some e.bound) (bound_in bs x) f ∙ bound_at_reversed es x i d rest
     ∙ ap (λ (r : Entry). Some r.bound) (sym (ap (λ l. get_or l i d) (reverse-append (e ∷ []) es) ∙ get_or_append_left (reverse es) (e ∷ []) d i below)))
     (cases_Bool (bytes_eq e.name.letters.now x))
 

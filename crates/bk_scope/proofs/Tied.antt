@@ -1,9 +1,5 @@
 -- The pass, and what is told: what stands behind a part of the pass is what stood before it and what is told of the part.
-use Rattle.std.proofs.Common.{◌≡◌, ℕ, ◌+◌, ◌*◌, ◌≤◌, Option, Some, None, List, [], ◌++◌, refl, sym, ap, ◌∙◌, append_assoc, arith}
-use Rattle.std.proofs.lemmas.List.{append-nil}
-use Rattle.bk_scope.specs.Wrong.{Wrong, Breach}
-use Rattle.bk_scope.specs.Found.{Found, else_first, breaks}
-use Rattle.bk_scope.specs.Points.{Point, at, claims_behind, judged, in_order, first_told, meanings_of, words_of, deepest}
+use Rattle.bk_scope.proofs.Terms.{◌≡◌, ℕ, ◌+◌, ◌*◌, ◌≤◌, Option, Some, None, List, [], ◌++◌, refl, sym, ap, ◌∙◌, append_assoc, arith, append-nil, Wrong, Breach, Found, else_first, breaks, Point, at, claims_behind, judged, in_order, first_told, meanings_of, words_of, deepest}
 use Rattle.bk_scope.proofs.Lists.{Inside, inside_append, inside_wider, claims_append, meanings_append, words_append, deepest_append, first_of_both}
 
 pub record Tied (xs : List Point) (i : ℕ) (f g : Found) : Type 0 where

@@ -1,14 +1,5 @@
 -- THE PASS AND WHAT IS TOLD, for each node and for a section.
-use Rattle.std.proofs.Common.{◌≡◌, ◌+◌, ◌^◌, ◌<◌, None, List, [], ◌∷◌, refl, sym, ◌∙◌, arith}
-use Rattle.std.proofs.lemmas.Option.{none-some}
-use Rattle.bk_tree.specs.declared.tree.Sort.TheVariants as sort
-use Rattle.bk_tree.specs.Tree.{Expression, Expressions, Action, Actions, Declaration, Declarations, Definition, Definitions, Starts, name, number, text, truth, query, parens, unary, binary, choice, apply, valof, table, none, more, empty, assign, call, goto, label, case_of, default, when, test, while, for_loop, switch, result, simple, block, repeat, repeat_while, no_actions, also, constants, definitions, no_declarations, declare, routine, function, variables, no_definitions, define, no_starts, value, vector}
-use Rattle.bk_tree.specs.Limits.{Within}
-use Rattle.bk_scope.specs.Names.{nothing, found_in}
-use Rattle.bk_scope.specs.Places.{outermost}
-use Rattle.bk_scope.specs.Spots.{beginning, numbers_declared}
-use Rattle.bk_scope.specs.Points.{Fault, first_told}
-use Rattle.bk_scope.specs.Faults.{told_of, faults, meanings, words}
+use Rattle.bk_scope.proofs.Terms.{◌≡◌, ◌+◌, ◌^◌, ◌<◌, None, List, [], ◌∷◌, refl, sym, ◌∙◌, arith, none-some, Sort as sort, Expression, Expressions, Action, Actions, Declaration, Declarations, Definition, Definitions, Starts, name, number, text, truth, query, parens, unary, binary, choice, apply, valof, table, none, more, empty, assign, call, goto, label, case_of, default, when, test, while, for_loop, switch, result, simple, block, repeat, repeat_while, no_actions, also, constants, definitions, no_declarations, declare, routine, function, variables, no_definitions, define, no_starts, value, vector, Within, nothing, found_in, outermost, beginning, numbers_declared, Fault, first_told, told_of, faults, meanings, words}
 use Rattle.bk_scope.proofs.Tied.{Tied}
 use Rattle.bk_scope.proofs.Counting.{few_numbers}
 use Rattle.bk_scope.proofs.Operators.{EsTied, CTied}

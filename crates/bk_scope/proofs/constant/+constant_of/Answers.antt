@@ -1,5 +1,4 @@
-use Rattle.std.proofs.Common.{ap, sym, ◌∙◌}
-use Rattle.bk_tree.specs.Tree.{expression}
+use Rattle.bk_scope.proofs.Terms.{ap, sym, ◌∙◌, expression}
 use Rattle.bk_scope.specs.FirstFault.{first_fault}
 use Rattle.bk_scope.proofs.Worded.{told_behind}
 use Rattle.bk_scope.proofs.constant.+constant_of.Goals as goal

@@ -1,9 +1,4 @@
-use Rattle.std.proofs.Common.{rules, arith, ◌≡◌, ◌<◌, [], ap, sym, ◌∙◌}
-use Rattle.std.specs.Vec.{vec_len}
-use Rattle.std.proofs.lemmas.Grind.{common_steps}
-use Rattle.bk_tree.specs.Tree.{action, actions_in}
-use Rattle.bk_tree.proofs.Lemmas.{Block_is, is_zero, is_more}
-use Rattle.bk_scope.specs.Entering.{with_labels, labels_of, labels_of_each}
+use Rattle.bk_scope.proofs.Terms.{rules, arith, ◌≡◌, ◌<◌, [], ap, sym, ◌∙◌, vec_len, common_steps, action, actions_in, Block_is, is_zero, is_more, with_labels, labels_of, labels_of_each}
 use Rattle.bk_scope.proofs.Entered.{labels_of_bare, labels_of_own}
 use Rattle.bk_scope.proofs.entering.+labels.Goals as goal
 

@@ -1,6 +1,4 @@
-use Rattle.std.proofs.Common.{◌≡◌, drop}
-use Rattle.bk_tree.specs.Tree.{actions_in}
-use Rattle.bk_scope.specs.Entering.{with_labels, labels_of_each}
+use Rattle.bk_scope.proofs.Terms.{◌≡◌, drop, actions_in, with_labels, labels_of_each}
 use Rattle.bk_scope.proofs.entering.+labels.Given as goal
 
 abbrev pub invariant-enter_labels_of_each-loop-command : goal.invariant-enter_labels_of_each-loop-command

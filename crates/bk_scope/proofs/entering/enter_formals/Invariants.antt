@@ -1,7 +1,4 @@
-use Rattle.std.proofs.Common.{◌≡◌, map, drop}
-use Rattle.bk_tree.specs.Tree.{mention}
-use Rattle.bk_scope.specs.Found.{Found}
-use Rattle.bk_scope.specs.Entering.{with_formals}
+use Rattle.bk_scope.proofs.Terms.{◌≡◌, map, drop, mention, Found, with_formals}
 use Rattle.bk_scope.proofs.entering.enter_formals.Given as goal
 
 abbrev pub invariant-loop-formal : goal.invariant-loop-formal

@@ -1,6 +1,4 @@
-use Rattle.std.proofs.Common.{◌≡◌, drop}
-use Rattle.bk_tree.specs.Tree.{definitions_in}
-use Rattle.bk_scope.specs.Entering.{with_procedures}
+use Rattle.bk_scope.proofs.Terms.{◌≡◌, drop, definitions_in, with_procedures}
 use Rattle.bk_scope.proofs.entering.enter_procedures.Given as goal
 
 abbrev pub invariant-loop-def : goal.invariant-loop-def

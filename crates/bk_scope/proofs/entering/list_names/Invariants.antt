@@ -1,6 +1,4 @@
-use Rattle.std.proofs.Common.{◌≡◌, map, drop}
-use Rattle.bk_tree.specs.Tree.{mention}
-use Rattle.bk_scope.specs.Names.{all_listed}
+use Rattle.bk_scope.proofs.Terms.{◌≡◌, map, drop, mention, all_listed}
 use Rattle.bk_scope.proofs.entering.list_names.Given as goal
 
 abbrev pub invariant-loop-name : goal.invariant-loop-name

@@ -1,7 +1,4 @@
-use Rattle.std.proofs.Common.{sym, ap, ◌∙◌, string_bytes, ℕ, List, ◌++◌, slice_index_or}
-use Rattle.std.specs.Str.{encode_utf8_all}
-use Rattle.std.specs.Char.{encode_utf8}
-use Rattle.std.proofs.lemmas.List.{take_all}
+use Rattle.bk_scope.proofs.Terms.{sym, ap, ◌∙◌, string_bytes, ℕ, List, ◌++◌, slice_index_or, encode_utf8_all, encode_utf8, take_all}
 use Rattle.bk_scope.proofs.Texts.{text_of-take}
 use Rattle.bk_scope.proofs.first_fault.spelled.Goals as goal
 

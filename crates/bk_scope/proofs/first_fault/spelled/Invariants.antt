@@ -1,5 +1,4 @@
-use Rattle.std.proofs.Common.{◌≡◌, string_bytes, take}
-use Rattle.std.specs.Str.{encode_utf8_all}
+use Rattle.bk_scope.proofs.Terms.{◌≡◌, string_bytes, take, encode_utf8_all}
 use Rattle.bk_scope.proofs.first_fault.spelled.Given as goal
 
 abbrev pub invariant-loop-byte : goal.invariant-loop-byte

@@ -1,6 +1,4 @@
-use Rattle.std.proofs.Common.{◌≡◌, drop}
-use Rattle.bk_tree.specs.Tree.{expressions_in}
-use Rattle.bk_scope.specs.Names.{constants_found}
+use Rattle.bk_scope.proofs.Terms.{◌≡◌, drop, expressions_in, constants_found}
 use Rattle.bk_scope.proofs.items.constants.Given as goal
 
 abbrev pub invariant-loop-expr : goal.invariant-loop-expr

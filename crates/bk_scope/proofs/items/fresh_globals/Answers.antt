@@ -1,5 +1,4 @@
-use Rattle.std.proofs.Common.{arith}
-use Rattle.std.proofs.lemmas.Grind.{common_steps}
+use Rattle.bk_scope.proofs.Terms.{arith, common_steps}
 use Rattle.bk_scope.proofs.FreshSteps.{bind_all-push}
 use Rattle.bk_scope.proofs.items.fresh_globals.Goals as goal
 

@@ -1,8 +1,4 @@
-use Rattle.std.proofs.Common.{◌≡◌, List, drop}
-use Rattle.bk_tree.specs.Tree.{items_in}
-use Rattle.bk_scope.specs.Scope.{Binding}
-use Rattle.bk_scope.specs.Names.{globals}
-use Rattle.bk_scope.specs.Scope.{bind_all}
+use Rattle.bk_scope.proofs.Terms.{◌≡◌, List, drop, items_in, Binding, globals, bind_all}
 use Rattle.bk_scope.proofs.items.fresh_globals.Given as goal
 
 abbrev pub invariant-loop-line : goal.invariant-loop-line

@@ -1,6 +1,4 @@
-use Rattle.std.proofs.Common.{◌≡◌, drop}
-use Rattle.bk_tree.specs.Tree.{items_in}
-use Rattle.bk_scope.specs.Names.{manifests}
+use Rattle.bk_scope.proofs.Terms.{◌≡◌, drop, items_in, manifests}
 use Rattle.bk_scope.proofs.items.manifests.Given as goal
 
 abbrev pub invariant-loop-line : goal.invariant-loop-line

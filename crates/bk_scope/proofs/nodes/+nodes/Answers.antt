@@ -1,22 +1,11 @@
-use Rattle.std.proofs.Common.{rules, arith, ◌≡◌, ◌-◌, ◌++◌, [], map, drop, length, refl, ap, sym, ◌∙◌, ◌+◌, ◌<◌}
-use Rattle.std.proofs.lemmas.List.{append-nil}
-use Rattle.std.proofs.lemmas.Grind.{common_steps}
-use Rattle.bk_tree.specs.declared.tree.Sort.TheVariants as s
-use Rattle.bk_tree.specs.Tree.{expression, expressions_in, action, actions_in, declaration, declarations_in, items_in, definition, definitions_in, starts_in, mention, constants, definitions, variables, apply, table, assign}
-use Rattle.bk_tree.proofs.Lemmas.{Constants_is, Let_is, Variables_is, Apply_is, Table_is, Assign_is, Call_is, Block_is, is_zero, is_more}
-use Rattle.bk_scope.specs.Scope.{bind_all}
-use Rattle.bk_scope.specs.Found.{takes}
-use Rattle.bk_scope.specs.Entering.{labels_of, with_labels, with_formals, with_procedures, Stage, labels_of_each}
-use Rattle.bk_scope.specs.Names.{AfterDeclarations, Defined, evaluated, each_evaluated, done, each_done, declared, defined, variables_of, all_listed, listed, manifests, statics, globals, without_word}
+use Rattle.bk_scope.proofs.Terms.{rules, arith, ◌≡◌, ◌-◌, ◌++◌, [], map, drop, get_or, length, refl, ap, sym, ◌∙◌, ◌+◌, ◌<◌, ◌≤◌, append-nil, common_steps, Sort as s, expression, expressions_in, action, actions_in, declaration, declarations_in, items_in, definition, definitions_in, starts_in, mention, constants, definitions, variables, apply, table, assign, Constants_is, Let_is, Variables_is, Apply_is, Table_is, Assign_is, Call_is, Block_is, is_zero, is_more, bind_all, takes, labels_of, with_labels, with_formals, with_procedures, Stage, labels_of_each, AfterDeclarations, Defined, evaluated, each_evaluated, done, each_done, declared, defined, variables_of, all_listed, listed, manifests, statics, globals, without_word, vec_len, size, Value, deeper}
 use Rattle.bk_scope.proofs.Leaving.{Above, back, longer, formals_above, same, declared_above}
 use Rattle.bk_scope.proofs.Definitions.{at, no_variables, no_items_behind, no_definitions_behind, manifests_behind, statics_behind, globals_behind, let_behind, variables_behind}
 use Rattle.bk_scope.proofs.nodes.+nodes.Goals as goal
-use Rattle.std.specs.Vec.{vec_len}
-use Rattle.bk_tree.specs.Parts.{size}
-use Rattle.bk_scope.specs.declared.role.Role.TheVariants.{Value}
-use Rattle.bk_scope.specs.Places.{deeper}
 use Rattle.bk_scope.proofs.Calls.{size_is_length, block_without_declarations, block_with_declarations, stage_in, block_behind, stage_by_parts}
 use Rattle.bk_scope.proofs.Inside.{longer_inside, back_outside}
+use Rattle.bk_scope.proofs.Starts.{found_after, place_after, fresh_after, fresh_without}
+use Rattle.bk_scope.proofs.nodes.+nodes.Goals.{start_each-in-Some+in_ok-add, start_each-in_default}
 
 pub act_inside-leave-requires : goal.act_inside-leave-requires
 act_inside-leave-requires t c =
@@ -250,3 +239,29 @@ start_each-returns-clause-fresh t c =
     let none : drop l.index c.args.starts.now ≡ [] = first_of (search rules, grind (arith, common_steps)) in
     sym (ap (λ xs. l.fresh ++ xs) (ap (λ is. variables_of bs l.next (map mention (drop l.index c.args.names.now)) (starts_in is)) none ∙ no_variables bs l.next (map mention (drop l.index c.args.names.now))) ∙ append-nil l.fresh)
     ∙ l.invariant.fresh
+
+pub start_each-loop-index-preserved : goal.start_each-loop-index-preserved
+start_each-loop-index-preserved t c =
+    let v = c.loop-index.invariant in
+    let p = c.loop-index.next in
+    let i = c.loop-index.index in
+    let s = c.index-starts-index.result in
+    let ss = c.args.starts.now in
+    let xs = c.args.names.now in
+    let lt = c.loop-index-test.true in
+    let is = c.index-starts-index.is in
+    rw c.deeper-next.ensures (rw c.in_ok-words.ensures.words record {
+      scope = c.in_ok-words.ensures.scope ∙ v.scope;
+      found = rw c.in_ok-words.ensures.found (rw v.scope (found_after c.args.walk.now.scope p ss i s lt is c.loop-index.walk.found ∙ v.found));
+      place = rw v.scope (place_after c.args.walk.now.scope p ss i s lt is ∙ v.place);
+      fresh = elim c.match-get.branch [
+        | start_each-in-Some+in_ok-add w ↦
+            let more : i < length xs = first_of (search rules, grind (arith, common_steps)) in
+            let named : w.in-Some.name.now ≡ get_or xs i w.in-Some.name.now = w.in-Some.ensures.lookup.1 in
+            rw w.fresh-is (rw w.in_ok-add.ensures (rw w.deref.ensures (rw w.deeper-value.ensures (rw c.in_ok-words.ensures.words (rw v.scope
+            (fresh_after c.args.walk.now.scope p ss i s lt is xs w.in-Some.name.now c.loop-index.fresh more named ∙ v.fresh))))))
+        | start_each-in_default w ↦
+            let none : length xs ≤ i = first_of (search rules, grind (arith, common_steps)) in
+            rw w.fresh-is (rw v.scope (fresh_without c.args.walk.now.scope p ss i s lt is xs c.loop-index.fresh none ∙ v.fresh))
+      ];
+    })

@@ -1,6 +1,4 @@
-use Rattle.std.proofs.Common.{◌≡◌, ◌++◌, map, drop}
-use Rattle.bk_tree.specs.Tree.{expressions_in, actions_in, declarations_in, definitions_in, starts_in, mention}
-use Rattle.bk_scope.specs.Names.{each_evaluated, destinations, each_done, declared, defined, started, place_behind, variables_of}
+use Rattle.bk_scope.proofs.Terms.{◌≡◌, ◌++◌, map, drop, expressions_in, actions_in, declarations_in, definitions_in, starts_in, mention, each_evaluated, destinations, each_done, declared, defined, started, place_behind, variables_of}
 use Rattle.bk_scope.proofs.nodes.+nodes.Given as goal
 
 abbrev pub invariant-act_each-loop-command : goal.invariant-act_each-loop-command

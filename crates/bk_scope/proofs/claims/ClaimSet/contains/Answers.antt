@@ -1,6 +1,5 @@
-use Rattle.std.proofs.Common.{◌∙◌, ap, sym}
+use Rattle.bk_scope.proofs.Terms.{◌∙◌, ap, sym, has}
 use Rattle.bk_scope.proofs.Claimed.{listed-had}
-use Rattle.bk_scope.specs.Claims.{has}
 use Rattle.bk_scope.proofs.claims.ClaimSet.contains.Goals as goal
 
 pub returns-in-Naming : goal.returns-in-Naming

@@ -1,5 +1,4 @@
-use Rattle.std.proofs.Common.{◌≡◌, drop}
-use Rattle.bk_scope.specs.Scope.{bind_all}
+use Rattle.bk_scope.proofs.Terms.{◌≡◌, drop, bind_all}
 use Rattle.bk_scope.specs.FreshView.{bindings_of}
 use Rattle.bk_scope.proofs.fresh.Fresh.enter.Given as goal
 

@@ -1,5 +1,4 @@
-use Rattle.std.proofs.Common.{◌++◌, ◌∷◌, [], ◌∙◌, ap, arith}
-use Rattle.std.specs.Option.{option_flatten}
+use Rattle.bk_scope.proofs.Terms.{◌++◌, ◌∷◌, [], ◌∙◌, ap, arith, option_flatten}
 use Rattle.bk_scope.proofs.TableSteps.{IsTable-push, found_place}
 use Rattle.bk_scope.proofs.table.Table.bind.Goals as goal
 

@@ -1,7 +1,4 @@
-use Rattle.std.proofs.Common.{◌∙◌, sym, ap, Some, length, arith}
-use Rattle.bk_scope.specs.Scope.{bound_in}
-use Rattle.bk_scope.specs.TableView.{place_in}
-use Rattle.bk_scope.specs.declared.table.Entry.{Entry}
+use Rattle.bk_scope.proofs.Terms.{◌∙◌, sym, ap, Some, length, arith, bound_in, place_in, Entry}
 use Rattle.bk_scope.proofs.TableSteps.{length-scope_of, place_in-below, bound_in-without_place, bound_at_place}
 use Rattle.bk_scope.proofs.table.Table.find.Goals as goal
 

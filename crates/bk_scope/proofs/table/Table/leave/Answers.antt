@@ -1,5 +1,4 @@
-use Rattle.std.proofs.Common.{arith}
-use Rattle.std.proofs.lemmas.List.{length-drop}
+use Rattle.bk_scope.proofs.Terms.{arith, length-drop}
 use Rattle.bk_scope.proofs.TableSteps.{drop-one_less}
 use Rattle.bk_scope.proofs.table.Table.leave.Goals as goal
 

@@ -1,5 +1,4 @@
-use Rattle.std.proofs.Common.{ℕ, Option, ◌++◌, ◌∙◌, sym, ap, subst, rules, IsSome}
-use Rattle.std.specs.Option.{option_to_list}
+use Rattle.bk_scope.proofs.Terms.{ℕ, Option, ◌++◌, ◌∙◌, sym, ap, subst, rules, IsSome, option_to_list}
 use Rattle.bk_scope.proofs.TableSteps.{IsTable-pop, IsSome-innermost}
 use Rattle.bk_scope.proofs.table.Table.leave_innermost.Goals as goal
 

@@ -1,5 +1,4 @@
-use Rattle.std.proofs.Common.{◌∙◌, ap}
-use Rattle.std.specs.Option.{option_flatten}
+use Rattle.bk_scope.proofs.Terms.{◌∙◌, ap, option_flatten}
 use Rattle.bk_scope.proofs.TableSteps.{place_by_key}
 use Rattle.bk_scope.proofs.table.Table.place.Goals as goal
 
