@@ -1,10 +1,6 @@
 -- What is done in any world only adds to its history: for proofs that follow a run step by step, and need it of what is still
 -- to be done.
-use Rattle.std.proofs.Common.{◌≡◌, ℕ, zero, suc, ◌≤◌, Bool, true, false, List, [], ◌++◌, Option, Some, None, refl, sym, ap, ◌∙◌, append_assoc, arith}
-use Rattle.std.proofs.lemmas.List.{append-nil}
-use Rattle.bk_meaning.specs.Memory.{Memory}
-use Rattle.bk_meaning.specs.World.{World, Exit, Outcome, gives, leaves, ends, undefined, going, each_way, with, given, either, turn, turn_of, closing, changes, calling, writing}
-use Rattle.bk_meaning.specs.Growing.{History, history, Grows, After}
+use Rattle.bk_meaning.proofs.Terms.{◌≡◌, ℕ, zero, suc, ◌≤◌, Bool, true, false, List, [], ◌++◌, Option, Some, None, refl, sym, ap, ◌∙◌, append_assoc, arith, append-nil, Memory, World, Exit, Outcome, gives, leaves, ends, undefined, going, each_way, with, given, either, turn, turn_of, closing, changes, calling, writing, History, history, Grows, After}
 
 pub stays : (h : History) → Grows h h
 stays h = record { written = []; output = sym (append-nil h.output); taken = []; input = refl; most_calls = omega arith }
@@ -38,9 +34,8 @@ adds go at = record { at = at }
 pub each_way_after : {A B : Type 0} (h : History) (u : Outcome A) (on : A → World → Outcome B) (out : Exit → World → Outcome B) → After h u → ((a : A) → Adds (on a)) → ((x : Exit) → Adds (out x)) → After h (each_way on out u)
 each_way_after h (gives a v) on out up each exit = earlier h (history v) (on a v) up ((each a).at v)
 each_way_after h (leaves x v) on out up each exit = earlier h (history v) (out x v) up ((exit x).at v)
-each_way_after h (ends e v) on out up each exit = up
 each_way_after h undefined on out up each exit = tt
-each_way_after h (going v) on out up each exit = up
+each_way_after h _ on out up each exit = up
 
 pub with_after : {A B : Type 0} (h : History) (u : Outcome A) (on : A → World → Outcome B) → After h u → ((a : A) → Adds (on a)) → After h (with u on)
 with_after h u on up each = each_way_after h u on (λ x w. leaves x w) up each (λ x. adds _ (λ w. stays (history w)))
@@ -61,11 +56,8 @@ turn_after go g w = by w.turns
     by (suc n) = g.at (record w { turns = n })
 
 pub closing_after : {A : Type 0} (h : History) (k : ℕ) (u : Outcome A) → After h u → After h (closing k u)
-closing_after h k (gives a v) up = up
-closing_after h k (leaves x v) up = up
-closing_after h k (ends e v) up = up
 closing_after h k undefined up = tt
-closing_after h k (going v) up = up
+closing_after h k _ up = up
 
 pub changes_after : (m : Option Memory) (w : World) → After (history w) (changes m w)
 changes_after None w = tt

@@ -1,16 +1,6 @@
 -- Two meanings of the nodes inside that are the same while at most d turns are left give each form the same outcome then.
-use Rattle.std.proofs.Common.{◌≡◌, ℕ, zero, suc, ◌+◌, ◌≤◌, Bool, true, false, List, [], ◌∷◌, length, Option, Some, None, refl, sym, ap, subst, ◌∙◌, arith}
-use Rattle.bk_tree.specs.declared.tree.Operator.TheVariants as o
-use Rattle.bk_tree.specs.declared.tree.Prefix.TheVariants as q
+use Rattle.bk_meaning.proofs.Terms.{◌≡◌, ℕ, zero, suc, ◌+◌, ◌≤◌, Bool, true, false, List, [], ◌∷◌, length, Option, Some, None, refl, sym, ap, subst, ◌∙◌, arith, Operator as o, Prefix as q, Expression, Expressions, Action, Actions, Declaration, Declarations, Definition, Definitions, Starts, Value, number, address, procedure, routine, unset, holds, World, Exit, break, loop, endcase, goto, result, return, Outcome, gives, leaves, ends, undefined, going, each_way, with, Done, done, given, either, turn, turn_of, making, closing, calling, calls_back, sum, operate, Environment, cell, bind, behind, past, past_each, past_action, past_definition, constant_in, labelled, within_let, objects_of_definitions, Body, command, expression, Procedure, Program, procedure_of, the_label, the_case, the_default, Mode, forwards, seeking, at_place, stands_in, stands_in_one, Meanings}
 use Rattle.bk_tree.specs.Tree as t
-use Rattle.bk_tree.specs.Tree.{Expression, Expressions, Action, Actions, Declaration, Declarations, Definition, Definitions, Starts}
-use Rattle.bk_meaning.specs.Values.{Value, number, address, procedure, routine, unset, holds}
-use Rattle.bk_meaning.specs.World.{World, Exit, break, loop, endcase, goto, result, return, Outcome, gives, leaves, ends, undefined, going, each_way, with, Done, done, given, either, turn, turn_of, making, closing, calling, calls_back}
-use Rattle.bk_meaning.specs.Operators.{sum, operate}
-use Rattle.bk_meaning.specs.Environment.{Environment, cell, bind, behind, past, past_each, past_action, past_definition, constant_in, labelled, within_let, objects_of_definitions}
-use Rattle.bk_meaning.specs.Lasting.{Body, command, expression, Procedure, Program, procedure_of}
-use Rattle.bk_meaning.specs.Seeking.{the_label, the_case, the_default, Mode, forwards, seeking, at_place, stands_in, stands_in_one}
-use Rattle.bk_meaning.specs.Parts.{Meanings}
 use Rattle.bk_meaning.specs.Scopes
 use Rattle.bk_meaning.specs.Calls
 use Rattle.bk_meaning.specs.Expressions
@@ -45,9 +35,7 @@ pub record AllSame (d : ℕ) (m n : Meanings) : Type 0 where
 each_way_one : {A B : Type 0} (w : World) (d : ℕ) (u : Outcome A) (on to : A → World → Outcome B) (out off : Exit → World → Outcome B) → w.turns ≤ d → Spent w.turns u → ((a : A) → Same d (on a) (to a)) → Out d out off → each_way on out u ≡ each_way to off u
 each_way_one w d (gives a x) on to out off le h go y = let less : x.turns ≤ w.turns = h.is in (go a).at x (omega (arith, le, less))
 each_way_one w d (leaves e x) on to out off le h go y = let less : x.turns + 1 ≤ w.turns = h.is in y.at e x (omega (arith, le, less))
-each_way_one w d (ends e x) on to out off le h go y = refl
-each_way_one w d undefined on to out off le h go y = refl
-each_way_one w d (going x) on to out off le h go y = refl
+each_way_one w d _ on to out off le h go y = refl
 
 each_way_same : {A B : Type 0} (w : World) (d : ℕ) (u v : Outcome A) (on to : A → World → Outcome B) (out off : Exit → World → Outcome B) → w.turns ≤ d → Spent w.turns u → u ≡ v → ((a : A) → Same d (on a) (to a)) → Out d out off → each_way on out u ≡ each_way to off v
 each_way_same w d u v on to out off le h e go y = each_way_one w d u on to out off le h go y ∙ ap (each_way to off) e
@@ -98,7 +86,6 @@ module _ (d : ℕ) (m n : Meanings) (s : AllSpend d m) (g : AllSame d m n) where
 
       by : (x : Exit) (v : World) → v.turns + 1 ≤ d → Scopes.landing cs env go x v ≡ Scopes.landing cs env to x v
       by (goto x) v lt = chosen (stands_in_one (the_label x) env cs) x v lt
-      by break v lt = refl
       by _ v lt = refl
 
   pub scope_same : (cs : Actions) (mode : Mode) (env : Environment) → Same d (Scopes.scope_of m cs mode env) (Scopes.scope_of n cs mode env)
@@ -114,8 +101,7 @@ module _ (d : ℕ) (m n : Meanings) (s : AllSpend d m) (g : AllSame d m n) where
 
   pub called_same : (p : Program) (f : Value) (vs : List Value) → Same d (Calls.called p m f vs) (Calls.called p n f vs)
   called_same p (procedure i) vs = enter_same (procedure_of p i) vs
-  called_same p (number i) vs = it d _
-  called_same p f vs = it d _
+  called_same p _ vs = it d _
 
   pub call_same : (p : Program) (f : Value) (vs : List Value) → Same d (Calls.call p m f vs) (Calls.call p n f vs)
   call_same p f vs = same _ _ _ (λ w le. ap (each_way (λ v after. gives v (calls_back w.calls after)) (λ x w. undefined)) ((called_same p f vs).at (calling w) le))
@@ -149,9 +135,8 @@ module _ (d : ℕ) (m n : Meanings) (s : AllSpend d m) (g : AllSame d m n) where
   target_of_same e env = it d _
 
   pub assigned_same : (xs : Expressions) (there : Environment) (es : Expressions) (env : Environment) → Same d (Commands.assigned m xs there es env) (Commands.assigned n xs there es env)
-  assigned_same t.none there es env = it d _
-  assigned_same (t.more x xs) there t.none env = it d _
   assigned_same (t.more x xs) there (t.more e es) env = same _ _ _ (λ w le. with_same w d _ _ _ _ le ((s.value e env).at w le) ((g.value e env).at w le) (λ v. same _ _ _ (λ w le. with_same w d _ _ _ _ le ((s.target x there).at w le) ((g.target x there).at w le) (λ a. same _ _ _ (λ w le. same_with w d _ _ _ le ((N.store_spends d m s a v).at w le) (λ _. assigned_same xs (past x there) es (past e env)))))))
+  assigned_same _ there _ env = it d _
 
   round_same : (go to : World → Outcome Done) → Same d go to → Out d (Loops.round_exit go) (Loops.round_exit to)
   round_same go to h = record { at = by }
@@ -211,7 +196,6 @@ module _ (d : ℕ) (m n : Meanings) (s : AllSpend d m) (g : AllSame d m n) where
   declare_all_same (t.declare x ds) env = same _ _ _ (λ w le. with_same w d _ _ _ _ le ((N.declare_spends d m s x env).at w le) ((declare_same x env).at w le) (λ env. declare_all_same ds env))
 
   pub act_of_same : (p : Program) (c : Action) (mode : Mode) (env : Environment) → Same d (Commands.act_of p m c mode env) (Commands.act_of p n c mode env)
-  act_of_same p t.empty mode env = it d _
   act_of_same p (t.assign i xs es) mode env = assigned_same xs env es (past_each xs env)
   act_of_same p (t.call i f es) mode env = same _ _ _ (λ w le. ap (λ u. with u (λ _ w. done w)) ((applied_same p f es env).at w le))
   act_of_same p (t.label i x c) mode env = g.act c (at_place (the_label x) mode) env
@@ -231,4 +215,4 @@ module _ (d : ℕ) (m n : Meanings) (s : AllSpend d m) (g : AllSame d m n) where
   act_of_same p (t.block i (t.declare x ds) cs) mode env = same _ _ _ (λ w le. ap (closing (length w.memory)) (with_same w d _ _ _ _ le ((N.declare_all_spends d m s (t.declare x ds) env).at w le) ((declare_all_same (t.declare x ds) env).at w le) (λ env. scope_same cs forwards env)))
   act_of_same p (t.repeat i c) mode env = rounds_of_same (t.repeat i c) mode env
   act_of_same p (t.repeat_while i b c e) mode env = rounds_of_same (t.repeat_while i b c e) mode env
-  act_of_same p c mode env = it d _
+  act_of_same p _ mode env = it d _

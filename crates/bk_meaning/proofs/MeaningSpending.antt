@@ -1,15 +1,6 @@
 -- A run is cut off only where no turn is left.
-use Rattle.std.proofs.Common.{ℕ, zero, suc, ◌≤◌, subst, arith}
+use Rattle.bk_meaning.proofs.Terms.{ℕ, zero, suc, ◌≤◌, subst, arith, Action, World, Outcome, going, turn, Environment, Mode, Program, Meanings, act_of, turn_for, means_with, no_turn_for, no_turns, means, CutOnlyWithoutTurns}
 use Rattle.bk_tree.specs.Tree as t
-use Rattle.bk_tree.specs.Tree.{Action}
-use Rattle.bk_meaning.specs.World.{World, Outcome, going, turn}
-use Rattle.bk_meaning.specs.Environment.{Environment}
-use Rattle.bk_meaning.specs.Seeking.{Mode}
-use Rattle.bk_meaning.specs.Lasting.{Program}
-use Rattle.bk_meaning.specs.Parts.{Meanings}
-use Rattle.bk_meaning.specs.Commands.{act_of}
-use Rattle.bk_meaning.specs.Program.{turn_for, means_with, no_turn_for, no_turns, means}
-use Rattle.bk_meaning.specs.Turns.{CutOnlyWithoutTurns}
 use Rattle.bk_meaning.proofs.Spending.{Spent, Spends, spends, kept, turn_spent, gives_spent}
 use Rattle.bk_meaning.proofs.NodeSpending.{Under, AllSpend, scope_spends, call_spends, value_of_spends, truth_of_spends, target_of_spends, rounds_of_spends, for_rounds_of_spends, act_of_kept}
 

@@ -1,18 +1,6 @@
 -- More turns change nothing of what a program means.
-use Rattle.std.proofs.Common.{ℕ, zero, suc, ◌≤◌, List, [], length, Option, Some, None, arith}
+use Rattle.bk_meaning.proofs.Terms.{ℕ, zero, suc, ◌≤◌, List, [], length, Option, Some, None, arith, Expression, Action, Actions, Declarations, Value, address, read, World, Outcome, gives, leaves, ends, undefined, going, Done, Environment, globals_object, Program, program_of, Meanings, Mode, turn_for, means_with, no_turn_for, no_turns, means, run_of, first_world, started, call, History, history, sizes, Keeps, InItsWorld, After, Restores, Throughout, OutputOnlyGrows, CallsComeBack, MemoryNeverShrinks, WhatLastsLives, with_turns, shown, RunGoesOn, Continues, the_same, further, MoreTurns, ReadsFromTheFront}
 use Rattle.bk_tree.specs.Tree as t
-use Rattle.bk_tree.specs.Tree.{Expression, Action, Actions, Declarations}
-use Rattle.bk_meaning.specs.Values.{Value, address}
-use Rattle.bk_meaning.specs.Memory.{read}
-use Rattle.bk_meaning.specs.World.{World, Outcome, gives, leaves, ends, undefined, going, Done}
-use Rattle.bk_meaning.specs.Environment.{Environment, globals_object}
-use Rattle.bk_meaning.specs.Lasting.{Program, program_of}
-use Rattle.bk_meaning.specs.Parts.{Meanings}
-use Rattle.bk_meaning.specs.Seeking.{Mode}
-use Rattle.bk_meaning.specs.Program.{turn_for, means_with, no_turn_for, no_turns, means, run_of, first_world, started}
-use Rattle.bk_meaning.specs.Calls.{call}
-use Rattle.bk_meaning.specs.Growing.{History, history, sizes, Keeps, InItsWorld, After, Restores, Throughout, OutputOnlyGrows, CallsComeBack, MemoryNeverShrinks, WhatLastsLives}
-use Rattle.bk_meaning.specs.Turns.{with_turns, shown, RunGoesOn, Continues, the_same, further, MoreTurns, ReadsFromTheFront}
 use Rattle.bk_meaning.proofs.After.{stays}
 use Rattle.bk_meaning.proofs.Objects.{kept_length, kept_lives, first_lives}
 use Rattle.bk_meaning.proofs.Ties.{Below, gives_more, leaves_more, ends_more, undefined_still, cut, Tied, Ties, ties, gives_tied, cut_tied, going_tied, turn_tied}
@@ -79,11 +67,9 @@ means_tied p (suc n) zero le = absurd (omega (arith, le))
 means_tied p (suc n) (suc k) le = means_with_tied p (means p n) (means p k) (means_tied p n k (omega (arith, le)))
 
 run_on : (h : History) (u : Outcome Value) → After h u → RunGoesOn h (run_of u)
-run_on h (gives v x) g = g
 run_on h (leaves e x) g = tt
-run_on h (ends e x) g = g
 run_on h undefined g = tt
-run_on h (going x) g = g
+run_on h _ g = g
 
 run_continues : (w : World) (u v : Outcome Value) → Tied w u v → Continues (run_of u) (run_of v)
 run_continues w u v tied = by u v tied.below

@@ -1,19 +1,9 @@
 -- The meaning of a node takes a turn, and is that of its form from the meaning of the nodes inside, as deep as turns go.
-use Rattle.std.proofs.Common.{◌≡◌, ℕ, zero, suc, ◌+◌, ◌-◌, ◌<◌, ◌≤◌, List, refl, sym, ap, ◌∙◌, arith}
+use Rattle.bk_meaning.proofs.Terms.{◌≡◌, ℕ, zero, suc, ◌+◌, ◌-◌, ◌<◌, ◌≤◌, List, refl, sym, ap, ◌∙◌, arith, Expression, Action, Actions, Value, World, Outcome, Done, going, turn, turn_of, Environment, Mode, Program, Meanings, call, act_of, turn_for, no_turn_for, means_with, means}
 use Rattle.bk_tree.specs.Tree as t
-use Rattle.bk_tree.specs.Tree.{Expression, Action, Actions}
-use Rattle.bk_meaning.specs.Values.{Value}
-use Rattle.bk_meaning.specs.World.{World, Outcome, Done, going, turn, turn_of}
-use Rattle.bk_meaning.specs.Environment.{Environment}
-use Rattle.bk_meaning.specs.Seeking.{Mode}
-use Rattle.bk_meaning.specs.Lasting.{Program}
-use Rattle.bk_meaning.specs.Parts.{Meanings}
 use Rattle.bk_meaning.specs.Scopes.{scope_of}
-use Rattle.bk_meaning.specs.Calls.{call}
 use Rattle.bk_meaning.specs.Expressions.{value_of, truth_of, target_of}
 use Rattle.bk_meaning.specs.Loops.{rounds_of, for_rounds_of}
-use Rattle.bk_meaning.specs.Commands.{act_of}
-use Rattle.bk_meaning.specs.Program.{turn_for, no_turn_for, means_with, means}
 use Rattle.bk_meaning.proofs.NodeSpending.{AllSpend}
 use Rattle.bk_meaning.proofs.MeaningSpending.{means_spend}
 use Rattle.bk_meaning.proofs.Alike.{Same, Under, AllSame, under, turn_same, value_of_same, truth_of_same, target_of_same, act_of_same, rounds_of_same, for_rounds_of_same, scope_same, call_same}

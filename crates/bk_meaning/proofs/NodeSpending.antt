@@ -1,24 +1,6 @@
 -- How each part of the meaning spends turns, if the nodes inside do so.
-use Rattle.std.proofs.Common.{ℕ, ◌+◌, ◌≤◌, Bool, true, false, not, List, [], ◌∷◌, length, Option, Some, None, arith}
-use Rattle.bk_tree.specs.declared.tree.Operator.{Operator}
-use Rattle.bk_tree.specs.declared.tree.Operator.TheVariants as o
-use Rattle.bk_tree.specs.declared.tree.Prefix.{Prefix}
-use Rattle.bk_tree.specs.declared.tree.Prefix.TheVariants as q
-use Rattle.bk_tree.specs.declared.tree.Simple.{Simple}
-use Rattle.bk_tree.specs.declared.tree.Simple.TheVariants as k
+use Rattle.bk_meaning.proofs.Terms.{ℕ, ◌+◌, ◌≤◌, Bool, true, false, not, List, [], ◌∷◌, length, Option, Some, None, arith, Operator, Operator as o, Prefix, Prefix as q, Simple, Simple as k, Mention, Expression, Expressions, Action, Actions, Declaration, Declarations, Definition, Definitions, Starts, divides_by_zero, Routine, stop, rdch, wrch, newline, writes, writen, writed, getbyte, putbyte, writef, Value, number, address, procedure, routine, unset, holds, read, World, status, Exit, break, loop, endcase, goto, result, return, Outcome, gives, leaves, ends, undefined, going, with, Done, done, either, turn, making, calling, sum, truth_of_value, on_numbers, operate, operate_prefix, Environment, Sense, constant, cell, label, foreign, sense_of, bind, behind, past, past_each, past_action, past_definition, constant_in, labelled, within_let, objects_of_definitions, Body, command, expression, Procedure, Program, procedure_of, library, writes_text, takes_byte, the_label, the_case, the_default, Mode, forwards, seeking, at_place, stands_in, stands_in_one, Target, at, byte_at, Meanings, Start}
 use Rattle.bk_tree.specs.Tree as t
-use Rattle.bk_tree.specs.Tree.{Mention, Expression, Expressions, Action, Actions, Declaration, Declarations, Definition, Definitions, Starts}
-use Rattle.bk_scope.specs.Constants.{divides_by_zero}
-use Rattle.bk_meaning.specs.Values.{Routine, stop, rdch, wrch, newline, writes, writen, writed, getbyte, putbyte, writef, Value, number, address, procedure, routine, unset, holds}
-use Rattle.bk_meaning.specs.Memory.{read}
-use Rattle.bk_meaning.specs.World.{World, status, Exit, break, loop, endcase, goto, result, return, Outcome, gives, leaves, ends, undefined, going, with, Done, done, either, turn, making, calling}
-use Rattle.bk_meaning.specs.Operators.{sum, truth_of_value, on_numbers, operate, operate_prefix}
-use Rattle.bk_meaning.specs.Environment.{Environment, Sense, constant, cell, label, foreign, sense_of, bind, behind, past, past_each, past_action, past_definition, constant_in, labelled, within_let, objects_of_definitions}
-use Rattle.bk_meaning.specs.Lasting.{Body, command, expression, Procedure, Program, procedure_of}
-use Rattle.bk_meaning.specs.Library.{library, writes_text, takes_byte}
-use Rattle.bk_meaning.specs.Seeking.{the_label, the_case, the_default, Mode, forwards, seeking, at_place, stands_in, stands_in_one}
-use Rattle.bk_meaning.specs.Parts.{Target, at, byte_at, Meanings}
-use Rattle.bk_meaning.specs.Blocks.{Start}
 use Rattle.bk_meaning.specs.Parts
 use Rattle.bk_meaning.specs.Scopes
 use Rattle.bk_meaning.specs.Calls
@@ -26,7 +8,7 @@ use Rattle.bk_meaning.specs.Expressions
 use Rattle.bk_meaning.specs.Loops
 use Rattle.bk_meaning.specs.Blocks
 use Rattle.bk_meaning.specs.Commands
-use Rattle.bk_meaning.proofs.Spending.{Spent, Kept, Spends, spends, SpendsOut, spent_more, kept, each_way_spent, with_spent, gives_spent, undefined_spent, ends_spent, given_spent, either_spent, turn_spent, closing_spent, changes_spent}
+use Rattle.bk_meaning.proofs.Spending.{Spent, Kept, Spends, spends, SpendsOut, spent_more, kept, each_way_spent, with_spent, then_spends, either_spends, gives_spent, undefined_spent, ends_spent, given_spent, either_spent, turn_spent, closing_spent, changes_spent}
 
 -- where a turn fewer than d are left at most
 pub record Under {A : Type 0} (d : ℕ) (go : World → Outcome A) : Type 0 where
@@ -50,23 +32,18 @@ module _ (d : ℕ) (m : Meanings) (g : AllSpend d m) where
   done_spends = spends _ _ (λ w le. gives_spent tt w)
 
   pub named_spends : (s : Option Sense) → Spends d (Parts.named s)
-  named_spends None = spends _ _ (λ w le. undefined_spent w)
   named_spends (Some (constant x)) = spends _ _ (λ w le. gives_spent (number x) w)
   named_spends (Some (cell a i)) = fetch_spends (address a i)
-  named_spends (Some label) = spends _ _ (λ w le. undefined_spent w)
-  named_spends (Some foreign) = spends _ _ (λ w le. undefined_spent w)
+  named_spends _ = spends _ _ (λ w le. undefined_spent w)
 
   pub address_named_spends : (s : Option Sense) → Spends d (Parts.address_named s)
-  address_named_spends None = spends _ _ (λ w le. undefined_spent w)
-  address_named_spends (Some (constant x)) = spends _ _ (λ w le. undefined_spent w)
   address_named_spends (Some (cell a i)) = spends _ _ (λ w le. gives_spent (at (address a i)) w)
-  address_named_spends (Some label) = spends _ _ (λ w le. undefined_spent w)
-  address_named_spends (Some foreign) = spends _ _ (λ w le. undefined_spent w)
+  address_named_spends _ = spends _ _ (λ w le. undefined_spent w)
 
   -- operators
   pub on_numbers_spends : (q : Operator) (x y : Value) → Spends d (on_numbers q x y)
-  on_numbers_spends q (number x) (number y) = spends _ _ (λ w le.
-      either_spent (divides_by_zero q (Some x) (Some y)) d _ _ (spends _ _ (λ w le. ends_spent _ w)) (spends _ _ (λ w le. given_spent _ w)) w le)
+  on_numbers_spends q (number x) (number y) =
+      either_spends (divides_by_zero q (Some x) (Some y)) (spends _ _ (λ w le. ends_spent _ w)) (spends _ _ (λ w le. given_spent _ w))
   on_numbers_spends q (number x) _ = spends _ _ (λ w le. undefined_spent w)
   on_numbers_spends q _ y = spends _ _ (λ w le. undefined_spent w)
 
@@ -82,7 +59,7 @@ module _ (d : ℕ) (m : Meanings) (g : AllSpend d m) where
   operate_spends q x y = on_numbers_spends q x y
 
   pub combined_spends : (q : Operator) (x y : Value) → Spends d (Expressions.combined q x y)
-  combined_spends o.Subscript x y = spends _ _ (λ w le. with_spent w d _ _ le (given_spent (sum w.memory x y) w) fetch_spends)
+  combined_spends o.Subscript x y = then_spends (spends _ _ (λ w le. given_spent (sum w.memory x y) w)) fetch_spends
   combined_spends o.Byte x y = spends _ _ (λ w le. given_spent _ w)
   combined_spends q x y = operate_spends q x y
 
@@ -123,11 +100,10 @@ module _ (d : ℕ) (m : Meanings) (g : AllSpend d m) where
 
   pub in_order_spends : (cs : Actions) (mode : Mode) (env : Environment) → Spends d (Scopes.in_order m cs mode env)
   in_order_spends t.no_actions mode env = done_spends
-  in_order_spends (t.also c cs) forwards env = spends _ _ (λ w le. with_spent w d _ _ le ((g.act c forwards env).at w le) (λ _. in_order_spends cs forwards (past_action c env)))
-  in_order_spends (t.also c cs) (seeking s) env = spends _ _ (λ w le.
-      either_spent (stands_in s env c) d _ _
-      (spends _ _ (λ w le. with_spent w d _ _ le ((g.act c (seeking s) env).at w le) (λ _. in_order_spends cs forwards (past_action c env))))
-      (in_order_spends cs (seeking s) (past_action c env)) w le)
+  in_order_spends (t.also c cs) forwards env = then_spends (g.act c forwards env) (λ _. in_order_spends cs forwards (past_action c env))
+  in_order_spends (t.also c cs) (seeking s) env =
+      either_spends (stands_in s env c) (then_spends (g.act c (seeking s) env) (λ _. in_order_spends cs forwards (past_action c env)))
+      (in_order_spends cs (seeking s) (past_action c env))
 
   pub landing_out : (cs : Actions) (env : Environment) (go : List ℕ → World → Outcome Done) → ((x : List ℕ) → Under d (go x)) → SpendsOut d (Scopes.landing cs env go)
   landing_out cs env go h = record { at = by }
@@ -138,11 +114,7 @@ module _ (d : ℕ) (m : Meanings) (g : AllSpend d m) where
 
       by : (x : Exit) (v : World) (n : ℕ) → v.turns + 1 ≤ n → n ≤ d → Spent n (Scopes.landing cs env go x v)
       by (goto x) v n lt le = chosen (stands_in_one (the_label x) env cs) x v n lt le
-      by break v n lt le = record { is = lt }
-      by loop v n lt le = record { is = lt }
-      by endcase v n lt le = record { is = lt }
-      by (result r) v n lt le = record { is = lt }
-      by return v n lt le = record { is = lt }
+      by _ v n lt le = record { is = lt }
 
   pub scope_spends : (cs : Actions) (mode : Mode) (env : Environment) → Spends d (Scopes.scope_of m cs mode env)
   scope_spends cs mode env = spends _ _ (λ w le.
@@ -189,9 +161,7 @@ module _ (d : ℕ) (m : Meanings) (g : AllSpend d m) where
       each_way_spent w d _ _ _ le ((called_spends p f vs).at (calling w) le) (λ v. spends _ _ (λ x le. record { is = omega arith })) undefined_out)
 
   pub applied_spends : (p : Program) (f : Expression) (es : Expressions) (env : Environment) → Spends d (Calls.applied p m f es env)
-  applied_spends p f es env = spends _ _ (λ w le.
-      with_spent w d _ _ le ((values_spends es (past f env)).at w le) (λ vs. spends _ _ (λ w le.
-      with_spent w d _ _ le ((g.value f env).at w le) (λ v. call_spends p v vs))))
+  applied_spends p f es env = then_spends (values_spends es (past f env)) (λ vs. then_spends (g.value f env) (λ v. call_spends p v vs))
 
   pub address_in_spends : (a : Target) → Spends d (Expressions.address_in a)
   address_in_spends (at a) = spends _ _ (λ w le. gives_spent a w)
@@ -200,45 +170,36 @@ module _ (d : ℕ) (m : Meanings) (g : AllSpend d m) where
   pub value_of_spends : (p : Program) (e : Expression) (env : Environment) → Spends d (Expressions.value_of p m e env)
   value_of_spends p (t.name i x) env = named_spends (sense_of x env)
   value_of_spends p (t.number i x) env = spends _ _ (λ w le. gives_spent (number x) w)
-  value_of_spends p (t.text i x) env = spends _ _ (λ w le. gives_spent _ w)
-  value_of_spends p (t.truth i b) env = spends _ _ (λ w le. gives_spent _ w)
   value_of_spends p (t.query i) env = spends _ _ (λ w le. gives_spent unset w)
   value_of_spends p (t.parens i e) env = g.value e env
-  value_of_spends p (t.unary i q.Contents e) env = spends _ _ (λ w le. with_spent w d _ _ le ((g.value e env).at w le) fetch_spends)
-  value_of_spends p (t.unary i q.Address e) env = spends _ _ (λ w le. with_spent w d _ _ le ((g.target e env).at w le) address_in_spends)
-  value_of_spends p (t.unary i q e) env = spends _ _ (λ w le. with_spent w d _ _ le ((g.value e env).at w le) (operate_prefix_spends q))
-  value_of_spends p (t.binary i q j a b) env = spends _ _ (λ w le.
-      with_spent w d _ _ le ((g.value a env).at w le) (λ x. spends _ _ (λ w le.
-      with_spent w d _ _ le ((g.value b (past a env)).at w le) (λ y. combined_spends q x y))))
-  value_of_spends p (t.choice i j c a b) env = spends _ _ (λ w le.
-      with_spent w d _ _ le ((g.truth c env).at w le) (λ x. spends _ _ (λ w le.
-      either_spent x d _ _ (g.value a (past c env)) (g.value b (past a (past c env))) w le)))
+  value_of_spends p (t.unary i q.Contents e) env = then_spends (g.value e env) fetch_spends
+  value_of_spends p (t.unary i q.Address e) env = then_spends (g.target e env) address_in_spends
+  value_of_spends p (t.unary i q e) env = then_spends (g.value e env) (operate_prefix_spends q)
+  value_of_spends p (t.binary i q j a b) env = then_spends (g.value a env) (λ x. then_spends (g.value b (past a env)) (λ y. combined_spends q x y))
+  value_of_spends p (t.choice i j c a b) env = then_spends (g.truth c env) (λ x. either_spends x (g.value a (past c env)) (g.value b (past a (past c env))))
   value_of_spends p (t.apply i j f es) env = applied_spends p f es env
   value_of_spends p (t.valof i c) env = spends _ _ (λ w le. each_way_spent w d _ _ _ le ((scope_spends (Scopes.alone c) forwards env).at w le) unset_spends result_out)
-  value_of_spends p (t.table i es) env = spends _ _ (λ w le. gives_spent _ w)
+  value_of_spends p _ env = spends _ _ (λ w le. gives_spent _ w)
 
   pub truth_of_spends : (p : Program) (e : Expression) (env : Environment) → Spends d (Expressions.truth_of p m e env)
   truth_of_spends p (t.parens i e) env = g.truth e env
-  truth_of_spends p (t.unary i q.Not e) env = spends _ _ (λ w le. with_spent w d _ _ le ((g.truth e env).at w le) (λ b. spends _ _ (λ w le. gives_spent (not b) w)))
+  truth_of_spends p (t.unary i q.Not e) env = then_spends (g.truth e env) (λ b. spends _ _ (λ w le. gives_spent (not b) w))
   truth_of_spends p (t.binary i o.Both j a b) env = spends _ _ (λ w le.
       with_spent w d _ _ le ((g.truth a env).at w le) (λ x. spends _ _ (λ w le.
       either_spent x d _ _ (g.truth b (past a env)) (spends _ _ (λ w le. gives_spent false w)) w le)))
-  truth_of_spends p (t.binary i o.Either j a b) env = spends _ _ (λ w le.
-      with_spent w d _ _ le ((g.truth a env).at w le) (λ x. spends _ _ (λ w le.
-      either_spent x d _ _ (spends _ _ (λ w le. gives_spent true w)) (g.truth b (past a env)) w le)))
-  truth_of_spends p e env = spends _ _ (λ w le. with_spent w d _ _ le ((value_of_spends p e env).at w le) judged_spends)
+  truth_of_spends p (t.binary i o.Either j a b) env =
+      then_spends (g.truth a env) (λ x. either_spends x (spends _ _ (λ w le. gives_spent true w)) (g.truth b (past a env)))
+  truth_of_spends p e env = then_spends (value_of_spends p e env) judged_spends
 
   pub target_of_spends : (e : Expression) (env : Environment) → Spends d (Expressions.target_of m e env)
   target_of_spends (t.name i x) env = address_named_spends (sense_of x env)
   target_of_spends (t.parens i e) env = g.target e env
-  target_of_spends (t.unary i q.Contents e) env = spends _ _ (λ w le. with_spent w d _ _ le ((g.value e env).at w le) (λ a. spends _ _ (λ w le. gives_spent (at a) w)))
-  target_of_spends (t.binary i o.Subscript j a b) env = spends _ _ (λ w le.
-      with_spent w d _ _ le ((g.value a env).at w le) (λ x. spends _ _ (λ w le.
-      with_spent w d _ _ le ((g.value b (past a env)).at w le) (λ y. spends _ _ (λ w le.
-      with_spent w d _ _ le (given_spent (sum w.memory x y) w) (λ a. spends _ _ (λ w le. gives_spent (at a) w)))))))
-  target_of_spends (t.binary i o.Byte j a b) env = spends _ _ (λ w le.
-      with_spent w d _ _ le ((g.value a env).at w le) (λ x. spends _ _ (λ w le.
-      with_spent w d _ _ le ((g.value b (past a env)).at w le) (λ y. spends _ _ (λ w le. gives_spent (byte_at x y) w)))))
+  target_of_spends (t.unary i q.Contents e) env = then_spends (g.value e env) (λ a. spends _ _ (λ w le. gives_spent (at a) w))
+  target_of_spends (t.binary i o.Subscript j a b) env =
+      then_spends (g.value a env) (λ x. then_spends (g.value b (past a env)) (λ y.
+      then_spends (spends _ _ (λ w le. given_spent (sum w.memory x y) w)) (λ a. spends _ _ (λ w le. gives_spent (at a) w))))
+  target_of_spends (t.binary i o.Byte j a b) env =
+      then_spends (g.value a env) (λ x. then_spends (g.value b (past a env)) (λ y. spends _ _ (λ w le. gives_spent (byte_at x y) w)))
   target_of_spends e env = spends _ _ (λ w le. undefined_spent w)
 
   pub store_spends : (a : Target) (v : Value) → Spends d (Parts.store a v)
@@ -246,12 +207,11 @@ module _ (d : ℕ) (m : Meanings) (g : AllSpend d m) where
   store_spends (byte_at a i) v = spends _ _ (λ w le. changes_spent _ w)
 
   pub assigned_spends : (xs : Expressions) (there : Environment) (es : Expressions) (env : Environment) → Spends d (Commands.assigned m xs there es env)
-  assigned_spends t.none there es env = done_spends
-  assigned_spends (t.more x xs) there t.none env = done_spends
   assigned_spends (t.more x xs) there (t.more e es) env = spends _ _ (λ w le.
       with_spent w d _ _ le ((g.value e env).at w le) (λ v. spends _ _ (λ w le.
       with_spent w d _ _ le ((g.target x there).at w le) (λ a. spends _ _ (λ w le.
       with_spent w d _ _ le ((store_spends a v).at w le) (λ _. assigned_spends xs (past x there) es (past e env)))))))
+  assigned_spends _ there _ env = done_spends
 
   pub round_out : (go : World → Outcome Done) → Spends d go → SpendsOut d (Loops.round_exit go)
   round_out go h = record { at = by }
@@ -265,11 +225,13 @@ module _ (d : ℕ) (m : Meanings) (g : AllSpend d m) where
   again_spent w u go le t h = each_way_spent w d u _ _ le t (λ _. h) (round_out go h)
 
   pub where_truth_spends : (b : Bool) (e : Expression) (env : Environment) (go : World → Outcome Done) → Spends d go → Spends d (Loops.where_truth m b e env go)
-  where_truth_spends b e env go h = spends _ _ (λ w le.
-      with_spent w d _ _ le ((g.truth e env).at w le) (λ x. spends _ _ (λ w le. either_spent (Loops.same_truth b x) d _ _ h done_spends w le)))
+  where_truth_spends b e env go h = then_spends (g.truth e env) (λ x. either_spends (Loops.same_truth b x) h done_spends)
 
   pub turn_spends : (go : World → Outcome Done) → Under d go → Spends d (λ w. turn w go)
   turn_spends go h = spends _ _ (λ w le. turn_spent d go (λ w lt. kept _ _ (h.at w lt)) w le)
+
+  in_turn : {A : Type 0} {go : World → Outcome A} → Spends d go → Spends d (λ w. turn w go)
+  in_turn h = spends _ _ (λ w le. turn_spent d _ (λ w lt. kept _ _ (h.at w (omega (arith, lt)))) w le)
 
   pub rounds_of_spends : (c : Action) (mode : Mode) (env : Environment) → Spends d (Loops.rounds_of m c mode env)
   rounds_of_spends (t.while i b e c) mode env = spends _ _ (λ w le.
@@ -281,15 +243,13 @@ module _ (d : ℕ) (m : Meanings) (g : AllSpend d m) where
   rounds_of_spends c mode env = done_spends
 
   pub for_test_spends : (object : ℕ) (limit : Value) (step : ℕ) (go : World → Outcome Done) → Spends d go → Spends d (Loops.for_test object limit step go)
-  for_test_spends object limit step go h = spends _ _ (λ w le.
-      with_spent w d _ _ le ((fetch_spends (address object 0)).at w le) (λ v. spends _ _ (λ w le.
-      with_spent w d _ _ le ((operate_spends (Loops.relation step) v limit).at w le) (λ v. spends _ _ (λ w le.
-      with_spent w d _ _ le ((judged_spends v).at w le) (λ b. spends _ _ (λ w le. either_spent b d _ _ h done_spends w le)))))))
+  for_test_spends object limit step go h =
+      then_spends (fetch_spends (address object 0)) (λ v. then_spends (operate_spends (Loops.relation step) v limit) (λ v. then_spends (judged_spends v) (λ b.
+      either_spends b h done_spends)))
 
   pub for_step_spends : (object : ℕ) (step : ℕ) → Spends d (Loops.for_step object step)
-  for_step_spends object step = spends _ _ (λ w le.
-      with_spent w d _ _ le ((fetch_spends (address object 0)).at w le) (λ v. spends _ _ (λ w le.
-      with_spent w d _ _ le ((operate_spends o.Add v (number step)).at w le) (λ v. store_spends (at (address object 0)) v))))
+  for_step_spends object step =
+      then_spends (fetch_spends (address object 0)) (λ v. then_spends (operate_spends o.Add v (number step)) (λ v. store_spends (at (address object 0)) v))
 
   pub for_rounds_of_spends : (c : Action) (object : ℕ) (limit : Value) (step : ℕ) (env : Environment) → Spends d (Loops.for_rounds_of m c object limit step env)
   for_rounds_of_spends c object limit step env = spends _ _ (λ w le.
@@ -312,9 +272,9 @@ module _ (d : ℕ) (m : Meanings) (g : AllSpend d m) where
   ended_case_spends c mode env = spends _ _ (λ w le. each_way_spent w d _ _ _ le ((g.act c mode env).at w le) (λ _. done_spends) case_out)
 
   pub choose_case_spends : (v : Value) (c : Action) (env : Environment) → Spends d (Commands.choose_case m v c env)
-  choose_case_spends (number i) c env = spends _ _ (λ w le.
-      either_spent (stands_in (the_case (Some i)) env c) d _ _ (ended_case_spends c (seeking (the_case (Some i))) env)
-      (spends _ _ (λ w le. either_spent (stands_in the_default env c) d _ _ (ended_case_spends c (seeking the_default) env) done_spends w le)) w le)
+  choose_case_spends (number i) c env =
+      either_spends (stands_in (the_case (Some i)) env c) (ended_case_spends c (seeking (the_case (Some i))) env)
+      (either_spends (stands_in the_default env c) (ended_case_spends c (seeking the_default) env) done_spends)
   choose_case_spends v c env = spends _ _ (λ w le. undefined_spent w)
 
   pub make_vec_spends : (k : Option ℕ) → Spends d (Blocks.make_vec k)
@@ -323,18 +283,15 @@ module _ (d : ℕ) (m : Meanings) (g : AllSpend d m) where
 
   pub starts_spends : (is : Starts) (env : Environment) → Spends d (Blocks.starts m is env)
   starts_spends t.no_starts env = spends _ _ (λ w le. gives_spent [] w)
-  starts_spends (t.value e is) env = spends _ _ (λ w le.
-      with_spent w d _ _ le ((g.value e env).at w le) (λ v. spends _ _ (λ w le.
-      with_spent w d _ _ le ((starts_spends is (past e env)).at w le) (λ vs. spends _ _ (λ w le. gives_spent _ w)))))
-  starts_spends (t.vector i e is) env = spends _ _ (λ w le.
-      with_spent w d _ _ le (turn_spent d _ (λ w lt. kept _ _ ((make_vec_spends (constant_in env e)).at w (omega (arith, lt)))) w le) (λ v. spends _ _ (λ w le.
-      with_spent w d _ _ le ((starts_spends is env).at w le) (λ vs. spends _ _ (λ w le. gives_spent _ w)))))
+  starts_spends (t.value e is) env = then_spends (g.value e env) (λ v. then_spends (starts_spends is (past e env)) (λ vs. spends _ _ (λ w le. gives_spent _ w)))
+  starts_spends (t.vector i e is) env = then_spends (in_turn (make_vec_spends (constant_in env e))) (λ v.
+      then_spends (starts_spends is env) (λ vs. spends _ _ (λ w le. gives_spent _ w)))
 
   pub let_values_spends : (ds : Definitions) (env : Environment) → Spends d (Blocks.let_values m ds env)
   let_values_spends t.no_definitions env = spends _ _ (λ w le. gives_spent [] w)
-  let_values_spends (t.define (t.variables i xs is) ds) env = spends _ _ (λ w le.
-      with_spent w d _ _ le (turn_spent d _ (λ w lt. kept _ _ ((starts_spends is env).at w (omega (arith, lt)))) w le) (λ vs. spends _ _ (λ w le.
-      with_spent w d _ _ le ((let_values_spends ds (past_definition (t.variables i xs is) env)).at w le) (λ more. spends _ _ (λ w le. gives_spent _ w)))))
+  let_values_spends (t.define (t.variables i xs is) ds) env =
+      then_spends (in_turn (starts_spends is env)) (λ vs.
+      then_spends (let_values_spends ds (past_definition (t.variables i xs is) env)) (λ more. spends _ _ (λ w le. gives_spent _ w)))
   let_values_spends (t.define x ds) env = let_values_spends ds (past_definition x env)
 
   pub bind_variables_spends : (ss : List Start) (env : Environment) → Spends d (Blocks.bind_variables ss env)
@@ -344,46 +301,42 @@ module _ (d : ℕ) (m : Meanings) (g : AllSpend d m) where
 
   pub declare_spends : (x : Declaration) (env : Environment) → Spends d (Blocks.declare m x env)
   declare_spends (t.constants i s is) env = spends _ _ (λ w le. gives_spent _ w)
-  declare_spends (t.definitions i ds) env = spends _ _ (λ w le.
-      with_spent w d _ _ le ((let_values_spends ds (within_let ds env)).at w le) (λ ss. bind_variables_spends ss (behind (objects_of_definitions ds) (within_let ds env))))
+  declare_spends (t.definitions i ds) env =
+      then_spends (let_values_spends ds (within_let ds env)) (λ ss. bind_variables_spends ss (behind (objects_of_definitions ds) (within_let ds env)))
 
   pub declare_all_spends : (ds : Declarations) (env : Environment) → Spends d (Blocks.declare_all m ds env)
   declare_all_spends t.no_declarations env = spends _ _ (λ w le. gives_spent env w)
-  declare_all_spends (t.declare x ds) env = spends _ _ (λ w le. with_spent w d _ _ le ((declare_spends x env).at w le) (λ env. declare_all_spends ds env))
+  declare_all_spends (t.declare x ds) env = then_spends (declare_spends x env) (λ env. declare_all_spends ds env)
 
   pub simple_exit_kept : (s : Simple) (w : World) → Kept w.turns (Commands.simple_exit s w)
   simple_exit_kept k.Finish w = record { is = omega arith }
   simple_exit_kept s w = record { is = omega arith }
 
   pub result_kept : (w : World) (u : Outcome Value) → Spent w.turns u → Kept {A = Done} w.turns (with u (λ v w. leaves (result v) w))
-  result_kept w (gives v x) h = record { is = h.is }
   result_kept w (leaves y x) h = let i : x.turns + 1 ≤ w.turns = h.is in record { is = omega (arith, i) }
-  result_kept w (ends e x) h = record { is = h.is }
   result_kept w undefined h = record { is = tt }
-  result_kept w (going x) h = record { is = h.is }
+  result_kept w _ h = record { is = h.is }
 
   pub act_of_kept : (p : Program) (c : Action) (mode : Mode) (env : Environment) (w : World) → w.turns ≤ d → Kept w.turns (Commands.act_of p m c mode env w)
   act_of_kept p t.empty mode env w le = kept _ _ ((done_spends).at w le)
   act_of_kept p (t.assign i xs es) mode env w le = kept _ _ ((assigned_spends xs env es (past_each xs env)).at w le)
-  act_of_kept p (t.call i f es) mode env w le = kept _ _ ((spends _ _ (λ w le. with_spent w d _ _ le ((applied_spends p f es env).at w le) (λ _. done_spends))).at w le)
+  act_of_kept p (t.call i f es) mode env w le = kept _ _ ((then_spends (applied_spends p f es env) (λ _. done_spends)).at w le)
   act_of_kept p (t.goto i x) mode env w le = record { is = omega arith }
   act_of_kept p (t.label i x c) mode env w le = kept _ _ ((g.act c (at_place (the_label x) mode) env).at w le)
   act_of_kept p (t.case_of i e c) mode env w le = kept _ _ ((g.act c (at_place (the_case (constant_in env e)) mode) env).at w le)
   act_of_kept p (t.default i c) mode env w le = kept _ _ ((g.act c (at_place the_default mode) env).at w le)
   act_of_kept p (t.when i b e c) forwards env w le = kept _ _ ((where_truth_spends b e env _ (g.act c forwards (past e env))).at w le)
   act_of_kept p (t.when i b e c) (seeking s) env w le = kept _ _ ((g.act c (seeking s) (past e env)).at w le)
-  act_of_kept p (t.test i e a b) forwards env w le = kept _ _ ((spends _ _ (λ w le.
-      with_spent w d _ _ le ((g.truth e env).at w le) (λ x. spends _ _ (λ w le.
-      either_spent x d _ _ (g.act a forwards (past e env)) (g.act b forwards (past_action a (past e env))) w le)))).at w le)
-  act_of_kept p (t.test i e a b) (seeking s) env w le = kept _ _ ((spends _ _ (λ w le.
-      either_spent (stands_in s env a) d _ _ (g.act a (seeking s) (past e env)) (g.act b (seeking s) (past_action a (past e env))) w le)).at w le)
+  act_of_kept p (t.test i e a b) forwards env w le =
+      kept _ _ ((then_spends (g.truth e env) (λ x. either_spends x (g.act a forwards (past e env)) (g.act b forwards (past_action a (past e env))))).at w le)
+  act_of_kept p (t.test i e a b) (seeking s) env w le =
+      kept _ _ ((either_spends (stands_in s env a) (g.act a (seeking s) (past e env)) (g.act b (seeking s) (past_action a (past e env)))).at w le)
   act_of_kept p (t.while i b e c) forwards env w le = kept _ _ ((where_truth_spends b e env _ (rounds_of_spends (t.while i b e c) forwards env)).at w le)
   act_of_kept p (t.while i b e c) (seeking s) env w le = kept _ _ ((rounds_of_spends (t.while i b e c) (seeking s) env).at w le)
-  act_of_kept p (t.for_loop i x a b h c) mode env w le = kept _ _ ((spends _ _ (λ w le.
-      with_spent w d _ _ le ((g.value a env).at w le) (λ u. spends _ _ (λ w le.
-      with_spent w d _ _ le ((g.value b (past a env)).at w le) (λ v. spends _ _ (λ w le.
-      with_spent w d _ _ le (given_spent (Loops.step_of env h) w) (λ i. for_loop_spends x.letters c u v i (past b (past a env))))))))).at w le)
-  act_of_kept p (t.switch i e c) forwards env w le = kept _ _ ((spends _ _ (λ w le. with_spent w d _ _ le ((g.value e env).at w le) (λ v. choose_case_spends v c (past e env)))).at w le)
+  act_of_kept p (t.for_loop i x a b h c) mode env w le =
+      kept _ _ ((then_spends (g.value a env) (λ u. then_spends (g.value b (past a env)) (λ v. then_spends (spends _ _ (λ w le. given_spent (Loops.step_of env h) w))
+      (λ i. for_loop_spends x.letters c u v i (past b (past a env)))))).at w le)
+  act_of_kept p (t.switch i e c) forwards env w le = kept _ _ ((then_spends (g.value e env) (λ v. choose_case_spends v c (past e env))).at w le)
   act_of_kept p (t.switch i e c) (seeking s) env w le = kept _ _ ((ended_case_spends c (seeking s) (past e env)).at w le)
   act_of_kept p (t.result i e) mode env w le = result_kept w _ ((g.value e env).at w le)
   act_of_kept p (t.simple i s) mode env w le = simple_exit_kept s w

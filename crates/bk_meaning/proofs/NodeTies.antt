@@ -1,24 +1,6 @@
 -- Every part of the meaning with fewer turns and with more, if the nodes inside are so.
-use Rattle.std.proofs.Common.{◌≡◌, ℕ, ◌≤◌, Bool, true, false, not, List, [], ◌∷◌, length, Option, Some, None, refl}
-use Rattle.bk_tree.specs.declared.tree.Operator.{Operator}
-use Rattle.bk_tree.specs.declared.tree.Operator.TheVariants as o
-use Rattle.bk_tree.specs.declared.tree.Prefix.{Prefix}
-use Rattle.bk_tree.specs.declared.tree.Prefix.TheVariants as q
-use Rattle.bk_tree.specs.declared.tree.Simple.{Simple}
-use Rattle.bk_tree.specs.declared.tree.Simple.TheVariants as k
+use Rattle.bk_meaning.proofs.Terms.{◌≡◌, ℕ, ◌≤◌, Bool, true, false, not, List, [], ◌∷◌, length, Option, Some, None, refl, Operator, Operator as o, Prefix, Prefix as q, Simple, Simple as k, Mention, Expression, Expressions, Action, Actions, Declaration, Declarations, Definition, Definitions, Starts, divides_by_zero, Routine, stop, rdch, wrch, newline, writes, writen, writed, getbyte, putbyte, writef, Value, number, address, procedure, routine, unset, holds, Memory, read, World, given, status, Exit, break, loop, endcase, goto, result, return, Outcome, gives, Done, done, turn, making, calling, writing, sum, truth_of_value, on_numbers, operate, operate_prefix, Environment, Sense, constant, cell, label, foreign, sense_of, bind, behind, past, past_each, past_action, past_definition, constant_in, labelled, within_let, objects_of_definitions, Body, command, expression, Procedure, Program, procedure_of, library, writes_text, takes_byte, the_label, the_case, the_default, Mode, forwards, seeking, at_place, stands_in, stands_in_one, Target, at, byte_at, Meanings, Start, with_turns}
 use Rattle.bk_tree.specs.Tree as t
-use Rattle.bk_tree.specs.Tree.{Mention, Expression, Expressions, Action, Actions, Declaration, Declarations, Definition, Definitions, Starts}
-use Rattle.bk_scope.specs.Constants.{divides_by_zero}
-use Rattle.bk_meaning.specs.Values.{Routine, stop, rdch, wrch, newline, writes, writen, writed, getbyte, putbyte, writef, Value, number, address, procedure, routine, unset, holds}
-use Rattle.bk_meaning.specs.Memory.{read}
-use Rattle.bk_meaning.specs.World.{World, status, Exit, break, loop, endcase, goto, result, return, Outcome, gives, Done, done, turn, making, calling, writing}
-use Rattle.bk_meaning.specs.Operators.{sum, truth_of_value, on_numbers, operate, operate_prefix}
-use Rattle.bk_meaning.specs.Environment.{Environment, Sense, constant, cell, label, foreign, sense_of, bind, behind, past, past_each, past_action, past_definition, constant_in, labelled, within_let, objects_of_definitions}
-use Rattle.bk_meaning.specs.Lasting.{Body, command, expression, Procedure, Program, procedure_of}
-use Rattle.bk_meaning.specs.Library.{library, writes_text, takes_byte}
-use Rattle.bk_meaning.specs.Seeking.{the_label, the_case, the_default, Mode, forwards, seeking, at_place, stands_in, stands_in_one}
-use Rattle.bk_meaning.specs.Parts.{Target, at, byte_at, Meanings}
-use Rattle.bk_meaning.specs.Blocks.{Start}
 use Rattle.bk_meaning.specs.Parts
 use Rattle.bk_meaning.specs.Scopes
 use Rattle.bk_meaning.specs.Calls
@@ -26,8 +8,7 @@ use Rattle.bk_meaning.specs.Expressions
 use Rattle.bk_meaning.specs.Loops
 use Rattle.bk_meaning.specs.Blocks
 use Rattle.bk_meaning.specs.Commands
-use Rattle.bk_meaning.specs.Turns.{with_turns}
-use Rattle.bk_meaning.proofs.Ties.{gives_more, Tied, Ties, ties, each_way_tied, with_tied, gives_tied, leaves_tied, ends_tied, undefined_tied, given_tied, either_tied, turn_tied, closing_tied, changes_tied, making_tied, call_tied, at_home}
+use Rattle.bk_meaning.proofs.Ties.{gives_more, Tied, Ties, ties, each_way_tied, with_tied, then_ties, either_ties, gives_tied, leaves_tied, ends_tied, undefined_tied, given_tied, either_tied, turn_tied, closing_tied, changes_tied, making_tied, call_tied, at_home}
 use Rattle.bk_meaning.proofs.After.{writing_on, taking_on}
 use Rattle.bk_meaning.proofs.Objects.{write_keeps, write_byte_keeps}
 
@@ -41,6 +22,9 @@ pub record AllTied (m l : Meanings) : Type 0 where
   pub for_rounds : (c : Action) (object : ℕ) (limit : Value) (step : ℕ) (env : Environment) → Ties (m.for_rounds c object limit step env) (l.for_rounds c object limit step env)
   pub scope : (cs : Actions) (mode : Mode) (env : Environment) → Ties (m.scope cs mode env) (l.scope cs mode env)
 
+reads_ties : {A : Type 0} (x : Memory → Option A) → Ties (λ w. given (x w.memory) w) (λ w. given (x w.memory) w)
+reads_ties x = ties _ _ (λ w n le. given_tied (x w.memory) w n le)
+
 pub fetch_ties : (a : Value) → Ties (Parts.fetch a) (Parts.fetch a)
 fetch_ties a = ties _ _ (λ w n le. given_tied (read w.memory a) w n le)
 
@@ -48,23 +32,18 @@ pub done_ties : Ties done done
 done_ties = ties _ _ (λ w n le. gives_tied tt w n le)
 
 pub named_ties : (s : Option Sense) → Ties (Parts.named s) (Parts.named s)
-named_ties None = ties _ _ (λ w n le. undefined_tied w)
 named_ties (Some (constant x)) = ties _ _ (λ w n le. gives_tied (number x) w n le)
 named_ties (Some (cell a i)) = fetch_ties (address a i)
-named_ties (Some label) = ties _ _ (λ w n le. undefined_tied w)
-named_ties (Some foreign) = ties _ _ (λ w n le. undefined_tied w)
+named_ties _ = ties _ _ (λ w n le. undefined_tied w)
 
 pub address_named_ties : (s : Option Sense) → Ties (Parts.address_named s) (Parts.address_named s)
-address_named_ties None = ties _ _ (λ w n le. undefined_tied w)
-address_named_ties (Some (constant x)) = ties _ _ (λ w n le. undefined_tied w)
 address_named_ties (Some (cell a i)) = ties _ _ (λ w n le. gives_tied (at (address a i)) w n le)
-address_named_ties (Some label) = ties _ _ (λ w n le. undefined_tied w)
-address_named_ties (Some foreign) = ties _ _ (λ w n le. undefined_tied w)
+address_named_ties _ = ties _ _ (λ w n le. undefined_tied w)
 
 -- operators
 pub on_numbers_ties : (q : Operator) (x y : Value) → Ties (on_numbers q x y) (on_numbers q x y)
-on_numbers_ties q (number x) (number y) = ties _ _ (λ w n le.
-    either_tied (divides_by_zero q (Some x) (Some y)) _ _ _ _ (ties _ _ (λ w n le. ends_tied _ w n le)) (ties _ _ (λ w n le. given_tied _ w n le)) w n le)
+on_numbers_ties q (number x) (number y) =
+    either_ties (divides_by_zero q (Some x) (Some y)) (ties _ _ (λ w n le. ends_tied _ w n le)) (ties _ _ (λ w n le. given_tied _ w n le))
 on_numbers_ties q (number x) _ = ties _ _ (λ w n le. undefined_tied w)
 on_numbers_ties q _ y = ties _ _ (λ w n le. undefined_tied w)
 
@@ -80,7 +59,7 @@ operate_ties o.AtLeast x y = ties _ _ (λ w n le. given_tied _ w n le)
 operate_ties q x y = on_numbers_ties q x y
 
 pub combined_ties : (q : Operator) (x y : Value) → Ties (Expressions.combined q x y) (Expressions.combined q x y)
-combined_ties o.Subscript x y = ties _ _ (λ w n le. with_tied w _ _ _ _ (given_tied (sum w.memory x y) w n le) fetch_ties)
+combined_ties o.Subscript x y = then_ties (reads_ties (λ m. sum m x y)) fetch_ties
 combined_ties o.Byte x y = ties _ _ (λ w n le. given_tied _ w n le)
 combined_ties q x y = operate_ties q x y
 
@@ -129,15 +108,13 @@ module _ (m l : Meanings) (g : AllTied m l) where
 
   pub in_order_ties : (cs : Actions) (mode : Mode) (env : Environment) → Ties (Scopes.in_order m cs mode env) (Scopes.in_order l cs mode env)
   in_order_ties t.no_actions mode env = done_ties
-  in_order_ties (t.also c cs) forwards env = ties _ _ (λ w n le. with_tied w _ _ _ _ ((g.act c forwards env).at w n le) (λ _. in_order_ties cs forwards (past_action c env)))
-  in_order_ties (t.also c cs) (seeking s) env = ties _ _ (λ w n le.
-      either_tied (stands_in s env c) _ _ _ _
-      (ties _ _ (λ w n le. with_tied w _ _ _ _ ((g.act c (seeking s) env).at w n le) (λ _. in_order_ties cs forwards (past_action c env))))
-      (in_order_ties cs (seeking s) (past_action c env)) w n le)
+  in_order_ties (t.also c cs) forwards env = then_ties (g.act c forwards env) (λ _. in_order_ties cs forwards (past_action c env))
+  in_order_ties (t.also c cs) (seeking s) env =
+      either_ties (stands_in s env c) (then_ties (g.act c (seeking s) env) (λ _. in_order_ties cs forwards (past_action c env)))
+      (in_order_ties cs (seeking s) (past_action c env))
 
   pub landing_ties : (cs : Actions) (env : Environment) (go to : List ℕ → World → Outcome Done) → ((x : List ℕ) → Ties (go x) (to x)) → (x : Exit) → Ties (Scopes.landing cs env go x) (Scopes.landing cs env to x)
-  landing_ties cs env go to h (goto x) = ties _ _ (λ w n le.
-      either_tied (stands_in_one (the_label x) env cs) _ _ _ _ (h x) (ties _ _ (λ w n le. leaves_tied (goto x) w n le)) w n le)
+  landing_ties cs env go to h (goto x) = either_ties (stands_in_one (the_label x) env cs) (h x) (ties _ _ (λ w n le. leaves_tied (goto x) w n le))
   landing_ties cs env go to h x = ties _ _ (λ w n le. leaves_tied x w n le)
 
   pub scope_ties : (cs : Actions) (mode : Mode) (env : Environment) → Ties (Scopes.scope_of m cs mode env) (Scopes.scope_of l cs mode env)
@@ -174,9 +151,7 @@ module _ (m l : Meanings) (g : AllTied m l) where
   call_ties p f vs = ties _ _ (λ w n le. call_tied w _ _ ((called_ties p f vs).at (calling w) n le))
 
   pub applied_ties : (p : Program) (f : Expression) (es : Expressions) (env : Environment) → Ties (Calls.applied p m f es env) (Calls.applied p l f es env)
-  applied_ties p f es env = ties _ _ (λ w n le.
-      with_tied w _ _ _ _ ((values_ties es (past f env)).at w n le) (λ vs. ties _ _ (λ w n le.
-      with_tied w _ _ _ _ ((g.value f env).at w n le) (λ v. call_ties p v vs))))
+  applied_ties p f es env = then_ties (values_ties es (past f env)) (λ vs. then_ties (g.value f env) (λ v. call_ties p v vs))
 
   pub address_in_ties : (a : Target) → Ties (Expressions.address_in a) (Expressions.address_in a)
   address_in_ties (at a) = ties _ _ (λ w n le. gives_tied a w n le)
@@ -185,45 +160,36 @@ module _ (m l : Meanings) (g : AllTied m l) where
   pub value_of_ties : (p : Program) (e : Expression) (env : Environment) → Ties (Expressions.value_of p m e env) (Expressions.value_of p l e env)
   value_of_ties p (t.name i x) env = named_ties (sense_of x env)
   value_of_ties p (t.number i x) env = ties _ _ (λ w n le. gives_tied (number x) w n le)
-  value_of_ties p (t.text i x) env = ties _ _ (λ w n le. gives_tied _ w n le)
-  value_of_ties p (t.truth i b) env = ties _ _ (λ w n le. gives_tied _ w n le)
   value_of_ties p (t.query i) env = ties _ _ (λ w n le. gives_tied unset w n le)
   value_of_ties p (t.parens i e) env = g.value e env
-  value_of_ties p (t.unary i q.Contents e) env = ties _ _ (λ w n le. with_tied w _ _ _ _ ((g.value e env).at w n le) fetch_ties)
-  value_of_ties p (t.unary i q.Address e) env = ties _ _ (λ w n le. with_tied w _ _ _ _ ((g.target e env).at w n le) address_in_ties)
-  value_of_ties p (t.unary i q e) env = ties _ _ (λ w n le. with_tied w _ _ _ _ ((g.value e env).at w n le) (operate_prefix_ties q))
-  value_of_ties p (t.binary i q j a b) env = ties _ _ (λ w n le.
-      with_tied w _ _ _ _ ((g.value a env).at w n le) (λ x. ties _ _ (λ w n le.
-      with_tied w _ _ _ _ ((g.value b (past a env)).at w n le) (λ y. combined_ties q x y))))
-  value_of_ties p (t.choice i j c a b) env = ties _ _ (λ w n le.
-      with_tied w _ _ _ _ ((g.truth c env).at w n le) (λ x. ties _ _ (λ w n le.
-      either_tied x _ _ _ _ (g.value a (past c env)) (g.value b (past a (past c env))) w n le)))
+  value_of_ties p (t.unary i q.Contents e) env = then_ties (g.value e env) fetch_ties
+  value_of_ties p (t.unary i q.Address e) env = then_ties (g.target e env) address_in_ties
+  value_of_ties p (t.unary i q e) env = then_ties (g.value e env) (operate_prefix_ties q)
+  value_of_ties p (t.binary i q j a b) env = then_ties (g.value a env) (λ x. then_ties (g.value b (past a env)) (λ y. combined_ties q x y))
+  value_of_ties p (t.choice i j c a b) env = then_ties (g.truth c env) (λ x. either_ties x (g.value a (past c env)) (g.value b (past a (past c env))))
   value_of_ties p (t.apply i j f es) env = applied_ties p f es env
   value_of_ties p (t.valof i c) env = ties _ _ (λ w n le. each_way_tied w _ _ _ _ _ _ ((scope_ties (Scopes.alone c) forwards env).at w n le) unset_ties result_ties)
-  value_of_ties p (t.table i es) env = ties _ _ (λ w n le. gives_tied _ w n le)
+  value_of_ties p _ env = ties _ _ (λ w n le. gives_tied _ w n le)
 
   pub truth_of_ties : (p : Program) (e : Expression) (env : Environment) → Ties (Expressions.truth_of p m e env) (Expressions.truth_of p l e env)
   truth_of_ties p (t.parens i e) env = g.truth e env
-  truth_of_ties p (t.unary i q.Not e) env = ties _ _ (λ w n le. with_tied w _ _ _ _ ((g.truth e env).at w n le) (λ b. ties _ _ (λ w n le. gives_tied (not b) w n le)))
+  truth_of_ties p (t.unary i q.Not e) env = then_ties (g.truth e env) (λ b. ties _ _ (λ w n le. gives_tied (not b) w n le))
   truth_of_ties p (t.binary i o.Both j a b) env = ties _ _ (λ w n le.
       with_tied w _ _ _ _ ((g.truth a env).at w n le) (λ x. ties _ _ (λ w n le.
       either_tied x _ _ _ _ (g.truth b (past a env)) (ties _ _ (λ w n le. gives_tied false w n le)) w n le)))
-  truth_of_ties p (t.binary i o.Either j a b) env = ties _ _ (λ w n le.
-      with_tied w _ _ _ _ ((g.truth a env).at w n le) (λ x. ties _ _ (λ w n le.
-      either_tied x _ _ _ _ (ties _ _ (λ w n le. gives_tied true w n le)) (g.truth b (past a env)) w n le)))
+  truth_of_ties p (t.binary i o.Either j a b) env =
+      then_ties (g.truth a env) (λ x. either_ties x (ties _ _ (λ w n le. gives_tied true w n le)) (g.truth b (past a env)))
   truth_of_ties p e env = ties _ _ (λ w n le. with_tied w (Expressions.value_of p m e env w) (Expressions.value_of p l e env (with_turns n w)) Expressions.judged Expressions.judged ((value_of_ties p e env).at w n le) judged_ties)
 
   pub target_of_ties : (e : Expression) (env : Environment) → Ties (Expressions.target_of m e env) (Expressions.target_of l e env)
   target_of_ties (t.name i x) env = address_named_ties (sense_of x env)
   target_of_ties (t.parens i e) env = g.target e env
-  target_of_ties (t.unary i q.Contents e) env = ties _ _ (λ w n le. with_tied w _ _ _ _ ((g.value e env).at w n le) (λ a. ties _ _ (λ w n le. gives_tied (at a) w n le)))
-  target_of_ties (t.binary i o.Subscript j a b) env = ties _ _ (λ w n le.
-      with_tied w _ _ _ _ ((g.value a env).at w n le) (λ x. ties _ _ (λ w n le.
-      with_tied w _ _ _ _ ((g.value b (past a env)).at w n le) (λ y. ties _ _ (λ w n le.
-      with_tied w _ _ _ _ (given_tied (sum w.memory x y) w n le) (λ a. ties _ _ (λ w n le. gives_tied (at a) w n le)))))))
-  target_of_ties (t.binary i o.Byte j a b) env = ties _ _ (λ w n le.
-      with_tied w _ _ _ _ ((g.value a env).at w n le) (λ x. ties _ _ (λ w n le.
-      with_tied w _ _ _ _ ((g.value b (past a env)).at w n le) (λ y. ties _ _ (λ w n le. gives_tied (byte_at x y) w n le)))))
+  target_of_ties (t.unary i q.Contents e) env = then_ties (g.value e env) (λ a. ties _ _ (λ w n le. gives_tied (at a) w n le))
+  target_of_ties (t.binary i o.Subscript j a b) env =
+      then_ties (g.value a env) (λ x. then_ties (g.value b (past a env)) (λ y.
+      then_ties (reads_ties (λ m. sum m x y)) (λ a. ties _ _ (λ w n le. gives_tied (at a) w n le))))
+  target_of_ties (t.binary i o.Byte j a b) env =
+      then_ties (g.value a env) (λ x. then_ties (g.value b (past a env)) (λ y. ties _ _ (λ w n le. gives_tied (byte_at x y) w n le)))
   target_of_ties e env = ties _ _ (λ w n le. undefined_tied w)
 
   pub store_ties : (a : Target) (v : Value) → Ties (Parts.store a v) (Parts.store a v)
@@ -231,12 +197,11 @@ module _ (m l : Meanings) (g : AllTied m l) where
   store_ties (byte_at a i) v = ties _ _ (λ w n le. changes_tied _ w n le (write_byte_keeps w.memory a i v))
 
   pub assigned_ties : (xs : Expressions) (there : Environment) (es : Expressions) (env : Environment) → Ties (Commands.assigned m xs there es env) (Commands.assigned l xs there es env)
-  assigned_ties t.none there es env = done_ties
-  assigned_ties (t.more x xs) there t.none env = done_ties
   assigned_ties (t.more x xs) there (t.more e es) env = ties _ _ (λ w n le.
       with_tied w _ _ _ _ ((g.value e env).at w n le) (λ v. ties _ _ (λ w n le.
       with_tied w _ _ _ _ ((g.target x there).at w n le) (λ a. ties _ _ (λ w n le.
       with_tied w _ _ _ _ ((store_ties a v).at w n le) (λ _. assigned_ties xs (past x there) es (past e env)))))))
+  assigned_ties _ there _ env = done_ties
 
   pub round_exit_ties : (go to : World → Outcome Done) → Ties go to → (x : Exit) → Ties (Loops.round_exit go x) (Loops.round_exit to x)
   round_exit_ties go to h loop = h
@@ -247,8 +212,7 @@ module _ (m l : Meanings) (g : AllTied m l) where
   again_tied w u v go to t h = each_way_tied w u v _ _ _ _ t (λ _. h) (round_exit_ties go to h)
 
   pub where_truth_ties : (b : Bool) (e : Expression) (env : Environment) (go to : World → Outcome Done) → Ties go to → Ties (Loops.where_truth m b e env go) (Loops.where_truth l b e env to)
-  where_truth_ties b e env go to h = ties _ _ (λ w n le.
-      with_tied w _ _ _ _ ((g.truth e env).at w n le) (λ x. ties _ _ (λ w n le. either_tied (Loops.same_truth b x) _ _ _ _ h done_ties w n le)))
+  where_truth_ties b e env go to h = then_ties (g.truth e env) (λ x. either_ties (Loops.same_truth b x) h done_ties)
 
   pub turn_ties : (go to : World → Outcome Done) → Ties go to → Ties (λ w. turn w go) (λ w. turn w to)
   turn_ties go to h = ties _ _ (λ w n le. turn_tied go to h w n le)
@@ -263,15 +227,13 @@ module _ (m l : Meanings) (g : AllTied m l) where
   rounds_of_ties c mode env = done_ties
 
   pub for_test_ties : (object : ℕ) (limit : Value) (step : ℕ) (go to : World → Outcome Done) → Ties go to → Ties (Loops.for_test object limit step go) (Loops.for_test object limit step to)
-  for_test_ties object limit step go to h = ties _ _ (λ w n le.
-      with_tied w _ _ _ _ ((fetch_ties (address object 0)).at w n le) (λ v. ties _ _ (λ w n le.
-      with_tied w _ _ _ _ ((operate_ties (Loops.relation step) v limit).at w n le) (λ v. ties _ _ (λ w n le.
-      with_tied w _ _ _ _ ((judged_ties v).at w n le) (λ b. ties _ _ (λ w n le. either_tied b _ _ _ _ h done_ties w n le)))))))
+  for_test_ties object limit step go to h =
+      then_ties (fetch_ties (address object 0)) (λ v. then_ties (operate_ties (Loops.relation step) v limit) (λ v. then_ties (judged_ties v) (λ b.
+      either_ties b h done_ties)))
 
   pub for_step_ties : (object : ℕ) (step : ℕ) → Ties (Loops.for_step object step) (Loops.for_step object step)
-  for_step_ties object step = ties _ _ (λ w n le.
-      with_tied w _ _ _ _ ((fetch_ties (address object 0)).at w n le) (λ v. ties _ _ (λ w n le.
-      with_tied w _ _ _ _ ((operate_ties o.Add v (number step)).at w n le) (λ v. store_ties (at (address object 0)) v))))
+  for_step_ties object step =
+      then_ties (fetch_ties (address object 0)) (λ v. then_ties (operate_ties o.Add v (number step)) (λ v. store_ties (at (address object 0)) v))
 
   pub for_rounds_of_ties : (c : Action) (object : ℕ) (limit : Value) (step : ℕ) (env : Environment) → Ties (Loops.for_rounds_of m c object limit step env) (Loops.for_rounds_of l c object limit step env)
   for_rounds_of_ties c object limit step env = ties _ _ (λ w n le.
@@ -291,9 +253,9 @@ module _ (m l : Meanings) (g : AllTied m l) where
   ended_case_ties c mode env = ties _ _ (λ w n le. each_way_tied w _ _ _ _ _ _ ((g.act c mode env).at w n le) (λ _. done_ties) case_exit_ties)
 
   pub choose_case_ties : (v : Value) (c : Action) (env : Environment) → Ties (Commands.choose_case m v c env) (Commands.choose_case l v c env)
-  choose_case_ties (number i) c env = ties _ _ (λ w n le.
-      either_tied (stands_in (the_case (Some i)) env c) _ _ _ _ (ended_case_ties c (seeking (the_case (Some i))) env)
-      (ties _ _ (λ w n le. either_tied (stands_in the_default env c) _ _ _ _ (ended_case_ties c (seeking the_default) env) done_ties w n le)) w n le)
+  choose_case_ties (number i) c env =
+      either_ties (stands_in (the_case (Some i)) env c) (ended_case_ties c (seeking (the_case (Some i))) env)
+      (either_ties (stands_in the_default env c) (ended_case_ties c (seeking the_default) env) done_ties)
   choose_case_ties v c env = ties _ _ (λ w n le. undefined_tied w)
 
   pub make_vec_ties : (k : Option ℕ) → Ties (Blocks.make_vec k) (Blocks.make_vec k)
@@ -302,12 +264,10 @@ module _ (m l : Meanings) (g : AllTied m l) where
 
   pub starts_ties : (is : Starts) (env : Environment) → Ties (Blocks.starts m is env) (Blocks.starts l is env)
   starts_ties t.no_starts env = ties _ _ (λ w n le. gives_tied [] w n le)
-  starts_ties (t.value e is) env = ties _ _ (λ w n le.
-      with_tied w _ _ _ _ ((g.value e env).at w n le) (λ v. ties _ _ (λ w n le.
-      with_tied w _ _ _ _ ((starts_ties is (past e env)).at w n le) (λ vs. ties _ _ (λ w n le. gives_tied _ w n le)))))
-  starts_ties (t.vector i e is) env = ties _ _ (λ w n le.
-      with_tied w _ _ _ _ (turn_tied _ _ (make_vec_ties (constant_in env e)) w n le) (λ v. ties _ _ (λ w n le.
-      with_tied w _ _ _ _ ((starts_ties is env).at w n le) (λ vs. ties _ _ (λ w n le. gives_tied _ w n le)))))
+  starts_ties (t.value e is) env = then_ties (g.value e env) (λ v. then_ties (starts_ties is (past e env)) (λ vs. ties _ _ (λ w n le. gives_tied _ w n le)))
+  starts_ties (t.vector i e is) env =
+      then_ties (ties _ _ (λ w n le. turn_tied _ _ (make_vec_ties (constant_in env e)) w n le)) (λ v.
+      then_ties (starts_ties is env) (λ vs. ties _ _ (λ w n le. gives_tied _ w n le)))
 
   pub let_values_ties : (ds : Definitions) (env : Environment) → Ties (Blocks.let_values m ds env) (Blocks.let_values l ds env)
   let_values_ties t.no_definitions env = ties _ _ (λ w n le. gives_tied [] w n le)
@@ -323,12 +283,12 @@ module _ (m l : Meanings) (g : AllTied m l) where
 
   pub declare_ties : (x : Declaration) (env : Environment) → Ties (Blocks.declare m x env) (Blocks.declare l x env)
   declare_ties (t.constants i s is) env = ties _ _ (λ w n le. gives_tied _ w n le)
-  declare_ties (t.definitions i ds) env = ties _ _ (λ w n le.
-      with_tied w _ _ _ _ ((let_values_ties ds (within_let ds env)).at w n le) (λ ss. bind_variables_ties ss (behind (objects_of_definitions ds) (within_let ds env))))
+  declare_ties (t.definitions i ds) env =
+      then_ties (let_values_ties ds (within_let ds env)) (λ ss. bind_variables_ties ss (behind (objects_of_definitions ds) (within_let ds env)))
 
   pub declare_all_ties : (ds : Declarations) (env : Environment) → Ties (Blocks.declare_all m ds env) (Blocks.declare_all l ds env)
   declare_all_ties t.no_declarations env = ties _ _ (λ w n le. gives_tied env w n le)
-  declare_all_ties (t.declare x ds) env = ties _ _ (λ w n le. with_tied w _ _ _ _ ((declare_ties x env).at w n le) (λ env. declare_all_ties ds env))
+  declare_all_ties (t.declare x ds) env = then_ties (declare_ties x env) (λ env. declare_all_ties ds env)
 
   pub simple_exit_ties : (s : Simple) → Ties (Commands.simple_exit s) (Commands.simple_exit s)
   simple_exit_ties k.Break = ties _ _ (λ w n le. leaves_tied break w n le)
@@ -340,27 +300,25 @@ module _ (m l : Meanings) (g : AllTied m l) where
   pub act_of_ties : (p : Program) (c : Action) (mode : Mode) (env : Environment) → Ties (Commands.act_of p m c mode env) (Commands.act_of p l c mode env)
   act_of_ties p t.empty mode env = done_ties
   act_of_ties p (t.assign i xs es) mode env = assigned_ties xs env es (past_each xs env)
-  act_of_ties p (t.call i f es) mode env = ties _ _ (λ w n le. with_tied w _ _ _ _ ((applied_ties p f es env).at w n le) (λ _. done_ties))
+  act_of_ties p (t.call i f es) mode env = then_ties (applied_ties p f es env) (λ _. done_ties)
   act_of_ties p (t.goto i x) mode env = ties _ _ (λ w n le. leaves_tied (goto x.letters) w n le)
   act_of_ties p (t.label i x c) mode env = g.act c (at_place (the_label x) mode) env
   act_of_ties p (t.case_of i e c) mode env = g.act c (at_place (the_case (constant_in env e)) mode) env
   act_of_ties p (t.default i c) mode env = g.act c (at_place the_default mode) env
   act_of_ties p (t.when i b e c) forwards env = where_truth_ties b e env _ _ (g.act c forwards (past e env))
   act_of_ties p (t.when i b e c) (seeking s) env = g.act c (seeking s) (past e env)
-  act_of_ties p (t.test i e a b) forwards env = ties _ _ (λ w n le.
-      with_tied w _ _ _ _ ((g.truth e env).at w n le) (λ x. ties _ _ (λ w n le.
-      either_tied x _ _ _ _ (g.act a forwards (past e env)) (g.act b forwards (past_action a (past e env))) w n le)))
-  act_of_ties p (t.test i e a b) (seeking s) env = ties _ _ (λ w n le.
-      either_tied (stands_in s env a) _ _ _ _ (g.act a (seeking s) (past e env)) (g.act b (seeking s) (past_action a (past e env))) w n le)
+  act_of_ties p (t.test i e a b) forwards env =
+      then_ties (g.truth e env) (λ x. either_ties x (g.act a forwards (past e env)) (g.act b forwards (past_action a (past e env))))
+  act_of_ties p (t.test i e a b) (seeking s) env =
+      either_ties (stands_in s env a) (g.act a (seeking s) (past e env)) (g.act b (seeking s) (past_action a (past e env)))
   act_of_ties p (t.while i b e c) forwards env = where_truth_ties b e env _ _ (rounds_of_ties (t.while i b e c) forwards env)
   act_of_ties p (t.while i b e c) (seeking s) env = rounds_of_ties (t.while i b e c) (seeking s) env
-  act_of_ties p (t.for_loop i x a b h c) mode env = ties _ _ (λ w n le.
-      with_tied w _ _ _ _ ((g.value a env).at w n le) (λ u. ties _ _ (λ w n le.
-      with_tied w _ _ _ _ ((g.value b (past a env)).at w n le) (λ v. ties _ _ (λ w n le.
-      with_tied w _ _ _ _ (given_tied (Loops.step_of env h) w n le) (λ i. for_loop_ties x.letters c u v i (past b (past a env))))))))
-  act_of_ties p (t.switch i e c) forwards env = ties _ _ (λ w n le. with_tied w _ _ _ _ ((g.value e env).at w n le) (λ v. choose_case_ties v c (past e env)))
+  act_of_ties p (t.for_loop i x a b h c) mode env =
+      then_ties (g.value a env) (λ u. then_ties (g.value b (past a env)) (λ v. then_ties (reads_ties (λ _. Loops.step_of env h))
+      (λ i. for_loop_ties x.letters c u v i (past b (past a env)))))
+  act_of_ties p (t.switch i e c) forwards env = then_ties (g.value e env) (λ v. choose_case_ties v c (past e env))
   act_of_ties p (t.switch i e c) (seeking s) env = ended_case_ties c (seeking s) (past e env)
-  act_of_ties p (t.result i e) mode env = ties _ _ (λ w n le. with_tied w _ _ _ _ ((g.value e env).at w n le) (λ v. ties _ _ (λ w n le. leaves_tied (result v) w n le)))
+  act_of_ties p (t.result i e) mode env = then_ties (g.value e env) (λ v. ties _ _ (λ w n le. leaves_tied (result v) w n le))
   act_of_ties p (t.simple i s) mode env = simple_exit_ties s
   act_of_ties p (t.block i t.no_declarations cs) mode env = in_order_ties cs mode env
   act_of_ties p (t.block i (t.declare x ds) cs) mode env = ties _ _ (λ w n le.

@@ -1,13 +1,6 @@
 -- As many lasting objects as are counted.
-use Rattle.std.proofs.Common.{◌≡◌, ℕ, ◌+◌, List, [], ◌∷◌, ◌++◌, length, refl, arith}
-use Rattle.std.proofs.lemmas.List.{length-append}
-use Rattle.std.specs.Prelude.{unwrap_or}
-use Rattle.bk_tree.specs.declared.tree.Sort.TheVariants as s
+use Rattle.bk_meaning.proofs.Terms.{◌≡◌, ℕ, ◌+◌, List, [], ◌∷◌, ◌++◌, length, refl, arith, length-append, unwrap_or, Sort as s, Expression, Expressions, Action, Actions, Declaration, Declarations, Items, Definition, Definitions, Starts, Environment, past, past_each, past_action, past_definition, constant_in, labelled, within_let, objects, objects_of_each, objects_of_action, objects_of_actions, objects_of_declaration, objects_of_declarations, count, objects_of_definition, objects_of_definitions, objects_of_starts, Lasting, words, command, expression, procedure_here, inside, in_scope, in_for, static_words, declared, all_declared, of_expression, of_each, of_action, of_actions, of_declaration, of_declarations, of_definition, of_definitions, of_starts, AsManyAsCounted}
 use Rattle.bk_tree.specs.Tree as t
-use Rattle.bk_tree.specs.Tree.{Expression, Expressions, Action, Actions, Declaration, Declarations, Items, Definition, Definitions, Starts}
-use Rattle.bk_meaning.specs.Environment.{Environment, past, past_each, past_action, past_definition, constant_in, labelled, within_let, objects, objects_of_each, objects_of_action, objects_of_actions, objects_of_declaration, objects_of_declarations, count, objects_of_definition, objects_of_definitions, objects_of_starts}
-use Rattle.bk_meaning.specs.Lasting.{Lasting, words, command, expression, procedure_here, inside, in_scope, in_for, static_words, declared, all_declared, of_expression, of_each, of_action, of_actions, of_declaration, of_declarations, of_definition, of_definitions, of_starts}
-use Rattle.bk_meaning.specs.Numbering.{AsManyAsCounted}
 
 both : (a b : List Lasting) (m n : ℕ) → length a ≡ m → length b ≡ n → length (a ++ b) ≡ m + n
 both a b m n x y = omega (arith, length-append a b, x, y)
@@ -24,14 +17,12 @@ statics_counted env (t.item l x e is) = one (words (unwrap_or (constant_in env e
 
 mutual
   pub expression_counted : (env : Environment) (e : Expression) → length (of_expression env e) ≡ objects e
-  expression_counted env (t.text l x) = refl
   expression_counted env (t.parens l e) = expression_counted env e
   expression_counted env (t.unary l q e) = expression_counted env e
   expression_counted env (t.binary l q m a b) = both (of_expression env a) _ _ _ (expression_counted env a) (expression_counted (past a env) b)
   expression_counted env (t.choice l m c a b) = three (of_expression env c) (of_expression (past c env) a) _ _ _ _ (expression_counted env c) (expression_counted (past c env) a) (expression_counted (past a (past c env)) b)
   expression_counted env (t.apply l m f es) = both (of_expression env f) _ _ _ (expression_counted env f) (each_counted (past f env) es)
   expression_counted env (t.valof l c) = action_counted (in_scope c env) c
-  expression_counted env (t.table l es) = refl
   expression_counted env _ = refl
 
   pub each_counted : (env : Environment) (es : Expressions) → length (of_each env es) ≡ objects_of_each es
@@ -54,18 +45,15 @@ mutual
   action_counted env (t.block l (t.declare d ds) cs) = both (of_declarations env (t.declare d ds)) _ _ _ (declarations_counted env (t.declare d ds)) (actions_counted (labelled cs (all_declared (t.declare d ds) env)) cs)
   action_counted env (t.repeat l c) = action_counted env c
   action_counted env (t.repeat_while l b c e) = both (of_action env c) _ _ _ (action_counted env c) (expression_counted (past_action c env) e)
-  action_counted env t.empty = refl
-  action_counted env (t.goto l x) = refl
-  action_counted env (t.simple l w) = refl
+  action_counted env _ = refl
 
   pub actions_counted : (env : Environment) (cs : Actions) → length (of_actions env cs) ≡ objects_of_actions cs
   actions_counted env t.no_actions = refl
   actions_counted env (t.also c cs) = both (of_action env c) _ _ _ (action_counted env c) (actions_counted (past_action c env) cs)
 
   pub declaration_counted : (env : Environment) (d : Declaration) → length (of_declaration env d) ≡ objects_of_declaration d
-  declaration_counted env (t.constants l s.Manifest is) = refl
   declaration_counted env (t.constants l s.Static is) = statics_counted env is
-  declaration_counted env (t.constants l s.Global is) = refl
+  declaration_counted env (t.constants l _ is) = refl
   declaration_counted env (t.definitions l ds) = definitions_counted (within_let ds env) ds
 
   pub declarations_counted : (env : Environment) (ds : Declarations) → length (of_declarations env ds) ≡ objects_of_declarations ds

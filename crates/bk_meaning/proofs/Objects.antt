@@ -1,12 +1,6 @@
 -- Objects of memory: their sizes and lives, when one is made, changed or dies.
-use Rattle.std.proofs.Common.{◌≡◌, ℕ, zero, suc, ◌<◌, ◌≤◌, Bool, true, false, cond, List, [], ◌∷◌, ◌++◌, length, Option, Some, None, refl, sym, ap, subst, ◌∙◌, append_assoc, arith}
-use Rattle.std.specs.Prelude.{IsTrue, ◌%◌, is_some, option_and_then, slice_get, slice_set}
+use Rattle.bk_meaning.proofs.Terms.{◌≡◌, ℕ, zero, suc, ◌<◌, ◌≤◌, Bool, true, false, cond, List, [], ◌∷◌, ◌++◌, length, Option, Some, None, refl, sym, ap, subst, ◌∙◌, append_assoc, arith, IsTrue, ◌%◌, is_some, option_and_then, slice_get, slice_set, append-nil, map-append, length-append, length-map, length-set, Value, number, address, procedure, routine, unset, Cell, holds, with_byte, Memory, living, dead, cells_of, cells_at, cell_at, replaced, with_cell, write, write_byte, cell_of_byte, lives, made, dead_from, Program, Lasting, global_vector, words, code, objects_from, first_memory, size_of, sizes, Keeps}
 use Rattle.bk_base.specs.Word.{byte_place}
-use Rattle.std.proofs.lemmas.List.{append-nil, map-append, length-append, length-map, length-set}
-use Rattle.bk_meaning.specs.Values.{Value, number, address, procedure, routine, unset, Cell, holds, with_byte}
-use Rattle.bk_meaning.specs.Memory.{Memory, living, dead, cells_of, cells_at, cell_at, replaced, with_cell, write, write_byte, cell_of_byte, lives, made, dead_from}
-use Rattle.bk_meaning.specs.Lasting.{Program, Lasting, global_vector, words, code, objects_from, first_memory}
-use Rattle.bk_meaning.specs.Growing.{size_of, sizes, Keeps}
 
 pub kept_still : (s : List (Option ℕ)) → Keeps s s
 kept_still s = record { made = []; objects = sym (append-nil s) }
@@ -62,7 +56,6 @@ replaced_keeps m o i c (Some cells) is = if_allowed m _ (is_some (slice_get cell
 
 with_cell_keeps : (m : Memory) (a : Value) (c : Cell) → KeepsSizes m (with_cell m a c)
 with_cell_keeps m (address o i) c = replaced_keeps m o i c (cells_at m o) refl
-with_cell_keeps m (number n) c = tt
 with_cell_keeps m _ c = tt
 
 then_keeps : (m : Memory) (go : Cell → Option Memory) (c : Option Cell) → ((c : Cell) → KeepsSizes m (go c)) → KeepsSizes m (option_and_then go c)
@@ -75,14 +68,7 @@ write_keeps m a v = with_cell_keeps m a (holds v)
 pub write_byte_keeps : (m : Memory) (a i x : Value) → KeepsSizes m (write_byte m a i x)
 write_byte_keeps m a (number i) (number x) =
     then_keeps m _ (cell_at m (cell_of_byte a i)) (λ c. then_keeps m _ (with_byte c (byte_place i) (x % 256)) (λ d. with_cell_keeps m (cell_of_byte a i) d))
-write_byte_keeps m a (number i) (address o k) = tt
-write_byte_keeps m a (number i) (procedure n) = tt
-write_byte_keeps m a (number i) (routine r) = tt
-write_byte_keeps m a (number i) unset = tt
-write_byte_keeps m a (address o k) x = tt
-write_byte_keeps m a (procedure n) x = tt
-write_byte_keeps m a (routine r) x = tt
-write_byte_keeps m a unset x = tt
+write_byte_keeps m a _ _ = tt
 
 pub kept_length : (before now : Memory) → Keeps (sizes before) (sizes now) → length before ≤ length now
 kept_length before now k =
@@ -113,9 +99,8 @@ kept_lives before now o k so =
 -- All that lasts lives when the run begins.
 objects_live : (p : Program) (n : ℕ) (xs : List Lasting) (o : ℕ) → o < length xs → IsTrue (lives (objects_from p n xs) o)
 objects_live p n [] o lt = absurd (omega (arith, lt))
-objects_live p n (global_vector ∷ xs) zero lt = refl
 objects_live p n (words ws ∷ xs) zero lt = refl
-objects_live p n (code c ∷ xs) zero lt = refl
+objects_live p n (_ ∷ xs) zero lt = refl
 objects_live p n (x ∷ xs) (suc o) lt = objects_live p (suc n) xs o (omega (arith, lt))
 
 pub first_lives : (p : Program) (o : ℕ) → o < length p → IsTrue (lives (first_memory p) o)

@@ -1,7 +1,5 @@
 -- Turns are spent: no outcome has more of them than there were, an exit has fewer, and a run is cut off only where none is left.
-use Rattle.std.proofs.Common.{◌≡◌, ℕ, zero, suc, ◌+◌, ◌≤◌, Bool, true, false, Option, Some, None, refl, arith}
-use Rattle.bk_meaning.specs.Memory.{Memory}
-use Rattle.bk_meaning.specs.World.{World, Exit, End, Outcome, gives, leaves, ends, undefined, going, each_way, with, given, either, turn, turn_of, closing, changes}
+use Rattle.bk_meaning.proofs.Terms.{◌≡◌, ℕ, zero, suc, ◌+◌, ◌≤◌, Bool, true, false, Option, Some, None, refl, arith, Memory, World, Exit, End, Outcome, gives, leaves, ends, undefined, going, each_way, with, given, either, turn, turn_of, closing, changes}
 
 abbrev pub IsSpent : {A : Type 0} → ℕ → Outcome A → Type 0
 IsSpent n (gives a v) = v.turns ≤ n
@@ -39,11 +37,9 @@ spent_more n k undefined le h = record { is = tt }
 spent_more n k (going v) le h = record { is = h.is }
 
 pub kept : {A : Type 0} (n : ℕ) (u : Outcome A) → Spent n u → Kept n u
-kept n (gives a v) h = record { is = h.is }
 kept n (leaves x v) h = let i : v.turns + 1 ≤ n = h.is in record { is = omega (arith, i) }
-kept n (ends e v) h = record { is = h.is }
 kept n undefined h = record { is = tt }
-kept n (going v) h = record { is = h.is }
+kept n _ h = record { is = h.is }
 
 -- of an exit
 pub record SpendsOut {A : Type 0} (d : ℕ) (out : Exit → World → Outcome A) : Type 0 where
@@ -54,9 +50,8 @@ each_way_spent w d (gives a v) on out le h s x =
     let i : v.turns ≤ w.turns = h.is in
     spent_more v.turns w.turns (on a v) i ((s a).at v (omega (arith, i, le)))
 each_way_spent w d (leaves y v) on out le h s x = x.at y v w.turns h.is le
-each_way_spent w d (ends e v) on out le h s x = record { is = h.is }
 each_way_spent w d undefined on out le h s x = record { is = tt }
-each_way_spent w d (going v) on out le h s x = record { is = h.is }
+each_way_spent w d _ on out le h s x = record { is = h.is }
 
 pub leaves_out : {A : Type 0} (d : ℕ) → SpendsOut {A = A} d (λ x w. leaves x w)
 leaves_out d = record { at = λ x v n lt le. record { is = lt } }
@@ -81,6 +76,13 @@ pub either_spent : {A : Type 0} (b : Bool) (d : ℕ) (go other : World → Outco
 either_spent true d go other g h w le = g.at w le
 either_spent false d go other g h w le = h.at w le
 
+-- for runs in any world
+pub then_spends : {A B : Type 0} {d : ℕ} {go : World → Outcome A} {on : A → World → Outcome B} → Spends d go → ((a : A) → Spends d (on a)) → Spends d (λ w. with (go w) on)
+then_spends {d = d} {go} {on} h s = record { at = λ w le. with_spent w d (go w) on le (h.at w le) s }
+
+pub either_spends : {A : Type 0} {d : ℕ} {go other : World → Outcome A} (b : Bool) → Spends d go → Spends d other → Spends d (λ w. either b go other w)
+either_spends {d = d} {go} {other} b g h = record { at = λ w le. either_spent b d go other g h w le }
+
 -- a turn, and what keeps the others
 pub turn_spent : {A : Type 0} (d : ℕ) (go : World → Outcome A) → ((w : World) → w.turns + 1 ≤ d → Kept w.turns (go w)) → (w : World) → w.turns ≤ d → Spent w.turns (turn w go)
 turn_spent {A = A} d go h w le = at w.turns refl le
@@ -97,11 +99,8 @@ turn_spent {A = A} d go h w le = at w.turns refl le
     at (suc i) is le = lost i (go (record w { turns = i })) (h (record w { turns = i }) (omega (arith, le)))
 
 pub closing_spent : {A : Type 0} (w : World) (k : ℕ) (u : Outcome A) → Spent w.turns u → Spent w.turns (closing k u)
-closing_spent w k (gives a v) h = record { is = h.is }
-closing_spent w k (leaves x v) h = record { is = h.is }
-closing_spent w k (ends e v) h = record { is = h.is }
 closing_spent w k undefined h = record { is = tt }
-closing_spent w k (going v) h = record { is = h.is }
+closing_spent w k _ h = record { is = h.is }
 
 pub changes_spent : (m : Option Memory) (w : World) → Spent w.turns (changes m w)
 changes_spent None w = undefined_spent w

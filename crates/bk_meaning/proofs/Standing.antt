@@ -1,15 +1,7 @@
 -- What lasts stands at its number.
-use Rattle.std.proofs.Common.{◌≡◌, ℕ, zero, suc, ◌+◌, List, [], ◌∷◌, ◌++◌, length, Some, refl, sym, ap, ◌∙◌, append_assoc, arith}
-use Rattle.std.proofs.lemmas.List.{append-nil, length-append}
-use Rattle.std.specs.Prelude.{slice_get}
-use Rattle.bk_tree.specs.declared.tree.Sort.{Sort}
-use Rattle.bk_tree.specs.declared.tree.Sort.TheVariants as s
+use Rattle.bk_meaning.proofs.Terms.{◌≡◌, ℕ, zero, suc, ◌+◌, List, [], ◌∷◌, ◌++◌, length, Some, refl, sym, ap, ◌∙◌, append_assoc, arith, append-nil, length-append, slice_get, Sort, Sort as s, Expression, Expressions, Action, Actions, Declaration, Declarations, Items, Definition, Definitions, Starts, Sense, cell, label, foreign, Environment, bind, bind_each, behind, count, letters, manifests, statics, globals, sense_of_constant, sense_of_global, past, past_each, past_action, past_definition, constant_in, labelled, within_let, objects_of_declaration, objects_of_declarations, objects_of_definitions, Lasting, global_vector, static_words, of_items, variables_hidden, declared, all_declared, inside, in_scope, in_for, of_expression, of_each, of_action, of_actions, of_declaration, of_declarations, of_definition, of_definitions, of_starts, of_sections, Program, program_of, StandsAt, InStatics, InItems, InExpression, InEach, InAction, InActions, InDeclaration, InDeclarations, InDefinition, InDefinitions, InStarts, InSections, WhatLastsStandsAtItsNumber}
 use Rattle.bk_tree.specs.Tree as t
-use Rattle.bk_tree.specs.Tree.{Expression, Expressions, Action, Actions, Declaration, Declarations, Items, Definition, Definitions, Starts}
 use Rattle.bk_scope.specs.Entering.{labels_of_each}
-use Rattle.bk_meaning.specs.Environment.{Sense, cell, label, foreign, Environment, bind, bind_each, behind, count, letters, manifests, statics, globals, sense_of_constant, sense_of_global, past, past_each, past_action, past_definition, constant_in, labelled, within_let, objects_of_declaration, objects_of_declarations, objects_of_definitions}
-use Rattle.bk_meaning.specs.Lasting.{Lasting, global_vector, static_words, of_items, variables_hidden, declared, all_declared, inside, in_scope, in_for, of_expression, of_each, of_action, of_actions, of_declaration, of_declarations, of_definition, of_definitions, of_starts, of_sections, Program, program_of}
-use Rattle.bk_meaning.specs.Numbering.{StandsAt, InStatics, InItems, InExpression, InEach, InAction, InActions, InDeclaration, InDeclarations, InDefinition, InDefinitions, InStarts, InSections, WhatLastsStandsAtItsNumber}
 use Rattle.bk_meaning.proofs.Numbers.{expression_counted, each_counted, action_counted, declaration_counted, declarations_counted, definition_counted}
 
 -- these stand one after another in the list, the first at this number
@@ -40,9 +32,8 @@ right p n m xs ys at h =
 
 at_length : (before after : List Lasting) (x : Lasting) (n : ℕ) → length before ≡ n → slice_get (before ++ x ∷ after) n ≡ Some x
 at_length [] after x zero is = refl
-at_length [] after x (suc n) is = absurd (omega (arith, is))
-at_length (b ∷ before) after x zero is = absurd (omega (arith, is))
 at_length (b ∷ before) after x (suc n) is = at_length before after x n (omega (arith, is))
+at_length _ after x _ is = absurd (omega (arith, is))
 
 pub first : (p : Program) (n : ℕ) (x : Lasting) (xs : List Lasting) → Has p n (x ∷ xs) → StandsAt p n x
 first p n x xs h = ap (λ z. slice_get z n) (h.is ∙ append_assoc h.before (x ∷ xs) h.after) ∙ at_length h.before (xs ++ h.after) x n h.number
@@ -56,8 +47,7 @@ in_statics p n env (t.item l x e is) h = (first p n _ _ h, in_statics p (suc n) 
 
 in_items : (p : Program) (env : Environment) (sort : Sort) (is : Items) → Has p env.next (of_items env sort is) → InItems p env sort is
 in_items p env s.Static is h = in_statics p env.next env is h
-in_items p env s.Manifest is h = tt
-in_items p env s.Global is h = tt
+in_items p env _ is h = tt
 
 pub moved : (p : Program) (n m : ℕ) (xs : List Lasting) → m ≡ n → Has p n xs → Has p m xs
 moved p n m xs at h = right p n m [] xs (omega (arith, at)) h
@@ -88,8 +78,7 @@ statics-next (t.item l x e is) env = let rest : (statics is (behind 1 (bind x (c
 hidden-next : (ds : Definitions) (env : Environment) → (variables_hidden ds env).next ≡ env.next
 hidden-next t.no_definitions env = refl
 hidden-next (t.define (t.variables l xs is) ds) env = hidden-next ds (bind_each (letters xs) foreign env) ∙ bound-next (letters xs) foreign env
-hidden-next (t.define (t.routine l x fs c) ds) env = hidden-next ds env
-hidden-next (t.define (t.function l x fs e) ds) env = hidden-next ds env
+hidden-next (t.define _ ds) env = hidden-next ds env
 
 pub declared-next : (d : Declaration) (env : Environment) → (declared d env).next ≡ env.next + objects_of_declaration d
 declared-next (t.constants l s.Manifest is) env = let rest : (manifests is env).next ≡ env.next = manifests-next is env in omega (arith, rest)

@@ -1,11 +1,5 @@
 -- Runs of one tree, with fewer turns and with more; and what each of them only adds to, or leaves as it was.
-use Rattle.std.proofs.Common.{ℕ, zero, suc, ◌+◌, ◌≤◌, Bool, true, false, List, [], length, Option, Some, None, refl, sym, ◌∙◌, arith}
-use Rattle.std.proofs.lemmas.List.{append-nil}
-use Rattle.bk_meaning.specs.Values.{Value, Cell}
-use Rattle.bk_meaning.specs.Memory.{Memory, dead_from}
-use Rattle.bk_meaning.specs.World.{World, Exit, End, Outcome, gives, leaves, ends, undefined, going, each_way, with, given, either, turn, turn_of, closing, forgetting, changes, remembering, making, calling, calls_back}
-use Rattle.bk_meaning.specs.Growing.{History, history, Grows, sizes, ComesBack, After, Restores}
-use Rattle.bk_meaning.specs.Turns.{with_turns}
+use Rattle.bk_meaning.proofs.Terms.{ℕ, zero, suc, ◌+◌, ◌≤◌, Bool, true, false, List, [], length, Option, Some, None, refl, sym, ◌∙◌, arith, append-nil, Value, Cell, Memory, dead_from, World, Exit, End, Outcome, gives, leaves, ends, undefined, going, each_way, with, given, either, turn, turn_of, closing, forgetting, changes, remembering, making, calling, calls_back, History, history, Grows, sizes, ComesBack, After, Restores, with_turns}
 use Rattle.bk_meaning.proofs.After.{stays, earlier, Adds, adds, each_way_after, closing_after, calling_on}
 use Rattle.bk_meaning.proofs.Objects.{kept_still, kept_on, sizes-made, closed_keep, KeepsSizes}
 
@@ -36,9 +30,8 @@ ties go to at = record { at = at }
 from_kept : {A : Type 0} (c : ℕ) (s : List (Option ℕ)) (d : ℕ) (t : List (Option ℕ)) (o : Outcome A) → ComesBack c s d t → Restores d t o → Restores c s o
 from_kept c s d t (gives a v) g h = record { calls = h.calls ∙ g.calls; kept = kept_on _ _ _ g.kept h.kept }
 from_kept c s d t (leaves x v) g h = record { calls = h.calls ∙ g.calls; kept = kept_on _ _ _ g.kept h.kept }
-from_kept c s d t (ends e v) g h = kept_on _ _ _ g.kept h
 from_kept c s d t undefined g h = tt
-from_kept c s d t (going v) g h = kept_on _ _ _ g.kept h
+from_kept c s d t _ g h = kept_on _ _ _ g.kept h
 
 -- from an earlier world
 pub from : {A : Type 0} (u w : World) (o p : Outcome A) → Grows (history u) (history w) → ComesBack u.calls (sizes u.memory) w.calls (sizes w.memory) → Tied w o p → Tied u o p
@@ -51,9 +44,8 @@ ties_add go to h = adds to (λ w. (h.at w w.turns (omega arith)).on)
 kept_each_way : {A B : Type 0} (c : ℕ) (s : List (Option ℕ)) (u : Outcome A) (on to : A → World → Outcome B) (out off : Exit → World → Outcome B) → Restores c s u → ((a : A) → Ties (on a) (to a)) → ((x : Exit) → Ties (out x) (off x)) → Restores c s (each_way to off u)
 kept_each_way c s (gives a v) on to out off g h x = from_kept c s _ _ (to a v) g (((h a).at v v.turns (omega arith)).kept)
 kept_each_way c s (leaves y v) on to out off g h x = from_kept c s _ _ (off y v) g (((x y).at v v.turns (omega arith)).kept)
-kept_each_way c s (ends e v) on to out off g h x = g
 kept_each_way c s undefined on to out off g h x = tt
-kept_each_way c s (going v) on to out off g h x = g
+kept_each_way c s _ on to out off g h x = g
 
 pub each_way_tied : {A B : Type 0} (w : World) (u v : Outcome A) (on to : A → World → Outcome B) (out off : Exit → World → Outcome B) → Tied w u v → ((a : A) → Ties (on a) (to a)) → ((x : Exit) → Ties (out x) (off x)) → Tied w (each_way on out u) (each_way to off v)
 each_way_tied {A = A} w u v on to out off t h x = by u v t.below t.on t.kept
@@ -98,6 +90,13 @@ pub either_tied : {A : Type 0} (b : Bool) (go to other another : World → Outco
 either_tied true go to other another g h w n le = g.at w n le
 either_tied false go to other another g h w n le = h.at w n le
 
+-- for runs in any world
+pub then_ties : {A B : Type 0} {go to : World → Outcome A} {on then : A → World → Outcome B} → Ties go to → ((a : A) → Ties (on a) (then a)) → Ties (λ w. with (go w) on) (λ w. with (to w) then)
+then_ties {go = go} {to} {on} {then} g h = record { at = λ w n le. with_tied w (go w) (to (with_turns n w)) on then (g.at w n le) h }
+
+pub either_ties : {A : Type 0} {go to other another : World → Outcome A} (b : Bool) → Ties go to → Ties other another → Ties (λ w. either b go other w) (λ w. either b to another w)
+either_ties {go = go} {to} {other} {another} b g h = record { at = λ w n le. either_tied b go to other another g h w n le }
+
 pub turn_tied : {A : Type 0} (go to : World → Outcome A) → Ties go to → (w : World) (n : ℕ) → w.turns ≤ n → Tied w (turn w go) (turn (with_turns n w) to)
 turn_tied go to h w n le = at w.turns n le
   where
@@ -121,9 +120,8 @@ closing_tied {A = A} w u v t = by u v t.below t.on t.kept
     closed_kept : (o : Outcome A) → Restores w.calls (sizes w.memory) o → Restores w.calls (sizes w.memory) (closing (length w.memory) o)
     closed_kept (gives a v) back = closed v back
     closed_kept (leaves x v) back = closed v back
-    closed_kept (ends e v) back = back
     closed_kept undefined back = tt
-    closed_kept (going v) back = back
+    closed_kept _ back = back
 
     by : (u v : Outcome A) → Below u v → After (history w) v → Restores w.calls (sizes w.memory) v → Tied w (closing (length w.memory) u) (closing (length w.memory) v)
     by _ _ (gives_more a v n le) up back = record { below = gives_more a (forgetting (length w.memory) v) n le; on = up; kept = closed v back }
@@ -155,16 +153,14 @@ call_tied w u v t = by u v t.below t.on t.kept
     came_back : (o : Outcome Value) → Restores (w.calls + 1) (sizes w.memory) o → Restores w.calls (sizes w.memory) (each_way (λ x after. gives x (calls_back w.calls after)) (λ x w. undefined) o)
     came_back (gives a v) k = record { calls = refl; kept = k.kept }
     came_back (leaves x v) k = tt
-    came_back (ends e v) k = k
     came_back undefined k = tt
-    came_back (going v) k = k
+    came_back _ k = k
 
     later : (o : Outcome Value) → After (history (calling w)) o → After (history w) o
     later o up = earlier (history w) (history (calling w)) o (calling_on w) up
 
     by : (u v : Outcome Value) → Below u v → After (history (calling w)) v → Restores (w.calls + 1) (sizes w.memory) v → Tied w (each_way (λ x after. gives x (calls_back w.calls after)) (λ x w. undefined) u) (each_way (λ x after. gives x (calls_back w.calls after)) (λ x w. undefined) v)
     by _ _ (gives_more a v n le) up k = record { below = gives_more a (calls_back w.calls v) n le; on = returned (history w) (gives a v) (later (gives a v) up); kept = came_back (gives a v) k }
-    by _ _ (leaves_more x v n le) up k = undefined_tied w
     by _ _ (ends_more e v n le) up k = record { below = ends_more e v n le; on = later (ends e v) up; kept = k }
-    by _ _ undefined_still up k = undefined_tied w
     by _ _ (cut v o up) ahead k = record { below = cut v _ (returned (history v) o up); on = returned (history w) o (later o ahead); kept = came_back o k }
+    by _ _ _ up k = undefined_tied w

@@ -1,13 +1,6 @@
--- Trees of worked programs, all on line 1, and the header in front of them.
-use Rattle.std.specs.Prelude.{ℕ, Bool, List, [], ◌∷◌}
-use Rattle.bk_tree.specs.declared.tree.Operator.{Operator}
-use Rattle.bk_tree.specs.declared.tree.Prefix.{Prefix}
-use Rattle.bk_tree.specs.declared.tree.Prefix.TheVariants as q
-use Rattle.bk_tree.specs.declared.tree.Simple.{Simple}
-use Rattle.bk_tree.specs.declared.tree.Sort.{Sort}
-use Rattle.bk_tree.specs.declared.tree.Sort.TheVariants as s
+-- Trees of worked programs, all on line 1, the header in front of them, and the form of their rows.
+use Rattle.bk_meaning.proofs.Terms.{ℕ, ◌-◌, ◌≡◌, Bool, List, [], ◌∷◌, map, Operator, Operator as o, Prefix, Prefix as q, Simple, Sort, Sort as s, Mention, Expression, Expressions, Action, Actions, Declaration, Declarations, Items, Definition, Definitions, Starts, Run, meaning}
 use Rattle.bk_tree.specs.Tree as t
-use Rattle.bk_tree.specs.Tree.{Mention, Expression, Expressions, Action, Actions, Declaration, Declarations, Items, Definition, Definitions, Starts}
 use Rattle.bk_meaning.proofs.Rows.Names as n
 
 -- lists of nodes
@@ -166,3 +159,74 @@ with_header ds = header (declarations ds)
 
 abbrev pub without_header : List Declaration → Declarations
 without_header ds = declarations ds
+
+-- frequent nodes: `@E`, `!E`, `E!E`, `E + E`, `X := E`, `E := E`, calls of the library, LET with one definition
+abbrev pub address_of : Expression → Expression
+address_of e = unary q.Address e
+
+abbrev pub contents : Expression → Expression
+contents e = unary q.Contents e
+
+abbrev pub element : Expression → Expression → Expression
+element a b = binary o.Subscript a b
+
+abbrev pub plus : Expression → Expression → Expression
+plus a b = binary o.Add a b
+
+abbrev pub store : Expression → Expression → Action
+store a e = assign (a ∷ []) (e ∷ [])
+
+abbrev pub set : List ℕ → Expression → Action
+set x e = store (named x) e
+
+abbrev pub wrch : Expression → Action
+wrch e = call (named n.wrch) (e ∷ [])
+
+abbrev pub writen : Expression → Action
+writen e = call (named n.writen) (e ∷ [])
+
+abbrev pub writes : Expression → Action
+writes e = call (named n.writes) (e ∷ [])
+
+abbrev pub a_routine : List ℕ → List (List ℕ) → Action → Declaration
+a_routine x xs c = lets (routine x xs c ∷ [])
+
+abbrev pub a_function : List ℕ → List (List ℕ) → Expression → Declaration
+a_function x xs e = lets (function x xs e ∷ [])
+
+abbrev pub a_variable : List ℕ → Expression → Declaration
+a_variable x e = lets (variables (x ∷ []) (value e ∷ []) ∷ [])
+
+abbrev pub a_vector : List ℕ → Expression → Declaration
+a_vector x e = lets (variables (x ∷ []) (vector e ∷ []) ∷ [])
+
+-- a program of one section behind GET "LIBHDR2", and one of START alone
+abbrev pub program : List Declaration → List Declarations
+program ds = with_header ds ∷ []
+
+abbrev pub main : Action → List Declarations
+main c = program (a_routine n.start [] c ∷ [])
+
+-- a program, with its input and its turns: its end
+abbrev pub Means : ℕ → List ℕ → Run → List Declarations → Type 0
+Means turns input end program = meaning program input turns ≡ end
+
+-- and how far it goes with one turn less
+abbrev pub Takes : ℕ → List ℕ → Run → Run → List Declarations → Type 0
+Takes turns input end before program = Means turns input end program × Means (turns - 1) input before program
+
+-- a worked program: as `Takes` has it, or as `Means`
+pub data Row : Type 0 where
+  takes : ℕ → List ℕ → Run → Run → List Declarations → Row
+  means : ℕ → List ℕ → Run → List Declarations → Row
+
+abbrev runs : Row → List Run
+runs (takes turns input end before program) = meaning program input turns ∷ meaning program input (turns - 1) ∷ []
+runs (means turns input end program) = meaning program input turns ∷ []
+
+abbrev ends : Row → List Run
+ends (takes turns input end before program) = end ∷ before ∷ []
+ends (means turns input end program) = end ∷ []
+
+abbrev pub Right : List Row → Type 0
+Right rows = map runs rows ≡ map ends rows
