@@ -1,16 +1,8 @@
 -- The turn that a command takes.
-use Rattle.std.proofs.Common.{◌≡◌, ◌-◌, ◌<◌, true, false, refl, sym, ◌∙◌}
+use Rattle.bk_check.proofs.Terms.{◌≡◌, ◌-◌, ◌<◌, true, false, refl, sym, ◌∙◌, Action, World, Outcome, Done, done, going, turn, Environment, Mode, Program, act_of, full, full_act, turn_left, turn_none}
 use Rattle.bk_tree.specs.Tree as t
-use Rattle.bk_tree.specs.Tree.{Action}
-use Rattle.bk_meaning.specs.World.{World, Outcome, Done, done, going, turn}
-use Rattle.bk_meaning.specs.Environment.{Environment}
-use Rattle.bk_meaning.specs.Seeking.{Mode}
-use Rattle.bk_meaning.specs.Lasting.{Program}
-use Rattle.bk_meaning.specs.Commands.{act_of}
 use Rattle.bk_meaning.specs.Program.{turn_for}
-use Rattle.bk_meaning.specs.Full.{full}
 use Rattle.bk_check.specs.Plain.{takes_no_turn}
-use Rattle.bk_meaning.proofs.Lemmas.{full_act, turn_left, turn_none}
 
 takes_turn : (c : Action) (w : World) (go : World → Outcome Done) → takes_no_turn c ≡ false → turn_for c w go ≡ turn w go
 takes_turn t.empty w go is = absurd (cc is)

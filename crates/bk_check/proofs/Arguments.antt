@@ -1,16 +1,6 @@
 -- One argument more before those that are left.
-use Rattle.std.proofs.Common.{◌≡◌, List, [], ◌∷◌, ◌++◌, map, ap, ◌∙◌, append_assoc}
+use Rattle.bk_check.proofs.Terms.{◌≡◌, List, [], ◌∷◌, ◌++◌, map, ap, ◌∙◌, append_assoc, Expression, Expressions, Value, World, with, Environment, Program, values, call, full, Worth, value_in, list_value, applied_behind}
 use Rattle.std.proofs.lemmas.List.{map-append}
-use Rattle.bk_tree.specs.Tree.{Expression, Expressions}
-use Rattle.bk_meaning.specs.Values.{Value}
-use Rattle.bk_meaning.specs.World.{World, with}
-use Rattle.bk_meaning.specs.Environment.{Environment}
-use Rattle.bk_meaning.specs.Lasting.{Program}
-use Rattle.bk_meaning.specs.Calls.{values, call}
-use Rattle.bk_meaning.specs.Full.{full}
-use Rattle.bk_objects.specs.declared.worth.Worth.{Worth}
-use Rattle.bk_objects.specs.Views.{value_in}
-use Rattle.bk_check.specs.Resume.{list_value, applied_behind}
 use Rattle.bk_check.proofs.Outcomes.{with_each}
 
 pub argument_then : (p : Program) (before more : List Worth) (x : Worth) (es : Expressions) (here : Environment) (callee : Expression) (env : Environment) (w : World) → more ≡ before ++ x ∷ []

@@ -1,15 +1,6 @@
 -- Calls, by what is pushed for them.
-use Rattle.std.proofs.Common.{◌≡◌, ℕ, ◌+◌, max, List, length, ap, ◌∙◌}
-use Rattle.bk_meaning.specs.Values.{Value}
-use Rattle.bk_meaning.specs.Memory.{Memory, made}
-use Rattle.bk_meaning.specs.World.{World, closing, making, remembering}
-use Rattle.bk_meaning.specs.Environment.{Environment}
-use Rattle.bk_meaning.specs.Lasting.{Procedure, Program}
-use Rattle.bk_meaning.specs.Calls.{formal_cells, bind_formals, run_body, called, call}
+use Rattle.bk_check.proofs.Terms.{◌≡◌, ℕ, ◌+◌, max, List, length, ap, ◌∙◌, Value, Memory, made, World, closing, making, remembering, Environment, Procedure, Program, formal_cells, bind_formals, run_body, called, call, full, returned, Some}
 use Rattle.bk_meaning.specs.Calls as c
-use Rattle.std.specs.Prelude.{Some}
-use Rattle.bk_meaning.specs.Full.{full}
-use Rattle.bk_check.specs.Resume.{returned}
 
 pub entered : (p : Program) (q : Procedure) (vs : List Value) (w : World) (n : ℕ) (env : Environment) (m : Memory) → n ≡ length w.memory → env ≡ bind_formals n 0 q.formals q.env → m ≡ made (formal_cells q.formals vs) w.memory →
     closing n (run_body (full p) q.body env (remembering m w)) ≡ c.enter (full p) (Some q) vs w

@@ -1,16 +1,6 @@
 -- The cells of formals, one after another.
-use Rattle.std.proofs.Common.{◌≡◌, ℕ, zero, suc, ◌+◌, ◌<◌, List, [], ◌∷◌, ◌++◌, length, map, drop, refl, ap, sym, ◌∙◌, add-one, arith}
-use Rattle.std.specs.Prelude.{slice_get, unwrap_or}
-use Rattle.bk_tree.specs.declared.tree.Name.{Name}
+use Rattle.bk_check.proofs.Terms.{◌≡◌, ℕ, zero, suc, ◌+◌, ◌<◌, List, [], ◌∷◌, ◌++◌, length, map, drop, refl, ap, sym, ◌∙◌, add-one, arith, slice_get, unwrap_or, Name, formal_cells, Worth, Unset, Cell, Holds, letters_in, value_in, cell_in, list_value}
 use Rattle.bk_meaning.specs.Values as v
-use Rattle.bk_meaning.specs.Calls.{formal_cells}
-use Rattle.bk_objects.specs.declared.worth.Worth.{Worth}
-use Rattle.bk_objects.specs.declared.worth.Worth.TheVariants.{Unset}
-use Rattle.bk_objects.specs.declared.worth.Cell.{Cell}
-use Rattle.bk_objects.specs.declared.worth.Cell.TheVariants.{Holds}
-use Rattle.bk_check.specs.Views.{letters_in}
-use Rattle.bk_objects.specs.Views.{value_in, cell_in}
-use Rattle.bk_check.specs.Resume.{list_value}
 
 step_at : (xs : List Name) (vs : List Worth) (i : ℕ) → i < length xs → formal_cells (letters_in (drop i xs)) (list_value (drop i vs)) ≡ v.holds (value_in (unwrap_or (slice_get vs i) Unset)) ∷ formal_cells (letters_in (drop (suc i) xs)) (list_value (drop (suc i) vs))
 step_at [] vs i lt = absurd (omega (arith, lt))

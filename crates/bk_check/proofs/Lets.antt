@@ -1,19 +1,8 @@
 -- A LET, done in steps.
 use Rattle.std.specs.Global.{Global}
-use Rattle.std.proofs.Common.{◌≡◌, ℕ, zero, suc, Vec, List, [], ◌∷◌, ◌++◌, map, refl, ap, sym, ◌∙◌}
+use Rattle.bk_check.proofs.Terms.{◌≡◌, ℕ, zero, suc, Vec, List, [], ◌∷◌, ◌++◌, map, refl, ap, sym, ◌∙◌, Mention, Expression, Definition, Definitions, Starts, definitions_in, declarations_in, actions_in, Value, World, Outcome, gives, with, Done, turn, turn_of, Environment, past, past_definition, constant_in, letters, Program, Start, starts, make_vec, paired, let_values, bind_variables, full, env_in, Let, start_in, declared_then, started_then, starting_then}
 use Rattle.bk_tree.specs.Tree as t
-use Rattle.bk_tree.specs.Tree.{Mention, Expression, Definition, Definitions, Starts, definitions_in, declarations_in, actions_in}
-use Rattle.bk_meaning.specs.Values.{Value}
-use Rattle.bk_meaning.specs.World.{World, Outcome, gives, with, Done, turn, turn_of}
-use Rattle.bk_meaning.specs.Environment.{Environment, past, past_definition, constant_in, letters}
-use Rattle.bk_meaning.specs.Lasting.{Program}
-use Rattle.bk_meaning.specs.Blocks.{Start, starts, make_vec, paired, let_values, bind_variables}
-use Rattle.bk_meaning.specs.Full.{full}
-use Rattle.bk_lasting.specs.Views.{env_in}
-use Rattle.bk_check.specs.declared.frame.Let.{Let}
 use Rattle.bk_check.specs.declared.frame.Start as f
-use Rattle.bk_check.specs.Views.{start_in}
-use Rattle.bk_check.specs.Resume.{declared_then, started_then, starting_then}
 use Rattle.bk_check.proofs.Outcomes.{with_with, with_each, with_turn}
 
 variables_turn : (p : Program) (l : ℕ) (xs : List Mention) (is : Starts) (ds : Definitions) (here : Environment) (go : List Start → World → Outcome Done) (w : World) →

@@ -1,3 +1,4 @@
+mod Terms
 mod Acts
 mod Arguments
 mod Entering

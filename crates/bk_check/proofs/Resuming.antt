@@ -1,25 +1,6 @@
 -- Frames, resumed: where one was pushed, it goes on with what is asked for.
-use Rattle.std.proofs.Common.{◌≡◌, ℕ, ◌+◌, Bool, List, [], ◌∷◌, ◌++◌, Option, Some, None, IfSome, Result, Ok, Err, IfOk, refl, ap, sym, ◌∙◌, arith}
-use Rattle.bk_tree.specs.Tree.{Expression}
-use Rattle.bk_meaning.specs.Environment.{Environment, objects, past}
-use Rattle.bk_meaning.specs.Values.{Value}
-use Rattle.bk_meaning.specs.World.{World, Outcome, gives, leaves, ends, undefined, going, Done, closing}
-use Rattle.bk_meaning.specs.Lasting.{Program}
-use Rattle.bk_meaning.specs.Parts.{Target}
+use Rattle.bk_check.proofs.Terms.{◌≡◌, ℕ, ◌+◌, Bool, List, [], ◌∷◌, ◌++◌, Option, Some, None, IfSome, Result, Ok, Err, IfOk, refl, ap, sym, ◌∙◌, arith, Expression, Environment, objects, past, Value, World, Outcome, gives, leaves, ends, undefined, going, Done, closing, Program, Target, Next, OnValue, Continuation, Bytes, Given, a_value, a_truth, a_target, done_tag, tag, value_goes, truth_goes, target_goes, done_goes, returned, resume, resumed, Comes, OnValue as v, OnTruth, OnTruth as o, OnTarget, OnTarget as a, OnDone, OnDone as d, Continuation as f}
 use Rattle.bk_check.specs.declared.frame.Call.{Call}
-use Rattle.bk_check.specs.declared.frame.Next.{Next}
-use Rattle.bk_check.specs.declared.frame.OnValue.{OnValue}
-use Rattle.bk_check.specs.declared.frame.OnValue.TheVariants as v
-use Rattle.bk_check.specs.declared.frame.OnTruth.{OnTruth}
-use Rattle.bk_check.specs.declared.frame.OnTruth.TheVariants as o
-use Rattle.bk_check.specs.declared.frame.OnTarget.{OnTarget}
-use Rattle.bk_check.specs.declared.frame.OnTarget.TheVariants as a
-use Rattle.bk_check.specs.declared.frame.OnDone.{OnDone}
-use Rattle.bk_check.specs.declared.frame.OnDone.TheVariants as d
-use Rattle.bk_check.specs.declared.frame.Continuation.{Continuation}
-use Rattle.bk_check.specs.declared.frame.Continuation.TheVariants as f
-use Rattle.bk_check.specs.Worlds.{Bytes}
-use Rattle.bk_check.specs.Resume.{Given, a_value, a_truth, a_target, done_tag, tag, value_goes, truth_goes, target_goes, done_goes, returned, resume, resumed, Comes}
 
 pub resumed-push : (p : Program) (fs : List Continuation) (f : Continuation) (u : Outcome Given) → resumed p (fs ++ f ∷ []) u ≡ resumed p fs (resume p f u)
 unfolding resumed
@@ -30,57 +11,33 @@ pushed : (p : Program) (fs gs : List Continuation) (f : Continuation) (u v : Out
 pushed p fs gs f u v is e = ap (λ xs. resumed p xs u) is ∙ resumed-push p fs f u ∙ ap (resumed p fs) e
 
 by_value : (p : Program) (g : OnValue) (u : Outcome Value) → resume p (f.Value g) (tag a_value u) ≡ value_goes p g u
-by_value p g (gives v w) = refl
 by_value p (v.Contents l) (leaves x w) = refl
-by_value p g (leaves x w) = refl
-by_value p (v.Contents l) (ends e w) = refl
-by_value p g (ends e w) = refl
-by_value p (v.Contents l) undefined = refl
-by_value p g undefined = refl
-by_value p (v.Contents l) (going w) = refl
-by_value p g (going w) = refl
+by_value p g (gives v w) = refl
+by_value p y z = refl
 
 pub pushed_value : (p : Program) (fs gs : List Continuation) (g : OnValue) (u : Outcome Value) → gs ≡ fs ++ f.Value g ∷ [] → resumed p gs (tag a_value u) ≡ resumed p fs (value_goes p g u)
 pushed_value p fs gs g u is = pushed p fs gs (f.Value g) _ _ is (by_value p g u)
 
 by_truth : (p : Program) (g : OnTruth) (u : Outcome Bool) → resume p (f.Truth g) (tag a_truth u) ≡ truth_goes p g u
-by_truth p g (gives v w) = refl
 by_truth p o.Not (leaves x w) = refl
-by_truth p g (leaves x w) = refl
-by_truth p o.Not (ends e w) = refl
-by_truth p g (ends e w) = refl
-by_truth p o.Not undefined = refl
-by_truth p g undefined = refl
-by_truth p o.Not (going w) = refl
-by_truth p g (going w) = refl
+by_truth p g (gives v w) = refl
+by_truth p y z = refl
 
 pub pushed_truth : (p : Program) (fs gs : List Continuation) (g : OnTruth) (u : Outcome Bool) → gs ≡ fs ++ f.Truth g ∷ [] → resumed p gs (tag a_truth u) ≡ resumed p fs (truth_goes p g u)
 pushed_truth p fs gs g u is = pushed p fs gs (f.Truth g) _ _ is (by_truth p g u)
 
 by_target : (p : Program) (g : OnTarget) (u : Outcome Target) → resume p (f.Target g) (tag a_target u) ≡ target_goes p g u
-by_target p g (gives v w) = refl
 by_target p (a.Address l) (leaves x w) = refl
-by_target p g (leaves x w) = refl
-by_target p (a.Address l) (ends e w) = refl
-by_target p g (ends e w) = refl
-by_target p (a.Address l) undefined = refl
-by_target p g undefined = refl
-by_target p (a.Address l) (going w) = refl
-by_target p g (going w) = refl
+by_target p g (gives v w) = refl
+by_target p y z = refl
 
 pub pushed_target : (p : Program) (fs gs : List Continuation) (g : OnTarget) (u : Outcome Target) → gs ≡ fs ++ f.Target g ∷ [] → resumed p gs (tag a_target u) ≡ resumed p fs (target_goes p g u)
 pushed_target p fs gs g u is = pushed p fs gs (f.Target g) _ _ is (by_target p g u)
 
 by_done : (p : Program) (g : OnDone) (u : Outcome Done) → resume p (f.Done g) (tag done_tag u) ≡ done_goes p g u
-by_done p g (gives v w) = refl
 by_done p d.Body (leaves x w) = refl
-by_done p g (leaves x w) = refl
-by_done p d.Body (ends e w) = refl
-by_done p g (ends e w) = refl
-by_done p d.Body undefined = refl
-by_done p g undefined = refl
-by_done p d.Body (going w) = refl
-by_done p g (going w) = refl
+by_done p g (gives v w) = refl
+by_done p y z = refl
 
 pub pushed_done : (p : Program) (fs gs : List Continuation) (g : OnDone) (u : Outcome Done) → gs ≡ fs ++ f.Done g ∷ [] → resumed p gs (tag done_tag u) ≡ resumed p fs (done_goes p g u)
 pushed_done p fs gs g u is = pushed p fs gs (f.Done g) _ _ is (by_done p g u)

@@ -1,16 +1,5 @@
 -- Scopes and blocks, by what is pushed for them.
-use Rattle.std.proofs.Common.{◌≡◌, ℕ, ◌<◌, Bool, true, false, ◌||◌, List, [], ◌∷◌, length, sym, ap, ◌∙◌, arith}
-use Rattle.bk_tree.specs.declared.tree.Decl.{Decl}
-use Rattle.bk_tree.specs.Tree.{Action, Actions, block, declarations_in}
-use Rattle.bk_meaning.specs.World.{World, goto, leaves, each_way, either, done, closing}
-use Rattle.bk_meaning.specs.Environment.{Environment, labelled}
-use Rattle.bk_meaning.specs.Seeking.{Sought, the_label, Mode, seeking, stands_in, stands_in_one}
-use Rattle.bk_meaning.specs.Scopes.{in_order, scope_of, alone}
-use Rattle.bk_meaning.specs.Commands.{act_of}
-use Rattle.bk_meaning.specs.Lasting.{Program}
-use Rattle.bk_meaning.specs.Full.{full}
-use Rattle.bk_check.specs.Resume.{lands, declared_then}
-use Rattle.bk_meaning.proofs.Lemmas.{full_scope}
+use Rattle.bk_check.proofs.Terms.{◌≡◌, ℕ, ◌<◌, Bool, true, false, ◌||◌, List, [], ◌∷◌, length, sym, ap, ◌∙◌, arith, Decl, Action, Actions, block, declarations_in, World, goto, leaves, each_way, either, done, closing, Environment, labelled, Sought, the_label, Mode, seeking, stands_in, stands_in_one, in_order, scope_of, alone, act_of, Program, full, lands, declared_then, full_scope}
 
 pub scope_is : (p : Program) (cs : Actions) (mode : Mode) (env outer inner : Environment) (w : World) → outer ≡ env → inner ≡ labelled cs env →
     each_way (λ _ w. done w) (lands p cs outer) (in_order (full p) cs mode inner w) ≡ scope_of (full p) cs mode env w

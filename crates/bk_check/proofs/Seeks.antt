@@ -1,9 +1,5 @@
 -- Places that stand in blocks.
-use Rattle.std.proofs.Common.{◌≡◌, ℕ, ◌<◌, false, List, [], ◌∷◌, length, refl, arith}
-use Rattle.bk_tree.specs.declared.tree.Decl.{Decl}
-use Rattle.bk_tree.specs.Tree.{Actions, block, declarations_in}
-use Rattle.bk_meaning.specs.Environment.{Environment}
-use Rattle.bk_meaning.specs.Seeking.{Sought, stands_in, stands_in_one}
+use Rattle.bk_check.proofs.Terms.{◌≡◌, ℕ, ◌<◌, false, List, [], ◌∷◌, length, refl, arith, Decl, Actions, block, declarations_in, Environment, Sought, stands_in, stands_in_one}
 
 pub no_head : (s : Sought) (env : Environment) (l : ℕ) (ds : List Decl) (cs : Actions) → length ds ≡ 0 → stands_in_one s env cs ≡ stands_in s env (block l (declarations_in ds) cs)
 no_head s env l [] cs is = refl

@@ -1,18 +1,5 @@
 -- A VEC, whose object is made.
-use Rattle.std.proofs.Common.{◌≡◌, ℕ, Option, Some, List, ◌∷◌, length, Result, Ok, Err, IfOk, ap, sym, ◌∙◌}
-use Rattle.bk_tree.specs.Tree.{Starts}
-use Rattle.bk_meaning.specs.Values.{address}
-use Rattle.bk_meaning.specs.Memory.{Memory, made}
-use Rattle.bk_meaning.specs.World.{World, Outcome, Done, gives, with, remembering}
-use Rattle.bk_meaning.specs.Environment.{Environment}
-use Rattle.bk_meaning.specs.Lasting.{Program}
-use Rattle.bk_meaning.specs.Blocks.{starts, vec_cells}
-use Rattle.bk_check.specs.declared.frame.Continuation.{Continuation}
-use Rattle.bk_check.specs.declared.frame.Let.{Let}
-use Rattle.bk_check.specs.declared.frame.Next.{Next}
-use Rattle.bk_meaning.specs.Full.{full}
-use Rattle.bk_check.specs.Worlds.{Bytes}
-use Rattle.bk_check.specs.Resume.{Given, tag, done_tag, resumed, started_then, vector_then, Comes}
+use Rattle.bk_check.proofs.Terms.{◌≡◌, ℕ, Option, Some, List, ◌∷◌, length, Result, Ok, Err, IfOk, ap, sym, ◌∙◌, Starts, address, Memory, made, World, Outcome, Done, gives, with, remembering, Environment, Program, starts, vec_cells, Continuation, Let, Next, full, Bytes, Given, tag, done_tag, resumed, started_then, vector_then, Comes}
 
 -- what comes to this in any world comes to it in that of a machine
 pub meets_there : {E : Type 0} (r : Result Next E) (fs : List Continuation) (there : Bytes → World) (u : Program → World → Outcome Done) (v : Program → Bytes → Outcome Given) → ((p : Program) (b : Bytes) → resumed p fs (tag done_tag (u p (there b))) ≡ v p b) →

@@ -1,40 +1,15 @@
 -- What was written begins what is written then, whatever is still to be done.
-use Rattle.std.proofs.Common.{ℕ, suc, Bool, not, Option, List, [], ◌∷◌, ◌++◌, map, arith}
+use Rattle.bk_checker.proofs.Terms.{ℕ, suc, Bool, not, Option, List, [], ◌∷◌, ◌++◌, map, arith, Expression, Expressions, Action, Actions, Declarations, Starts, expression, expressions_in, action, actions_in, declarations_in, definitions_in, starts_in, Value, unset, World, Exit, break, loop, result, Outcome, gives, leaves, ends, undefined, going, with, given, either, Done, done, Environment, past, past_action, Program, Target, at, byte_at, call, History, history, Grows, After, full, stays, earlier, Adds, adds, with_after, each_way_after, given_after, either_after, Ties, ties, ties_add, AllTied, done_ties, fetch_ties, combined_ties, operate_prefix_ties, judged_ties, address_in_ties, values_ties, call_ties, assigned_ties, store_ties, choose_case_ties, rounds_of_ties, for_loop_ties, for_test_ties, for_step_ties, where_truth_ties, turn_ties, in_order_ties, landing_ties, result_ties, return_ties, case_exit_ties, starts_ties, let_values_ties, bind_variables_ties, declare_all_ties, scope_ties, library_ties, means_tied, value_in, routine_in, Continuation, Next, letters_in, mode_in, start_in, Given, a_value, a_truth, a_target, is_done, done_tag, tag, resumed, resume_given, resume_left, value_goes, truth_goes, target_goes, done_goes, done_left, next_round, next_for, bound_then, defined_then, started_then, starting_then, declared_then, outcome_next, thing_in, exit_in, assigned_to, OnValue, OnValue as v, OnTruth, OnTruth as o, OnTarget, OnTarget as a, OnDone, OnDone as d, Continuation as f, Next as n}
 use Rattle.bk_tree.specs.Tree as t
-use Rattle.bk_tree.specs.Tree.{Expression, Expressions, Action, Actions, Declarations, Starts, expression, expressions_in, action, actions_in, declarations_in, definitions_in, starts_in}
-use Rattle.bk_meaning.specs.Values.{Value, unset}
-use Rattle.bk_meaning.specs.World.{World, Exit, break, loop, result, Outcome, gives, leaves, ends, undefined, going, with, given, either, Done, done}
-use Rattle.bk_meaning.specs.Environment.{Environment, past, past_action}
 use Rattle.bk_meaning.specs.Operators.{sum}
 use Rattle.bk_meaning.specs.Seeking.{the_label, Mode, forwards, seeking}
-use Rattle.bk_meaning.specs.Lasting.{Program}
-use Rattle.bk_meaning.specs.Parts.{Target, at, byte_at}
-use Rattle.bk_meaning.specs.Calls.{call}
 use Rattle.bk_meaning.specs.Loops.{same_truth, for_loop, round_exit}
 use Rattle.bk_meaning.specs.Blocks as b
 use Rattle.bk_meaning.specs.Blocks.{make_vec}
 use Rattle.bk_meaning.specs.Scopes.{alone}
-use Rattle.bk_meaning.specs.Growing.{History, history, Grows, After}
-use Rattle.bk_meaning.specs.Full.{full}
-use Rattle.bk_meaning.proofs.Lemmas.{stays, earlier, Adds, adds, with_after, each_way_after, given_after, either_after, Ties, ties, ties_add, AllTied, done_ties, fetch_ties, combined_ties, operate_prefix_ties, judged_ties, address_in_ties, values_ties, call_ties, assigned_ties, store_ties, choose_case_ties, rounds_of_ties, for_loop_ties, for_test_ties, for_step_ties, where_truth_ties, turn_ties, in_order_ties, landing_ties, result_ties, return_ties, case_exit_ties, starts_ties, let_values_ties, bind_variables_ties, declare_all_ties, scope_ties, library_ties, means_tied}
-use Rattle.bk_objects.specs.Views.{value_in, routine_in}
 use Rattle.bk_lasting.specs.Views.{env_in}
-use Rattle.bk_check.specs.declared.frame.OnValue.{OnValue}
-use Rattle.bk_check.specs.declared.frame.OnValue.TheVariants as v
-use Rattle.bk_check.specs.declared.frame.OnTruth.{OnTruth}
-use Rattle.bk_check.specs.declared.frame.OnTruth.TheVariants as o
-use Rattle.bk_check.specs.declared.frame.OnTarget.{OnTarget}
-use Rattle.bk_check.specs.declared.frame.OnTarget.TheVariants as a
-use Rattle.bk_check.specs.declared.frame.OnDone.{OnDone}
-use Rattle.bk_check.specs.declared.frame.OnDone.TheVariants as d
-use Rattle.bk_check.specs.declared.frame.Continuation.{Continuation}
-use Rattle.bk_check.specs.declared.frame.Continuation.TheVariants as f
 use Rattle.bk_check.specs.declared.frame.For.{For}
 use Rattle.bk_check.specs.declared.frame.Let.{Let}
-use Rattle.bk_check.specs.declared.frame.Next.{Next}
-use Rattle.bk_check.specs.declared.frame.Next.TheVariants as n
-use Rattle.bk_check.specs.Views.{letters_in, mode_in, start_in}
-use Rattle.bk_check.specs.Resume.{Given, a_value, a_truth, a_target, is_done, done_tag, tag, resumed, resume_given, resume_left, value_goes, truth_goes, target_goes, done_goes, done_left, next_round, next_for, bound_then, defined_then, started_then, starting_then, declared_then, outcome_next, thing_in, exit_in, assigned_to}
 
 -- the meaning with no depth only adds to what is written
 full_tied : (p : Program) → AllTied (full p) (full p)
@@ -62,11 +37,8 @@ by : {A B : Type 0} (go : World → Outcome A) (on : A → World → Outcome B) 
 by go on h g = adds _ (λ w. with_after (history w) (go w) on (h.at w) g)
 
 tagged : {A : Type 0} (k : A → Given) (h : History) (u : Outcome A) → After h u → After h (tag k u)
-tagged k h (gives a w) up = up
-tagged k h (leaves x w) up = up
-tagged k h (ends e w) up = up
 tagged k h undefined up = tt
-tagged k h (going w) up = up
+tagged k h y up = up
 
 tag_adds : {A : Type 0} (k : A → Given) (go : World → Outcome A) → Adds go → Adds (λ w. tag k (go w))
 tag_adds k go h = adds _ (λ w. tagged k (history w) (go w) (h.at w))
@@ -166,11 +138,9 @@ module _ (p : Program) where
   done_on (d.After cs env) = tag_adds done_tag _ (ties_add _ _ (in_order_ties (full p) (full p) g (actions_in cs.now) forwards (env_in env)))
   done_on d.Body = tag_adds a_value _ (still unset)
   done_on d.Valof = tag_adds a_value _ (still unset)
-  done_on (d.Scope cs env) = tag_adds done_tag _ finished
-  done_on (d.Alone c env) = tag_adds done_tag _ finished
-  done_on d.Cases = tag_adds done_tag _ finished
   done_on (d.Round c env) = tag_adds done_tag _ (ties_add _ _ (next_ties (action c.now) (env_in env)))
   done_on (d.ForRound k) = tag_adds done_tag _ (next_for_adds k)
+  done_on x = tag_adds done_tag _ finished
 
   round_left : (go : World → Outcome Done) → Adds go → (x : Exit) → Adds (round_exit go x)
   round_left go h loop = h
@@ -222,10 +192,8 @@ module _ (p : Program) where
   next_on (n.Gives t) = still (thing_in t)
   next_on (n.Leaves x) = left (exit_in x)
   next_on (n.Library line r vs) = tag_adds a_value _ (ties_add _ _ (library_ties (routine_in r) (map value_in vs.items)))
-  next_on (n.Status k) = adds _ (λ w. stays (history w))
-  next_on (n.DivideByZero s) = adds _ (λ w. stays (history w))
   next_on (n.Undefined s why) = adds _ (λ w. tt)
-  next_on (n.Going line) = adds _ (λ w. stays (history w))
+  next_on y = adds _ (λ w. stays (history w))
 
   -- what is written, and read, of the whole, from a world on
   pub whole_after : (fs : List Continuation) (next : Next) (h : History) (w : World) → Grows h (history w) → After h (resumed p fs (outcome_next p next w))

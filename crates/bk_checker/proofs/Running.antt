@@ -1,46 +1,16 @@
 -- Runs over devices: steps one after another, and what the whole comes to.
 use Rattle.std.specs.Prelude.{IsErr}
-use Rattle.std.proofs.Common.{◌≡◌, ℕ, ◌^◌, ◌-◌, Vec, map, Bool, true, false, IsTrue, Result, Ok, Err, IfOk, IfErr, OnOk, OnErr, is_err, arith, List, [], ◌∷◌, ◌++◌, Option, None, Some, refl, sym, ap, subst, ◌∙◌, append_assoc, append-nil}
+use Rattle.bk_checker.proofs.Terms.{◌≡◌, ℕ, ◌^◌, ◌-◌, Vec, map, Bool, true, false, IsTrue, Result, Ok, Err, IfOk, IfErr, OnOk, OnErr, is_err, arith, List, [], ◌∷◌, ◌++◌, Option, None, Some, refl, sym, ap, subst, ◌∙◌, append_assoc, append-nil, Consumes-nil, Consumes-kept, Consumes-trans, Appends-nil, Appends-trans, Appends-kept, Declarations, Value, address, number, World, End, Outcome, gives, leaves, ends, undefined, going, divide_by_zero, given, globals_object, remembering, Effect, fetch, value_in, routine_in, outcome_of, outcome_in, Program, program_of, first_memory, call, full, History, history, Grows, After, reads_from_the_front, full_call, Continuation, Next, CheckFault, Given, a_value, tag, resume, resumed, outcome_next, Comes, Told, Exchanged, Follows, Shows, Checks, over, verdict_of, run_given, Answered, Moves, Begun, Runs, ChecksPart, RunsPart, Reaches, Flushed, Worth, Worth as w, Effect as t, Computed, Computed as k, Thing as g, Next as n, Verdict, Verdict as v, CheckFault as x}
 use Rattle.std.specs.Io.KnownBytes.{Consumes, Appends, Keeps}
-use Rattle.std.proofs.KnownBytes.{Consumes-nil, Consumes-kept, Consumes-trans, Appends-nil, Appends-trans, Appends-kept}
-use Rattle.bk_tree.specs.Tree.{Declarations}
-use Rattle.bk_meaning.specs.Values.{Value, address, number}
 use Rattle.bk_meaning.specs.Memory.{Memory, read}
-use Rattle.bk_meaning.specs.World.{World, End, Outcome, gives, leaves, ends, undefined, going, divide_by_zero, given}
-use Rattle.bk_meaning.specs.Environment.{globals_object}
 use Rattle.std.specs.Global.{Global}
-use Rattle.bk_meaning.specs.World.{remembering}
 use Rattle.bk_meaning.specs.Library.{takes_byte, library}
 use Rattle.bk_objects.specs.declared.worth.Routine.{Routine}
-use Rattle.bk_objects.specs.declared.worth.Worth.{Worth}
-use Rattle.bk_objects.specs.declared.worth.Worth.TheVariants as w
-use Rattle.bk_objects.specs.declared.library.Effect.{Effect}
-use Rattle.bk_objects.specs.declared.library.Effect.TheVariants as t
-use Rattle.bk_meaning.specs.Parts.{fetch}
-use Rattle.bk_objects.specs.declared.computed.Computed.{Computed}
-use Rattle.bk_objects.specs.declared.computed.Computed.TheVariants as k
-use Rattle.bk_objects.specs.Views.{value_in, routine_in, outcome_of}
-use Rattle.bk_objects.specs.Texts.{outcome_in}
-use Rattle.bk_check.specs.declared.frame.Thing.TheVariants as g
-use Rattle.bk_meaning.specs.Lasting.{Program, program_of, first_memory}
-use Rattle.bk_meaning.specs.Calls.{call}
 use Rattle.bk_meaning.specs.Program.{Run, means, run_of, first_world, started, meaning}
-use Rattle.bk_meaning.specs.Full.{full}
-use Rattle.bk_meaning.specs.Growing.{History, history, Grows, After}
 use Rattle.bk_meaning.specs.Turns.{shown, RunGoesOn}
-use Rattle.bk_meaning.proofs.Lemmas.{reads_from_the_front, full_call}
 use Rattle.bk_checker.proofs.Growth.{resumed_after, whole_after, called_after}
-use Rattle.bk_check.specs.declared.frame.Continuation.{Continuation}
-use Rattle.bk_check.specs.declared.frame.Next.{Next}
-use Rattle.bk_check.specs.declared.frame.Next.TheVariants as n
 use Rattle.bk_check.specs.declared.machine.Evaluator.{Evaluator}
-use Rattle.bk_checker.specs.declared.report.Verdict.{Verdict}
-use Rattle.bk_checker.specs.declared.report.Verdict.TheVariants as v
-use Rattle.bk_checker.specs.declared.report.CheckFault.{CheckFault}
-use Rattle.bk_checker.specs.declared.report.CheckFault.TheVariants as x
 use Rattle.bk_check.specs.Worlds.{Bytes, world}
-use Rattle.bk_check.specs.Resume.{Given, a_value, tag, resume, resumed, outcome_next, Comes}
-use Rattle.bk_checker.specs.Checks.{Told, Exchanged, Follows, Shows, Checks, over, verdict_of, run_given, Answered, Moves, Begun, Runs, ChecksPart, RunsPart, Reaches, Flushed}
 
 -- ---- an end stays an end
 
@@ -354,11 +324,9 @@ reaches_part p m line r vs s text old new part others law whole exchanged = reco
 }
 
 run_goes_on : (h : History) (u : Outcome Value) → After h (tag a_value u) → RunGoesOn h (run_of u)
-run_goes_on h (gives v w) g = g
 run_goes_on h (leaves x w) g = tt
-run_goes_on h (ends e w) g = g
 run_goes_on h undefined g = tt
-run_goes_on h (going w) g = g
+run_goes_on h y g = g
 
 pub run_part : (p : Program) (start : Value) (turns : ℕ) (m m' : Evaluator) (first : Next) (old new : Told)
     → Begun p turns m

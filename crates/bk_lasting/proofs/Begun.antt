@@ -1,17 +1,11 @@
 -- The memory when a run begins: what is left of it, one further.
-use Rattle.std.proofs.Common.{◌≡◌, ℕ, zero, suc, ◌+◌, ◌-◌, ◌<◌, List, [], ◌∷◌, ◌++◌, length, get_or, take, drop, map, replicate, refl, sym, ap, ap₂, ◌∙◌, append_assoc, add-one, arith}
-use Rattle.std.proofs.lemmas.List.{length_push, length-map, map-append, take_all, drop_all, append-nil}
+use Rattle.bk_lasting.proofs.Terms.{◌≡◌, ℕ, zero, suc, ◌+◌, ◌-◌, ◌<◌, List, [], ◌∷◌, ◌++◌, length, get_or, take, drop, map, replicate, refl, sym, ap, ap₂, ◌∙◌, append_assoc, add-one, arith, length_push, length-map, map-append, take_all, drop_all, append-nil, holds, number, unset, procedures_set, object_of, objects_from, library_cells, cell_in, Lasting, lasting_in}
 use Rattle.bk_meaning.specs.Values as v
-use Rattle.bk_meaning.specs.Values.{holds, number, unset}
 use Rattle.bk_meaning.specs.Memory.{Memory}
 use Rattle.bk_meaning.specs.Lasting as m
-use Rattle.bk_meaning.specs.Lasting.{procedures_set, object_of, objects_from, library_cells}
 use Rattle.bk_objects.specs.declared.worth.Cell.{Cell}
 use Rattle.bk_objects.specs.declared.worth.Cell.TheVariants.{Holds}
 use Rattle.bk_objects.specs.declared.worth.Worth.TheVariants.{Number, Unset}
-use Rattle.bk_objects.specs.Views.{cell_in}
-use Rattle.bk_lasting.specs.declared.program.Lasting.{Lasting}
-use Rattle.bk_lasting.specs.Views.{lasting_in}
 use Rattle.bk_lasting.proofs.Bound.{one_further}
 
 -- the procedures that are left, once the first of them has set its global

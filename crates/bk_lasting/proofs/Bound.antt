@@ -1,13 +1,7 @@
 -- Names that are bound one after another: what is left of them, one further.
-use Rattle.std.proofs.Common.{◌≡◌, ℕ, ◌+◌, ◌<◌, List, [], ◌∷◌, ◌++◌, length, get_or, drop, refl, sym, ap, ◌∙◌}
-use Rattle.std.proofs.lemmas.List.{at_drop_more, append-nil}
+use Rattle.bk_lasting.proofs.Terms.{◌≡◌, ℕ, ◌+◌, ◌<◌, List, [], ◌∷◌, ◌++◌, length, get_or, drop, refl, sym, ap, ◌∙◌, at_drop_more, append-nil, Decl, Action, Definition, Definitions, routine, function, variables, no_definitions, define, action, actions_in, declaration, declarations_in, definition, definitions_in, labels_of, labels_of_each, Environment, Sense, label, bind, bind_each, bind_procedure, bind_procedures, past_definition, variables_hidden, all_declared, declared, in_scope}
 use Rattle.bk_tree.specs.declared.tree.Command.{Command}
-use Rattle.bk_tree.specs.declared.tree.Decl.{Decl}
 use Rattle.bk_tree.specs.declared.tree.Def.{Def}
-use Rattle.bk_tree.specs.Tree.{Action, Definition, Definitions, routine, function, variables, no_definitions, define, action, actions_in, declaration, declarations_in, definition, definitions_in}
-use Rattle.bk_scope.specs.Entering.{labels_of, labels_of_each}
-use Rattle.bk_meaning.specs.Environment.{Environment, Sense, label, bind, bind_each, bind_procedure, bind_procedures, past_definition}
-use Rattle.bk_meaning.specs.Lasting.{variables_hidden, all_declared, declared, in_scope}
 
 -- what depends on the rest of a list, by the first of the rest
 pub one_further : {A : Type 0} {B : Type 0} (F : List A → B) (xs : List A) (i : ℕ) (x : A) → i < length xs → x ≡ get_or xs i x → F (x ∷ drop (i + 1) xs) ≡ F (drop i xs)

@@ -1,3 +1,4 @@
+mod Terms
 mod Begun
 mod Bound
 mod Counted

@@ -1,13 +1,7 @@
 -- What lasts, one after another.
-use Rattle.std.proofs.Common.{◌≡◌, ℕ, ◌+◌, ◌<◌, List, [], ◌∷◌, ◌++◌, length, get_or, drop, map, refl, ap, ◌∙◌, append_assoc, arith}
-use Rattle.bk_tree.specs.declared.tree.Decl.{Decl}
+use Rattle.bk_lasting.proofs.Terms.{◌≡◌, ℕ, ◌+◌, ◌<◌, List, [], ◌∷◌, ◌++◌, length, get_or, drop, map, refl, ap, ◌∙◌, append_assoc, arith, Decl, Actions, block, declarations_in, declarations_of, Environment, labelled, objects_of_declarations, Lasting, lasting_in}
 use Rattle.bk_tree.specs.declared.section.Section.{Section}
-use Rattle.bk_tree.specs.Tree.{Actions, block, declarations_in}
-use Rattle.bk_tree.specs.Section.{declarations_of}
-use Rattle.bk_meaning.specs.Environment.{Environment, labelled, objects_of_declarations}
 use Rattle.bk_meaning.specs.Lasting.{Lasting as What, all_declared, of_action, of_actions, of_declarations, of_sections}
-use Rattle.bk_lasting.specs.declared.program.Lasting.{Lasting}
-use Rattle.bk_lasting.specs.Views.{lasting_in}
 use Rattle.bk_lasting.proofs.Bound.{one_further}
 
 pub listed_push : (xs : List Lasting) (x : Lasting) → map lasting_in (xs ++ x ∷ []) ≡ map lasting_in xs ++ lasting_in x ∷ []

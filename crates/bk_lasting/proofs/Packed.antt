@@ -1,15 +1,11 @@
 -- Bytes packed four a word: one word more.
-use Rattle.std.proofs.Common.{◌≡◌, ℕ, ◌+◌, ◌*◌, ◌<◌, ◌≤◌, List, [], ◌∷◌, ◌++◌, length, get_or, drop, refl, sym, ap, ◌∙◌, append_assoc, arith}
-use Rattle.std.proofs.lemmas.List.{get_or-drop, drop-drop, length-drop, drop_all}
-use Rattle.bk_base.specs.Strings.{packed}
+use Rattle.bk_lasting.proofs.Terms.{◌≡◌, ℕ, ◌+◌, ◌*◌, ◌<◌, ◌≤◌, List, [], ◌∷◌, ◌++◌, length, get_or, drop, refl, sym, ap, ◌∙◌, append_assoc, arith, get_or-drop, drop-drop, length-drop, drop_all, packed}
 use Rattle.bk_base.specs.Word.{packed_word}
 
 packed_first : (ys : List ℕ) → 0 < length ys → packed ys ≡ packed_word (get_or ys 0 0) (get_or ys 1 0) (get_or ys 2 0) (get_or ys 3 0) ∷ packed (drop 4 ys)
 packed_first [] some = absurd (omega (arith, some))
-packed_first (a ∷ []) some = refl
-packed_first (a ∷ b ∷ []) some = refl
 packed_first (a ∷ b ∷ c ∷ []) some = refl
-packed_first (a ∷ b ∷ c ∷ d ∷ rest) some = refl
+packed_first (a ∷ x) some = refl
 
 same_word : (a a' b b' c c' d d' : ℕ) (r r' : List ℕ) → a ≡ a' → b ≡ b' → c ≡ c' → d ≡ d' → r ≡ r' → packed_word a b c d ∷ packed r ≡ packed_word a' b' c' d' ∷ packed r'
 same_word a a' b b' c c' d d' r r' p q s t u = cc

@@ -1,2 +1,3 @@
+mod Terms
 mod Memories
 mod Texts

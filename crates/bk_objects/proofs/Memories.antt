@@ -1,22 +1,14 @@
 -- The objects that live, and the memory of them.
-use Rattle.std.proofs.Common.{◌≡◌, ◌≢◌, ℕ, zero, suc, ◌+◌, ◌-◌, ◌<◌, ◌≤◌, ◌==◌, cond, inl, inr, Some, None, Result, Ok, Err, IfSome, IfNone, OnErr, List, [], ◌∷◌, ◌++◌, length, map, set, get_or, take, drop, replicate, refl, ap, ap₂, sym, ◌∙◌, subst, arith}
-use Rattle.std.proofs.lemmas.List.{map-set, length-map, length-set, length-drop, length-take, get_or_past, get_or-set_same, get_or-set_other, set_past, drop-append-le, take-append-le, drop-take, take-take, drop-set-lt, drop-set-add, drop_at, take_all, length-take-le}
+use Rattle.bk_objects.proofs.Terms.{◌≡◌, ◌≢◌, ℕ, zero, suc, ◌+◌, ◌-◌, ◌<◌, ◌≤◌, ◌==◌, cond, inl, inr, Some, None, Result, Ok, Err, IfSome, IfNone, OnErr, List, [], ◌∷◌, ◌++◌, length, map, set, get_or, take, drop, replicate, refl, ap, ap₂, sym, ◌∙◌, subst, arith, map-set, length-map, length-set, length-drop, length-take, get_or_past, get_or-set_same, get_or-set_other, set_past, drop-append-le, take-append-le, drop-take, take-take, drop-set-lt, drop-set-add, drop_at, take_all, length-take-le, slice_get_past, slice_get-get_or, All, AllWithin, HoldsAt, address, Object, living, dead, Memory, cells_of, cells_at, made, dead_from, with_cell, Life, cell_in, object_in, found, memory_of, Laid}
 use Rattle.std.proofs.lemmas.List.FromFn.{length-map-range_with_len, get_or-map-range_with_len, map-range_with_len_more, fill_by_all}
-use Rattle.std.proofs.lemmas.Option.{slice_get_past, slice_get-get_or}
 use Rattle.std.proofs.lemmas.Bool.{cases_lt, cases_eq}
 use Rattle.std.proofs.lemmas.Bool.Decides.{nat_tests}
-use Rattle.std.specs.List.{All, AllWithin, HoldsAt}
 use Rattle.std.specs.List.Sorted.{IsNonDecreasingBy, IsBinarySearchResult, IsSearchInRange}
 use Rattle.std.specs.Ordering.{nat_cmp, ordering_index}
 use Rattle.std.specs.declared.cmp.Ordering.TheVariants.{Less, Equal, Greater}
 use Rattle.std.specs.Result.{result_ok}
 use Rattle.bk_meaning.specs.Values as v
-use Rattle.bk_meaning.specs.Values.{address}
-use Rattle.bk_meaning.specs.Memory.{Object, living, dead, Memory, cells_of, cells_at, made, dead_from, with_cell}
-use Rattle.bk_objects.specs.declared.store.Life.{Life}
 use Rattle.bk_objects.specs.declared.worth.Cell.{Cell}
-use Rattle.bk_objects.specs.Views.{cell_in}
-use Rattle.bk_objects.specs.Memories.{object_in, found, memory_of, Laid}
 
 -- Numbers that grow, and cells one after another.
 pub Laid-order : (n s : ℕ) (ls : List Life) (m e : ℕ) → Laid n s ls m e → n ≤ m
@@ -90,10 +82,8 @@ part-take cells k start len le =
     ap (λ n. take len (drop start (take n cells))) whole ∙ rw (drop-take start (k - start) cells, take-take len (k - start) (drop start cells) some) refl
 
 take-set : (n : ℕ) (cells : List Cell) (i : ℕ) (c : Cell) → take n (set cells i c) ≡ set (take n cells) i c
-take-set zero cells i c = refl
-take-set (suc n) [] i c = refl
-take-set (suc n) (x ∷ cells) zero c = refl
 take-set (suc n) (x ∷ cells) (suc i) c = ap (λ xs. x ∷ xs) (take-set n cells i c)
+take-set y z u c = refl
 
 part-set_at : (cells : List Cell) (start len i : ℕ) (c : Cell) → take len (drop start (set cells (start + i) c)) ≡ set (take len (drop start cells)) i c
 part-set_at cells start len i c = ap (take len) (drop-set-add start cells i c) ∙ take-set len (drop start cells) i c

@@ -1,20 +1,10 @@
 -- Texts that grow.
-use Rattle.std.proofs.Common.{◌≡◌, ℕ, zero, suc, ◌+◌, ◌-◌, Option, Some, None, List, [], ◌∷◌, ◌++◌, length, take, drop, min, refl, ap, sym, append_assoc}
-use Rattle.std.specs.Option.{option_map}
-use Rattle.std.proofs.lemmas.List.{take_rest, drop_min}
-use Rattle.bk_base.specs.Format.{FormatPart, further, part_at, parts_behind, parts}
-use Rattle.bk_meaning.specs.Values.{Value, number}
-use Rattle.bk_meaning.specs.Memory.{Memory, read_byte}
-use Rattle.bk_meaning.specs.Library.{bytes_from}
+use Rattle.bk_objects.proofs.Terms.{◌≡◌, ℕ, zero, suc, ◌+◌, ◌-◌, Option, Some, None, List, [], ◌∷◌, ◌++◌, length, take, drop, min, refl, ap, sym, append_assoc, option_map, take_rest, drop_min, FormatPart, further, part_at, parts_behind, parts, Value, number, Memory, read_byte, bytes_from}
 
 -- a text that grew, and what is still to come
 pub behind_byte : (text : List ℕ) (b : ℕ) (rest : Option (List ℕ)) → option_map (λ bs. text ++ bs) (option_map (λ bs. b ∷ bs) rest) ≡ option_map (λ bs. (text ++ b ∷ []) ++ bs) rest
 behind_byte text b None = refl
 behind_byte text b (Some bs) = ap (λ x. Some x) (sym (append_assoc text (b ∷ []) bs))
-
-pub behind_bytes : (text first : List ℕ) (rest : Option (List ℕ)) → option_map (λ bs. text ++ bs) (option_map (λ bs. first ++ bs) rest) ≡ option_map (λ bs. (text ++ first) ++ bs) rest
-behind_bytes text first None = refl
-behind_bytes text first (Some bs) = ap (λ x. Some x) (sym (append_assoc text first bs))
 
 -- the bytes of a string
 pub bytes_more : (n k : ℕ) (m : Memory) (a : Value) (i b : ℕ) (text : List ℕ) → n ≡ suc k → Some b ≡ read_byte m a (number i) → option_map (λ bs. text ++ bs) (bytes_from n m a i) ≡ option_map (λ bs. (text ++ b ∷ []) ++ bs) (bytes_from k m a (i + 1))

@@ -1,8 +1,4 @@
-use Rattle.std.proofs.Common.{◌≡◌, drop, map}
-use Rattle.bk_meaning.specs.World.{World, remembering}
-use Rattle.bk_meaning.specs.Blocks.{bind_variables}
-use Rattle.bk_check.specs.Views.{start_in}
-use Rattle.bk_lasting.specs.Views.{env_in}
+use Rattle.bk_check.proofs.Terms.{◌≡◌, drop, map, World, remembering, bind_variables, start_in, env_in}
 use Rattle.bk_check.proofs.blocks.bind_starts.Given as goal
 
 abbrev pub invariant-loop-start : goal.invariant-loop-start

@@ -1,12 +1,7 @@
-use Rattle.std.proofs.Common.{◌≡◌, List, ap, sym, ◌∙◌}
+use Rattle.bk_check.proofs.Terms.{◌≡◌, List, ap, sym, ◌∙◌, Declaration, declaration, declarations_in, actions_in, items_in, definitions_in, Constants_is, Let_is, env_in, world, tag, done_tag, resumed, declared_then}
 use Rattle.bk_tree.specs.declared.tree.ConstItem.{ConstItem}
 use Rattle.bk_tree.specs.declared.tree.Def.{Def}
 use Rattle.bk_tree.specs.Tree as t
-use Rattle.bk_tree.specs.Tree.{Declaration, declaration, declarations_in, actions_in, items_in, definitions_in}
-use Rattle.bk_tree.proofs.Lemmas.{Constants_is, Let_is}
-use Rattle.bk_lasting.specs.Views.{env_in}
-use Rattle.bk_check.specs.Worlds.{world}
-use Rattle.bk_check.specs.Resume.{tag, done_tag, resumed, declared_then}
 use Rattle.bk_check.proofs.Resuming.{meets_at}
 use Rattle.bk_check.proofs.blocks.declare_one.Goals as goal
 

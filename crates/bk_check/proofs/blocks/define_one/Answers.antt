@@ -1,14 +1,4 @@
-use Rattle.std.proofs.Common.{◌≡◌, ℕ, List, map, ap, sym, ◌∙◌}
-use Rattle.bk_tree.specs.declared.tree.Name.{Name}
-use Rattle.bk_tree.specs.declared.tree.Init.{Init}
-use Rattle.bk_tree.specs.Tree.{mention, definition, definitions_in, starts_in, variables}
-use Rattle.bk_tree.proofs.Lemmas.{Variables_is}
-use Rattle.bk_meaning.specs.World.{Outcome, Done}
-use Rattle.bk_meaning.specs.Environment.{Environment, objects_of_definition, behind, past_definition}
-use Rattle.bk_lasting.specs.Views.{env_in}
-use Rattle.bk_check.specs.declared.frame.Let.{Let}
-use Rattle.bk_check.specs.Worlds.{world}
-use Rattle.bk_check.specs.Resume.{tag, done_tag, resumed, bound_then}
+use Rattle.bk_check.proofs.Terms.{◌≡◌, ℕ, List, map, ap, sym, ◌∙◌, Name, Init, mention, definition, definitions_in, starts_in, variables, Variables_is, Outcome, Done, Environment, objects_of_definition, behind, past_definition, env_in, Let, world, tag, done_tag, resumed, bound_then}
 use Rattle.bk_check.proofs.Lets.{let_turn}
 use Rattle.bk_check.proofs.blocks.define_one.Goals as goal
 

@@ -1,14 +1,4 @@
-use Rattle.std.proofs.Common.{◌≡◌, ◌∷◌, ap}
-use Rattle.bk_tree.specs.Tree.{starts_in}
-use Rattle.bk_meaning.specs.Values.{address}
-use Rattle.bk_meaning.specs.Memory.{made}
-use Rattle.bk_meaning.specs.World.{Outcome, Done, gives, with}
-use Rattle.bk_meaning.specs.Blocks.{starts, vec_cells}
-use Rattle.bk_meaning.specs.Full.{full}
-use Rattle.bk_check.specs.Views.{letters_in}
-use Rattle.bk_lasting.specs.Views.{env_in}
-use Rattle.bk_check.specs.Worlds.{world}
-use Rattle.bk_check.specs.Resume.{tag, done_tag, resumed, started_then}
+use Rattle.bk_check.proofs.Terms.{◌≡◌, ◌∷◌, ap, starts_in, address, made, Outcome, Done, gives, with, starts, vec_cells, full, letters_in, env_in, world, tag, done_tag, resumed, started_then}
 use Rattle.bk_check.proofs.Vectors.{meets_there, vector_made}
 use Rattle.bk_check.proofs.blocks.make_vector.Goals as goal
 

@@ -1,11 +1,4 @@
-use Rattle.std.proofs.Common.{◌∷◌, ap, sym, ◌∙◌}
-use Rattle.bk_tree.specs.declared.tree.Init.{Init}
-use Rattle.bk_tree.specs.Tree.{expression, starts_in}
-use Rattle.bk_meaning.specs.World.{Outcome, Done}
-use Rattle.bk_check.specs.Views.{letters_in}
-use Rattle.bk_lasting.specs.Views.{env_in}
-use Rattle.bk_check.specs.Worlds.{world}
-use Rattle.bk_check.specs.Resume.{tag, done_tag, resumed, starting_then, started_then}
+use Rattle.bk_check.proofs.Terms.{◌∷◌, ap, sym, ◌∙◌, Init, expression, starts_in, Outcome, Done, letters_in, env_in, world, tag, done_tag, resumed, starting_then, started_then}
 use Rattle.bk_check.proofs.Resuming.{meets}
 use Rattle.bk_check.proofs.Lets.{vector_is}
 use Rattle.bk_check.proofs.blocks.start_one.Goals as goal

@@ -1,13 +1,4 @@
-use Rattle.std.proofs.Common.{◌≡◌, ℕ, ◌∷◌, ap, ◌∙◌}
-use Rattle.bk_tree.specs.Tree.{expression, starts_in}
-use Rattle.bk_meaning.specs.World.{Outcome, Done, gives, with}
-use Rattle.bk_meaning.specs.Environment.{Environment, objects, behind, past}
-use Rattle.bk_meaning.specs.Blocks.{starts}
-use Rattle.bk_meaning.specs.Full.{full}
-use Rattle.bk_check.specs.Views.{letters_in}
-use Rattle.bk_lasting.specs.Views.{env_in}
-use Rattle.bk_check.specs.Worlds.{world}
-use Rattle.bk_check.specs.Resume.{tag, done_tag, resumed, started_then}
+use Rattle.bk_check.proofs.Terms.{◌≡◌, ℕ, ◌∷◌, ap, ◌∙◌, expression, starts_in, Outcome, Done, gives, with, Environment, objects, behind, past, starts, full, letters_in, env_in, world, tag, done_tag, resumed, started_then}
 use Rattle.bk_check.proofs.Resuming.{meets}
 use Rattle.bk_check.proofs.Lets.{value_then}
 use Rattle.bk_check.proofs.blocks.start_value.Goals as goal

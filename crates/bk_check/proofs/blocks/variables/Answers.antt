@@ -1,11 +1,4 @@
-use Rattle.std.proofs.Common.{◌≡◌, ◌<◌, ap, arith}
-use Rattle.bk_tree.specs.Tree.{starts_in}
-use Rattle.bk_meaning.specs.World.{Outcome, Done}
-use Rattle.bk_check.specs.Views.{letters_in}
-use Rattle.bk_lasting.specs.Views.{env_in}
-use Rattle.bk_check.specs.Worlds.{world}
-use Rattle.bk_check.specs.Resume.{tag, done_tag, resumed, variables_then}
-use Rattle.bk_meaning.proofs.Lemmas.{turn_left, turn_none}
+use Rattle.bk_check.proofs.Terms.{◌≡◌, ◌<◌, ap, arith, starts_in, Outcome, Done, letters_in, env_in, world, tag, done_tag, resumed, variables_then, turn_left, turn_none}
 use Rattle.bk_check.proofs.blocks.variables.Goals as goal
 
 pub returns : goal.returns

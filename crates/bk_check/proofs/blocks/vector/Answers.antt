@@ -1,12 +1,4 @@
-use Rattle.std.proofs.Common.{◌≡◌, ◌-◌, ◌<◌, Option, ℕ, ap, ◌∙◌, arith}
-use Rattle.bk_tree.specs.Tree.{expression, starts_in}
-use Rattle.bk_meaning.specs.World.{Outcome, Done}
-use Rattle.bk_meaning.specs.Environment.{constant_in}
-use Rattle.bk_check.specs.Views.{letters_in}
-use Rattle.bk_lasting.specs.Views.{env_in}
-use Rattle.bk_check.specs.Worlds.{world}
-use Rattle.bk_check.specs.Resume.{tag, done_tag, resumed, vector_then}
-use Rattle.bk_meaning.proofs.Lemmas.{turn_left, turn_none}
+use Rattle.bk_check.proofs.Terms.{◌≡◌, ◌-◌, ◌<◌, Option, ℕ, ap, ◌∙◌, arith, expression, starts_in, Outcome, Done, constant_in, letters_in, env_in, world, tag, done_tag, resumed, vector_then, turn_left, turn_none}
 use Rattle.bk_check.proofs.Resuming.{meets}
 use Rattle.bk_check.proofs.blocks.vector.Goals as goal
 

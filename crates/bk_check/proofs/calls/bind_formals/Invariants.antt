@@ -1,7 +1,5 @@
-use Rattle.std.proofs.Common.{◌≡◌, drop}
+use Rattle.bk_check.proofs.Terms.{◌≡◌, drop, letters_in, env_in}
 use Rattle.bk_meaning.specs.Calls as c
-use Rattle.bk_check.specs.Views.{letters_in}
-use Rattle.bk_lasting.specs.Views.{env_in}
 use Rattle.bk_check.proofs.calls.bind_formals.Given as goal
 
 abbrev pub invariant-loop-formal : goal.invariant-loop-formal

@@ -1,14 +1,5 @@
-use Rattle.std.proofs.Common.{ap, sym, ◌∙◌}
-use Rattle.bk_tree.specs.Tree.{action}
-use Rattle.bk_meaning.specs.Seeking.{forwards}
-use Rattle.bk_meaning.specs.Scopes.{scope_of, alone}
-use Rattle.bk_meaning.specs.Calls.{run_body}
+use Rattle.bk_check.proofs.Terms.{ap, sym, ◌∙◌, action, forwards, scope_of, alone, run_body, full, env_in, body_in, world, tag, a_value, resumed, OnDone as d}
 use Rattle.bk_lasting.specs.declared.program.Body.{Body}
-use Rattle.bk_check.specs.declared.frame.OnDone.TheVariants as d
-use Rattle.bk_meaning.specs.Full.{full}
-use Rattle.bk_lasting.specs.Views.{env_in, body_in}
-use Rattle.bk_check.specs.Worlds.{world}
-use Rattle.bk_check.specs.Resume.{tag, a_value, resumed}
 use Rattle.bk_check.proofs.Resuming.{meets, pushed_done}
 use Rattle.bk_check.proofs.calls.body.Goals as goal
 

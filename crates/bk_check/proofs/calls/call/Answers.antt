@@ -1,12 +1,4 @@
-use Rattle.std.proofs.Common.{◌≡◌, ◌+◌, max, ap, ◌∙◌, arith}
-use Rattle.bk_meaning.specs.Values.{Value}
-use Rattle.bk_meaning.specs.World.{Outcome}
-use Rattle.bk_meaning.specs.Calls.{called}
-use Rattle.bk_meaning.specs.Full.{full}
-use Rattle.bk_check.specs.Views.{program_in}
-use Rattle.bk_objects.specs.Views.{value_in}
-use Rattle.bk_check.specs.Worlds.{world}
-use Rattle.bk_check.specs.Resume.{tag, a_value, resumed, list_value}
+use Rattle.bk_check.proofs.Terms.{◌≡◌, ◌+◌, max, ap, ◌∙◌, arith, Value, Outcome, called, full, program_in, value_in, world, tag, a_value, resumed, list_value}
 use Rattle.bk_check.proofs.Resuming.{meets_in, pushed_return}
 use Rattle.bk_check.proofs.Entering.{counted}
 use Rattle.bk_check.proofs.calls.call.Goals as goal

@@ -1,17 +1,5 @@
-use Rattle.std.proofs.Common.{◌≡◌, List, map, ap, ◌∙◌}
+use Rattle.bk_check.proofs.Terms.{◌≡◌, List, map, ap, ◌∙◌, Value, made, Outcome, remembering, Environment, formal_cells, bind_formals, run_body, Worth, Cell, cell_in, full, env_in, procedure_in, world, tag, a_value, resumed, list_value}
 use Rattle.bk_meaning.specs.Values as v
-use Rattle.bk_meaning.specs.Values.{Value}
-use Rattle.bk_meaning.specs.Memory.{made}
-use Rattle.bk_meaning.specs.World.{Outcome, remembering}
-use Rattle.bk_meaning.specs.Environment.{Environment}
-use Rattle.bk_meaning.specs.Calls.{formal_cells, bind_formals, run_body}
-use Rattle.bk_objects.specs.declared.worth.Worth.{Worth}
-use Rattle.bk_objects.specs.declared.worth.Cell.{Cell}
-use Rattle.bk_objects.specs.Views.{cell_in}
-use Rattle.bk_meaning.specs.Full.{full}
-use Rattle.bk_lasting.specs.Views.{env_in, procedure_in}
-use Rattle.bk_check.specs.Worlds.{world}
-use Rattle.bk_check.specs.Resume.{tag, a_value, resumed, list_value}
 use Rattle.bk_check.proofs.Resuming.{meets, pushed_closing_value}
 use Rattle.bk_check.proofs.Entering.{entered}
 use Rattle.bk_check.proofs.calls.enter.Goals as goal

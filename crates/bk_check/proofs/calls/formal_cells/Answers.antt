@@ -1,13 +1,4 @@
-use Rattle.std.proofs.Common.{◌≡◌, ◌<◌, ◌++◌, ◌∷◌, [], List, length, map, drop, ap, ◌∙◌, ◌+◌, arith}
-use Rattle.std.specs.Prelude.{slice_get, unwrap_or}
-use Rattle.bk_meaning.specs.Calls.{formal_cells}
-use Rattle.bk_objects.specs.declared.worth.Worth.{Worth}
-use Rattle.bk_objects.specs.declared.worth.Worth.TheVariants.{Unset}
-use Rattle.bk_objects.specs.declared.worth.Cell.{Cell}
-use Rattle.bk_objects.specs.declared.worth.Cell.TheVariants.{Holds}
-use Rattle.bk_check.specs.Views.{letters_in}
-use Rattle.bk_objects.specs.Views.{cell_in}
-use Rattle.bk_check.specs.Resume.{list_value}
+use Rattle.bk_check.proofs.Terms.{◌≡◌, ◌<◌, ◌++◌, ◌∷◌, [], List, length, map, drop, ap, ◌∙◌, ◌+◌, arith, slice_get, unwrap_or, formal_cells, Worth, Unset, Cell, Holds, letters_in, cell_in, list_value}
 use Rattle.bk_check.proofs.Formals.{formal_step}
 use Rattle.bk_check.proofs.calls.formal_cells.Goals as goal
 

@@ -1,8 +1,5 @@
-use Rattle.std.proofs.Common.{◌≡◌, ◌++◌, drop, map}
+use Rattle.bk_check.proofs.Terms.{◌≡◌, ◌++◌, drop, map, letters_in, cell_in, list_value}
 use Rattle.bk_meaning.specs.Calls as c
-use Rattle.bk_check.specs.Views.{letters_in}
-use Rattle.bk_objects.specs.Views.{cell_in}
-use Rattle.bk_check.specs.Resume.{list_value}
 use Rattle.bk_check.proofs.calls.formal_cells.Given as goal
 
 abbrev pub invariant-loop-i : goal.invariant-loop-i

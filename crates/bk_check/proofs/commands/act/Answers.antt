@@ -1,10 +1,4 @@
-use Rattle.std.proofs.Common.{◌≡◌, ◌<◌, ap, arith}
-use Rattle.bk_tree.specs.Tree.{action}
-use Rattle.bk_meaning.specs.World.{Outcome, Done}
-use Rattle.bk_check.specs.Views.{mode_in}
-use Rattle.bk_lasting.specs.Views.{env_in}
-use Rattle.bk_check.specs.Worlds.{world}
-use Rattle.bk_check.specs.Resume.{tag, done_tag, resumed}
+use Rattle.bk_check.proofs.Terms.{◌≡◌, ◌<◌, ap, arith, action, Outcome, Done, mode_in, env_in, world, tag, done_tag, resumed}
 use Rattle.bk_check.proofs.Resuming.{meets}
 use Rattle.bk_check.proofs.Acts.{act_empty, act_left, act_none}
 use Rattle.bk_check.proofs.commands.act.Goals as goal

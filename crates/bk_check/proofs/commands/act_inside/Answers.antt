@@ -1,18 +1,5 @@
-use Rattle.std.proofs.Common.{◌≡◌, ℕ, List, Result, Ok, Err, IfOk, ap, sym, ◌∙◌}
+use Rattle.bk_check.proofs.Terms.{◌≡◌, ℕ, List, Result, Ok, Err, IfOk, ap, sym, ◌∙◌, Action, action, actions_in, expression, expressions_in, declarations_in, step_in, mention, Assign_is, Call_is, For_is, Block_is, World, Outcome, Mode, act_of, Program, Next, Continuation, full, mode_in, env_in, Bytes, world, Given, tag, done_tag, resumed, Comes}
 use Rattle.bk_tree.specs.Tree as t
-use Rattle.bk_tree.specs.Tree.{Action, action, actions_in, expression, expressions_in, declarations_in, step_in, mention}
-use Rattle.bk_tree.proofs.Lemmas.{Assign_is, Call_is, For_is, Block_is}
-use Rattle.bk_meaning.specs.World.{World, Outcome}
-use Rattle.bk_meaning.specs.Seeking.{Mode}
-use Rattle.bk_meaning.specs.Commands.{act_of}
-use Rattle.bk_meaning.specs.Lasting.{Program}
-use Rattle.bk_check.specs.declared.frame.Next.{Next}
-use Rattle.bk_check.specs.declared.frame.Continuation.{Continuation}
-use Rattle.bk_meaning.specs.Full.{full}
-use Rattle.bk_check.specs.Views.{mode_in}
-use Rattle.bk_lasting.specs.Views.{env_in}
-use Rattle.bk_check.specs.Worlds.{Bytes, world}
-use Rattle.bk_check.specs.Resume.{Given, tag, done_tag, resumed, Comes}
 use Rattle.bk_check.proofs.Resuming.{meets, meets_at}
 use Rattle.bk_check.proofs.commands.act_inside.Goals as goal
 

@@ -1,10 +1,4 @@
-use Rattle.std.proofs.Common.{◌<◌, length, ap, ◌∙◌, arith}
-use Rattle.bk_tree.specs.Tree.{actions_in, declarations_in}
-use Rattle.bk_meaning.specs.World.{Outcome, Done}
-use Rattle.bk_check.specs.Views.{mode_in}
-use Rattle.bk_lasting.specs.Views.{env_in}
-use Rattle.bk_check.specs.Worlds.{world}
-use Rattle.bk_check.specs.Resume.{tag, done_tag, resumed, declared_then}
+use Rattle.bk_check.proofs.Terms.{◌<◌, length, ap, ◌∙◌, arith, actions_in, declarations_in, Outcome, Done, mode_in, env_in, world, tag, done_tag, resumed, declared_then}
 use Rattle.bk_check.proofs.Resuming.{pushed_closing}
 use Rattle.bk_check.proofs.Scoped.{block_is}
 use Rattle.bk_check.proofs.commands.block.Goals as goal

@@ -1,9 +1,4 @@
-use Rattle.bk_tree.specs.Tree.{expression, expressions_in}
-use Rattle.bk_meaning.specs.Calls.{applied}
-use Rattle.bk_check.specs.declared.frame.OnValue.TheVariants as v
-use Rattle.bk_meaning.specs.Full.{full}
-use Rattle.bk_lasting.specs.Views.{env_in}
-use Rattle.bk_check.specs.Worlds.{world}
+use Rattle.bk_check.proofs.Terms.{expression, expressions_in, applied, full, env_in, world, OnValue as v}
 use Rattle.bk_check.proofs.Resuming.{meets, pushed_value}
 use Rattle.bk_check.proofs.commands.call_command.Goals as goal
 

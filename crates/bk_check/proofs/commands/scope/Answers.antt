@@ -1,13 +1,4 @@
-use Rattle.std.proofs.Common.{ap, ◌∙◌}
-use Rattle.bk_tree.specs.Tree.{actions_in}
-use Rattle.bk_meaning.specs.World.{Outcome, Done}
-use Rattle.bk_meaning.specs.Scopes.{in_order}
-use Rattle.bk_check.specs.declared.frame.OnDone.TheVariants as d
-use Rattle.bk_meaning.specs.Full.{full}
-use Rattle.bk_check.specs.Views.{mode_in}
-use Rattle.bk_lasting.specs.Views.{env_in}
-use Rattle.bk_check.specs.Worlds.{world}
-use Rattle.bk_check.specs.Resume.{tag, done_tag, resumed}
+use Rattle.bk_check.proofs.Terms.{ap, ◌∙◌, actions_in, Outcome, Done, in_order, full, mode_in, env_in, world, tag, done_tag, resumed, OnDone as d}
 use Rattle.bk_check.proofs.Resuming.{pushed_done}
 use Rattle.bk_check.proofs.Scoped.{scope_is}
 use Rattle.bk_check.proofs.commands.scope.Goals as goal

@@ -1,13 +1,4 @@
-use Rattle.std.proofs.Common.{ℕ, List, ap, ◌∙◌}
-use Rattle.bk_tree.specs.Tree.{action}
-use Rattle.bk_meaning.specs.World.{Outcome, Done, remembering}
-use Rattle.bk_meaning.specs.Environment.{bind, cell}
-use Rattle.bk_meaning.specs.Loops.{for_test, for_rounds_of}
-use Rattle.bk_meaning.specs.Full.{full}
-use Rattle.bk_objects.specs.Views.{value_in}
-use Rattle.bk_lasting.specs.Views.{env_in}
-use Rattle.bk_check.specs.Worlds.{world}
-use Rattle.bk_check.specs.Resume.{tag, done_tag, resumed}
+use Rattle.bk_check.proofs.Terms.{ℕ, List, ap, ◌∙◌, action, Outcome, Done, remembering, bind, cell, for_test, for_rounds_of, full, value_in, env_in, world, tag, done_tag, resumed}
 use Rattle.bk_check.proofs.Resuming.{meets, pushed_closing}
 use Rattle.bk_check.proofs.ForLoops.{for_begun}
 use Rattle.bk_check.proofs.fors.begin_by.Goals as goal
@@ -20,4 +11,4 @@ returns c =
     let h = value_in c.args.limit in
     meets c.first_round.result _ (λ b. world c.first_round.new.m b) _ _
     (λ p b. pushed_closing p c.args.m.now.frames.items _ n (for_test n h c.args.step (λ w. for_rounds_of (full p) a n h c.args.step inside w) (remembering c.make_one.new.store (world c.args.m.now b))) c.in_ok-push.ensures.items
-    ∙ ap (λ (u : Outcome Done). resumed p c.args.m.now.frames.items (tag done_tag u)) (for_begun p c.args.name.now.letters.items a (value_in c.args.start) h c.args.step (env_in c.args.env) inside (world c.args.m.now b) n c.make_one.new.store c.made-object.ensures (c.in_ok-inside.ensures ∙ ap (λ (xs : List ℕ). bind xs (cell n 0) (env_in c.args.env)) c.deref.ensures.value) c.in_ok-make_one.ensures.made)) c.first_round.ensures
+    ∙ ap (λ (u : Outcome Done). resumed p c.args.m.now.frames.items (tag done_tag u)) (for_begun p c.args.name.now.letters.items a (value_in c.args.start) h c.args.step (env_in c.args.env) inside (world c.args.m.now b) n c.make_one.new.store c.made-object.ensures (c.in_ok-inside.ensures ∙ ap (λ (xs : List ℕ). bind xs (cell n 0) (env_in c.args.env)) c.deref.ensures) c.in_ok-make_one.ensures.made)) c.first_round.ensures

@@ -1,14 +1,4 @@
-use Rattle.std.proofs.Common.{Bool, ap, sym, refl, ◌∙◌}
-use Rattle.bk_tree.specs.Tree.{action}
-use Rattle.bk_meaning.specs.World.{Outcome, Done, done, either}
-use Rattle.bk_meaning.specs.Loops.{for_rounds_of}
-use Rattle.bk_check.specs.declared.fors.Tested.{Tested}
-use Rattle.bk_check.specs.Fors.{tested}
-use Rattle.bk_meaning.specs.Full.{full}
-use Rattle.bk_objects.specs.Views.{value_in}
-use Rattle.bk_lasting.specs.Views.{env_in}
-use Rattle.bk_check.specs.Worlds.{world}
-use Rattle.bk_check.specs.Resume.{tag, done_tag, resumed}
+use Rattle.bk_check.proofs.Terms.{Bool, ap, sym, refl, ◌∙◌, action, Outcome, Done, done, either, for_rounds_of, Tested, tested, full, value_in, env_in, world, tag, done_tag, resumed}
 use Rattle.bk_check.proofs.Resuming.{meets}
 use Rattle.bk_check.proofs.fors.first_round.Goals as goal
 

@@ -1,14 +1,4 @@
-use Rattle.std.proofs.Common.{ap, ◌∙◌}
-use Rattle.bk_tree.specs.Tree.{action}
-use Rattle.bk_meaning.specs.Environment.{Environment}
-use Rattle.bk_meaning.specs.Seeking.{forwards}
-use Rattle.bk_meaning.specs.Scopes.{scope_of, alone}
-use Rattle.bk_meaning.specs.Loops.{again}
-use Rattle.bk_check.specs.declared.frame.OnDone.TheVariants as d
-use Rattle.bk_meaning.specs.Full.{full}
-use Rattle.bk_lasting.specs.Views.{env_in}
-use Rattle.bk_check.specs.Worlds.{world}
-use Rattle.bk_check.specs.Resume.{tag, done_tag, resumed, next_for}
+use Rattle.bk_check.proofs.Terms.{ap, ◌∙◌, action, Environment, forwards, scope_of, alone, again, full, env_in, world, tag, done_tag, resumed, next_for, OnDone as d}
 use Rattle.bk_check.proofs.Resuming.{meets, pushed_done}
 use Rattle.bk_check.proofs.fors.for_round.Goals as goal
 

@@ -1,13 +1,5 @@
-use Rattle.std.proofs.Common.{◌-◌, ◌<◌, ap, sym, ◌∙◌, arith}
-use Rattle.bk_tree.specs.Tree.{action}
-use Rattle.bk_meaning.specs.World.{World, Outcome, Done}
-use Rattle.bk_meaning.specs.Full.{full}
-use Rattle.bk_objects.specs.Views.{value_in}
-use Rattle.bk_lasting.specs.Views.{env_in}
-use Rattle.bk_check.specs.Worlds.{world}
-use Rattle.bk_check.specs.Resume.{tag, done_tag, resumed}
+use Rattle.bk_check.proofs.Terms.{◌-◌, ◌<◌, ap, sym, ◌∙◌, arith, action, World, Outcome, Done, full, value_in, env_in, world, tag, done_tag, resumed, full_for_rounds, turn_left}
 use Rattle.bk_check.proofs.Resuming.{meets}
-use Rattle.bk_meaning.proofs.Lemmas.{full_for_rounds, turn_left}
 use Rattle.bk_check.proofs.fors.further_round.Goals as goal
 
 pub returns : goal.returns

@@ -1,11 +1,5 @@
-use Rattle.std.proofs.Common.{ap, sym, refl, ◌∙◌}
-use Rattle.bk_meaning.specs.World.{World, Outcome, Done, with}
-use Rattle.bk_meaning.specs.Loops.{for_test}
+use Rattle.bk_check.proofs.Terms.{ap, sym, refl, ◌∙◌, World, Outcome, Done, with, for_test, stepped, value_in, world, tag, done_tag, resumed, further_for}
 use Rattle.bk_check.specs.declared.fors.Stepped.{Stepped}
-use Rattle.bk_check.specs.Fors.{stepped}
-use Rattle.bk_objects.specs.Views.{value_in}
-use Rattle.bk_check.specs.Worlds.{world}
-use Rattle.bk_check.specs.Resume.{tag, done_tag, resumed, further_for}
 use Rattle.bk_check.proofs.Resuming.{meets}
 use Rattle.bk_check.proofs.fors.next_for.Goals as goal
 

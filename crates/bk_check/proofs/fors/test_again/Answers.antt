@@ -1,9 +1,4 @@
-use Rattle.std.proofs.Common.{Bool, ap, sym, refl, ◌∙◌}
-use Rattle.bk_meaning.specs.World.{Outcome, Done, done, either}
-use Rattle.bk_check.specs.declared.fors.Tested.{Tested}
-use Rattle.bk_check.specs.Fors.{tested}
-use Rattle.bk_check.specs.Worlds.{world}
-use Rattle.bk_check.specs.Resume.{tag, done_tag, resumed, further_for}
+use Rattle.bk_check.proofs.Terms.{Bool, ap, sym, refl, ◌∙◌, Outcome, Done, done, either, Tested, tested, world, tag, done_tag, resumed, further_for}
 use Rattle.bk_check.proofs.Resuming.{meets}
 use Rattle.bk_check.proofs.fors.test_again.Goals as goal
 

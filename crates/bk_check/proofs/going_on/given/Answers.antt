@@ -1,7 +1,4 @@
-use Rattle.bk_meaning.specs.World.{gives}
-use Rattle.bk_check.specs.Views.{program_in}
-use Rattle.bk_check.specs.Worlds.{world}
-use Rattle.bk_check.specs.Resume.{thing_in}
+use Rattle.bk_check.proofs.Terms.{gives, program_in, world, thing_in}
 use Rattle.bk_check.proofs.Resuming.{meets_in, popped}
 use Rattle.bk_check.proofs.going_on.given.Goals as goal
 

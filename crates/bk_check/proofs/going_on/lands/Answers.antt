@@ -1,10 +1,4 @@
-use Rattle.std.proofs.Common.{◌≡◌, true, false, ap, sym, ◌∙◌}
-use Rattle.bk_tree.specs.Tree.{actions_in}
-use Rattle.bk_meaning.specs.World.{Outcome, Done}
-use Rattle.bk_meaning.specs.Seeking.{the_label, stands_in_one}
-use Rattle.bk_lasting.specs.Views.{env_in}
-use Rattle.bk_check.specs.Worlds.{world}
-use Rattle.bk_check.specs.Resume.{tag, done_tag, resumed}
+use Rattle.bk_check.proofs.Terms.{◌≡◌, true, false, ap, sym, ◌∙◌, actions_in, Outcome, Done, the_label, stands_in_one, env_in, world, tag, done_tag, resumed}
 use Rattle.bk_check.proofs.Resuming.{meets}
 use Rattle.bk_check.proofs.Scoped.{land_here, land_past}
 use Rattle.bk_check.proofs.going_on.lands.Goals as goal

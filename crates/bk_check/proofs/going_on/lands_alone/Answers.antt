@@ -1,11 +1,4 @@
-use Rattle.std.proofs.Common.{◌≡◌, true, false, ap, sym, ◌∙◌}
-use Rattle.bk_tree.specs.Tree.{action}
-use Rattle.bk_meaning.specs.World.{Outcome, Done}
-use Rattle.bk_meaning.specs.Seeking.{the_label, stands_in}
-use Rattle.bk_meaning.specs.Scopes.{alone}
-use Rattle.bk_lasting.specs.Views.{env_in}
-use Rattle.bk_check.specs.Worlds.{world}
-use Rattle.bk_check.specs.Resume.{tag, done_tag, resumed}
+use Rattle.bk_check.proofs.Terms.{◌≡◌, true, false, ap, sym, ◌∙◌, action, Outcome, Done, the_label, stands_in, alone, env_in, world, tag, done_tag, resumed}
 use Rattle.bk_check.proofs.Resuming.{meets}
 use Rattle.bk_check.proofs.Scoped.{land_here, land_past, stands_alone}
 use Rattle.bk_check.proofs.going_on.lands_alone.Goals as goal

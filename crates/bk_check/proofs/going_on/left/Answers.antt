@@ -1,6 +1,4 @@
-use Rattle.bk_meaning.specs.World.{leaves}
-use Rattle.bk_check.specs.Worlds.{world}
-use Rattle.bk_check.specs.Resume.{exit_in}
+use Rattle.bk_check.proofs.Terms.{leaves, world, exit_in}
 use Rattle.bk_check.proofs.Resuming.{meets, popped}
 use Rattle.bk_check.proofs.going_on.left.Goals as goal
 

@@ -1,13 +1,4 @@
-use Rattle.std.proofs.Common.{ap, sym, ◌∙◌}
-use Rattle.bk_tree.specs.Tree.{expression, expressions_in}
-use Rattle.bk_meaning.specs.Values.{Value}
-use Rattle.bk_meaning.specs.World.{Outcome, gives}
-use Rattle.bk_objects.specs.Views.{value_in}
-use Rattle.bk_lasting.specs.Views.{env_in}
-use Rattle.bk_check.specs.declared.frame.OnValue.{OnValue}
-use Rattle.bk_check.specs.Views.{program_in}
-use Rattle.bk_check.specs.Worlds.{world}
-use Rattle.bk_check.specs.Resume.{tag, a_value, resumed, value_goes}
+use Rattle.bk_check.proofs.Terms.{ap, sym, ◌∙◌, expression, expressions_in, Value, Outcome, gives, value_in, env_in, OnValue, program_in, world, tag, a_value, resumed, value_goes}
 use Rattle.bk_check.proofs.Resuming.{meets_for}
 use Rattle.bk_check.proofs.Arguments.{argument_then}
 use Rattle.bk_check.proofs.going_on.with_value.Goals as goal

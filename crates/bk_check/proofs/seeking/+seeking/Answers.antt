@@ -1,8 +1,4 @@
-use Rattle.std.proofs.Common.{◌≡◌, ◌<◌, length, ap, ◌∙◌, arith}
-use Rattle.bk_tree.specs.Tree.{action, actions_in, declarations_in, block}
-use Rattle.bk_tree.proofs.Lemmas.{Block_is}
-use Rattle.bk_check.specs.Views.{sought_in}
-use Rattle.bk_lasting.specs.Views.{env_in}
+use Rattle.bk_check.proofs.Terms.{◌≡◌, ◌<◌, length, ap, ◌∙◌, arith, action, actions_in, declarations_in, block, Block_is, sought_in, env_in}
 use Rattle.bk_check.proofs.Seeks.{no_head, a_head}
 use Rattle.bk_check.proofs.seeking.+seeking.Goals as goal
 

@@ -1,8 +1,5 @@
-use Rattle.std.proofs.Common.{◌≡◌, drop}
-use Rattle.bk_tree.specs.Tree.{actions_in}
+use Rattle.bk_check.proofs.Terms.{◌≡◌, drop, actions_in, sought_in, env_in}
 use Rattle.bk_meaning.specs.Seeking as q
-use Rattle.bk_check.specs.Views.{sought_in}
-use Rattle.bk_lasting.specs.Views.{env_in}
 use Rattle.bk_check.proofs.seeking.+seeking.Given as goal
 
 abbrev pub invariant-stands_in_one-loop-c : goal.invariant-stands_in_one-loop-c

@@ -1,9 +1,4 @@
-use Rattle.std.proofs.Common.{refl, sym, subst}
-use Rattle.std.proofs.KnownBytes.{Keeps-refl}
-use Rattle.bk_objects.specs.Views.{value_in}
-use Rattle.bk_check.specs.Views.{program_in}
-use Rattle.bk_checker.specs.declared.report.CheckFault.{CheckFault}
-use Rattle.bk_checker.specs.Checks.{Blames, Flushed}
+use Rattle.bk_checker.proofs.Terms.{refl, sym, subst, Keeps-refl, value_in, program_in, CheckFault, Blames, Flushed}
 use Rattle.bk_checker.proofs.Running.{nothing_yet, exchanged_none, exchanged_still, checks_start, checks_part, checks_none, start_found, no_start_found, ok_map, err_map, if_err, on_ok_map}
 use Rattle.bk_checker.proofs.checker.check_program.Goals as goal
 

@@ -1,6 +1,4 @@
-use Rattle.std.proofs.Common.{rules, refl, ◌∙◌}
-use Rattle.bk_base.specs.DeviceLaws.{Begins-refl, Begins-trans}
-use Rattle.bk_checker.specs.Checks.{Blames}
+use Rattle.bk_checker.proofs.Terms.{rules, refl, ◌∙◌, Begins-refl, Begins-trans, Blames}
 use Rattle.bk_checker.proofs.Running.{moves_none, moves_then, reaches_still, reaches_after, exchanged_none, if_err}
 use Rattle.bk_checker.proofs.run.go.Goals as goal
 

@@ -1,7 +1,5 @@
-use Rattle.std.proofs.Common.{◌≡◌}
+use Rattle.bk_checker.proofs.Terms.{◌≡◌, program_in, Moves}
 use Rattle.bk_base.specs.Devices.{Begins}
-use Rattle.bk_check.specs.Views.{program_in}
-use Rattle.bk_checker.specs.Checks.{Moves}
 use Rattle.bk_checker.proofs.run.go.Given as goal
 
 abbrev pub invariant-loop-i : goal.invariant-loop-i

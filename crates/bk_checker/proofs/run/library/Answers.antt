@@ -1,10 +1,4 @@
-use Rattle.std.proofs.Common.{◌≡◌, refl, sym, ap, ◌∙◌}
-use Rattle.bk_meaning.specs.World.{World, remembering}
-use Rattle.bk_objects.specs.declared.library.Effect.{Effect}
-use Rattle.bk_objects.specs.Texts.{outcome_in}
-use Rattle.bk_check.specs.declared.frame.Next.TheVariants as n
-use Rattle.bk_check.specs.declared.frame.Thing.TheVariants as h
-use Rattle.bk_check.specs.Resume.{tag, a_value}
+use Rattle.bk_checker.proofs.Terms.{◌≡◌, refl, sym, ap, ◌∙◌, World, remembering, Effect, outcome_in, tag, a_value, Next as n, Thing as h}
 use Rattle.bk_checker.proofs.Running.{library_still, library_takes, library_writes, reaches_still, reaches_part, exchanged_none, exchanged_still, exchanged_took, if_err, of_err, of_ok}
 use Rattle.bk_checker.proofs.run.library.Goals as goal
 

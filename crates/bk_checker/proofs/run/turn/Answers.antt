@@ -1,6 +1,4 @@
-use Rattle.std.proofs.Common.{rules, refl}
-use Rattle.bk_base.specs.DeviceLaws.{Begins-refl}
-use Rattle.bk_check.specs.Views.{program_in}
+use Rattle.bk_checker.proofs.Terms.{rules, refl, Begins-refl, program_in}
 use Rattle.bk_checker.proofs.Running.{moves_still, reaches_still, exchanged_none, if_err, not_ok}
 use Rattle.bk_checker.proofs.run.turn.Goals as goal
 

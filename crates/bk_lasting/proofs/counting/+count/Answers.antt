@@ -1,7 +1,4 @@
-use Rattle.std.proofs.Common.{◌≡◌, rules, arith, map, ap, ◌∙◌}
-use Rattle.std.proofs.lemmas.Grind.{common_steps}
-use Rattle.bk_tree.specs.Tree.{expression, expressions_in, action, actions_in, declaration, declarations_in, items_in, definition, definitions_in, starts_in, mention, apply, assign, call, block, constants, definitions, variables}
-use Rattle.bk_tree.proofs.Lemmas.{Apply_is, Assign_is, Call_is, Block_is, Constants_is, Let_is, Variables_is}
+use Rattle.bk_lasting.proofs.Terms.{◌≡◌, rules, arith, map, ap, ◌∙◌, common_steps, expression, expressions_in, action, actions_in, declaration, declarations_in, items_in, definition, definitions_in, starts_in, mention, apply, assign, call, block, constants, definitions, variables, Apply_is, Assign_is, Call_is, Block_is, Constants_is, Let_is, Variables_is}
 use Rattle.bk_lasting.proofs.counting.+count.Goals as goal
 
 pub count-returns-in_ok-count_each-in-Apply : goal.count-returns-in_ok-count_each-in-Apply

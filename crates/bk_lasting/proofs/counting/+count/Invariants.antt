@@ -1,6 +1,4 @@
-use Rattle.std.proofs.Common.{◌≡◌, ◌+◌, drop}
-use Rattle.bk_tree.specs.Tree.{expressions_in, actions_in, declarations_in, definitions_in, starts_in}
-use Rattle.bk_meaning.specs.Environment.{objects_of_each, objects_of_actions, objects_of_declarations, objects_of_definitions, objects_of_starts}
+use Rattle.bk_lasting.proofs.Terms.{◌≡◌, ◌+◌, drop, expressions_in, actions_in, declarations_in, definitions_in, starts_in, objects_of_each, objects_of_actions, objects_of_declarations, objects_of_definitions, objects_of_starts}
 use Rattle.bk_lasting.proofs.counting.+count.Given as goal
 
 abbrev pub invariant-count_each-loop-expr : goal.invariant-count_each-loop-expr

@@ -1,6 +1,4 @@
-use Rattle.std.proofs.Common.{◌≡◌, ◌++◌, length, drop, map}
-use Rattle.bk_meaning.specs.Lasting.{objects_from, first_memory}
-use Rattle.bk_lasting.specs.Views.{lasting_in}
+use Rattle.bk_lasting.proofs.Terms.{◌≡◌, ◌++◌, length, drop, map, objects_from, first_memory, lasting_in}
 use Rattle.bk_lasting.proofs.memory.first_memory.Given as goal
 
 abbrev pub invariant-loop-lasting : goal.invariant-loop-lasting

@@ -1,8 +1,4 @@
-use Rattle.std.proofs.Common.{◌≡◌, ◌++◌, length, map, replicate, ap, ◌∙◌}
-use Rattle.bk_meaning.specs.Values.{holds, unset}
-use Rattle.bk_meaning.specs.Lasting.{library_cells, procedures_set}
-use Rattle.bk_objects.specs.Views.{cell_in}
-use Rattle.bk_lasting.specs.Views.{lasting_in}
+use Rattle.bk_lasting.proofs.Terms.{◌≡◌, ◌++◌, length, map, replicate, ap, ◌∙◌, holds, unset, library_cells, procedures_set, cell_in, lasting_in}
 use Rattle.bk_lasting.proofs.Begun.{globals_unset, written_whole}
 use Rattle.bk_lasting.proofs.memory.global_cells.Goals as goal
 

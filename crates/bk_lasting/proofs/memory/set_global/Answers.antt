@@ -1,6 +1,4 @@
-use Rattle.std.proofs.Common.{set, map, ap, ◌∙◌}
-use Rattle.std.proofs.lemmas.List.{map-set}
-use Rattle.bk_objects.specs.Views.{cell_in}
+use Rattle.bk_lasting.proofs.Terms.{set, map, ap, ◌∙◌, map-set, cell_in}
 use Rattle.bk_lasting.proofs.memory.set_global.Goals as goal
 
 pub returns-then-global-cells : goal.returns-then-global-cells

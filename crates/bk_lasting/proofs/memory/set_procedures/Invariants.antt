@@ -1,7 +1,4 @@
-use Rattle.std.proofs.Common.{◌≡◌, drop, map}
-use Rattle.bk_meaning.specs.Lasting.{procedures_set}
-use Rattle.bk_objects.specs.Views.{cell_in}
-use Rattle.bk_lasting.specs.Views.{lasting_in}
+use Rattle.bk_lasting.proofs.Terms.{◌≡◌, drop, map, procedures_set, cell_in, lasting_in}
 use Rattle.bk_lasting.proofs.memory.set_procedures.Given as goal
 
 abbrev pub invariant-loop-number : goal.invariant-loop-number

@@ -1,6 +1,4 @@
-use Rattle.std.proofs.Common.{◌≡◌, ◌++◌, drop, map}
-use Rattle.bk_meaning.specs.Values.{holds, number}
-use Rattle.bk_objects.specs.Views.{cell_in}
+use Rattle.bk_lasting.proofs.Terms.{◌≡◌, ◌++◌, drop, map, holds, number, cell_in}
 use Rattle.bk_lasting.proofs.memory.word_cells.Given as goal
 
 abbrev pub invariant-loop-word : goal.invariant-loop-word

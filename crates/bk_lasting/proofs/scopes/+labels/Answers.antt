@@ -1,9 +1,4 @@
-use Rattle.std.proofs.Common.{rules, arith, ◌≡◌, ◌<◌, [], ap, ◌∙◌}
-use Rattle.std.specs.Vec.{vec_len}
-use Rattle.std.proofs.lemmas.Grind.{common_steps}
-use Rattle.bk_tree.specs.Tree.{action, actions_in}
-use Rattle.bk_tree.proofs.Lemmas.{Block_is, is_zero, is_more}
-use Rattle.bk_scope.specs.Entering.{labels_of, labels_of_each}
+use Rattle.bk_lasting.proofs.Terms.{rules, arith, ◌≡◌, ◌<◌, [], ap, ◌∙◌, vec_len, common_steps, action, actions_in, Block_is, is_zero, is_more, labels_of, labels_of_each}
 use Rattle.bk_scope.proofs.Lemmas.{labels_of_bare, labels_of_own}
 use Rattle.bk_lasting.proofs.scopes.+labels.Goals as goal
 

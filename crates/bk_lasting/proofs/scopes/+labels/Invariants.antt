@@ -1,7 +1,4 @@
-use Rattle.std.proofs.Common.{◌≡◌, drop}
-use Rattle.bk_tree.specs.Tree.{actions_in}
-use Rattle.bk_meaning.specs.Environment.{labelled}
-use Rattle.bk_lasting.specs.Views.{env_in}
+use Rattle.bk_lasting.proofs.Terms.{◌≡◌, drop, actions_in, labelled, env_in}
 use Rattle.bk_lasting.proofs.scopes.+labels.Given as goal
 
 abbrev pub invariant-labelled-loop-command : goal.invariant-labelled-loop-command

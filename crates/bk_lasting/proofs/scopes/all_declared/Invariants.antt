@@ -1,7 +1,4 @@
-use Rattle.std.proofs.Common.{◌≡◌, drop}
-use Rattle.bk_tree.specs.Tree.{declarations_in}
-use Rattle.bk_meaning.specs.Lasting.{all_declared}
-use Rattle.bk_lasting.specs.Views.{env_in}
+use Rattle.bk_lasting.proofs.Terms.{◌≡◌, drop, declarations_in, all_declared, env_in}
 use Rattle.bk_lasting.proofs.scopes.all_declared.Given as goal
 
 abbrev pub invariant-loop-decl : goal.invariant-loop-decl

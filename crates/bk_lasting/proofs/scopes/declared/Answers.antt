@@ -1,7 +1,4 @@
-use Rattle.std.proofs.Common.{◌≡◌, rules, arith, ap, ◌∙◌}
-use Rattle.std.proofs.lemmas.Grind.{common_steps}
-use Rattle.bk_tree.specs.Tree.{declaration, items_in, definitions_in, constants, definitions}
-use Rattle.bk_tree.proofs.Lemmas.{Constants_is, Let_is}
+use Rattle.bk_lasting.proofs.Terms.{◌≡◌, rules, arith, ap, ◌∙◌, common_steps, declaration, items_in, definitions_in, constants, definitions, Constants_is, Let_is}
 use Rattle.bk_lasting.proofs.scopes.declared.Goals as goal
 
 pub returns-in-Constants : goal.returns-in-Constants

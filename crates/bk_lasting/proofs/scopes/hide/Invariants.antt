@@ -1,7 +1,4 @@
-use Rattle.std.proofs.Common.{◌≡◌, drop, map}
-use Rattle.bk_tree.specs.Tree.{mention}
-use Rattle.bk_meaning.specs.Environment.{foreign, bind_each, letters}
-use Rattle.bk_lasting.specs.Views.{env_in}
+use Rattle.bk_lasting.proofs.Terms.{◌≡◌, drop, map, mention, foreign, bind_each, letters, env_in}
 use Rattle.bk_lasting.proofs.scopes.hide.Given as goal
 
 abbrev pub invariant-loop-name : goal.invariant-loop-name

@@ -1,7 +1,4 @@
-use Rattle.std.proofs.Common.{◌≡◌, drop}
-use Rattle.bk_tree.specs.Tree.{definitions_in}
-use Rattle.bk_meaning.specs.Lasting.{variables_hidden}
-use Rattle.bk_lasting.specs.Views.{env_in}
+use Rattle.bk_lasting.proofs.Terms.{◌≡◌, drop, definitions_in, variables_hidden, env_in}
 use Rattle.bk_lasting.proofs.scopes.hide_all_variables.Given as goal
 
 abbrev pub invariant-loop-def : goal.invariant-loop-def

@@ -1,7 +1,4 @@
-use Rattle.std.proofs.Common.{◌≡◌, drop}
-use Rattle.bk_tree.specs.Tree.{items_in}
-use Rattle.bk_meaning.specs.Environment.{statics}
-use Rattle.bk_lasting.specs.Views.{env_in}
+use Rattle.bk_lasting.proofs.Terms.{◌≡◌, drop, items_in, statics, env_in}
 use Rattle.bk_lasting.proofs.scopes.statics.Given as goal
 
 abbrev pub invariant-loop-name : goal.invariant-loop-name

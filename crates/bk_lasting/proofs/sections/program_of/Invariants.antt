@@ -1,7 +1,4 @@
-use Rattle.std.proofs.Common.{◌≡◌, ◌++◌, drop, map}
-use Rattle.bk_tree.specs.Section.{declarations_of}
-use Rattle.bk_meaning.specs.Lasting.{of_sections, program_of}
-use Rattle.bk_lasting.specs.Views.{listed}
+use Rattle.bk_lasting.proofs.Terms.{◌≡◌, ◌++◌, drop, map, declarations_of, of_sections, program_of, listed}
 use Rattle.bk_lasting.proofs.sections.program_of.Given as goal
 
 abbrev pub invariant-loop-section : goal.invariant-loop-section

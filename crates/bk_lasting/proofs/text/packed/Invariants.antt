@@ -1,5 +1,4 @@
-use Rattle.std.proofs.Common.{◌≡◌, ◌*◌, ◌++◌, drop}
-use Rattle.bk_base.specs.Strings.{packed}
+use Rattle.bk_lasting.proofs.Terms.{◌≡◌, ◌*◌, ◌++◌, drop, packed}
 use Rattle.bk_lasting.proofs.text.packed.Given as goal
 
 abbrev pub invariant-loop-i : goal.invariant-loop-i

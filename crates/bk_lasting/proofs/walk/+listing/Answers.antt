@@ -1,11 +1,4 @@
-use Rattle.std.proofs.Common.{◌≡◌, ◌++◌, ◌<◌, rules, arith, map, ap, ◌∙◌}
-use Rattle.std.specs.Vec.{vec_len}
-use Rattle.std.proofs.lemmas.Grind.{common_steps}
-use Rattle.bk_tree.specs.Tree.{expression, expressions_in, action, actions_in, declaration, declarations_in, items_in, definition, definitions_in, starts_in, mention, apply, table, assign, call, constants, definitions, variables}
-use Rattle.bk_tree.proofs.Lemmas.{is_zero, is_more, Apply_is, Table_is, Assign_is, Call_is, Block_is, Constants_is, Let_is, Variables_is}
-use Rattle.bk_meaning.specs.Environment.{labelled}
-use Rattle.bk_meaning.specs.Lasting.{all_declared, of_action, of_actions, of_declarations}
-use Rattle.bk_lasting.specs.Views.{env_in}
+use Rattle.bk_lasting.proofs.Terms.{◌≡◌, ◌++◌, ◌<◌, rules, arith, map, ap, ◌∙◌, vec_len, common_steps, expression, expressions_in, action, actions_in, declaration, declarations_in, items_in, definition, definitions_in, starts_in, mention, apply, table, assign, call, constants, definitions, variables, is_zero, is_more, Apply_is, Table_is, Assign_is, Call_is, Block_is, Constants_is, Let_is, Variables_is, labelled, all_declared, of_action, of_actions, of_declarations, env_in}
 use Rattle.bk_lasting.proofs.Listed.{block_without_declarations, block_with_declarations}
 use Rattle.bk_lasting.proofs.walk.+listing.Goals as goal
 

@@ -1,7 +1,4 @@
-use Rattle.std.proofs.Common.{◌≡◌, ◌++◌, drop}
-use Rattle.bk_tree.specs.Tree.{expressions_in, actions_in, declarations_in, definitions_in, starts_in}
-use Rattle.bk_meaning.specs.Lasting.{of_each, of_actions, of_declarations, of_definitions, of_starts}
-use Rattle.bk_lasting.specs.Views.{env_in, listed}
+use Rattle.bk_lasting.proofs.Terms.{◌≡◌, ◌++◌, drop, expressions_in, actions_in, declarations_in, definitions_in, starts_in, of_each, of_actions, of_declarations, of_definitions, of_starts, env_in, listed}
 use Rattle.bk_lasting.proofs.walk.+listing.Given as goal
 
 abbrev pub invariant-list_each-loop-expr : goal.invariant-list_each-loop-expr

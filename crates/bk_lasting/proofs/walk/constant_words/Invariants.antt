@@ -1,7 +1,4 @@
-use Rattle.std.proofs.Common.{◌≡◌, ◌++◌, drop}
-use Rattle.bk_tree.specs.Tree.{expressions_in}
-use Rattle.bk_meaning.specs.Lasting.{constant_words}
-use Rattle.bk_lasting.specs.Views.{env_in}
+use Rattle.bk_lasting.proofs.Terms.{◌≡◌, ◌++◌, drop, expressions_in, constant_words, env_in}
 use Rattle.bk_lasting.proofs.walk.constant_words.Given as goal
 
 abbrev pub invariant-loop-expr : goal.invariant-loop-expr

@@ -1,7 +1,4 @@
-use Rattle.std.proofs.Common.{◌≡◌, ◌++◌, drop}
-use Rattle.bk_tree.specs.Tree.{items_in}
-use Rattle.bk_meaning.specs.Lasting.{static_words}
-use Rattle.bk_lasting.specs.Views.{env_in, listed}
+use Rattle.bk_lasting.proofs.Terms.{◌≡◌, ◌++◌, drop, items_in, static_words, env_in, listed}
 use Rattle.bk_lasting.proofs.walk.list_statics.Given as goal
 
 abbrev pub invariant-loop-expr : goal.invariant-loop-expr

@@ -1,5 +1,4 @@
-use Rattle.std.proofs.Common.{Some, ap, sym, refl, arith}
-use Rattle.bk_meaning.specs.Memory.{cells_of}
+use Rattle.bk_objects.proofs.Terms.{Some, ap, sym, refl, arith, cells_of}
 use Rattle.bk_objects.proofs.Memories.{found-none, found-place, cells_end}
 use Rattle.bk_objects.proofs.store.cells_of.Goals as goal
 

@@ -1,6 +1,4 @@
-use Rattle.std.proofs.Common.{◌≤◌, length}
-use Rattle.std.specs.List.{AllWithin}
-use Rattle.bk_objects.specs.declared.store.Life.{Life}
+use Rattle.bk_objects.proofs.Terms.{◌≤◌, length, AllWithin, Life}
 use Rattle.bk_objects.proofs.store.left.Given as goal
 
 abbrev pub invariant-loop-count : goal.invariant-loop-count

@@ -1,7 +1,4 @@
-use Rattle.std.proofs.Common.{◌≡◌, ◌+◌, ◌-◌, ◌++◌}
-use Rattle.std.specs.Option.{option_map}
-use Rattle.bk_meaning.specs.Library.{bytes_from}
-use Rattle.bk_objects.specs.Views.{value_in}
+use Rattle.bk_objects.proofs.Terms.{◌≡◌, ◌+◌, ◌-◌, ◌++◌, option_map, bytes_from, value_in}
 use Rattle.bk_objects.proofs.text.add_bytes.Given as goal
 
 abbrev pub invariant-loop-i : goal.invariant-loop-i

@@ -1,7 +1,4 @@
-use Rattle.std.proofs.Common.{◌≡◌, ◌∷◌, ◌++◌, ◌∙◌, map, ap, rules}
-use Rattle.std.specs.Option.{option_map}
-use Rattle.bk_meaning.specs.Library.{written}
-use Rattle.bk_objects.specs.Views.{value_in}
+use Rattle.bk_objects.proofs.Terms.{◌≡◌, ◌∷◌, ◌++◌, ◌∙◌, map, ap, rules, option_map, written, value_in}
 use Rattle.bk_objects.proofs.Texts.{parts_more}
 use Rattle.bk_objects.proofs.text.add_format.Goals as goal
 

@@ -1,8 +1,4 @@
-use Rattle.std.proofs.Common.{◌≡◌, ◌++◌, length, map}
-use Rattle.std.specs.Option.{option_map}
-use Rattle.bk_base.specs.Format.{parts}
-use Rattle.bk_meaning.specs.Library.{written}
-use Rattle.bk_objects.specs.Views.{value_in}
+use Rattle.bk_objects.proofs.Terms.{◌≡◌, ◌++◌, length, map, option_map, parts, written, value_in}
 use Rattle.bk_objects.proofs.text.add_format.Given as goal
 
 abbrev pub invariant-loop-byte : goal.invariant-loop-byte

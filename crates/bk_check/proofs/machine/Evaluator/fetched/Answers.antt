@@ -1,8 +1,4 @@
-use Rattle.std.proofs.Common.{refl, subst}
-use Rattle.bk_meaning.specs.Values.{Value}
-use Rattle.bk_meaning.specs.World.{Outcome}
-use Rattle.bk_check.specs.Worlds.{world}
-use Rattle.bk_check.specs.Resume.{tag, a_value, Comes, resumed}
+use Rattle.bk_check.proofs.Terms.{refl, subst, Value, Outcome, world, tag, a_value, Comes, resumed}
 use Rattle.bk_check.proofs.machine.Evaluator.fetched.Goals as goal
 
 pub returns : goal.returns

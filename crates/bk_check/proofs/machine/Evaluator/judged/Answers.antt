@@ -1,9 +1,4 @@
-use Rattle.bk_tree.specs.Tree.{expression}
-use Rattle.bk_meaning.specs.Expressions.{value_of}
-use Rattle.bk_check.specs.declared.frame.OnValue.TheVariants as v
-use Rattle.bk_meaning.specs.Full.{full}
-use Rattle.bk_lasting.specs.Views.{env_in}
-use Rattle.bk_check.specs.Worlds.{world}
+use Rattle.bk_check.proofs.Terms.{expression, value_of, full, env_in, world, OnValue as v}
 use Rattle.bk_check.proofs.Resuming.{meets, pushed_value}
 use Rattle.bk_check.proofs.machine.Evaluator.judged.Goals as goal
 

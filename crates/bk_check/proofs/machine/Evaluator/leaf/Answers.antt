@@ -1,11 +1,4 @@
-use Rattle.std.proofs.Common.{◌<◌, ◌-◌, refl, sym, ◌∙◌, arith}
-use Rattle.bk_tree.specs.Tree.{expression}
-use Rattle.bk_meaning.specs.World.{World}
-use Rattle.bk_meaning.specs.Expressions.{value_of}
-use Rattle.bk_meaning.specs.Full.{full}
-use Rattle.bk_lasting.specs.Views.{env_in}
-use Rattle.bk_check.specs.Worlds.{world}
-use Rattle.bk_meaning.proofs.Lemmas.{full_value, turn_left}
+use Rattle.bk_check.proofs.Terms.{◌<◌, ◌-◌, refl, sym, ◌∙◌, arith, expression, World, value_of, full, env_in, world, full_value, turn_left}
 use Rattle.bk_check.proofs.Resuming.{some_map}
 use Rattle.bk_check.proofs.machine.Evaluator.leaf.Goals as goal
 

@@ -1,14 +1,4 @@
-use Rattle.std.proofs.Common.{◌-◌, ap, sym, ◌∙◌}
-use Rattle.bk_tree.specs.Tree.{expression}
-use Rattle.bk_meaning.specs.Values.{Value}
-use Rattle.bk_meaning.specs.World.{World, Outcome, with}
-use Rattle.bk_meaning.specs.Environment.{Environment, past}
-use Rattle.bk_meaning.specs.Expressions.{combined}
-use Rattle.bk_meaning.specs.Full.{full}
-use Rattle.bk_objects.specs.Views.{value_in}
-use Rattle.bk_lasting.specs.Views.{env_in}
-use Rattle.bk_check.specs.Worlds.{world}
-use Rattle.bk_check.specs.Resume.{tag, a_value, resumed}
+use Rattle.bk_check.proofs.Terms.{◌-◌, ap, sym, ◌∙◌, expression, Value, World, Outcome, with, Environment, past, combined, full, value_in, env_in, world, tag, a_value, resumed}
 use Rattle.bk_check.proofs.Resuming.{meets, past_none}
 use Rattle.bk_check.proofs.machine.Evaluator.operands.Goals as goal
 

@@ -1,9 +1,4 @@
-use Rattle.std.proofs.Common.{ap, sym, ◌∙◌}
-use Rattle.bk_meaning.specs.Values.{Value}
-use Rattle.bk_meaning.specs.World.{Outcome, with}
-use Rattle.bk_meaning.specs.Expressions.{combined}
-use Rattle.bk_objects.specs.Views.{value_in}
-use Rattle.bk_check.specs.Resume.{tag, a_value, resumed}
+use Rattle.bk_check.proofs.Terms.{ap, sym, ◌∙◌, Value, Outcome, with, combined, value_in, tag, a_value, resumed}
 use Rattle.bk_check.proofs.machine.Evaluator.second.Goals as goal
 
 pub returns-in-Some : goal.returns-in-Some

@@ -1,14 +1,5 @@
-use Rattle.std.proofs.Common.{◌≡◌, ◌<◌, ap, sym, ◌∙◌, arith}
-use Rattle.bk_meaning.specs.Parts.{Target}
-use Rattle.bk_tree.specs.Tree.{expression}
-use Rattle.bk_meaning.specs.World.{World, Outcome}
-use Rattle.bk_meaning.specs.Expressions.{target_of}
-use Rattle.bk_meaning.specs.Full.{full}
-use Rattle.bk_lasting.specs.Views.{env_in}
-use Rattle.bk_check.specs.Worlds.{world}
-use Rattle.bk_check.specs.Resume.{tag, a_target, resumed}
+use Rattle.bk_check.proofs.Terms.{◌≡◌, ◌<◌, ap, sym, ◌∙◌, arith, Target, expression, World, Outcome, target_of, full, env_in, world, tag, a_target, resumed, full_target, turn_left, turn_none}
 use Rattle.bk_check.proofs.Resuming.{meets}
-use Rattle.bk_meaning.proofs.Lemmas.{full_target, turn_left, turn_none}
 use Rattle.bk_check.proofs.machine.Evaluator.target.Goals as goal
 
 pub returns : goal.returns

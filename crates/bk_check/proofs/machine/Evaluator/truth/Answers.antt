@@ -1,14 +1,5 @@
-use Rattle.std.proofs.Common.{◌≡◌, ◌<◌, ap, sym, ◌∙◌, arith}
-use Rattle.std.proofs.Common.{Bool}
-use Rattle.bk_tree.specs.Tree.{expression}
-use Rattle.bk_meaning.specs.World.{World, Outcome}
-use Rattle.bk_meaning.specs.Expressions.{truth_of}
-use Rattle.bk_meaning.specs.Full.{full}
-use Rattle.bk_lasting.specs.Views.{env_in}
-use Rattle.bk_check.specs.Worlds.{world}
-use Rattle.bk_check.specs.Resume.{tag, a_truth, resumed}
+use Rattle.bk_check.proofs.Terms.{◌≡◌, ◌<◌, ap, sym, ◌∙◌, arith, Bool, expression, World, Outcome, truth_of, full, env_in, world, tag, a_truth, resumed, full_truth, turn_left, turn_none}
 use Rattle.bk_check.proofs.Resuming.{meets}
-use Rattle.bk_meaning.proofs.Lemmas.{full_truth, turn_left, turn_none}
 use Rattle.bk_check.proofs.machine.Evaluator.truth.Goals as goal
 
 pub returns : goal.returns

@@ -1,10 +1,4 @@
-use Rattle.bk_tree.specs.Tree.{action}
-use Rattle.bk_meaning.specs.Seeking.{forwards}
-use Rattle.bk_meaning.specs.Scopes.{scope_of, alone}
-use Rattle.bk_check.specs.declared.frame.OnDone.TheVariants as d
-use Rattle.bk_meaning.specs.Full.{full}
-use Rattle.bk_lasting.specs.Views.{env_in}
-use Rattle.bk_check.specs.Worlds.{world}
+use Rattle.bk_check.proofs.Terms.{action, forwards, scope_of, alone, full, env_in, world, OnDone as d}
 use Rattle.bk_check.proofs.Resuming.{meets, pushed_done}
 use Rattle.bk_check.proofs.machine.Evaluator.valof.Goals as goal
 

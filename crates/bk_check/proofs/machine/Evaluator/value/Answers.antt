@@ -1,14 +1,5 @@
-use Rattle.std.proofs.Common.{◌≡◌, ◌<◌, ap, sym, ◌∙◌, arith}
-use Rattle.bk_meaning.specs.Values.{Value}
-use Rattle.bk_tree.specs.Tree.{expression}
-use Rattle.bk_meaning.specs.World.{World, Outcome}
-use Rattle.bk_meaning.specs.Expressions.{value_of}
-use Rattle.bk_meaning.specs.Full.{full}
-use Rattle.bk_lasting.specs.Views.{env_in}
-use Rattle.bk_check.specs.Worlds.{world}
-use Rattle.bk_check.specs.Resume.{tag, a_value, resumed}
+use Rattle.bk_check.proofs.Terms.{◌≡◌, ◌<◌, ap, sym, ◌∙◌, arith, Value, expression, World, Outcome, value_of, full, env_in, world, tag, a_value, resumed, full_value, turn_left, turn_none}
 use Rattle.bk_check.proofs.Resuming.{meets}
-use Rattle.bk_meaning.proofs.Lemmas.{full_value, turn_left, turn_none}
 use Rattle.bk_check.proofs.machine.Evaluator.value.Goals as goal
 
 pub returns : goal.returns

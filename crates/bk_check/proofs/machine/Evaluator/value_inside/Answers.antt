@@ -1,6 +1,4 @@
-use Rattle.std.proofs.Common.{◌≡◌, ap, ◌∙◌}
-use Rattle.bk_tree.specs.Tree.{expression, expressions_in, apply}
-use Rattle.bk_tree.proofs.Lemmas.{Apply_is}
+use Rattle.bk_check.proofs.Terms.{◌≡◌, ap, ◌∙◌, expression, expressions_in, apply, Apply_is}
 use Rattle.bk_check.proofs.machine.Evaluator.value_inside.Goals as goal
 
 pub returns-in-Apply : goal.returns-in-Apply

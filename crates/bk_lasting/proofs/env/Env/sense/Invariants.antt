@@ -1,6 +1,4 @@
-use Rattle.std.proofs.Common.{◌≡◌}
-use Rattle.bk_meaning.specs.Environment.{sense_of, sense_in}
-use Rattle.bk_lasting.specs.Views.{names_in, env_in}
+use Rattle.bk_lasting.proofs.Terms.{◌≡◌, sense_of, sense_in, names_in, env_in}
 use Rattle.bk_lasting.proofs.env.Env.sense.Given as goal
 
 abbrev pub invariant-loop-names : goal.invariant-loop-names

@@ -1,6 +1,5 @@
-use Rattle.std.proofs.Common.{◌<◌, length, arith}
+use Rattle.bk_lasting.proofs.Terms.{◌<◌, length, arith, names_of}
 use Rattle.bk_lasting.specs.declared.env.Node.{Node, Node'}
-use Rattle.bk_lasting.specs.Views.{names_of}
 use Rattle.bk_lasting.proofs.env.Node.drop.Goals as goal
 
 some_name : (n : Node) → 0 < length (names_of n)

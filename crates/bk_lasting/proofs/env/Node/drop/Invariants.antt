@@ -1,5 +1,4 @@
-use Rattle.std.proofs.Common.{length}
-use Rattle.bk_lasting.specs.Views.{names_in}
+use Rattle.bk_lasting.proofs.Terms.{length, names_in}
 use Rattle.bk_lasting.proofs.env.Node.drop.Given as goal
 
 abbrev pub decreases-loop-rest : goal.decreases-loop-rest

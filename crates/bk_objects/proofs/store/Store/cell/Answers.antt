@@ -1,8 +1,4 @@
-use Rattle.std.proofs.Common.{◌≡◌, slice_get, ap, arith}
-use Rattle.std.proofs.lemmas.Grind.{common_steps}
-use Rattle.std.specs.Option.{option_map}
-use Rattle.std.proofs.lemmas.Option.{slice_get-map, gets}
-use Rattle.bk_objects.specs.Views.{cell_in}
+use Rattle.bk_objects.proofs.Terms.{◌≡◌, slice_get, ap, arith, common_steps, option_map, slice_get-map, gets, cell_in}
 use Rattle.bk_objects.proofs.Memories.{cells_at-view}
 use Rattle.bk_objects.proofs.store.Store.cell.Goals as goal
 

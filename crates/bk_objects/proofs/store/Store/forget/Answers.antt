@@ -1,7 +1,5 @@
-use Rattle.std.proofs.Common.{◌≡◌, ◌<◌, length, refl, arith}
-use Rattle.std.specs.List.{HoldsAt}
+use Rattle.bk_objects.proofs.Terms.{◌≡◌, ◌<◌, length, refl, arith, HoldsAt, Life}
 use Rattle.std.proofs.lemmas.List.Elements.{at_read}
-use Rattle.bk_objects.specs.declared.store.Life.{Life}
 use Rattle.bk_objects.proofs.Memories.{Laid-left, memory_of-left, memory_of-kept}
 use Rattle.bk_objects.proofs.store.Store.forget.Goals as goal
 

@@ -1,6 +1,4 @@
-use Rattle.std.proofs.Common.{◌≡◌, ◌+◌, ◌∙◌, length, length-append, refl, arith}
-use Rattle.std.proofs.lemmas.Grind.{common_steps}
-use Rattle.bk_objects.specs.Memories.{memory_of}
+use Rattle.bk_objects.proofs.Terms.{◌≡◌, ◌+◌, ◌∙◌, length, length-append, refl, arith, common_steps, memory_of}
 use Rattle.bk_objects.proofs.Memories.{Laid-wider, Laid-push, memory_of-more, memory_of-made, on_err}
 use Rattle.bk_objects.proofs.store.Store.make.Goals as goal
 

@@ -1,9 +1,6 @@
-use Rattle.std.proofs.Common.{◌≡◌, ◌+◌, ◌∙◌, length, length-append, refl, ap, arith}
-use Rattle.std.proofs.lemmas.Grind.{common_steps}
-use Rattle.std.proofs.lemmas.List.{length-replicate}
+use Rattle.bk_objects.proofs.Terms.{◌≡◌, ◌+◌, ◌∙◌, length, length-append, refl, ap, arith, common_steps, length-replicate, memory_of}
 use Rattle.bk_objects.specs.declared.worth.Cell.TheVariants.{Holds}
 use Rattle.bk_objects.specs.declared.worth.Worth.TheVariants.{Unset}
-use Rattle.bk_objects.specs.Memories.{memory_of}
 use Rattle.bk_objects.proofs.Memories.{Laid-wider, Laid-push, memory_of-more, memory_of-made, on_err, cells-resized, map-replicate}
 use Rattle.bk_objects.proofs.store.Store.make_unset.Goals as goal
 
