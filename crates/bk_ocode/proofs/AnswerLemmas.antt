@@ -1,21 +1,6 @@
 -- What the words of a whole text say, from what was taken of it.
-use Rattle.std.proofs.Common.{◌≡◌, inl, inr, ℕ, ◌<◌, ◌++◌, Bool, IsTrue, List, [], Option, Some, None, Result, Ok, Err, length, refl, sym, ◌∙◌, subst, append_assoc}
-use Rattle.std.specs.Io.KnownBytes.{Consumes}
-use Rattle.bk_base.specs.Devices.{NothingLeft}
-use Rattle.bk_base.specs.declared.limit.TheConstants.{INPUT_BYTES}
-use Rattle.bk_base.specs.declared.ocode_fault.OcodeFault.{OcodeFault}
-use Rattle.bk_base.specs.declared.ocode_fault.OcodeKind.{OcodeKind}
-use Rattle.bk_base.specs.declared.refused.Refused.{Refused}
-use Rattle.bk_base.specs.declared.refused.Refused.TheVariants.{Fault, Memory, Device}
-use Rattle.bk_words.specs.TextEnd.{AtEnd}
-use Rattle.bk_words.specs.Words.{words_of}
-use Rattle.bk_words.specs.WordLaws.{words_of-all, words_of-ended, known, nothing_left_at}
-use Rattle.bk_ocode.specs.SectionText.{section_words}
-use Rattle.bk_ocode.specs.SectionStmts.{stmts_of}
-use Rattle.bk_ocode.specs.FirstFault.{CutAt, Saying, section, nothing, fault, Says}
+use Rattle.bk_ocode.proofs.Terms.{◌≡◌, inl, inr, ℕ, ◌<◌, ◌++◌, Bool, IsTrue, List, [], Option, Some, None, Result, Ok, Err, length, refl, sym, ◌∙◌, subst, append_assoc, Consumes, NothingLeft, INPUT_BYTES, OcodeFault, OcodeKind, Refused, Fault, Memory, Device, AtEnd, words_of, words_of-all, words_of-ended, known, nothing_left_at, section_words, stmts_of, CutAt, Saying, section, nothing, fault, Says, Ocode, Stmt}
 use Rattle.bk_ocode.specs.SectionAnswer.{Takes, GivesSection, GivesNothing, GivesFault, Answers, AnswersWords, Stands, StandsWhateverFollows}
-use Rattle.bk_ocode.specs.declared.section.Ocode.{Ocode}
-use Rattle.bk_ocode.specs.declared.stmt.Stmt.{Stmt}
 
 section_says : (all taken left : List ℕ) (end : Type 0) (stmts : List Stmt) → all ≡ taken ++ left → GivesSection taken end stmts → (end → left ≡ []) → Says (section stmts) (words_of all)
 section_says all taken left end stmts is s over = (words_of left, s.0, s.1, words_of-all all taken left end (section_words stmts) is s.2 over)

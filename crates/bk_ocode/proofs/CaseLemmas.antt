@@ -1,12 +1,6 @@
 -- Cases of a switch, one case more.
-use Rattle.std.proofs.Common.{◌≡◌, ◌⊎◌, inl, inr, ℕ, zero, suc, ℤ, FitsSigned, w32, ◌<◌, ◌^◌, ◌++◌, ◌||◌, Bool, true, false, if◌then◌else◌, List, [], ◌∷◌, Some, None, length, slice_get, arith, refl, sym, ap, ◌∙◌, subst, append_assoc}
-use Rattle.std.specs.Ordering.{int_eq}
+use Rattle.bk_ocode.proofs.Terms.{◌≡◌, ◌⊎◌, inl, inr, ℕ, zero, suc, ℤ, FitsSigned, w32, ◌<◌, ◌^◌, ◌++◌, ◌||◌, Bool, true, false, if◌then◌else◌, List, [], ◌∷◌, Some, None, length, slice_get, arith, refl, sym, ap, ◌∙◌, subst, append_assoc, int_eq, spelling, label_word, case_words, IsLabel, AreCases, has_value, Case}
 use Rattle.std.proofs.lemmas.Cmp.{int_eq_equiv}
-use Rattle.bk_base.specs.Decimal.{spelling}
-use Rattle.bk_ocode.specs.StmtText.{label_word, case_words}
-use Rattle.bk_ocode.specs.StmtRange.{IsLabel, AreCases}
-use Rattle.bk_ocode.specs.PartialStmts.{has_value}
-use Rattle.bk_ocode.specs.declared.stmt.Case.{Case}
 use Rattle.bk_ocode.proofs.Rows.{joined-append}
 
 pub at_push : {X : Type 0} (xs : List X) (y : X) (k : ℕ) (x : X) → slice_get (xs ++ y ∷ []) k ≡ Some x → ((k < length xs) × (slice_get xs k ≡ Some x)) ⊎ ((k ≡ length xs) × (y ≡ x))

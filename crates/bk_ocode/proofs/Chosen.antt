@@ -1,9 +1,5 @@
 -- Chosen values, single words of stores, and what holds of each branch of a step.
-use Rattle.std.proofs.Common.{◌≡◌, ℕ, ◌<◌, ◌==◌, nat_lt, Bool, true, false, Option, Some, None, refl, lt-ltb, ne_eqb, eq-eqb, if◌then◌else◌}
-use Rattle.bk_ocode.specs.Cells.{Content, Unset, Partly, Word, Cell, Free, write, below, settle}
-use Rattle.bk_ocode.specs.Access.{number_in}
-use Rattle.bk_ocode.specs.OcodeState.{Next, Wild}
-use Rattle.bk_ocode.specs.OcodeStep.{on_number, on_some}
+use Rattle.bk_ocode.proofs.Terms.{◌≡◌, ℕ, ◌<◌, ◌==◌, nat_lt, Bool, true, false, Option, Some, None, refl, lt-ltb, ne_eqb, eq-eqb, if◌then◌else◌, Content, Unset, Partly, Word, Cell, Free, write, below, settle, number_in, Next, Wild, on_number, on_some}
 
 pub chosen-true : {A : Type 0} → (b : Bool) (x y : A) → b ≡ true → (if b then x else y) ≡ x
 chosen-true true x y is = refl

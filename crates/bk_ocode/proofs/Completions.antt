@@ -1,32 +1,8 @@
 -- Each beginning of a statement goes on to a whole one.
-use Rattle.std.proofs.Common.{◌≡◌, ◌⊎◌, inl, inr, ℕ, zero, suc, ℤ, pos, FitsSigned, w32, ◌+◌, ◌-◌, ◌<◌, ◌≤◌, ◌^◌, ◌++◌, ◌||◌, Bool, true, false, if◌then◌else◌, List, [], ◌∷◌, Option, Some, None, length, slice_get, codes, arith, refl, sym, ap, ◌∙◌, subst, length-append, append_assoc, append-nil}
-use Rattle.std.proofs.lemmas.Bool.{cases_lt}
-use Rattle.std.proofs.lemmas.Bool.Decides.{Decides-int_eq}
-use Rattle.std.specs.Ordering.{int_eq}
-use Rattle.bk_base.specs.Decimal.{spelling}
-use Rattle.bk_base.specs.declared.limit.TheConstants.{NAME_BYTES}
-use Rattle.bk_words.specs.Numerals.{fits-pos}
-use Rattle.bk_ocode.specs.StmtText.{label_word, natural_word, byte_words, case_words, global_words, stmt_words}
-use Rattle.bk_ocode.specs.StmtRange.{IsLabel, IsGlobal, AreBytes, AreCases}
-use Rattle.bk_ocode.specs.FirstFault.{IsStmt, BeginsStmt}
-use Rattle.bk_ocode.specs.PartialStmts.{has_value, owner_words, IsOwner, switch_words, entries_words, partial_words, is_short, IsPartialStmt, ArePartialCases, ArePartialEntries, part_words, IsPartialPart}
-use Rattle.bk_ocode.specs.declared.stmt.Case.{Case}
-use Rattle.bk_ocode.specs.declared.stmt.GlobalEntry.{GlobalEntry}
-use Rattle.bk_ocode.specs.declared.stmt.Stmt.{Stmt}
-use Rattle.bk_ocode.specs.declared.stmt.Stmt.TheVariants as stmt
-use Rattle.bk_ocode.specs.Keywords.{keyword_text}
-use Rattle.bk_ocode.specs.Context.{context_of}
-use Rattle.bk_ocode.specs.Faults.{misplaced}
+use Rattle.bk_ocode.proofs.Terms.{◌≡◌, ◌⊎◌, inl, inr, ℕ, zero, suc, ℤ, pos, FitsSigned, w32, ◌+◌, ◌-◌, ◌<◌, ◌≤◌, ◌^◌, ◌++◌, ◌||◌, Bool, true, false, if◌then◌else◌, List, [], ◌∷◌, Option, Some, None, length, slice_get, codes, arith, refl, sym, ap, ◌∙◌, subst, length-append, append_assoc, append-nil, cases_lt, Decides-int_eq, int_eq, spelling, NAME_BYTES, fits-pos, label_word, natural_word, byte_words, case_words, global_words, stmt_words, IsLabel, IsGlobal, AreBytes, AreCases, IsStmt, BeginsStmt, has_value, owner_words, IsOwner, switch_words, entries_words, partial_words, is_short, IsPartialStmt, ArePartialCases, ArePartialEntries, part_words, IsPartialPart, Case, GlobalEntry, Stmt, keyword_text, context_of, misplaced, Keyword, Partial, Owner, Stmt as stmt, VariableKind as kinds, Keyword as keywords, Partial as begun, Owner as owners, cases_Bool}
 use Rattle.bk_ocode.specs.declared.stmt.Variable.TheVariants as variable
 use Rattle.bk_ocode.specs.declared.stmt.Monadic.TheVariants as monadic
 use Rattle.bk_ocode.specs.declared.stmt.Dyadic.TheVariants as dyadic
-use Rattle.bk_ocode.specs.declared.keyword.VariableKind.TheVariants as kinds
-use Rattle.bk_ocode.specs.declared.keyword.Keyword.{Keyword}
-use Rattle.bk_ocode.specs.declared.keyword.Keyword.TheVariants as keywords
-use Rattle.bk_ocode.specs.declared.partial.Partial.{Partial}
-use Rattle.bk_ocode.specs.declared.partial.Partial.TheVariants as begun
-use Rattle.bk_ocode.specs.declared.partial.Owner.{Owner}
-use Rattle.bk_ocode.specs.declared.partial.Owner.TheVariants as owners
 use Rattle.bk_ocode.specs.declared.partial.CaseDraft.{CaseDraft}
 use Rattle.bk_ocode.specs.declared.partial.EntryDraft.{EntryDraft}
 use Rattle.bk_ocode.proofs.Rows.{joined-append}
@@ -168,10 +144,6 @@ abbrev without : ℤ → List Case → List Case
 without z [] = []
 without z (c ∷ rest) = if int_eq c.value z then rest else c ∷ without z rest
 
-pub bool_cases : (b : Bool) → (b ≡ true) ⊎ (b ≡ false)
-bool_cases true = inl refl
-bool_cases false = inr refl
-
 if-true : {X : Type 0} (b : Bool) (x y : X) → b ≡ true → (if b then x else y) ≡ x
 if-true true x y e = refl
 if-true false x y e = absurd (let h : false ≡ true = e in cc)
@@ -186,22 +158,22 @@ or-second false b e = refl
 
 length-without : (z : ℤ) (cases : List Case) → has_value z cases ≡ true → length cases ≡ length (without z cases) + 1
 length-without z [] has = absurd (let h : false ≡ true = has in cc)
-length-without z (c ∷ rest) has = elim (bool_cases (int_eq c.value z)) [
+length-without z (c ∷ rest) has = elim (cases_Bool (int_eq c.value z)) [
   | inl same ↦ omega (arith, ap (λ (l : List Case). length l) (if-true (int_eq c.value z) rest (c ∷ without z rest) same))
   | inr other ↦ omega (arith, ap (λ (l : List Case). length l) (if-false (int_eq c.value z) rest (c ∷ without z rest) other), length-without z rest (sym (or-second (int_eq c.value z) (has_value z rest) other) ∙ has))
 ]
 
 apart : (x y z : ℤ) → int_eq x z ≡ true → (z ≡ y → ⊥) → int_eq x y ≡ false
-apart x y z same other = elim (bool_cases (int_eq x y)) [
+apart x y z same other = elim (cases_Bool (int_eq x y)) [
   | inl e ↦ absurd (other (sym ((Decides-int_eq x z).0 same) ∙ (Decides-int_eq x y).0 e))
   | inr e ↦ e
 ]
 
 has-without : (y z : ℤ) (cases : List Case) → (z ≡ y → ⊥) → has_value y cases ≡ true → has_value y (without z cases) ≡ true
 has-without y z [] other has = has
-has-without y z (c ∷ rest) other has = elim (bool_cases (int_eq c.value z)) [
+has-without y z (c ∷ rest) other has = elim (cases_Bool (int_eq c.value z)) [
   | inl same ↦ ap (has_value y) (if-true (int_eq c.value z) rest (c ∷ without z rest) same) ∙ sym (or-second (int_eq c.value y) (has_value y rest) (apart c.value y z same other)) ∙ has
-  | inr no_z ↦ ap (has_value y) (if-false (int_eq c.value z) rest (c ∷ without z rest) no_z) ∙ elim (bool_cases (int_eq c.value y)) [
+  | inr no_z ↦ ap (has_value y) (if-false (int_eq c.value z) rest (c ∷ without z rest) no_z) ∙ elim (cases_Bool (int_eq c.value y)) [
     | inl is ↦ ap (λ b. b || has_value y (without z rest)) is
     | inr no_y ↦ or-second (int_eq c.value y) (has_value y (without z rest)) no_y ∙ has-without y z rest other (sym (or-second (int_eq c.value y) (has_value y rest) no_y) ∙ has)
   ]
@@ -221,7 +193,7 @@ first_free : (k : ℕ) (cases : List Case) → ((v : ℕ) × (v < k) × (has_val
 first_free zero cases = inr (λ v low. absurd (omega (arith, low)))
 first_free (suc k) cases = elim (first_free k cases) [
   | inl p ↦ inl (p.0, omega (arith, p.1), p.2)
-  | inr all ↦ elim (bool_cases (has_value (pos k) cases)) [
+  | inr all ↦ elim (cases_Bool (has_value (pos k) cases)) [
     | inr free ↦ inl (k, omega arith, free)
     | inl has ↦ inr (λ v low. elim (cases_lt v k) [
       | inl lower ↦ all v lower
@@ -307,32 +279,17 @@ no_values k c at = absurd (let h : None ≡ Some c = at in cc)
 
 goes_on-short : (k : Keyword) → is_short k ≡ true → GoesOn (keyword_text k ∷ [])
 goes_on-short keywords.Number e = record { stmt = stmt.Number (pos 0); is_stmt = (tt, fits-pos 0 (omega arith)); word = spelling (pos 0); rest = []; begins = refl }
-goes_on-short keywords.True e = absurd (let h : false ≡ true = e in cc)
-goes_on-short keywords.False e = absurd (let h : false ≡ true = e in cc)
-goes_on-short keywords.Query e = absurd (let h : false ≡ true = e in cc)
-goes_on-short keywords.Text e = absurd (let h : false ≡ true = e in cc)
-goes_on-short keywords.LoadByte e = absurd (let h : false ≡ true = e in cc)
-goes_on-short keywords.AssignAt e = absurd (let h : false ≡ true = e in cc)
-goes_on-short keywords.AssignByte e = absurd (let h : false ≡ true = e in cc)
 goes_on-short keywords.Jump e = record { stmt = stmt.Jump 1; is_stmt = ((omega arith, omega arith), tt); word = label_word 1; rest = []; begins = refl }
 goes_on-short keywords.Label e = record { stmt = stmt.Label 1; is_stmt = ((omega arith, omega arith), tt); word = label_word 1; rest = []; begins = refl }
 goes_on-short keywords.GiveResult e = record { stmt = stmt.GiveResult 1; is_stmt = ((omega arith, omega arith), tt); word = label_word 1; rest = []; begins = refl }
 goes_on-short keywords.TakeResult e = record { stmt = stmt.TakeResult 2; is_stmt = ((omega arith, omega arith), tt); word = natural_word 2; rest = []; begins = refl }
 goes_on-short keywords.Stack e = record { stmt = stmt.Stack 2; is_stmt = ((omega arith, omega arith), tt); word = natural_word 2; rest = []; begins = refl }
-goes_on-short keywords.Store e = absurd (let h : false ≡ true = e in cc)
-goes_on-short keywords.Entry e = absurd (let h : false ≡ true = e in cc)
 goes_on-short keywords.Save e = record { stmt = stmt.Save 2; is_stmt = ((omega arith, omega arith), tt); word = natural_word 2; rest = []; begins = refl }
 goes_on-short keywords.CallFunction e = record { stmt = stmt.CallFunction 2; is_stmt = ((omega arith, omega arith), tt); word = natural_word 2; rest = []; begins = refl }
 goes_on-short keywords.CallRoutine e = record { stmt = stmt.CallRoutine 2; is_stmt = ((omega arith, omega arith), tt); word = natural_word 2; rest = []; begins = refl }
-goes_on-short keywords.ReturnItem e = absurd (let h : false ≡ true = e in cc)
-goes_on-short keywords.Return e = absurd (let h : false ≡ true = e in cc)
-goes_on-short keywords.EndProcedure e = absurd (let h : false ≡ true = e in cc)
-goes_on-short keywords.Switch e = absurd (let h : false ≡ true = e in cc)
-goes_on-short keywords.Finish e = absurd (let h : false ≡ true = e in cc)
 goes_on-short keywords.DataLabel e = record { stmt = stmt.DataLabel 1; is_stmt = ((omega arith, omega arith), tt); word = label_word 1; rest = []; begins = refl }
 goes_on-short keywords.DataNumber e = record { stmt = stmt.DataNumber (pos 0); is_stmt = (tt, fits-pos 0 (omega arith)); word = spelling (pos 0); rest = []; begins = refl }
 goes_on-short keywords.DataAddress e = record { stmt = stmt.DataAddress 1; is_stmt = ((omega arith, omega arith), tt); word = label_word 1; rest = []; begins = refl }
-goes_on-short keywords.Globals e = absurd (let h : false ≡ true = e in cc)
 goes_on-short (keywords.Load kinds.Local) e = record { stmt = stmt.Load (variable.Local 2); is_stmt = ((omega arith, omega arith), tt); word = natural_word 2; rest = []; begins = refl }
 goes_on-short (keywords.Load kinds.Global) e = record { stmt = stmt.Load (variable.Global 0); is_stmt = (omega arith, tt); word = natural_word 0; rest = []; begins = refl }
 goes_on-short (keywords.Load kinds.Static) e = record { stmt = stmt.Load (variable.Static 1); is_stmt = ((omega arith, omega arith), tt); word = label_word 1; rest = []; begins = refl }
@@ -343,27 +300,10 @@ goes_on-short (keywords.Assign kinds.Local) e = record { stmt = stmt.Assign (var
 goes_on-short (keywords.Assign kinds.Global) e = record { stmt = stmt.Assign (variable.Global 0); is_stmt = (omega arith, tt); word = natural_word 0; rest = []; begins = refl }
 goes_on-short (keywords.Assign kinds.Static) e = record { stmt = stmt.Assign (variable.Static 1); is_stmt = ((omega arith, omega arith), tt); word = label_word 1; rest = []; begins = refl }
 goes_on-short (keywords.Monadic monadic.Contents) e = absurd (let h : false ≡ true = e in cc)
-goes_on-short (keywords.Monadic monadic.Negate) e = absurd (let h : false ≡ true = e in cc)
-goes_on-short (keywords.Monadic monadic.Not) e = absurd (let h : false ≡ true = e in cc)
 goes_on-short (keywords.Dyadic dyadic.Multiply) e = absurd (let h : false ≡ true = e in cc)
-goes_on-short (keywords.Dyadic dyadic.Divide) e = absurd (let h : false ≡ true = e in cc)
-goes_on-short (keywords.Dyadic dyadic.Remainder) e = absurd (let h : false ≡ true = e in cc)
-goes_on-short (keywords.Dyadic dyadic.Add) e = absurd (let h : false ≡ true = e in cc)
-goes_on-short (keywords.Dyadic dyadic.Subtract) e = absurd (let h : false ≡ true = e in cc)
-goes_on-short (keywords.Dyadic dyadic.Equal) e = absurd (let h : false ≡ true = e in cc)
-goes_on-short (keywords.Dyadic dyadic.Unequal) e = absurd (let h : false ≡ true = e in cc)
-goes_on-short (keywords.Dyadic dyadic.Less) e = absurd (let h : false ≡ true = e in cc)
-goes_on-short (keywords.Dyadic dyadic.Greater) e = absurd (let h : false ≡ true = e in cc)
-goes_on-short (keywords.Dyadic dyadic.AtMost) e = absurd (let h : false ≡ true = e in cc)
-goes_on-short (keywords.Dyadic dyadic.AtLeast) e = absurd (let h : false ≡ true = e in cc)
-goes_on-short (keywords.Dyadic dyadic.ShiftLeft) e = absurd (let h : false ≡ true = e in cc)
-goes_on-short (keywords.Dyadic dyadic.ShiftRight) e = absurd (let h : false ≡ true = e in cc)
-goes_on-short (keywords.Dyadic dyadic.And) e = absurd (let h : false ≡ true = e in cc)
-goes_on-short (keywords.Dyadic dyadic.Or) e = absurd (let h : false ≡ true = e in cc)
-goes_on-short (keywords.Dyadic dyadic.Eqv) e = absurd (let h : false ≡ true = e in cc)
-goes_on-short (keywords.Dyadic dyadic.Neqv) e = absurd (let h : false ≡ true = e in cc)
 goes_on-short (keywords.JumpIf true) e = record { stmt = stmt.JumpIf true 1; is_stmt = ((omega arith, omega arith), tt); word = label_word 1; rest = []; begins = refl }
 goes_on-short (keywords.JumpIf false) e = record { stmt = stmt.JumpIf false 1; is_stmt = ((omega arith, omega arith), tt); word = label_word 1; rest = []; begins = refl }
+goes_on-short x e = absurd (let h : false ≡ true = e in cc)
 
 -- each beginning goes on
 pub goes_on : (b : Partial) → IsPartialStmt b → GoesOn (partial_words b)

@@ -1,18 +1,5 @@
 -- Words of a section that did not end before the device failed.
-use Rattle.std.proofs.Common.{◌≡◌, ◌⊎◌, inl, inr, ℕ, ◌+◌, ◌≤◌, ◌++◌, Bool, List, [], ◌∷◌, Option, length, arith, refl, ap, length-append}
-use Rattle.std.proofs.lemmas.Bool.{cases_lt}
-use Rattle.std.specs.Io.KnownBytes.{Consumes}
-use Rattle.bk_base.specs.declared.limit.TheConstants.{OCODE_WORDS}
-use Rattle.bk_base.specs.declared.ocode_fault.OcodeKind.TheVariants.{Truncated}
-use Rattle.bk_words.specs.TextEnd.{AtEnd}
-use Rattle.bk_words.specs.Words.{words_of}
-use Rattle.bk_words.specs.Gathering.{BeginsWord}
-use Rattle.bk_words.specs.Taking.{Reads}
-use Rattle.bk_words.specs.WordLaws.{Reads-stops}
-use Rattle.bk_ocode.specs.SectionText.{section_words}
-use Rattle.bk_ocode.specs.FirstFault.{IsPartial, BeginsStmt, section, nothing, fault}
-use Rattle.bk_ocode.specs.SectionAnswer.{Takes, StopsAtDevice, NoSectionPassed}
-use Rattle.bk_ocode.specs.declared.stmt.Stmt.{Stmt}
+use Rattle.bk_ocode.proofs.Terms.{◌≡◌, ◌⊎◌, inl, inr, ℕ, ◌+◌, ◌≤◌, ◌++◌, Bool, List, [], ◌∷◌, Option, length, arith, refl, ap, length-append, cases_lt, Consumes, OCODE_WORDS, Truncated, AtEnd, words_of, BeginsWord, Reads, Reads-stops, section_words, IsPartial, BeginsStmt, section, nothing, fault, Takes, StopsAtDevice, NoSectionPassed, Stmt}
 use Rattle.bk_ocode.proofs.OneSaying.{one_saying}
 
 -- the device failed at a word

@@ -1,17 +1,5 @@
 -- Depths on the way through a section.
-use Rattle.std.proofs.Common.{◌≡◌, ℕ, ◌+◌, ◌<◌, ◌≤◌, max, Bool, true, false, ◌||◌, nat_lt, nat_le, List, [], ◌∷◌, ◌++◌, Option, Some, None, length, take, slice_get, get_or, refl, ◌∙◌, ap, subst, arith, ltb-false, leb-false, zero, suc, if◌then◌else◌}
-use Rattle.std.proofs.lemmas.List.{take_more}
-use Rattle.std.proofs.lemmas.Option.{slice_get-get_or}
-use Rattle.bk_base.specs.declared.limit.TheConstants.{FRAME_WORDS, OCODE_STATEMENTS, OCODE_WORDS}
-use Rattle.bk_base.specs.declared.ocode_fault.OcodeKind.{OcodeKind}
-use Rattle.bk_base.specs.declared.ocode_fault.OcodeKind.TheVariants.{BadWord, LabelNotSet, LabelSetTwice, DepthsDisagree, SlotAboveDepth, TooLong}
-use Rattle.bk_ocode.specs.StmtText.{stmt_words}
-use Rattle.bk_ocode.specs.Depth.{next_depth, depth_behind, largest_behind, least_depth}
-use Rattle.bk_ocode.specs.Context.{Context, at_start, after, after_all, context_of}
-use Rattle.bk_ocode.specs.Faults.{misplaced, label_not_set, label_set_twice, depths_disagree, slot_above, too_long, fault_in}
-use Rattle.bk_ocode.specs.Section.{AreFaultless}
-use Rattle.bk_ocode.specs.SectionLaws.{DepthsSuffice, SectionIsShort}
-use Rattle.bk_ocode.specs.declared.stmt.Stmt.{Stmt}
+use Rattle.bk_ocode.proofs.Terms.{◌≡◌, ℕ, ◌+◌, ◌<◌, ◌≤◌, max, Bool, true, false, ◌||◌, nat_lt, nat_le, List, [], ◌∷◌, ◌++◌, Option, Some, None, length, take, slice_get, get_or, refl, ◌∙◌, ap, subst, arith, ltb-false, leb-false, zero, suc, if◌then◌else◌, take_more, slice_get-get_or, FRAME_WORDS, OCODE_STATEMENTS, OCODE_WORDS, OcodeKind, BadWord, LabelNotSet, LabelSetTwice, DepthsDisagree, SlotAboveDepth, TooLong, stmt_words, next_depth, depth_behind, largest_behind, least_depth, Context, at_start, after, after_all, context_of, misplaced, label_not_set, label_set_twice, depths_disagree, slot_above, too_long, fault_in, AreFaultless, DepthsSuffice, SectionIsShort, Stmt, or_parts}
 
 pub depth_behind-append : (k : ℕ) (a b : List Stmt) → depth_behind k (a ++ b) ≡ depth_behind (depth_behind k a) b
 depth_behind-append k [] b = refl
@@ -68,17 +56,13 @@ keeps_in before c s none =
     let p6 = none_if (too_long c s) TooLong _ p5.1 in
     record { place = p1.0; set = p2.0; once = p3.0; agree = p4.0; below = p5.0; short = p6.0 }
 
-pub or_false : (a b : Bool) → (a || b) ≡ false → (a ≡ false) × (b ≡ false)
-or_false true b e = absurd (let h : true ≡ false = e in cc)
-or_false false b e = (refl, e)
-
 -- the depth behind a statement of a section is within the limit of frames
 pub depth_within : (stmts : List Stmt) → AreFaultless stmts → (i : ℕ) (s : Stmt) → slice_get stmts i ≡ Some s → next_depth (depth_behind 0 (take i stmts)) s ≤ FRAME_WORDS
 depth_within stmts are i s is =
     let c = context_of (take i stmts) in
     let k = keeps_in (take i stmts) c s (are.faultless i s is) in
     let long : Bool = nat_lt OCODE_WORDS (c.words + length (stmt_words s)) in
-    let low = (or_false long (nat_lt FRAME_WORDS (next_depth c.depth s)) (or_false (nat_le OCODE_STATEMENTS c.count) (long || nat_lt FRAME_WORDS (next_depth c.depth s)) k.short).1).1 in
+    let low = (or_parts long (nat_lt FRAME_WORDS (next_depth c.depth s)) (or_parts (nat_le OCODE_STATEMENTS c.count) (long || nat_lt FRAME_WORDS (next_depth c.depth s)) k.short).1).1 in
     subst (λ (d : ℕ). next_depth d s ≤ FRAME_WORDS) (context-depth (take i stmts)) (ltb-false FRAME_WORDS (next_depth c.depth s) low)
 
 pub depth_within-at : (stmts : List Stmt) → AreFaultless stmts → (i : ℕ) (d : Stmt) → i < length stmts → next_depth (depth_behind 0 (take i stmts)) (get_or stmts i d) ≤ FRAME_WORDS
@@ -105,6 +89,6 @@ section_is_short stmts i s are is =
     let c = context_of (take i stmts) in
     let k = keeps_in (take i stmts) c s (are.faultless i s is) in
     let long : Bool = nat_lt OCODE_WORDS (c.words + length (stmt_words s)) in
-    let low = (or_false (nat_le OCODE_STATEMENTS c.count) (long || nat_lt FRAME_WORDS (next_depth c.depth s)) k.short).0 in
+    let low = (or_parts (nat_le OCODE_STATEMENTS c.count) (long || nat_lt FRAME_WORDS (next_depth c.depth s)) k.short).0 in
     let count : c.count ≡ i = after_all-count at_start (take i stmts) ∙ (let e : 0 + length (take i stmts) ≡ length (take i stmts) = omega arith in e) ∙ length_within stmts i s is in
     subst (λ (n : ℕ). n < OCODE_STATEMENTS) count (leb-false OCODE_STATEMENTS c.count low)

@@ -1,20 +1,6 @@
 -- Labels of a switch and of globals, and the context of statements, one statement more.
-use Rattle.std.proofs.Common.{◌≡◌, ℕ, ◌+◌, ◌-◌, ◌<◌, ◌≤◌, ◌++◌, ◌||◌, ◌&&◌, Bool, true, false, is_some, get_or, take, not, nat_lt, nat_le, List, [], ◌∷◌, None, length, map, arith, refl, sym, ap, ◌∙◌, ltb-false, leb-false}
-use Rattle.std.specs.List.{list_all, list_any}
-use Rattle.std.proofs.lemmas.List.{map-append, take_more}
-use Rattle.bk_base.specs.declared.limit.TheConstants.{FRAME_WORDS, OCODE_STATEMENTS, OCODE_WORDS}
-use Rattle.bk_ocode.specs.StmtText.{stmt_words}
-use Rattle.bk_ocode.specs.Depth.{next_depth}
-use Rattle.bk_ocode.specs.Places.{position_behind}
-use Rattle.bk_ocode.specs.Context.{Context, at_start, changed, all_changed, label_followed, labels_named, start_from, start_behind, after, after_all, context_of}
-use Rattle.bk_ocode.specs.Faults.{is_lab_from, is_other_lab, jumps_set, result_named, own_disagrees, is_entry, data_set, label_not_set, fault_in}
-use Rattle.bk_ocode.specs.declared.standing.Position.{Position}
-use Rattle.bk_ocode.specs.declared.standing.LabelUse.{LabelUse}
-use Rattle.bk_ocode.specs.declared.stmt.Case.{Case}
-use Rattle.bk_ocode.specs.declared.stmt.GlobalEntry.{GlobalEntry}
-use Rattle.bk_ocode.specs.declared.stmt.Stmt.{Stmt}
-use Rattle.bk_ocode.specs.declared.stmt.Stmt.TheVariants.{Entry, Switch, Globals}
-use Rattle.bk_ocode.proofs.Depths.{keeps_in, or_false}
+use Rattle.bk_ocode.proofs.Terms.{◌≡◌, ℕ, ◌+◌, ◌-◌, ◌<◌, ◌≤◌, ◌++◌, ◌||◌, ◌&&◌, Bool, true, false, is_some, get_or, take, not, nat_lt, nat_le, List, [], ◌∷◌, None, length, map, arith, refl, sym, ap, ◌∙◌, ltb-false, leb-false, list_all, list_any, map-append, take_more, FRAME_WORDS, OCODE_STATEMENTS, OCODE_WORDS, stmt_words, next_depth, position_behind, Context, at_start, changed, all_changed, label_followed, labels_named, start_from, start_behind, after, after_all, context_of, is_lab_from, is_other_lab, jumps_set, result_named, own_disagrees, is_entry, data_set, label_not_set, fault_in, Position, LabelUse, Case, GlobalEntry, Stmt, Entry, Switch, Globals, or_parts}
+use Rattle.bk_ocode.proofs.Depths.{keeps_in}
 
 all-map : {X : Type 0} (f : ℕ → Bool) (g : X → ℕ) (xs : List X) → list_all (λ x. f (g x)) xs ≡ list_all f (map g xs ++ [])
 all-map f g [] = refl
@@ -107,8 +93,8 @@ fits_behind before c s is none =
     let k = keeps_in before c s (ap (λ (x : Context). fault_in before x s) is ∙ none) in
     let long : Bool = nat_lt OCODE_WORDS (c.words + length (stmt_words s)) in
     let deep : Bool = nat_lt FRAME_WORDS (next_depth c.depth s) in
-    let p = or_false (nat_le OCODE_STATEMENTS c.count) (long || deep) k.short in
-    let q = or_false long deep p.1 in (
+    let p = or_parts (nat_le OCODE_STATEMENTS c.count) (long || deep) k.short in
+    let q = or_parts long deep p.1 in (
       ltb-false FRAME_WORDS (next_depth c.depth s) q.1,
       ltb-false OCODE_WORDS (c.words + length (stmt_words s)) q.0,
       leb-false OCODE_STATEMENTS c.count p.0,

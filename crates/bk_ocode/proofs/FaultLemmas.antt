@@ -1,30 +1,6 @@
 -- The first fault of a text, from what was read of it.
-use Rattle.std.proofs.Common.{◌≡◌, ◌≢◌, ◌⊎◌, inl, inr, ℕ, ◌+◌, ◌<◌, ◌≤◌, ◌++◌, Bool, true, false, List, [], ◌∷◌, Option, Some, None, Result, Ok, Err, length, nat_lt, if◌then◌else◌, arith, ltb-false, refl, sym, ◌∙◌, ap, subst, length-append, append_assoc}
-use Rattle.bk_base.specs.declared.limit.TheConstants.{OCODE_WORDS}
-use Rattle.bk_base.specs.declared.ocode_fault.OcodeKind.{OcodeKind}
-use Rattle.bk_base.specs.declared.ocode_fault.OcodeKind.TheVariants.{BadWord, BadNumber, Truncated, LabelNotSet, LabelSetTwice, DepthsDisagree, SlotAboveDepth, TooLong}
-use Rattle.bk_words.specs.TextEnd.{AtEnd}
-use Rattle.bk_words.specs.Taking.{TakesWords, TakesSome, Reads, ReadsAll}
-use Rattle.bk_ocode.specs.StmtText.{keyword, argument_words, stmt_words}
-use Rattle.bk_ocode.specs.SectionText.{section_words}
-use Rattle.bk_ocode.specs.Context.{Context, at_start, after, after_all, context_of}
-use Rattle.bk_ocode.specs.Faults.{misplaced, label_not_set, label_set_twice, depths_disagree, slot_above, too_long, fault_in, stmt_fault}
-use Rattle.bk_ocode.specs.FirstFault.{IsPartial, IsStmt, BeginsStmt, FaultOf}
-use Rattle.bk_ocode.specs.SectionAnswer.{Takes, GivesFault, StopsAtWord, Answers}
-use Rattle.std.proofs.lemmas.Bool.{cases_lt}
-use Rattle.bk_base.specs.declared.ocode_fault.OcodeFault.{OcodeFault}
-use Rattle.bk_base.specs.declared.refused.Refused.{Refused}
-use Rattle.bk_base.specs.declared.refused.Refused.TheVariants.{Fault}
-use Rattle.bk_ocode.specs.PartialStmts.{owner_words, partial_words, part_words, BeginNone, refusal}
-use Rattle.bk_ocode.specs.declared.partial.Owner.{Owner}
-use Rattle.bk_ocode.specs.declared.partial.Owner.TheVariants as owners
-use Rattle.bk_ocode.specs.declared.partial.Partial.{Partial}
-use Rattle.bk_ocode.specs.declared.partial.Partial.TheVariants as begun
-use Rattle.bk_ocode.specs.declared.partial.Unfit.{Unfit}
-use Rattle.bk_ocode.specs.declared.partial.Unfit.TheVariants as unfits
-use Rattle.bk_ocode.specs.declared.section.Ocode.{Ocode}
+use Rattle.bk_ocode.proofs.Terms.{◌≡◌, ◌≢◌, ◌⊎◌, inl, inr, ℕ, ◌+◌, ◌<◌, ◌≤◌, ◌++◌, Bool, true, false, List, [], ◌∷◌, Option, Some, None, Result, Ok, Err, length, nat_lt, if◌then◌else◌, arith, ltb-false, refl, sym, ◌∙◌, ap, subst, length-append, append_assoc, OCODE_WORDS, OcodeKind, BadWord, BadNumber, Truncated, LabelNotSet, LabelSetTwice, DepthsDisagree, SlotAboveDepth, TooLong, AtEnd, TakesWords, TakesSome, Reads, ReadsAll, keyword, argument_words, stmt_words, section_words, Context, at_start, after, after_all, context_of, misplaced, label_not_set, label_set_twice, depths_disagree, slot_above, too_long, fault_in, stmt_fault, IsPartial, IsStmt, BeginsStmt, FaultOf, Takes, GivesFault, StopsAtWord, Answers, cases_lt, OcodeFault, Refused, Fault, owner_words, partial_words, part_words, BeginNone, refusal, Owner, Partial, Unfit, Ocode, Stmt, Owner as owners, Partial as begun, Unfit as unfits}
 use Rattle.bk_ocode.proofs.ReadingLemmas.{nothing_left, some_taken}
-use Rattle.bk_ocode.specs.declared.stmt.Stmt.{Stmt}
 
 some_if : (b : Bool) (x k : OcodeKind) (r : Option OcodeKind) → (if b then Some x else r) ≡ Some k → ((b ≡ true) × (x ≡ k)) ⊎ ((b ≡ false) × (r ≡ Some k))
 some_if true x k r e = inl (refl, cc)
@@ -56,11 +32,8 @@ rule_told : (before : List Stmt) (s : Stmt) (part : List (List ℕ)) (kind : Oco
 rule_told before s part BadWord fits words few others is = absurd (others.0 refl)
 rule_told before s part BadNumber fits words few others is = absurd (others.1 refl)
 rule_told before s part Truncated fits words few others is = absurd (others.2 refl)
-rule_told before s part LabelNotSet fits words few others is = record { stmt = s; is_stmt = fits; words = sym words; within = few; breaks = is }
-rule_told before s part LabelSetTwice fits words few others is = record { stmt = s; is_stmt = fits; words = sym words; within = few; breaks = is }
-rule_told before s part DepthsDisagree fits words few others is = record { stmt = s; is_stmt = fits; words = sym words; within = few; breaks = is }
-rule_told before s part SlotAboveDepth fits words few others is = record { stmt = s; is_stmt = fits; words = sym words; within = few; breaks = is }
 rule_told before s part TooLong fits words few others is = inl (record { stmt = s; is_stmt = fits; words = sym words; within = few; breaks = is })
+rule_told before s part x fits words few others is = record { stmt = s; is_stmt = fits; words = sym words; within = few; breaks = is }
 
 taken_some : (taken : List ℕ) (end : Type 0) (words : List (List ℕ)) → 0 < length words → TakesSome taken end words → TakesWords taken end words
 taken_some taken end words some (inl p) = absurd (omega (arith, some, ap (λ (l : List (List ℕ)). length l) p.1))
@@ -135,11 +108,8 @@ some_of owners.Text = omega arith
 some_of (owners.Entry label) = omega arith
 
 pub partial_some : (b : Partial) → 0 < length (partial_words b)
-partial_some (begun.Short k) = omega arith
-partial_some begun.EntryLabel = omega arith
 partial_some (begun.Length owner) = some_of owner
 partial_some (begun.Bytes owner bytes count) = owner_some owner _
-partial_some begun.CaseCount = omega arith
 partial_some _ = omega arith
 
 -- what begins with these words may stand there

@@ -1,13 +1,5 @@
 -- What steps write goes behind what was written, and what they read comes from the front; and each comes nearer to a rest.
-use Rattle.std.proofs.Common.{◌≡◌, ℕ, List, [], ◌∷◌, ◌++◌, Option, None, refl, sym, ◌∙◌, ap, subst, append-nil}
-use Rattle.std.specs.Prelude.{⊤}
-use Rattle.bk_base.specs.Word.{word_sum, byte_distance}
-use Rattle.bk_ocode.specs.Cells.{Content, Variable, Held, write}
-use Rattle.bk_ocode.specs.Access.{byte_at, word_with_byte_at, string_at}
-use Rattle.bk_ocode.specs.OcodeState.{Callables, Routine, Stop, Rdch, Wrch, Newline, Writes, Writen, Writed, Getbyte, Putbyte, Writef, Control, Inside, Behind, At, State, Next, Goes, Ends, Wild}
-use Rattle.bk_ocode.specs.OcodeStep.{slot, return, tells, read_byte, routine_step, step_in, step_from}
-use Rattle.bk_ocode.specs.StepLaws.{KeepsNext}
-use Rattle.bk_ocode.specs.SoundRuns.{Grown, StepsGrow, EndsKeepBytes}
+use Rattle.bk_ocode.proofs.Terms.{◌≡◌, ℕ, List, [], ◌∷◌, ◌++◌, Option, None, refl, sym, ◌∙◌, ap, subst, append-nil, ⊤, word_sum, byte_distance, Content, Variable, Held, write, byte_at, word_with_byte_at, string_at, Callables, Routine, Stop, Rdch, Wrch, Newline, Writes, Writen, Writed, Getbyte, Putbyte, Writef, Control, Inside, Behind, At, State, Next, Goes, Ends, Wild, slot, return, tells, read_byte, routine_step, step_in, step_from, KeepsNext, Grown, StepsGrow, EndsKeepBytes}
 use Rattle.bk_ocode.proofs.Chosen.{on_number-holds, on_some-holds}
 use Rattle.bk_ocode.proofs.StepKeeps.{step_keeps_below}
 

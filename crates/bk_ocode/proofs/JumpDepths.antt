@@ -1,72 +1,16 @@
 -- A jump finds its label with the depth that it has.
-use Rattle.std.proofs.Common.{◌≡◌, ◌≢◌, ℕ, zero, suc, ◌+◌, ◌-◌, ◌<◌, ◌==◌, Bool, true, false, not, ◌||◌, List, [], ◌∷◌, Some, None, take, slice_get, refl, sym, ◌∙◌, ap, subst, arith, if◌then◌else◌, inl, inr, eq-eqb, ne_eqb, eqb-true}
-use Rattle.bk_ocode.specs.Depth.{next_depth, depth_behind}
-use Rattle.bk_ocode.specs.Labels.{label_set, jump_labels, other_labels}
-use Rattle.bk_ocode.specs.Context.{Context, at_start, changed, all_changed, with_depth, jumped, given, mentioned, set_by, followed, what_stands, label_followed, labels_named, after, after_all, context_of}
-use Rattle.bk_ocode.specs.Section.{AreFaultless}
-use Rattle.bk_ocode.specs.declared.standing.Position.{Position}
-use Rattle.bk_ocode.specs.declared.standing.Position.TheVariants as position
-use Rattle.bk_ocode.specs.declared.standing.Setting.{Setting}
-use Rattle.bk_ocode.specs.declared.standing.Setting.TheVariants as setting
-use Rattle.bk_ocode.specs.declared.standing.JumpDepths.{JumpDepths}
-use Rattle.bk_ocode.specs.declared.standing.JumpDepths.TheVariants as jumps
-use Rattle.bk_ocode.specs.declared.standing.LabelUse.{LabelUse}
-use Rattle.bk_ocode.specs.declared.stmt.Stmt.{Stmt}
-use Rattle.bk_ocode.specs.declared.stmt.Stmt.TheVariants.{Load, Address, Assign, Jump, JumpIf, Label, GiveResult, Entry, Switch, DataLabel, DataAddress}
-use Rattle.bk_ocode.specs.Faults.{is_other_lab, are_other_jumps, jumps_disagree, result_named, follows_badly, own_disagrees, fault_in}
-use Rattle.bk_ocode.specs.SectionLaws.{jump_depth, IsAmong, JumpHasItsLabelsDepth}
-use Rattle.bk_ocode.proofs.Depths.{keeps_in, or_false, context-depth}
-use Rattle.bk_ocode.proofs.LabelsOnce.{order, slice_get-take, not_before}
-
--- a change of one label's use that keeps what set it
-abbrev KeepsSetting : (LabelUse → LabelUse) → Type 0
-KeepsSetting change = (known : LabelUse) → (change known).setting ≡ known.setting
-
-either : (b : Bool) (x y : LabelUse) (g : Setting) → x.setting ≡ g → y.setting ≡ g → (if b then x else y).setting ≡ g
-either true x y g p q = p
-either false x y g p q = q
-
-changed-same : (l : ℕ) (change : LabelUse → LabelUse) (uses : ℕ → LabelUse) (m : ℕ) → KeepsSetting change → (changed l change uses m).setting ≡ (uses m).setting
-changed-same l change uses m keeps = either (m == l) (change (uses m)) (uses m) (uses m).setting (keeps (uses m)) refl
-
-all_changed-same : (ls : List ℕ) (change : LabelUse → LabelUse) (uses : ℕ → LabelUse) (m : ℕ) → KeepsSetting change → (all_changed ls change uses m).setting ≡ (uses m).setting
-all_changed-same [] change uses m keeps = refl
-all_changed-same (l ∷ ls) change uses m keeps = all_changed-same ls change (changed l change uses) m keeps ∙ changed-same l change uses m keeps
-
-followed-same : (p : Position) (s : Stmt) (uses : ℕ → LabelUse) (m : ℕ) → (label_followed p s uses m).setting ≡ (uses m).setting
-followed-same (position.BehindLabel l) s uses m = changed-same l (followed (what_stands s)) uses m (λ known. refl)
-followed-same position.Outside s uses m = refl
-followed-same _ s uses m = refl
-
-other : (b : Bool) (x y : LabelUse) → b ≡ false → (if b then x else y).setting ≡ y.setting
-other true x y e = absurd (let h : true ≡ false = e in cc)
-other false x y e = refl
-
-set-other : (l : ℕ) (change : LabelUse → LabelUse) (uses : ℕ → LabelUse) (m : ℕ) → m ≢ l → (changed l change uses m).setting ≡ (uses m).setting
-set-other l change uses m apart = other (m == l) (change (uses m)) (uses m) (ne_eqb m l apart)
+use Rattle.bk_ocode.proofs.Terms.{◌≡◌, ◌≢◌, ℕ, zero, suc, ◌+◌, ◌-◌, ◌<◌, ◌==◌, Bool, true, false, not, ◌||◌, List, [], ◌∷◌, Some, None, take, slice_get, refl, sym, ◌∙◌, ap, subst, arith, if◌then◌else◌, inl, inr, eq-eqb, eqb-true, next_depth, depth_behind, label_set, jump_labels, Context, at_start, changed, all_changed, with_depth, jumped, set_by, label_followed, after, after_all, context_of, AreFaultless, Setting, JumpDepths, LabelUse, Stmt, Jump, JumpIf, Label, Switch, is_other_lab, are_other_jumps, jumps_disagree, result_named, follows_badly, own_disagrees, fault_in, jump_depth, IsAmong, JumpHasItsLabelsDepth, Setting as setting, JumpDepths as jumps, not-false, or_parts}
+use Rattle.bk_ocode.proofs.Depths.{keeps_in, context-depth}
+use Rattle.bk_ocode.proofs.LabelsOnce.{order, slice_get-take, not_before, Preserves, all_changed_keeps, after_keeps}
 
 -- a statement that does not set the label keeps what set it
-named-same : (k count : ℕ) (s : Stmt) (uses : ℕ → LabelUse) (m : ℕ) → label_set s ≢ Some m → (labels_named k count s uses m).setting ≡ (uses m).setting
-named-same k count (Label l) uses m apart = set-other l (set_by (setting.Lab k count)) uses m (λ is. apart (ap (λ (x : ℕ). Some x) (sym is)))
-named-same k count (Entry l name) uses m apart =
-    set-other l (set_by setting.Entry) (changed l mentioned uses) m (λ is. apart (ap (λ (x : ℕ). Some x) (sym is))) ∙ changed-same l mentioned uses m (λ known. refl)
-named-same k count (DataLabel l) uses m apart =
-    set-other l (set_by setting.Data) (changed l mentioned uses) m (λ is. apart (ap (λ (x : ℕ). Some x) (sym is))) ∙ changed-same l mentioned uses m (λ known. refl)
-named-same k count (GiveResult l) uses m apart = changed-same l (given (k - 1)) uses m (λ known. refl)
-named-same k count (Jump l) uses m apart = changed-same l (jumped k) uses m (λ known. refl)
-named-same k count (JumpIf truth l) uses m apart = changed-same l (jumped (k - 1)) uses m (λ known. refl)
-named-same k count (Switch default cases) uses m apart = all_changed-same (jump_labels (Switch default cases)) (jumped (k - 1)) uses m (λ known. refl)
-named-same k count (Load from) uses m apart = all_changed-same (other_labels (Load from)) mentioned uses m (λ known. refl)
-named-same k count (Address of) uses m apart = all_changed-same (other_labels (Address of)) mentioned uses m (λ known. refl)
-named-same k count (Assign to) uses m apart = all_changed-same (other_labels (Assign to)) mentioned uses m (λ known. refl)
-named-same k count (DataAddress l) uses m apart = changed-same l mentioned uses m (λ known. refl)
-named-same k count _ uses m apart = refl
-
 pub after-same : (c : Context) (s : Stmt) (m : ℕ) → label_set s ≢ Some m → ((after c s).uses m).setting ≡ (c.uses m).setting
-after-same c s m apart = named-same c.depth c.count s (label_followed c.position s c.uses) m apart ∙ followed-same c.position s c.uses m
+after-same c s m apart =
+    after_keeps (λ (u : LabelUse). u.setting ≡ (c.uses m).setting) (record { follows = λ b known h. h; mentions = λ known h. h; gives = λ d known h. h; jumps = λ d known h. h })
+    c s m (λ g e of. absurd (apart of)) refl
 
 -- what a LAB leaves
-chosen : (b : Bool) (x y : LabelUse) → b ≡ true → (if b then x else y).setting ≡ x.setting
+pub chosen : (b : Bool) (x y : LabelUse) → b ≡ true → (if b then x else y).setting ≡ x.setting
 chosen true x y e = refl
 chosen false x y e = absurd (let h : false ≡ true = e in cc)
 
@@ -83,24 +27,9 @@ after_all-same : (c : Context) (stmts : List Stmt) (m : ℕ) → SetsNot m stmts
 after_all-same c [] m apart = refl
 after_all-same c (s ∷ rest) m apart = after_all-same (after c s) rest m (λ k t is. apart (suc k) t is) ∙ after-same c s m (apart 0 s refl)
 
--- A property of one label's use that all changes keep.
-eitherP : (P : LabelUse → Type 0) (b : Bool) (x y : LabelUse) → P x → P y → P (if b then x else y)
-eitherP P true x y p q = p
-eitherP P false x y p q = q
-
 chosenP : (P : LabelUse → Type 0) (b : Bool) (x y : LabelUse) → b ≡ true → P x → P (if b then x else y)
 chosenP P true x y e p = p
 chosenP P false x y e p = absurd (let h : false ≡ true = e in cc)
-
-abbrev Preserves : (LabelUse → Type 0) → (LabelUse → LabelUse) → Type 0
-Preserves P change = (known : LabelUse) → P known → P (change known)
-
-changedP : (P : LabelUse → Type 0) (l : ℕ) (change : LabelUse → LabelUse) (uses : ℕ → LabelUse) (m : ℕ) → Preserves P change → P (uses m) → P (changed l change uses m)
-changedP P l change uses m keeps is = eitherP P (m == l) (change (uses m)) (uses m) (keeps (uses m) is) is
-
-all_changedP : (P : LabelUse → Type 0) (ls : List ℕ) (change : LabelUse → LabelUse) (uses : ℕ → LabelUse) (m : ℕ) → Preserves P change → P (uses m) → P (all_changed ls change uses m)
-all_changedP P [] change uses m keeps is = is
-all_changedP P (l ∷ ls) change uses m keeps is = all_changedP P ls change (changed l change uses) m keeps (changedP P l change uses m keeps is)
 
 -- jumps came with this depth, and perhaps with others
 abbrev CameWith : ℕ → JumpDepths → Type 0
@@ -128,34 +57,9 @@ with_depth-keeps d k jumps.Several came = tt
 jumped-keeps : (d k : ℕ) → Preserves (Came k) (jumped d)
 jumped-keeps d k known came = with_depth-keeps d k known.jumps came
 
-followed-came : (k : ℕ) (p : Position) (s : Stmt) (uses : ℕ → LabelUse) (m : ℕ) → Came k (uses m) → Came k (label_followed p s uses m)
-followed-came k (position.BehindLabel l) s uses m is = changedP (Came k) l (followed (what_stands s)) uses m (λ known h. h) is
-followed-came k position.Outside s uses m is = is
-followed-came k position.InData s uses m is = is
-followed-came k position.Opened s uses m is = is
-followed-came k position.BehindReturn s uses m is = is
-followed-came k position.Inside s uses m is = is
-followed-came k position.Ended s uses m is = is
-
-named-came : (k depth count : ℕ) (s : Stmt) (uses : ℕ → LabelUse) (m : ℕ) → Came k (uses m) → Came k (labels_named depth count s uses m)
-named-came k depth count (Label l) uses m is = changedP (Came k) l (set_by (setting.Lab depth count)) uses m (λ known h. h) is
-named-came k depth count (Entry l name) uses m is =
-    changedP (Came k) l (set_by setting.Entry) (changed l mentioned uses) m (λ known h. h) (changedP (Came k) l mentioned uses m (λ known h. h) is)
-named-came k depth count (DataLabel l) uses m is =
-    changedP (Came k) l (set_by setting.Data) (changed l mentioned uses) m (λ known h. h) (changedP (Came k) l mentioned uses m (λ known h. h) is)
-named-came k depth count (GiveResult l) uses m is = changedP (Came k) l (given (depth - 1)) uses m (λ known h. h) is
-named-came k depth count (Jump l) uses m is = changedP (Came k) l (jumped depth) uses m (jumped-keeps depth k) is
-named-came k depth count (JumpIf truth l) uses m is = changedP (Came k) l (jumped (depth - 1)) uses m (jumped-keeps (depth - 1) k) is
-named-came k depth count (Switch default cases) uses m is =
-    all_changedP (Came k) (jump_labels (Switch default cases)) (jumped (depth - 1)) uses m (jumped-keeps (depth - 1) k) is
-named-came k depth count (Load from) uses m is = all_changedP (Came k) (other_labels (Load from)) mentioned uses m (λ known h. h) is
-named-came k depth count (Address of) uses m is = all_changedP (Came k) (other_labels (Address of)) mentioned uses m (λ known h. h) is
-named-came k depth count (Assign to) uses m is = all_changedP (Came k) (other_labels (Assign to)) mentioned uses m (λ known h. h) is
-named-came k depth count (DataAddress l) uses m is = changedP (Came k) l mentioned uses m (λ known h. h) is
-named-came k depth count _ uses m is = is
-
 after-came : (k : ℕ) (c : Context) (s : Stmt) (m : ℕ) → Came k (c.uses m) → Came k ((after c s).uses m)
-after-came k c s m is = named-came k c.depth c.count s (label_followed c.position s c.uses) m (followed-came k c.position s c.uses m is)
+after-came k c s m is =
+    after_keeps (Came k) (record { follows = λ b known h. h; mentions = λ known h. h; gives = λ d known h. h; jumps = λ d. jumped-keeps d k }) c s m (λ g e of known h. h) is
 
 after_all-came : (k : ℕ) (c : Context) (stmts : List Stmt) (m : ℕ) → Came k (c.uses m) → Came k ((after_all c stmts).uses m)
 after_all-came k c [] m is = is
@@ -168,7 +72,7 @@ jumped-now k uses l = chosenP (Came k) (l == l) (jumped k (uses l)) (uses l) (eq
 all_jumped-now : (k : ℕ) (ls : List ℕ) (uses : ℕ → LabelUse) (l : ℕ) → IsAmong l ls → Came k (all_changed ls (jumped k) uses l)
 all_jumped-now k [] uses l among = absurd among
 all_jumped-now k (x ∷ ls) uses l among = elim among [
-  | inl same ↦ all_changedP (Came k) ls (jumped k) (changed x (jumped k) uses) l (jumped-keeps k k) (subst (λ (y : ℕ). Came k (changed y (jumped k) uses l)) (sym same) (jumped-now k uses l))
+  | inl same ↦ all_changed_keeps (Came k) ls (jumped k) (changed x (jumped k) uses) l (jumped-keeps k k) (subst (λ (y : ℕ). Came k (changed y (jumped k) uses l)) (sym same) (jumped-now k uses l))
   | inr later ↦ all_jumped-now k ls (changed x (jumped k) uses) l later
 ]
 
@@ -213,19 +117,15 @@ take-of-take stmts (suc j) zero low = refl
 take-of-take [] (suc j) (suc i) low = refl
 take-of-take (s ∷ rest) (suc j) (suc i) low = ap (λ (t : List Stmt). s ∷ t) (take-of-take rest j i (omega (arith, low)))
 
-not_false : (b : Bool) → not b ≡ false → b ≡ true
-not_false true e = refl
-not_false false e = absurd (let h : true ≡ false = e in cc)
-
 agreed : (k depth : ℕ) (j : JumpDepths) → CameWith k j → are_other_jumps depth j ≡ false → k ≡ depth
 agreed k depth jumps.Unused came e = absurd came
-agreed k depth (jumps.One d) came e = sym came ∙ eqb-true d depth (not_false (d == depth) e)
+agreed k depth (jumps.One d) came e = sym came ∙ eqb-true d depth (not-false (d == depth) e)
 agreed k depth jumps.Several came e = absurd (let h : true ≡ false = e in cc)
 
 none_other : (c : Context) (k : ℕ) (ls : List ℕ) (l : ℕ) → jumps_disagree c k ls ≡ false → IsAmong l ls → is_other_lab k (c.uses l).setting ≡ false
 none_other c k [] l none among = absurd among
 none_other c k (x ∷ ls) l none among =
-    let both = or_false (is_other_lab k (c.uses x).setting) (jumps_disagree c k ls) none in
+    let both = or_parts (is_other_lab k (c.uses x).setting) (jumps_disagree c k ls) none in
     elim among [
       | inl same ↦ ap (λ (y : ℕ). is_other_lab k (c.uses y).setting) (sym same) ∙ both.0
       | inr later ↦ none_other c k ls l both.1 later
@@ -240,8 +140,8 @@ own_agrees c _ l none among = absurd among
 -- what a statement without a fault says of its own depths
 own_of : (before : List Stmt) (c : Context) (s : Stmt) → fault_in before c s ≡ None → own_disagrees c s ≡ false
 own_of before c s none =
-    (or_false (result_named c s) (own_disagrees c s)
-    (or_false (follows_badly c c.position s) (result_named c s || own_disagrees c s) (keeps_in before c s none).agree).1).1
+    (or_parts (result_named c s) (own_disagrees c s)
+    (or_parts (follows_badly c c.position s) (result_named c s || own_disagrees c s) (keeps_in before c s none).agree).1).1
 
 forwards : (stmts : List Stmt) (i j l : ℕ) (s : Stmt) → AreFaultless stmts → slice_get stmts i ≡ Some s → IsAmong l (jump_labels s) → slice_get stmts j ≡ Some (Label l) → i < j →
     jump_depth (depth_behind 0 (take i stmts)) s ≡ depth_behind 0 (take j stmts)
@@ -256,24 +156,24 @@ forwards stmts i j l s are at_i among at_j low =
 lab_agrees : (k depth place : ℕ) (g : Setting) → g ≡ setting.Lab depth place → is_other_lab k g ≡ false → k ≡ depth
 lab_agrees k depth place g is none =
     let h : not (depth == k) ≡ false = ap (is_other_lab k) (sym is) ∙ none in
-    sym (eqb-true depth k (not_false (depth == k) h))
+    sym (eqb-true depth k (not-false (depth == k) h))
+
+pub taken_from : (stmts : List Stmt) (i k : ℕ) (t : Stmt) → slice_get (take i stmts) k ≡ Some t → slice_get stmts k ≡ Some t
+taken_from stmts zero k t is = absurd (let h : None ≡ Some t = is in cc)
+taken_from [] (suc i) k t is = is
+taken_from (x ∷ rest) (suc i) zero t is = is
+taken_from (x ∷ rest) (suc i) (suc k) t is = taken_from rest i k t is
 
 backwards : (stmts : List Stmt) (i j l : ℕ) (s : Stmt) → AreFaultless stmts → slice_get stmts i ≡ Some s → IsAmong l (jump_labels s) → slice_get stmts j ≡ Some (Label l) → j < i →
     jump_depth (depth_behind 0 (take i stmts)) s ≡ depth_behind 0 (take j stmts)
 backwards stmts i j l s are at_i among at_j low =
     let c = context_of (take i stmts) in
     let lab = lab_behind at_start (take i stmts) j l (slice_get-take stmts i j low ∙ at_j)
-    (λ k t later at_k sets_k. not_before stmts j k l (Label l) t are at_j (within stmts i k t at_k) refl sets_k later) in
+    (λ k t later at_k sets_k. not_before stmts j k l (Label l) t are at_j (taken_from stmts i k t at_k) refl sets_k later) in
     let none = own_of (take i stmts) c s (are.faultless i s at_i) in
     ap (λ (d : ℕ). jump_depth d s) (sym (context-depth (take i stmts)))
     ∙ lab_agrees (jump_depth c.depth s) (depth_behind 0 (take j (take i stmts))) (0 + j) (c.uses l).setting lab (own_agrees c s l none among)
     ∙ ap (λ (t : List Stmt). depth_behind 0 t) (take-of-take stmts i j low)
-  where
-    within : (stmts : List Stmt) (i k : ℕ) (t : Stmt) → slice_get (take i stmts) k ≡ Some t → slice_get stmts k ≡ Some t
-    within stmts zero k t is = absurd (let h : None ≡ Some t = is in cc)
-    within [] (suc i) k t is = is
-    within (x ∷ rest) (suc i) zero t is = is
-    within (x ∷ rest) (suc i) (suc k) t is = within rest i k t is
 
 same_place : (stmts : List Stmt) (i l : ℕ) (s : Stmt) → slice_get stmts i ≡ Some s → IsAmong l (jump_labels s) → slice_get stmts i ≡ Some (Label l) → ⊥
 same_place stmts i l s at among label =

@@ -1,51 +1,27 @@
 -- A jump finds a LAB of its label in the section.
-use Rattle.std.proofs.Common.{◌≡◌, ◌≢◌, ℕ, zero, suc, ◌+◌, ◌<◌, ◌≤◌, ◌==◌, Bool, true, false, not, ◌&&◌, List, [], ◌∷◌, ◌++◌, Some, None, take, drop, slice_get, refl, sym, ◌∙◌, ap, subst, arith, if◌then◌else◌, inl, inr, ◌⊎◌, eqb-true, eq-eqb}
-use Rattle.std.specs.List.{list_all}
-use Rattle.bk_ocode.specs.Labels.{jump_labels, result_label}
-use Rattle.bk_ocode.specs.Places.{may_stand, position_behind}
-use Rattle.bk_ocode.specs.Context.{Context, at_start, start_behind, changed, mentioned, set_by, label_followed, after, after_all, context_of}
-use Rattle.bk_ocode.specs.Faults.{misplaced, is_lab_from, jumps_set, label_not_set}
-use Rattle.bk_ocode.specs.Section.{IsSection}
-use Rattle.bk_ocode.specs.SectionLaws.{IsAmong, JumpFindsItsLabel, ResultFindsItsLabel}
-use Rattle.bk_ocode.specs.declared.standing.Position.{Position}
-use Rattle.bk_ocode.specs.declared.standing.Position.TheVariants as position
-use Rattle.bk_ocode.specs.declared.standing.StmtPlace.TheVariants.{Outer, Datum}
-use Rattle.bk_ocode.specs.declared.standing.Setting.{Setting}
-use Rattle.bk_ocode.specs.declared.standing.Setting.TheVariants as setting
-use Rattle.bk_ocode.specs.declared.standing.LabelUse.{LabelUse}
-use Rattle.bk_ocode.specs.declared.stmt.Stmt.{Stmt}
-use Rattle.bk_ocode.specs.declared.stmt.Stmt.TheVariants.{Jump, JumpIf, Label, GiveResult, Entry, EndProcedure, Switch, DataLabel, DataNumber, DataAddress, Globals}
+use Rattle.bk_ocode.proofs.Terms.{◌≡◌, ◌≢◌, ℕ, zero, suc, ◌+◌, ◌<◌, ◌≤◌, ◌==◌, Bool, true, false, not, List, [], ◌∷◌, ◌++◌, Some, None, take, drop, slice_get, refl, sym, ◌∙◌, ap, subst, arith, inl, inr, ◌⊎◌, eqb-true, eq-eqb, list_all, jump_labels, result_label, may_stand, position_behind, Context, at_start, start_behind, changed, mentioned, set_by, label_followed, after, after_all, context_of, misplaced, is_lab_from, jumps_set, label_not_set, IsSection, IsAmong, JumpFindsItsLabel, ResultFindsItsLabel, Position, Outer, Datum, Setting, Stmt, Jump, JumpIf, Label, GiveResult, Entry, EndProcedure, Switch, DataLabel, DataNumber, DataAddress, Globals, Position as position, Setting as setting, same_Some, and_parts, not-false}
 use Rattle.bk_ocode.proofs.Depths.{keeps_in}
 use Rattle.bk_ocode.proofs.LabelsOnce.{slice_get-take}
-use Rattle.bk_ocode.proofs.JumpDepths.{after-same}
+use Rattle.bk_ocode.proofs.JumpDepths.{after-same, chosen, taken_from}
 
 -- in a procedure
 abbrev pub Within : Position → Bool
-Within position.Opened = true
-Within (position.BehindLabel l) = true
-Within position.BehindReturn = true
-Within position.Inside = true
 Within position.Outside = false
 Within position.InData = false
 Within position.Ended = false
+Within x = true
 
 not_outer : (p : Position) → Within p ≡ true → not (may_stand p Outer) ≡ false → ⊥
-not_outer position.Opened w e = let h : true ≡ false = e in cc
-not_outer (position.BehindLabel l) w e = let h : true ≡ false = e in cc
-not_outer position.BehindReturn w e = let h : true ≡ false = e in cc
-not_outer position.Inside w e = let h : true ≡ false = e in cc
 not_outer position.Outside w e = let h : false ≡ true = w in cc
 not_outer position.InData w e = let h : false ≡ true = w in cc
 not_outer position.Ended w e = let h : false ≡ true = w in cc
+not_outer x w e = let h : true ≡ false = e in cc
 
 not_datum : (p : Position) → Within p ≡ true → not (may_stand p Datum) ≡ false → ⊥
-not_datum position.Opened w e = let h : true ≡ false = e in cc
-not_datum (position.BehindLabel l) w e = let h : true ≡ false = e in cc
-not_datum position.BehindReturn w e = let h : true ≡ false = e in cc
-not_datum position.Inside w e = let h : true ≡ false = e in cc
 not_datum position.Outside w e = let h : false ≡ true = w in cc
 not_datum position.InData w e = let h : false ≡ true = w in cc
 not_datum position.Ended w e = let h : false ≡ true = w in cc
+not_datum x w e = let h : true ≡ false = e in cc
 
 -- a statement in a procedure ends it, or the next is in it too
 abbrev GoesOn : Context → Stmt → Type 0
@@ -108,23 +84,18 @@ closes_behind c (t ∷ rest) (suc i) s l low at among placed ended =
     let more = closes_behind (after c t) rest i s l (start_before c t low) at among (λ k u is. placed (suc k) u is) ended in
     record { place = suc more.place; at = more.at; later = omega (arith, more.later); begins = omega (arith, more.begins) }
 
--- what holds of all holds of one
-pub both : (a b : Bool) → (a && b) ≡ true → (a ≡ true) × (b ≡ true)
-both true b e = (refl, e)
-both false b e = absurd (let h : false ≡ true = e in cc)
-
 pub all_at : (p : Stmt → Bool) (stmts : List Stmt) (a i : ℕ) (s : Stmt) → list_all p (drop a stmts) ≡ true → a ≤ i → slice_get stmts i ≡ Some s → p s ≡ true
 all_at p [] a i s all low at = absurd (let h : None ≡ Some s = at in cc)
 all_at p (t ∷ rest) zero zero s all low at =
-    let same : t ≡ s = (let h : Some t ≡ Some s = at in cc) in ap p (sym same) ∙ (both (p t) (list_all p rest) all).0
-all_at p (t ∷ rest) zero (suc i) s all low at = all_at p rest zero i s (both (p t) (list_all p rest) all).1 (omega arith) at
+    let same : t ≡ s = (let h : Some t ≡ Some s = at in cc) in ap p (sym same) ∙ (and_parts (p t) (list_all p rest) all).0
+all_at p (t ∷ rest) zero (suc i) s all low at = all_at p rest zero i s (and_parts (p t) (list_all p rest) all).1 (omega arith) at
 all_at p (t ∷ rest) (suc a) zero s all low at = absurd (omega (arith, low))
 all_at p (t ∷ rest) (suc a) (suc i) s all low at = all_at p rest a i s all (omega (arith, low)) at
 
 pub among_all : (q : ℕ → Bool) (ls : List ℕ) (l : ℕ) → list_all q ls ≡ true → IsAmong l ls → q l ≡ true
 among_all q [] l all among = absurd among
 among_all q (x ∷ ls) l all among =
-    let two = both (q x) (list_all q ls) all in
+    let two = and_parts (q x) (list_all q ls) all in
     elim among [ inl same ↦ ap q (sym same) ∙ two.0 | inr later ↦ among_all q ls l two.1 later ]
 
 among_front : (ls ms : List ℕ) (l : ℕ) → IsAmong l ls → IsAmong l (ls ++ ms)
@@ -134,17 +105,11 @@ among_front (x ∷ ls) ms l among = elim among [ inl same ↦ inl same | inr lat
 -- what a LAB set
 lab_of : (start : ℕ) (g : Setting) → is_lab_from start g ≡ true → (depth : ℕ) × (place : ℕ) × (g ≡ setting.Lab depth place)
 lab_of start (setting.Lab depth place) e = (depth, place, refl)
-lab_of start setting.Unset e = absurd (let h : false ≡ true = e in cc)
-lab_of start setting.Entry e = absurd (let h : false ≡ true = e in cc)
-lab_of start setting.Data e = absurd (let h : false ≡ true = e in cc)
+lab_of x y e = absurd (let h : false ≡ true = e in cc)
 
 pub dec_by : (b : Bool) (m l : ℕ) → (m == l) ≡ b → (m ≡ l) ⊎ (m ≢ l)
 dec_by true m l e = inl (eqb-true m l e)
 dec_by false m l e = inr (λ same. let h : true ≡ false = sym (eq-eqb m l same) ∙ e in cc)
-
-chosen : (b : Bool) (x y : LabelUse) → b ≡ true → (if b then x else y).setting ≡ x.setting
-chosen true x y e = refl
-chosen false x y e = absurd (let h : false ≡ true = e in cc)
 
 pub after-entry : (c : Context) (l : ℕ) (name : List ℕ) → ((after c (Entry l name)).uses l).setting ≡ setting.Entry
 after-entry c l name =
@@ -156,24 +121,21 @@ after-data c l =
     let uses = changed l mentioned (label_followed c.position (DataLabel l) c.uses) in
     chosen (l == l) (set_by setting.Data (uses l)) (uses l) (eq-eqb l l refl)
 
-pub injected : (m l : ℕ) → Some m ≡ Some l → m ≡ l
-injected m l e = cc
-
 -- what a LAB set, the last statement set or one before it
 lab_from : (c : Context) (s : Stmt) (l d p : ℕ) → ((after c s).uses l).setting ≡ setting.Lab d p → (s ≡ Label l) ⊎ ((c.uses l).setting ≡ setting.Lab d p)
 lab_from c (Label m) l d p e = elim (dec_by (m == l) m l refl) [
   | inl same ↦ inl (ap (λ (x : ℕ). Label x) same)
-  | inr apart ↦ inr (sym (after-same c (Label m) l (λ h. apart (injected m l h))) ∙ e)
+  | inr apart ↦ inr (sym (after-same c (Label m) l (λ h. apart (same_Some m l h))) ∙ e)
 ]
 lab_from c (Entry m name) l d p e = elim (dec_by (m == l) m l refl) [
   | inl same ↦
       let h : setting.Entry ≡ setting.Lab d p = sym (after-entry c m name) ∙ ap (λ (x : ℕ). ((after c (Entry m name)).uses x).setting) same ∙ e in absurd cc
-  | inr apart ↦ inr (sym (after-same c (Entry m name) l (λ h. apart (injected m l h))) ∙ e)
+  | inr apart ↦ inr (sym (after-same c (Entry m name) l (λ h. apart (same_Some m l h))) ∙ e)
 ]
 lab_from c (DataLabel m) l d p e = elim (dec_by (m == l) m l refl) [
   | inl same ↦
       let h : setting.Data ≡ setting.Lab d p = sym (after-data c m) ∙ ap (λ (x : ℕ). ((after c (DataLabel m)).uses x).setting) same ∙ e in absurd cc
-  | inr apart ↦ inr (sym (after-same c (DataLabel m) l (λ h. apart (injected m l h))) ∙ e)
+  | inr apart ↦ inr (sym (after-same c (DataLabel m) l (λ h. apart (same_Some m l h))) ∙ e)
 ]
 lab_from c s l d p e = inr (sym (after-same c s l (λ h. let k : None ≡ Some l = h in cc)) ∙ e)
 
@@ -185,16 +147,6 @@ lab_exists c (s ∷ rest) l d p e = elim (lab_exists (after c s) rest l d p e) [
   | inr q ↦ inr (suc q.0, q.1)
 ]
 
-pub taken_from : (stmts : List Stmt) (i k : ℕ) (t : Stmt) → slice_get (take i stmts) k ≡ Some t → slice_get stmts k ≡ Some t
-taken_from stmts zero k t is = absurd (let h : None ≡ Some t = is in cc)
-taken_from [] (suc i) k t is = is
-taken_from (x ∷ rest) (suc i) zero t is = is
-taken_from (x ∷ rest) (suc i) (suc k) t is = taken_from rest i k t is
-
-pub not_false : (b : Bool) → not b ≡ false → b ≡ true
-not_false true e = refl
-not_false false e = absurd (let h : true ≡ false = e in cc)
-
 finds_label : (stmts : List Stmt) (i l : ℕ) (s : Stmt) → IsSection stmts → slice_get stmts i ≡ Some s → IsAmong l (jump_labels s ++ result_label s) →
     (place : ℕ) × (slice_get stmts place ≡ Some (Label l))
 finds_label stmts i l s are at among =
@@ -204,7 +156,7 @@ finds_label stmts i l s are at among =
     let e = closed.place in
     let c = context_of (take e stmts) in
     let set : label_not_set (take e stmts) c EndProcedure ≡ false = (keeps_in (take e stmts) c EndProcedure (faultless e EndProcedure closed.at)).set in
-    let all = not_false (list_all (jumps_set c) (drop c.start (take e stmts))) set in
+    let all = not-false (list_all (jumps_set c) (drop c.start (take e stmts))) set in
     let own = all_at (jumps_set c) (take e stmts) c.start i s all (omega (arith, closed.begins)) (slice_get-take stmts e i closed.later ∙ at) in
     let is_lab = among_all (λ label. is_lab_from c.start (c.uses label).setting) (jump_labels s ++ result_label s) l own among in
     let lab = lab_of c.start (c.uses l).setting is_lab in

@@ -1,20 +1,9 @@
 -- The words that begin statements are known again.
-use Rattle.std.proofs.Common.{◌≡◌, ◌≢◌, ℕ, List, [], ◌∷◌, ◌++◌, ◌==◌, Option, Bool, true, false, not, ◌&&◌, nat_eq, nat_lt, if◌then◌else◌, ◌≤◌, ◌<◌, length, arith, ltb-true, Some, None, refl, sym, ap, ◌∙◌}
-use Rattle.std.specs.List.{list_all}
+use Rattle.bk_ocode.proofs.Terms.{◌≡◌, ◌≢◌, ℕ, List, [], ◌∷◌, ◌++◌, ◌==◌, Option, Bool, true, false, not, ◌&&◌, nat_eq, nat_lt, if◌then◌else◌, ◌≤◌, ◌<◌, length, arith, ltb-true, Some, None, refl, sym, ap, ◌∙◌, list_all, keyword, role, may_stand, Context, misplaced, StmtPlace, keyword_text, two, three, four, five, six, seven, eight, keywords_of_length, find_keyword, keyword_of_stmt, keyword_role, Stmt, Keyword, Stmt as stmt, VariableKind as kinds, and_parts}
 use lib.Pointwise.{pointwise}
-use Rattle.bk_ocode.specs.StmtText.{keyword}
-use Rattle.bk_ocode.specs.Places.{role, may_stand}
-use Rattle.bk_ocode.specs.Context.{Context}
-use Rattle.bk_ocode.specs.Faults.{misplaced}
-use Rattle.bk_ocode.specs.declared.standing.StmtPlace.{StmtPlace}
-use Rattle.bk_ocode.specs.Keywords.{keyword_text, two, three, four, five, six, seven, eight, keywords_of_length, find_keyword, keyword_of_stmt, keyword_role}
 use Rattle.bk_ocode.specs.declared.stmt.Variable.TheVariants as variable
 use Rattle.bk_ocode.specs.declared.stmt.Monadic.TheVariants as monadic
 use Rattle.bk_ocode.specs.declared.stmt.Dyadic.TheVariants as dyadic
-use Rattle.bk_ocode.specs.declared.stmt.Stmt.{Stmt}
-use Rattle.bk_ocode.specs.declared.stmt.Stmt.TheVariants as stmt
-use Rattle.bk_ocode.specs.declared.keyword.VariableKind.TheVariants as kinds
-use Rattle.bk_ocode.specs.declared.keyword.Keyword.{Keyword}
 use Rattle.bk_ocode.specs.declared.keyword.Keyword.TheVariants.{Number, Load, Address, Assign, Monadic, Dyadic, JumpIf}
 
 abbrev find : List ℕ → Option Keyword
@@ -24,36 +13,11 @@ find word = find_keyword (keywords_of_length (length word)) word
 pub all_found : (k : Keyword) → find (keyword_text k) ≡ Some k
 all_found Number = refl
 all_found (Load kinds.Local) = refl
-all_found (Load kinds.Global) = refl
-all_found (Load kinds.Static) = refl
 all_found (Address kinds.Local) = refl
-all_found (Address kinds.Global) = refl
-all_found (Address kinds.Static) = refl
 all_found (Assign kinds.Local) = refl
-all_found (Assign kinds.Global) = refl
-all_found (Assign kinds.Static) = refl
 all_found (Monadic monadic.Contents) = refl
-all_found (Monadic monadic.Negate) = refl
-all_found (Monadic monadic.Not) = refl
 all_found (Dyadic dyadic.Multiply) = refl
-all_found (Dyadic dyadic.Divide) = refl
-all_found (Dyadic dyadic.Remainder) = refl
-all_found (Dyadic dyadic.Add) = refl
-all_found (Dyadic dyadic.Subtract) = refl
-all_found (Dyadic dyadic.Equal) = refl
-all_found (Dyadic dyadic.Unequal) = refl
-all_found (Dyadic dyadic.Less) = refl
-all_found (Dyadic dyadic.Greater) = refl
-all_found (Dyadic dyadic.AtMost) = refl
-all_found (Dyadic dyadic.AtLeast) = refl
-all_found (Dyadic dyadic.ShiftLeft) = refl
-all_found (Dyadic dyadic.ShiftRight) = refl
-all_found (Dyadic dyadic.And) = refl
-all_found (Dyadic dyadic.Or) = refl
-all_found (Dyadic dyadic.Eqv) = refl
-all_found (Dyadic dyadic.Neqv) = refl
 all_found (JumpIf true) = refl
-all_found (JumpIf false) = refl
 all_found _ = refl
 
 pub none_found : (word : List ℕ) → find word ≡ None → (k : Keyword) → keyword_text k ≢ word
@@ -67,29 +31,19 @@ same_keyword j k is = let h : Some j ≡ Some k = sym (all_found j) ∙ ap find 
 pub begins_so : (s : Stmt) → keyword s ≡ keyword_text (keyword_of_stmt s)
 begins_so (stmt.Number value) = refl
 begins_so (stmt.Load (variable.Local n)) = refl
-begins_so (stmt.Load (variable.Global n)) = refl
-begins_so (stmt.Load (variable.Static l)) = refl
 begins_so (stmt.Address (variable.Local n)) = refl
-begins_so (stmt.Address (variable.Global n)) = refl
-begins_so (stmt.Address (variable.Static l)) = refl
 begins_so (stmt.Assign (variable.Local n)) = refl
-begins_so (stmt.Assign (variable.Global n)) = refl
-begins_so (stmt.Assign (variable.Static l)) = refl
 begins_so _ = refl
 
 pub stands_so : (s : Stmt) → role s ≡ keyword_role (keyword_of_stmt s)
 stands_so (stmt.Number value) = refl
 stands_so _ = refl
 
-pub and_both : (a b : Bool) → (a && b) ≡ true → (a ≡ true) × (b ≡ true)
-and_both true b is = (refl, is)
-and_both false b is = absurd (let h : false ≡ true = is in cc)
-
 -- what holds of all keywords of a list holds of one that is found there
 found_holds : (p : Keyword → Bool) (list : List Keyword) (word : List ℕ) (k : Keyword) → find_keyword list word ≡ Some k → list_all p list ≡ true → p k ≡ true
 found_holds p [] word k found all = absurd (let h : None ≡ Some k = found in cc)
 found_holds p (j ∷ list) word k found all =
-    let both = and_both (p j) (list_all p list) all in
+    let both = and_parts (p j) (list_all p list) all in
     first_or (pointwise nat_eq (keyword_text j) word) found both.0 (λ later. found_holds p list word k later both.1)
   where
     first_or : (b : Bool) → (if b then Some j else find_keyword list word) ≡ Some k → p j ≡ true → (find_keyword list word ≡ Some k → p k ≡ true) → p k ≡ true
@@ -99,7 +53,7 @@ found_holds p (j ∷ list) word k found all =
 all_append : (p : Keyword → Bool) (xs ys : List Keyword) → list_all p (xs ++ ys) ≡ true → (list_all p xs ≡ true) × (list_all p ys ≡ true)
 all_append p [] ys all = (refl, all)
 all_append p (x ∷ xs) ys all =
-    let both = and_both (p x) (list_all p (xs ++ ys)) all in
+    let both = and_parts (p x) (list_all p (xs ++ ys)) all in
     let rest = all_append p xs ys both.1 in
     (ap (λ b. b && list_all p xs) both.0 ∙ rest.0, rest.1)
 

@@ -1,28 +1,9 @@
 -- Each label that is used is set, by the right kind of statement; and texts are short.
-use Rattle.std.proofs.Common.{◌≡◌, ◌⊎◌, inl, inr, ℕ, zero, suc, ◌+◌, ◌≤◌, nat_le, nat_lt, Bool, true, false, not, ◌||◌, ◌==◌, List, [], ◌∷◌, ◌++◌, length, take, slice_get, Some, None, refl, sym, ◌∙◌, ap, subst, arith, leb-false, ltb-false}
-use Rattle.std.specs.List.{list_all}
-use Rattle.bk_base.specs.declared.limit.TheConstants.{FRAME_WORDS, OCODE_STATEMENTS, OCODE_WORDS}
-use Rattle.bk_ocode.specs.StmtText.{stmt_words}
-use Rattle.bk_ocode.specs.Depth.{next_depth}
-use Rattle.bk_ocode.specs.Labels.{data_labels, item_label, global_labels}
-use Rattle.bk_ocode.specs.Places.{role, may_stand, position_behind}
-use Rattle.bk_ocode.specs.Context.{Context, at_start, after, after_all, context_of}
-use Rattle.bk_ocode.specs.Faults.{is_data, is_entry, data_set, label_not_set, too_long}
-use Rattle.bk_ocode.specs.Section.{AreFaultless, IsSection}
-use Rattle.bk_ocode.specs.SectionData.{text_size}
-use Rattle.bk_ocode.specs.SectionLaws.{IsAmong, DataFindsItsLabel, ItemFindsItsLabel, GlobalFindsItsEntry, GlobalStandsLast, TextIsShort}
-use Rattle.bk_ocode.specs.declared.standing.Position.TheVariants as position
-use Rattle.bk_ocode.specs.declared.standing.StmtPlace.{StmtPlace}
-use Rattle.bk_ocode.specs.declared.standing.StmtPlace.TheVariants.{Outer}
-use Rattle.bk_ocode.specs.declared.standing.Setting.{Setting}
-use Rattle.bk_ocode.specs.declared.standing.Setting.TheVariants as setting
-use Rattle.bk_ocode.specs.declared.stmt.GlobalEntry.{GlobalEntry}
-use Rattle.bk_ocode.specs.declared.stmt.Stmt.{Stmt}
-use Rattle.bk_ocode.specs.declared.stmt.Stmt.TheVariants.{Label, Entry, DataLabel, DataAddress, Globals}
+use Rattle.bk_ocode.proofs.Terms.{◌≡◌, ◌⊎◌, inl, inr, ℕ, zero, suc, ◌+◌, ◌≤◌, nat_le, nat_lt, Bool, true, false, not, ◌||◌, ◌==◌, List, [], ◌∷◌, ◌++◌, length, take, slice_get, Some, None, refl, sym, ◌∙◌, ap, subst, arith, leb-false, ltb-false, list_all, FRAME_WORDS, OCODE_STATEMENTS, OCODE_WORDS, stmt_words, next_depth, data_labels, item_label, global_labels, role, may_stand, position_behind, Context, at_start, after, after_all, context_of, is_data, is_entry, data_set, label_not_set, too_long, AreFaultless, IsSection, text_size, IsAmong, DataFindsItsLabel, ItemFindsItsLabel, GlobalFindsItsEntry, GlobalStandsLast, TextIsShort, StmtPlace, Outer, Setting, GlobalEntry, Stmt, Label, Entry, DataLabel, DataAddress, Globals, Position as position, Setting as setting, same_Some, and_parts, not-false, or_cases, or_parts}
 use Rattle.bk_ocode.proofs.CaseLemmas.{at_push}
-use Rattle.bk_ocode.proofs.Depths.{keeps_in, or_false}
+use Rattle.bk_ocode.proofs.Depths.{keeps_in}
 use Rattle.bk_ocode.proofs.JumpDepths.{after-same, after-label}
-use Rattle.bk_ocode.proofs.JumpPlaces.{both, all_at, among_all, dec_by, injected, after-entry, after-data, not_false}
+use Rattle.bk_ocode.proofs.JumpPlaces.{all_at, among_all, dec_by, after-entry, after-data}
 use Rattle.bk_ocode.proofs.SoundSteps.{at_front, front_of}
 
 -- the last statement of a section
@@ -43,30 +24,30 @@ global_stands_last (s ∷ rest) are = last_is at_start s rest are.ended
 data_from : (c : Context) (s : Stmt) (l : ℕ) → ((after c s).uses l).setting ≡ setting.Data → (s ≡ DataLabel l) ⊎ ((c.uses l).setting ≡ setting.Data)
 data_from c (DataLabel m) l e = elim (dec_by (m == l) m l refl) [
   | inl same ↦ inl (ap (λ (x : ℕ). DataLabel x) same)
-  | inr apart ↦ inr (sym (after-same c (DataLabel m) l (λ h. apart (injected m l h))) ∙ e)
+  | inr apart ↦ inr (sym (after-same c (DataLabel m) l (λ h. apart (same_Some m l h))) ∙ e)
 ]
 data_from c (Entry m name) l e = elim (dec_by (m == l) m l refl) [
   | inl same ↦ let h : setting.Entry ≡ setting.Data = sym (after-entry c m name) ∙ ap (λ (x : ℕ). ((after c (Entry m name)).uses x).setting) same ∙ e in absurd cc
-  | inr apart ↦ inr (sym (after-same c (Entry m name) l (λ h. apart (injected m l h))) ∙ e)
+  | inr apart ↦ inr (sym (after-same c (Entry m name) l (λ h. apart (same_Some m l h))) ∙ e)
 ]
 data_from c (Label m) l e = elim (dec_by (m == l) m l refl) [
   | inl same ↦ let h : setting.Lab c.depth c.count ≡ setting.Data = sym (after-label c m) ∙ ap (λ (x : ℕ). ((after c (Label m)).uses x).setting) same ∙ e in absurd cc
-  | inr apart ↦ inr (sym (after-same c (Label m) l (λ h. apart (injected m l h))) ∙ e)
+  | inr apart ↦ inr (sym (after-same c (Label m) l (λ h. apart (same_Some m l h))) ∙ e)
 ]
 data_from c s l e = inr (sym (after-same c s l (λ h. let k : None ≡ Some l = h in cc)) ∙ e)
 
 entry_from : (c : Context) (s : Stmt) (l : ℕ) → ((after c s).uses l).setting ≡ setting.Entry → ((name : List ℕ) × (s ≡ Entry l name)) ⊎ ((c.uses l).setting ≡ setting.Entry)
 entry_from c (Entry m name) l e = elim (dec_by (m == l) m l refl) [
   | inl same ↦ inl (name, ap (λ (x : ℕ). Entry x name) same)
-  | inr apart ↦ inr (sym (after-same c (Entry m name) l (λ h. apart (injected m l h))) ∙ e)
+  | inr apart ↦ inr (sym (after-same c (Entry m name) l (λ h. apart (same_Some m l h))) ∙ e)
 ]
 entry_from c (DataLabel m) l e = elim (dec_by (m == l) m l refl) [
   | inl same ↦ let h : setting.Data ≡ setting.Entry = sym (after-data c m) ∙ ap (λ (x : ℕ). ((after c (DataLabel m)).uses x).setting) same ∙ e in absurd cc
-  | inr apart ↦ inr (sym (after-same c (DataLabel m) l (λ h. apart (injected m l h))) ∙ e)
+  | inr apart ↦ inr (sym (after-same c (DataLabel m) l (λ h. apart (same_Some m l h))) ∙ e)
 ]
 entry_from c (Label m) l e = elim (dec_by (m == l) m l refl) [
   | inl same ↦ let h : setting.Lab c.depth c.count ≡ setting.Entry = sym (after-label c m) ∙ ap (λ (x : ℕ). ((after c (Label m)).uses x).setting) same ∙ e in absurd cc
-  | inr apart ↦ inr (sym (after-same c (Label m) l (λ h. apart (injected m l h))) ∙ e)
+  | inr apart ↦ inr (sym (after-same c (Label m) l (λ h. apart (same_Some m l h))) ∙ e)
 ]
 entry_from c s l e = inr (sym (after-same c s l (λ h. let k : None ≡ Some l = h in cc)) ∙ e)
 
@@ -87,15 +68,11 @@ entry_exists c (s ∷ rest) l e = elim (entry_exists (after c s) rest l e) [
 
 is_data-so : (g : Setting) → is_data g ≡ true → g ≡ setting.Data
 is_data-so setting.Data e = refl
-is_data-so setting.Unset e = absurd (let h : false ≡ true = e in cc)
-is_data-so setting.Entry e = absurd (let h : false ≡ true = e in cc)
-is_data-so (setting.Lab d p) e = absurd (let h : false ≡ true = e in cc)
+is_data-so x e = absurd (let h : false ≡ true = e in cc)
 
 is_entry-so : (g : Setting) → is_entry g ≡ true → g ≡ setting.Entry
 is_entry-so setting.Entry e = refl
-is_entry-so setting.Unset e = absurd (let h : false ≡ true = e in cc)
-is_entry-so setting.Data e = absurd (let h : false ≡ true = e in cc)
-is_entry-so (setting.Lab d p) e = absurd (let h : false ≡ true = e in cc)
+is_entry-so x e = absurd (let h : false ≡ true = e in cc)
 
 -- what is checked at the end
 record Checked (stmts : List Stmt) : Type 0 where
@@ -112,7 +89,7 @@ checked stmts are =
     let same : take (length last.0) stmts ≡ last.0 = ap (take (length last.0)) last.2 ∙ front_of last.0 (Globals last.1 ∷ []) in
     let keeps = keeps_in (take (length last.0) stmts) (context_of (take (length last.0) stmts)) (Globals last.1) (are.are_faultless.faultless (length last.0) (Globals last.1) at) in
     let set : label_not_set last.0 (context_of last.0) (Globals last.1) ≡ false = subst (λ (l : List Stmt). label_not_set l (context_of l) (Globals last.1) ≡ false) same keeps.set in
-    let two = both (list_all (data_set (context_of last.0)) last.0) (list_all (λ label. is_entry ((context_of last.0).uses label).setting) (global_labels (Globals last.1))) (not_false _ set) in
+    let two = and_parts (list_all (data_set (context_of last.0)) last.0) (list_all (λ label. is_entry ((context_of last.0).uses label).setting) (global_labels (Globals last.1))) (not-false _ set) in
     record { front = last.0; entries = last.1; whole = last.2; of_data = two.0; of_globals = two.1 }
 
 front_at : (front : List Stmt) (g : Stmt) (j : ℕ) (s : Stmt) → slice_get front j ≡ Some s → slice_get (front ++ g ∷ []) j ≡ Some s
@@ -148,13 +125,9 @@ data_finds_its_label stmts i l s are at among =
     let c = context_of k.front in
     elim (data_rule stmts k i s at) [
       | inl h ↦ data_there stmts k l (among_all (λ label. is_data (c.uses label).setting) (data_labels s) l
-          (both (list_all (λ label. is_data (c.uses label).setting) (data_labels s)) (list_all (λ label. is_data (c.uses label).setting || is_entry (c.uses label).setting) (item_label s)) h).0 among)
+          (and_parts (list_all (λ label. is_data (c.uses label).setting) (data_labels s)) (list_all (λ label. is_data (c.uses label).setting || is_entry (c.uses label).setting) (item_label s)) h).0 among)
       | inr same ↦ absurd (subst (λ (x : Stmt). IsAmong l (data_labels x)) (sym same) among)
     ]
-
-either_true : (a b : Bool) → (a || b) ≡ true → (a ≡ true) ⊎ (b ≡ true)
-either_true true b e = inl refl
-either_true false b e = inr e
 
 pub item_finds_its_label : ItemFindsItsLabel
 item_finds_its_label stmts i l are at =
@@ -163,8 +136,8 @@ item_finds_its_label stmts i l are at =
     elim (data_rule stmts k i (DataAddress l) at) [
       | inl h ↦
           let one = among_all (λ label. is_data (c.uses label).setting || is_entry (c.uses label).setting) (item_label (DataAddress l)) l
-          (both (list_all (λ label. is_data (c.uses label).setting) (data_labels (DataAddress l))) (list_all (λ label. is_data (c.uses label).setting || is_entry (c.uses label).setting) (item_label (DataAddress l))) h).1 (inl refl) in
-          elim (either_true (is_data (c.uses l).setting) (is_entry (c.uses l).setting) one) [
+          (and_parts (list_all (λ label. is_data (c.uses label).setting) (data_labels (DataAddress l))) (list_all (λ label. is_data (c.uses label).setting || is_entry (c.uses label).setting) (item_label (DataAddress l))) h).1 (inl refl) in
+          elim (or_cases (is_data (c.uses l).setting) (is_entry (c.uses l).setting) one) [
             | inl d ↦ let q = data_there stmts k l d in (q.0, inl q.1)
             | inr d ↦ let q = entry_there stmts k l d in (q.0, inr (q.1, q.2))
           ]
@@ -215,8 +188,8 @@ all_short : (c : Context) (stmts : List Stmt) → c.count ≤ OCODE_STATEMENTS �
 all_short c [] few short are = (omega (arith, few), omega (arith, short))
 all_short c (s ∷ rest) few short are =
     let long : Bool = nat_lt OCODE_WORDS (c.words + length (stmt_words s)) in
-    let a = or_false (nat_le OCODE_STATEMENTS c.count) (long || nat_lt FRAME_WORDS (next_depth c.depth s)) (are 0 s refl) in
-    let b = or_false long (nat_lt FRAME_WORDS (next_depth c.depth s)) a.1 in
+    let a = or_parts (nat_le OCODE_STATEMENTS c.count) (long || nat_lt FRAME_WORDS (next_depth c.depth s)) (are 0 s refl) in
+    let b = or_parts long (nat_lt FRAME_WORDS (next_depth c.depth s)) a.1 in
     let less = leb-false OCODE_STATEMENTS c.count a.0 in
     let words = ltb-false OCODE_WORDS (c.words + length (stmt_words s)) b.0 in
     let more = all_short (after c s) rest (omega (arith, less)) (omega (arith, words)) (λ k t at. are (suc k) t at) in

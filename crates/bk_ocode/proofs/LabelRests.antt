@@ -1,13 +1,6 @@
 -- The rest behind a LAB is told by its label.
-use Rattle.std.proofs.Common.{◌≡◌, ◌≢◌, ℕ, zero, suc, ◌<◌, Bool, true, false, List, [], ◌∷◌, Option, Some, None, take, drop, slice_get, refl, ◌∙◌, ap, arith, if◌then◌else◌, eq-eqb}
-use Rattle.std.specs.Option.{option_map_or}
-use Rattle.bk_ocode.specs.Depth.{next_depth, depth_behind}
-use Rattle.bk_ocode.specs.OcodeState.{Placement, Wild}
-use Rattle.bk_ocode.specs.OcodeStep.{is_label, step}
-use Rattle.bk_ocode.specs.OcodeRun.{Rest, rest_of, label_rest, resumed, program_step_from}
+use Rattle.bk_ocode.proofs.Terms.{◌≡◌, ◌≢◌, ℕ, zero, suc, ◌<◌, Bool, true, false, List, [], ◌∷◌, Option, Some, None, take, drop, slice_get, refl, ◌∙◌, ap, arith, if◌then◌else◌, eq-eqb, option_map_or, next_depth, depth_behind, Placement, Wild, is_label, step, Rest, rest_of, label_rest, resumed, program_step_from, Stmt, Label}
 use Rattle.bk_ocode.specs.RunLaws.{GoesOnBehindLabel}
-use Rattle.bk_ocode.specs.declared.stmt.Stmt.{Stmt}
-use Rattle.bk_ocode.specs.declared.stmt.Stmt.TheVariants.{Label}
 use Rattle.bk_ocode.proofs.LabelsOnce.{not_label, not_before}
 
 -- the rest behind the LAB at a place

@@ -1,66 +1,67 @@
 -- Labels are set once.
-use Rattle.std.proofs.Common.{◌≡◌, ◌≢◌, ℕ, zero, suc, ◌+◌, ◌-◌, ◌<◌, ◌==◌, Bool, true, false, List, [], ◌∷◌, Some, None, take, drop, slice_get, refl, sym, ◌∙◌, ap, subst, arith, if◌then◌else◌, inl, inr, ◌⊎◌, eq-eqb, ne_eqb}
-use Rattle.std.proofs.lemmas.Bool.Decides.{leb_tells}
-use Rattle.bk_ocode.specs.Labels.{label_set, jump_labels, other_labels}
-use Rattle.bk_ocode.specs.Context.{Context, at_start, changed, all_changed, jumped, given, mentioned, set_by, followed, what_stands, label_followed, labels_named, after, after_all, context_of}
-use Rattle.bk_ocode.specs.Faults.{is_set, set_again}
-use Rattle.bk_ocode.specs.Section.{AreFaultless}
-use Rattle.bk_ocode.specs.OcodeStep.{is_label, from_label}
-use Rattle.bk_ocode.specs.SectionLaws.{LabelsAreSetOnce, LabelHasOnePlace}
-use Rattle.bk_ocode.specs.declared.standing.Position.{Position}
-use Rattle.bk_ocode.specs.declared.standing.Position.TheVariants as position
-use Rattle.bk_ocode.specs.declared.standing.Setting.TheVariants as setting
-use Rattle.bk_ocode.specs.declared.standing.LabelUse.{LabelUse}
-use Rattle.bk_ocode.specs.declared.stmt.Stmt.{Stmt}
-use Rattle.bk_ocode.specs.declared.stmt.Stmt.TheVariants.{Load, Address, Assign, Jump, JumpIf, Label, GiveResult, Entry, Switch, DataLabel, DataAddress}
+use Rattle.bk_ocode.proofs.Terms.{◌≡◌, ◌≢◌, ℕ, zero, suc, ◌+◌, ◌-◌, ◌<◌, ◌==◌, Bool, true, false, List, [], ◌∷◌, Some, None, take, drop, slice_get, refl, sym, ◌∙◌, ap, subst, arith, if◌then◌else◌, inl, inr, ◌⊎◌, eq-eqb, ne_eqb, leb_tells, label_set, jump_labels, other_labels, Context, at_start, changed, all_changed, jumped, given, mentioned, set_by, followed, what_stands, label_followed, labels_named, after, after_all, context_of, is_set, set_again, AreFaultless, is_label, from_label, LabelsAreSetOnce, LabelHasOnePlace, Position, LabelUse, Stmt, Load, Address, Assign, Jump, JumpIf, Label, GiveResult, Entry, Switch, DataLabel, DataAddress, Position as position, Setting as setting, Setting, eqb-true}
+use Rattle.bk_ocode.specs.declared.standing.Behind.{Behind}
 use Rattle.bk_ocode.proofs.Depths.{keeps_in}
+
+-- a property of one label's use that a change keeps
+abbrev pub Preserves : (LabelUse → Type 0) → (LabelUse → LabelUse) → Type 0
+Preserves P change = (known : LabelUse) → P known → P (change known)
+
+-- Each change keeps it, but perhaps not the one that sets the label.
+pub record Kept (P : LabelUse → Type 0) : Type 0 where
+  pub follows : (b : Behind) → Preserves P (followed b)
+  pub mentions : Preserves P mentioned
+  pub gives : (d : ℕ) → Preserves P (given d)
+  pub jumps : (d : ℕ) → Preserves P (jumped d)
+
+module _ (P : LabelUse → Type 0) where
+  changed_keeps : (l : ℕ) (change : LabelUse → LabelUse) (uses : ℕ → LabelUse) (m : ℕ) → (Some l ≡ Some m → Preserves P change) → P (uses m) → P (changed l change uses m)
+  changed_keeps l change uses m keeps is = by_test (m == l) refl
+    where
+      by_test : (b : Bool) → (m == l) ≡ b → P (if b then change (uses m) else uses m)
+      by_test true e = keeps (ap (λ (x : ℕ). Some x) (sym (eqb-true m l e))) (uses m) is
+      by_test false e = is
+
+  pub all_changed_keeps : (ls : List ℕ) (change : LabelUse → LabelUse) (uses : ℕ → LabelUse) (m : ℕ) → Preserves P change → P (uses m) → P (all_changed ls change uses m)
+  all_changed_keeps [] change uses m keeps is = is
+  all_changed_keeps (l ∷ ls) change uses m keeps is = all_changed_keeps ls change (changed l change uses) m keeps (changed_keeps l change uses m (λ e. keeps) is)
+
+  -- what sets a label
+  abbrev Sets : Stmt → ℕ → Type 0
+  Sets s m = (g : Setting) → is_set g ≡ true → label_set s ≡ Some m → Preserves P (set_by g)
+
+  module _ (h : Kept P) where
+    followed_keeps : (p : Position) (s : Stmt) (uses : ℕ → LabelUse) (m : ℕ) → P (uses m) → P (label_followed p s uses m)
+    followed_keeps (position.BehindLabel l) s uses m is = changed_keeps l (followed (what_stands s)) uses m (λ e. h.follows (what_stands s)) is
+    followed_keeps p s uses m is = is
+
+    named_keeps : (k count : ℕ) (s : Stmt) (uses : ℕ → LabelUse) (m : ℕ) → Sets s m → P (uses m) → P (labels_named k count s uses m)
+    named_keeps k count (Label l) uses m sets is = changed_keeps l (set_by (setting.Lab k count)) uses m (sets (setting.Lab k count) refl) is
+    named_keeps k count (Entry l name) uses m sets is =
+        changed_keeps l (set_by setting.Entry) (changed l mentioned uses) m (sets setting.Entry refl) (changed_keeps l mentioned uses m (λ e. h.mentions) is)
+    named_keeps k count (DataLabel l) uses m sets is =
+        changed_keeps l (set_by setting.Data) (changed l mentioned uses) m (sets setting.Data refl) (changed_keeps l mentioned uses m (λ e. h.mentions) is)
+    named_keeps k count (GiveResult l) uses m sets is = changed_keeps l (given (k - 1)) uses m (λ e. h.gives (k - 1)) is
+    named_keeps k count (Jump l) uses m sets is = changed_keeps l (jumped k) uses m (λ e. h.jumps k) is
+    named_keeps k count (JumpIf truth l) uses m sets is = changed_keeps l (jumped (k - 1)) uses m (λ e. h.jumps (k - 1)) is
+    named_keeps k count (Switch default cases) uses m sets is = all_changed_keeps (jump_labels (Switch default cases)) (jumped (k - 1)) uses m (h.jumps (k - 1)) is
+    named_keeps k count (Load from) uses m sets is = all_changed_keeps (other_labels (Load from)) mentioned uses m h.mentions is
+    named_keeps k count (Address of) uses m sets is = all_changed_keeps (other_labels (Address of)) mentioned uses m h.mentions is
+    named_keeps k count (Assign to) uses m sets is = all_changed_keeps (other_labels (Assign to)) mentioned uses m h.mentions is
+    named_keeps k count (DataAddress l) uses m sets is = changed_keeps l mentioned uses m (λ e. h.mentions) is
+    named_keeps k count _ uses m sets is = is
+
+    pub after_keeps : (c : Context) (s : Stmt) (m : ℕ) → Sets s m → P (c.uses m) → P ((after c s).uses m)
+    after_keeps c s m sets is = named_keeps c.depth c.count s (label_followed c.position s c.uses) m sets (followed_keeps c.position s c.uses m is)
 
 -- the label is set
 abbrev IsSetIn : (ℕ → LabelUse) → ℕ → Type 0
 IsSetIn uses m = is_set (uses m).setting ≡ true
 
--- a change that keeps what is set
-abbrev KeepsSet : (LabelUse → LabelUse) → Type 0
-KeepsSet change = (known : LabelUse) → is_set known.setting ≡ true → is_set (change known).setting ≡ true
-
-either : (b : Bool) (x y : LabelUse) → is_set x.setting ≡ true → is_set y.setting ≡ true → is_set (if b then x else y).setting ≡ true
-either true x y p q = p
-either false x y p q = q
-
-changed-keeps : (l : ℕ) (change : LabelUse → LabelUse) (uses : ℕ → LabelUse) (m : ℕ) → KeepsSet change → IsSetIn uses m → IsSetIn (changed l change uses) m
-changed-keeps l change uses m keeps is = either (m == l) (change (uses m)) (uses m) (keeps (uses m) is) is
-
-all_changed-keeps : (ls : List ℕ) (change : LabelUse → LabelUse) (uses : ℕ → LabelUse) (m : ℕ) → KeepsSet change → IsSetIn uses m → IsSetIn (all_changed ls change uses) m
-all_changed-keeps [] change uses m keeps is = is
-all_changed-keeps (l ∷ ls) change uses m keeps is = all_changed-keeps ls change (changed l change uses) m keeps (changed-keeps l change uses m keeps is)
-
-followed-keeps : (p : Position) (s : Stmt) (uses : ℕ → LabelUse) (m : ℕ) → IsSetIn uses m → IsSetIn (label_followed p s uses) m
-followed-keeps (position.BehindLabel l) s uses m is = changed-keeps l (followed (what_stands s)) uses m (λ known h. h) is
-followed-keeps position.Outside s uses m is = is
-followed-keeps position.InData s uses m is = is
-followed-keeps position.Opened s uses m is = is
-followed-keeps position.BehindReturn s uses m is = is
-followed-keeps position.Inside s uses m is = is
-followed-keeps position.Ended s uses m is = is
-
-named-keeps : (k count : ℕ) (s : Stmt) (uses : ℕ → LabelUse) (m : ℕ) → IsSetIn uses m → IsSetIn (labels_named k count s uses) m
-named-keeps k count (Label l) uses m is = changed-keeps l (set_by (setting.Lab k count)) uses m (λ known h. refl) is
-named-keeps k count (Entry l name) uses m is =
-    changed-keeps l (set_by setting.Entry) (changed l mentioned uses) m (λ known h. refl) (changed-keeps l mentioned uses m (λ known h. h) is)
-named-keeps k count (DataLabel l) uses m is =
-    changed-keeps l (set_by setting.Data) (changed l mentioned uses) m (λ known h. refl) (changed-keeps l mentioned uses m (λ known h. h) is)
-named-keeps k count (GiveResult l) uses m is = changed-keeps l (given (k - 1)) uses m (λ known h. h) is
-named-keeps k count (Jump l) uses m is = changed-keeps l (jumped k) uses m (λ known h. h) is
-named-keeps k count (JumpIf truth l) uses m is = changed-keeps l (jumped (k - 1)) uses m (λ known h. h) is
-named-keeps k count (Switch default cases) uses m is = all_changed-keeps (jump_labels (Switch default cases)) (jumped (k - 1)) uses m (λ known h. h) is
-named-keeps k count (Load from) uses m is = all_changed-keeps (other_labels (Load from)) mentioned uses m (λ known h. h) is
-named-keeps k count (Address of) uses m is = all_changed-keeps (other_labels (Address of)) mentioned uses m (λ known h. h) is
-named-keeps k count (Assign to) uses m is = all_changed-keeps (other_labels (Assign to)) mentioned uses m (λ known h. h) is
-named-keeps k count (DataAddress l) uses m is = changed-keeps l mentioned uses m (λ known h. h) is
-named-keeps k count _ uses m is = is
-
 after-keeps : (c : Context) (s : Stmt) (m : ℕ) → IsSetIn c.uses m → IsSetIn (after c s).uses m
-after-keeps c s m is = named-keeps c.depth c.count s (label_followed c.position s c.uses) m (followed-keeps c.position s c.uses m is)
+after-keeps c s m is =
+    after_keeps (λ (u : LabelUse). is_set u.setting ≡ true) (record { follows = λ b known h. h; mentions = λ known h. h; gives = λ d known h. h; jumps = λ d known h. h })
+    c s m (λ g e of known h. e) is
 
 after_all-keeps : (c : Context) (stmts : List Stmt) (m : ℕ) → IsSetIn c.uses m → IsSetIn (after_all c stmts).uses m
 after_all-keeps c [] m is = is

@@ -1,29 +1,9 @@
 -- With a word that is unfit no statement goes on.
-use Rattle.std.proofs.Common.{◌≡◌, ◌≢◌, inl, inr, ℕ, zero, suc, ℤ, FitsSigned, w32, ◌<◌, ◌≤◌, ◌^◌, ◌++◌, true, false, List, [], ◌∷◌, Some, None, length, slice_get, arith, refl, sym, ap, ◌∙◌, append_assoc, append-nil}
-use Rattle.std.proofs.lemmas.Bool.Decides.{Decides-int_eq}
-use Rattle.std.proofs.lemmas.Option.{slice_get_within}
-use Rattle.std.specs.Ordering.{int_eq}
-use Rattle.bk_base.specs.Decimal.{spelling}
-use Rattle.bk_base.specs.declared.limit.TheConstants.{NAME_BYTES}
-use Rattle.bk_ocode.specs.StmtText.{keyword, argument_words, stmt_words, natural_word, label_word, variable_word, byte_words, case_words, global_words}
-use Rattle.bk_ocode.specs.StmtRange.{IsLabel, IsVariable, AreCases}
-use Rattle.bk_ocode.specs.FirstFault.{IsStmt}
-use Rattle.bk_ocode.specs.Keywords.{kind_of, keyword_text, keyword_of_stmt}
-use Rattle.bk_ocode.specs.PartialStmts.{has_value, owner_words, partial_words, is_short, IsPartialStmt, NoNatural, NoLabel, NoVariable, NoArgument, IsUnfit, BeginNone}
+use Rattle.bk_ocode.proofs.Terms.{◌≡◌, ◌≢◌, inl, inr, ℕ, zero, suc, ℤ, FitsSigned, w32, ◌<◌, ◌≤◌, ◌^◌, ◌++◌, true, false, List, [], ◌∷◌, Some, None, length, slice_get, arith, refl, sym, ap, ◌∙◌, append_assoc, append-nil, Decides-int_eq, slice_get_within, int_eq, spelling, NAME_BYTES, keyword, argument_words, stmt_words, natural_word, label_word, variable_word, byte_words, case_words, global_words, IsLabel, IsVariable, AreCases, IsStmt, kind_of, keyword_text, keyword_of_stmt, has_value, owner_words, partial_words, is_short, IsPartialStmt, NoNatural, NoLabel, NoVariable, NoArgument, IsUnfit, BeginNone, Case, GlobalEntry, Stmt, Keyword, Partial, Owner, Stmt as stmt, Keyword as keywords, Partial as begun, Owner as owners, cases_Bool}
 use Rattle.bk_ocode.specs.declared.stmt.Variable.{Variable}
 use Rattle.bk_ocode.specs.declared.stmt.Variable.TheVariants as variable
-use Rattle.bk_ocode.specs.declared.stmt.Case.{Case}
-use Rattle.bk_ocode.specs.declared.stmt.GlobalEntry.{GlobalEntry}
-use Rattle.bk_ocode.specs.declared.stmt.Stmt.{Stmt}
-use Rattle.bk_ocode.specs.declared.stmt.Stmt.TheVariants as stmt
-use Rattle.bk_ocode.specs.declared.keyword.Keyword.{Keyword}
-use Rattle.bk_ocode.specs.declared.keyword.Keyword.TheVariants as keywords
-use Rattle.bk_ocode.specs.declared.partial.Partial.{Partial}
-use Rattle.bk_ocode.specs.declared.partial.Partial.TheVariants as begun
-use Rattle.bk_ocode.specs.declared.partial.Owner.{Owner}
-use Rattle.bk_ocode.specs.declared.partial.Owner.TheVariants as owners
 use Rattle.bk_ocode.proofs.KeywordLemmas.{begins_so, same_keyword}
-use Rattle.bk_ocode.proofs.Completions.{bool_cases, or-second}
+use Rattle.bk_ocode.proofs.Completions.{or-second}
 use Rattle.bk_ocode.proofs.SameStmts.{first_same, rests_same, natural_same, Each, byte_row, case_row, global_row, IsByte, IsCase, IsEntry, byte_rows, case_rows, global_rows, at_seam, next_row}
 
 no_variable : (v : Variable) (w : List ℕ) → IsVariable v → NoVariable (kind_of v) w → variable_word v ≢ w
@@ -83,7 +63,7 @@ no_byte bytes all w rest are fits short is none =
 
 value_place : (value : ℤ) (cases : List Case) → has_value value cases ≡ true → (j : ℕ) × (c : Case) × (slice_get cases j ≡ Some c) × (c.value ≡ value)
 value_place value [] is = absurd (let h : false ≡ true = is in cc)
-value_place value (c ∷ cases) is = elim (bool_cases (int_eq c.value value)) [
+value_place value (c ∷ cases) is = elim (cases_Bool (int_eq c.value value)) [
   | inl same ↦ (0, c, refl, (Decides-int_eq c.value value).0 same)
   | inr other ↦ let r = value_place value cases (sym (or-second (int_eq c.value value) (has_value value cases) other) ∙ is) in (suc r.0, r.1, r.2, r.3)
 ]
@@ -95,7 +75,7 @@ get-append (y ∷ a) c (suc k) x at = get-append a c k x at
 
 -- a case has a value that none before it has
 new_value : (a c : List Case) (i : Case) → AreCases (a ++ i ∷ c) → has_value i.value a ≡ false
-new_value a c i are = elim (bool_cases (has_value i.value a)) [
+new_value a c i are = elim (cases_Bool (has_value i.value a)) [
   | inr free ↦ free
   | inl has ↦
       let p = value_place i.value a has in

@@ -1,21 +1,5 @@
 -- The words of a text say one thing.
-use Rattle.std.proofs.Common.{◌≡◌, ◌≢◌, ◌⊎◌, inl, inr, ℕ, ◌+◌, ◌<◌, ◌≤◌, ◌++◌, Bool, true, false, List, [], ◌∷◌, Some, None, length, take, slice_get, not, if◌then◌else◌, arith, refl, sym, ap, ◌∙◌, subst, append_assoc, append-nil, length-append}
-use Rattle.std.proofs.lemmas.Bool.{cases_lt}
-use Rattle.std.proofs.Math.Seq.{take-append_seam}
-use Rattle.bk_base.specs.declared.limit.TheConstants.{OCODE_WORDS}
-use Rattle.bk_base.specs.declared.ocode_fault.OcodeKind.{OcodeKind}
-use Rattle.bk_base.specs.declared.ocode_fault.OcodeKind.TheVariants.{BadWord, BadNumber, Truncated, LabelNotSet, LabelSetTwice, DepthsDisagree, SlotAboveDepth, TooLong}
-use Rattle.bk_ocode.specs.StmtText.{keyword, argument_words, stmt_words}
-use Rattle.bk_ocode.specs.SectionText.{section_words}
-use Rattle.bk_ocode.specs.StmtRange.{AreTyped}
-use Rattle.bk_ocode.specs.Places.{role, may_stand}
-use Rattle.bk_ocode.specs.Context.{context_of}
-use Rattle.bk_ocode.specs.Faults.{misplaced, stmt_fault}
-use Rattle.bk_ocode.specs.Section.{AreFaultless, IsSection}
-use Rattle.bk_ocode.specs.FirstFault.{IsStmt, IsPartial, BeginsStmt, IsBadWord, IsBadNumber, BreaksRule, PassesWords, FaultOf, FaultAt, CutAt, section, nothing, fault, Says, SayOneThing}
-use Rattle.bk_ocode.specs.declared.standing.Position.{Position}
-use Rattle.bk_ocode.specs.declared.standing.Position.TheVariants.{Outside, Ended}
-use Rattle.bk_ocode.specs.declared.stmt.Stmt.{Stmt}
+use Rattle.bk_ocode.proofs.Terms.{◌≡◌, ◌≢◌, ◌⊎◌, inl, inr, ℕ, ◌+◌, ◌<◌, ◌≤◌, ◌++◌, Bool, true, false, List, [], ◌∷◌, Some, None, length, take, slice_get, not, if◌then◌else◌, arith, refl, sym, ap, ◌∙◌, subst, append_assoc, append-nil, length-append, cases_lt, take-append_seam, OCODE_WORDS, OcodeKind, BadWord, BadNumber, Truncated, LabelNotSet, LabelSetTwice, DepthsDisagree, SlotAboveDepth, TooLong, keyword, argument_words, stmt_words, section_words, AreTyped, role, may_stand, context_of, misplaced, stmt_fault, AreFaultless, IsSection, IsStmt, IsPartial, BeginsStmt, IsBadWord, IsBadNumber, BreaksRule, PassesWords, FaultOf, FaultAt, CutAt, section, nothing, fault, Says, SayOneThing, Position, Outside, Ended, Stmt}
 use Rattle.bk_ocode.proofs.Depths.{keeps_in}
 use Rattle.bk_ocode.proofs.DraftLemmas.{fits_behind}
 use Rattle.bk_ocode.proofs.FaultLemmas.{words_tally}

@@ -1,31 +1,14 @@
 -- What a plan says of labels stays true of what is known of them, statement by statement.
-use Rattle.std.proofs.Common.{arith, ◌≡◌, ℕ, ◌-◌, ◌≤◌, ◌==◌, Bool, true, false, Option, Some, None, List, [], ◌∷◌, refl, sym, subst, if◌then◌else◌, eqb-true, eq-eqb}
+use Rattle.bk_ocode.proofs.Terms.{arith, ◌≡◌, ℕ, ◌-◌, ◌≤◌, ◌==◌, Bool, true, false, Option, Some, None, List, [], ◌∷◌, refl, sym, subst, if◌then◌else◌, eqb-true, eq-eqb, JumpDepths, LabelUse, Position, Outer, Body, Datum, Setting, Static, Stmt, Load, Address, Assign, Jump, JumpIf, Label, GiveResult, Entry, Switch, DataLabel, DataAddress, changed, all_changed, with_depth, jumped, given, least_result, mentioned, followed, what_stands, label_followed, labels_named, jump_labels, role, Use, unused, jumps, results, word, entry, AllJump, Agrees, JumpDepths as came, Position as position, Setting as setting}
 use Rattle.std.specs.Bool.{⊤}
 use Rattle.bk_ocode.specs.declared.standing.Behind.{Behind}
 use Rattle.bk_ocode.specs.declared.standing.Behind.TheVariants as behind
-use Rattle.bk_ocode.specs.declared.standing.JumpDepths.{JumpDepths}
-use Rattle.bk_ocode.specs.declared.standing.JumpDepths.TheVariants as came
-use Rattle.bk_ocode.specs.declared.standing.LabelUse.{LabelUse}
-use Rattle.bk_ocode.specs.declared.standing.Position.{Position}
-use Rattle.bk_ocode.specs.declared.standing.Position.TheVariants as position
-use Rattle.bk_ocode.specs.declared.standing.StmtPlace.TheVariants.{Outer, Body, Datum}
-use Rattle.bk_ocode.specs.declared.standing.Setting.{Setting}
-use Rattle.bk_ocode.specs.declared.standing.Setting.TheVariants as setting
-use Rattle.bk_ocode.specs.declared.stmt.Variable.TheVariants.{Local, Global, Static}
-use Rattle.bk_ocode.specs.declared.stmt.Stmt.{Stmt}
-use Rattle.bk_ocode.specs.declared.stmt.Stmt.TheVariants.{Load, Address, Assign, Jump, JumpIf, Label, GiveResult, Entry, Switch, DataLabel, DataAddress}
-use Rattle.bk_ocode.specs.Context.{changed, all_changed, with_depth, jumped, given, least_result, mentioned, followed, what_stands, label_followed, labels_named}
-use Rattle.bk_ocode.specs.Labels.{jump_labels}
-use Rattle.bk_ocode.specs.Places.{role}
-use Rattle.bk_ocode.specs.Typing.{Use, unused, jumps, results, word, entry, AllJump, Agrees}
 
 -- the labels of the procedure with this entry
 abbrev pub Of : ℕ → Use → Type 0
 Of q (jumps p d) = p ≡ q
 Of q (results p n) = p ≡ q
-Of q unused = ⊥
-Of q word = ⊥
-Of q entry = ⊥
+Of q x = ⊥
 
 abbrev pub LabAt : ℕ → Setting → Type 0
 LabAt d setting.Unset = ⊤
@@ -80,6 +63,12 @@ changed_matches plan m change uses h all l = pick (l == m) refl
     pick true e = subst (λ (x : ℕ). Matches (plan x) (change (uses x))) (sym (eqb-true l m e)) h
     pick false e = all l
 
+-- by a change that keeps what the plan says
+use_matches : (plan : ℕ → Use) (l : ℕ) (u : Use) (change : LabelUse → LabelUse) (uses : ℕ → LabelUse) → plan l ≡ u → (Matches u (uses l) → Matches u (change (uses l)))
+    → AllMatch plan uses → AllMatch plan (changed l change uses)
+use_matches plan l u change uses e keeps all =
+    changed_matches plan l change uses (subst (λ (x : Use). Matches x (change (uses l))) (sym e) (keeps (subst (λ (x : Use). Matches x (uses l)) e (all l)))) all
+
 -- and changed again
 pub changed_twice : (plan : ℕ → Use) (m : ℕ) (f g : LabelUse → LabelUse) (uses : ℕ → LabelUse)
     → Matches (plan m) (f (g (uses m))) → AllMatch plan uses → AllMatch plan (changed m f (changed m g uses))
@@ -102,43 +91,22 @@ one_depth k came.Several h = h
 jump_matches : (p k : ℕ) (known : LabelUse) → Matches (jumps p k) known → Matches (jumps p k) (jumped k known)
 jump_matches p k known h = (h.0, one_depth k known.jumps h.1, h.2)
 
-jump_at : (plan : ℕ → Use) (p k l : ℕ) (uses : ℕ → LabelUse) → plan l ≡ jumps p k → AllMatch plan uses → Matches (plan l) (jumped k (uses l))
-jump_at plan p k l uses e all =
-    let h : Matches (jumps p k) (uses l) = subst (λ (u : Use). Matches u (uses l)) e (all l) in
-    subst (λ (u : Use). Matches u (jumped k (uses l))) (sym e) (jump_matches p k (uses l) h)
-
 jumps_match : (plan : ℕ → Use) (p k : ℕ) (ls : List ℕ) (uses : ℕ → LabelUse) → AllJump plan p k ls → AllMatch plan uses → AllMatch plan (all_changed ls (jumped k) uses)
 jumps_match plan p k [] uses h all = all
 jumps_match plan p k (l ∷ ls) uses h all =
-    jumps_match plan p k ls (changed l (jumped k) uses) h.1 (changed_matches plan l (jumped k) uses (jump_at plan p k l uses h.0 all) all)
+    jumps_match plan p k ls (changed l (jumped k) uses) h.1 (use_matches plan l (jumps p k) (jumped k) uses h.0 (jump_matches p k (uses l)) all)
 
 -- a RES comes
 at_least : (n k : ℕ) (y : Option ℕ) → n ≤ k → AtLeast n y → AtLeast n (least_result k y)
 at_least n k None low h = low
 at_least n k (Some d) low h = omega (arith, low, h)
 
-result_at : (plan : ℕ → Use) (p k n l : ℕ) (uses : ℕ → LabelUse) → plan l ≡ results p n → n ≤ k → AllMatch plan uses → Matches (plan l) (given k (uses l))
-result_at plan p k n l uses e low all =
-    let h : Matches (results p n) (uses l) = subst (λ (u : Use). Matches u (uses l)) e (all l) in
-    let g : Matches (results p n) (given k (uses l)) = (h.0, h.1, h.2, at_least n k (uses l).result low h.3) in
-    subst (λ (u : Use). Matches u (given k (uses l))) (sym e) g
-
--- a word of data is named
-word_at : (plan : ℕ → Use) (l : ℕ) (uses : ℕ → LabelUse) → plan l ≡ word → AllMatch plan uses → Matches (plan l) (mentioned (uses l))
-word_at plan l uses e all =
-    let h : Matches word (uses l) = subst (λ (u : Use). Matches u (uses l)) e (all l) in
-    subst (λ (u : Use). Matches u (mentioned (uses l))) (sym e) h
-
+-- a word of data is named, or an entry
 pub word_matches : (plan : ℕ → Use) (l : ℕ) (uses : ℕ → LabelUse) → plan l ≡ word → AllMatch plan uses → AllMatch plan (changed l mentioned uses)
-word_matches plan l uses e all = changed_matches plan l mentioned uses (word_at plan l uses e all) all
-
-entry_at : (plan : ℕ → Use) (l : ℕ) (uses : ℕ → LabelUse) → plan l ≡ entry → AllMatch plan uses → Matches (plan l) (mentioned (uses l))
-entry_at plan l uses e all =
-    let h : Matches entry (uses l) = subst (λ (u : Use). Matches u (uses l)) e (all l) in
-    subst (λ (u : Use). Matches u (mentioned (uses l))) (sym e) h
+word_matches plan l uses e all = use_matches plan l word mentioned uses e (λ h. h) all
 
 pub entry_matches : (plan : ℕ → Use) (l : ℕ) (uses : ℕ → LabelUse) → plan l ≡ entry → AllMatch plan uses → AllMatch plan (changed l mentioned uses)
-entry_matches plan l uses e all = changed_matches plan l mentioned uses (entry_at plan l uses e all) all
+entry_matches plan l uses e all = use_matches plan l entry mentioned uses e (λ h. h) all
 
 -- a statement in a procedure names labels
 pub named_matches : (plan : ℕ → Use) (p k count : ℕ) (s : Stmt) (uses : ℕ → LabelUse) → role s ≡ Body → Agrees plan p k s → AllMatch plan uses → AllMatch plan (labels_named k count s uses)
@@ -146,19 +114,13 @@ named_matches plan p k count (Label l) uses r h all = elim h [ ]
 named_matches plan p k count (Entry l name) uses r h all = absurd (let e : Outer ≡ Body = r in cc)
 named_matches plan p k count (DataLabel l) uses r h all = absurd (let e : Outer ≡ Body = r in cc)
 named_matches plan p k count (DataAddress l) uses r h all = absurd (let e : Datum ≡ Body = r in cc)
-named_matches plan p k count (GiveResult l) uses r h all = changed_matches plan l (given (k - 1)) uses (result_at plan p (k - 1) h.0 l uses h.1 h.2 all) all
-named_matches plan p k count (Jump l) uses r h all = changed_matches plan l (jumped k) uses (jump_at plan p k l uses h all) all
-named_matches plan p k count (JumpIf truth l) uses r h all = changed_matches plan l (jumped (k - 1)) uses (jump_at plan p (k - 1) l uses h all) all
+named_matches plan p k count (GiveResult l) uses r h all = use_matches plan l (results p h.0) (given (k - 1)) uses h.1 (λ m. (m.0, m.1, m.2, at_least h.0 (k - 1) (uses l).result h.2 m.3)) all
+named_matches plan p k count (Jump l) uses r h all = use_matches plan l (jumps p k) (jumped k) uses h (jump_matches p k (uses l)) all
+named_matches plan p k count (JumpIf truth l) uses r h all = use_matches plan l (jumps p (k - 1)) (jumped (k - 1)) uses h (jump_matches p (k - 1) (uses l)) all
 named_matches plan p k count (Switch default cases) uses r h all = jumps_match plan p (k - 1) (jump_labels (Switch default cases)) uses h all
 named_matches plan p k count (Load (Static l)) uses r h all = word_matches plan l uses h all
-named_matches plan p k count (Load (Local n)) uses r h all = all
-named_matches plan p k count (Load (Global n)) uses r h all = all
 named_matches plan p k count (Address (Static l)) uses r h all = word_matches plan l uses h all
-named_matches plan p k count (Address (Local n)) uses r h all = all
-named_matches plan p k count (Address (Global n)) uses r h all = all
 named_matches plan p k count (Assign (Static l)) uses r h all = word_matches plan l uses h all
-named_matches plan p k count (Assign (Local n)) uses r h all = all
-named_matches plan p k count (Assign (Global n)) uses r h all = all
 named_matches plan p k count _ uses r h all = all
 
 -- Where a statement of a procedure may follow, and where it may follow as far as labels go: not behind the LAB of a result.
@@ -166,10 +128,7 @@ abbrev pub Free : (ℕ → Use) → Position → Type 0
 Free plan position.Inside = ⊤
 Free plan position.BehindReturn = ⊤
 Free plan (position.BehindLabel l) = (p : ℕ) × (d : ℕ) × (plan l ≡ jumps p d)
-Free plan position.Outside = ⊥
-Free plan position.InData = ⊥
-Free plan position.Opened = ⊥
-Free plan position.Ended = ⊥
+Free plan x = ⊥
 
 abbrev pub Clear : (ℕ → Use) → Position → Type 0
 Clear plan (position.BehindLabel l) = (p : ℕ) × (d : ℕ) × (plan l ≡ jumps p d)
@@ -180,7 +139,5 @@ free_clear plan (position.BehindLabel l) h = h
 free_clear plan _ h = tt
 
 pub followed_matches : (plan : ℕ → Use) (q : Position) (s : Stmt) (uses : ℕ → LabelUse) → Clear plan q → AllMatch plan uses → AllMatch plan (label_followed q s uses)
-followed_matches plan (position.BehindLabel l) s uses free all =
-    let h : Matches (jumps free.0 free.1) (uses l) = subst (λ (u : Use). Matches u (uses l)) free.2 (all l) in
-    changed_matches plan l (followed (what_stands s)) uses (subst (λ (u : Use). Matches u (followed (what_stands s) (uses l))) (sym free.2) h) all
+followed_matches plan (position.BehindLabel l) s uses free all = use_matches plan l (jumps free.0 free.1) (followed (what_stands s)) uses free.2 (λ h. h) all
 followed_matches plan _ s uses free all = all

@@ -1,25 +1,8 @@
 -- The words of what is printed.
-use Rattle.std.proofs.Common.{◌≡◌, ℕ, suc, ℤ, pos, FitsSigned, w32, ◌<◌, ◌^◌, ◌++◌, ◌&&◌, not, nat_lt, Bool, true, false, List, [], ◌∷◌, length, arith, refl, sym, ap, ◌∙◌, append_assoc, ltb-true}
-use Rattle.std.specs.Prelude.{⊤}
-use Rattle.std.specs.List.{list_all}
-use Rattle.bk_base.specs.Decimal.{spelling}
-use Rattle.bk_words.specs.Words.{is_blank, words_of, AreInWord}
-use Rattle.bk_words.specs.WordLaws.{words_of-front}
-use Rattle.bk_words.specs.Numerals.{fits-pos, spelling-some, spelling-inside}
-use Rattle.bk_ocode.specs.Lists.{joined}
-use Rattle.bk_ocode.specs.StmtText.{keyword, argument_words, stmt_words, stmt_text, spaced, natural_word, label_word, variable_word, byte_words}
-use Rattle.bk_ocode.specs.SectionText.{section_text, section_words}
-use Rattle.bk_ocode.specs.StmtRange.{IsLabel, IsVariable}
-use Rattle.bk_ocode.specs.FirstFault.{IsStmt}
-use Rattle.bk_ocode.specs.Keywords.{keyword_text, keyword_of_stmt}
+use Rattle.bk_ocode.proofs.Terms.{◌≡◌, ℕ, suc, ℤ, pos, FitsSigned, w32, ◌<◌, ◌^◌, ◌++◌, ◌&&◌, not, nat_lt, Bool, true, List, [], ◌∷◌, length, arith, refl, sym, ap, ◌∙◌, append_assoc, ltb-true, ⊤, list_all, spelling, is_blank, words_of, AreInWord, words_of-front, fits-pos, spelling-some, spelling-inside, joined, keyword, argument_words, stmt_words, stmt_text, spaced, natural_word, label_word, variable_word, byte_words, section_text, section_words, IsLabel, IsVariable, IsStmt, keyword_text, keyword_of_stmt, Case, GlobalEntry, Stmt, Keyword, Stmt as stmt, and_parts, not-true}
 use Rattle.bk_ocode.specs.declared.stmt.Variable.{Variable}
 use Rattle.bk_ocode.specs.declared.stmt.Variable.TheVariants as variable
-use Rattle.bk_ocode.specs.declared.stmt.Case.{Case}
-use Rattle.bk_ocode.specs.declared.stmt.GlobalEntry.{GlobalEntry}
-use Rattle.bk_ocode.specs.declared.stmt.Stmt.{Stmt}
-use Rattle.bk_ocode.specs.declared.stmt.Stmt.TheVariants as stmt
-use Rattle.bk_ocode.specs.declared.keyword.Keyword.{Keyword}
-use Rattle.bk_ocode.proofs.KeywordLemmas.{and_both, holds_of_each, begins_so}
+use Rattle.bk_ocode.proofs.KeywordLemmas.{holds_of_each, begins_so}
 use Rattle.bk_ocode.proofs.SameStmts.{Each, byte_row, case_row, global_row, IsByte, IsCase, IsEntry}
 
 -- a word has a byte at least, and no blank
@@ -52,17 +35,13 @@ variable-word (variable.Static l) fits = label-word l fits
 abbrev inside : List ℕ → Bool
 inside word = list_all (λ b. not (is_blank b)) word
 
-not_true : (a : Bool) → not a ≡ true → a ≡ false
-not_true true is = absurd (let h : false ≡ true = is in cc)
-not_true false is = refl
-
 in_word : (word : List ℕ) → inside word ≡ true → AreInWord word
 in_word [] is = tt
-in_word (b ∷ word) is = let p = and_both (not (is_blank b)) (inside word) is in (not_true (is_blank b) p.0, in_word word p.1)
+in_word (b ∷ word) is = let p = and_parts (not (is_blank b)) (inside word) is in (not-true (is_blank b) p.0, in_word word p.1)
 
 keyword-word : (k : Keyword) → IsWord (keyword_text k)
 keyword-word k =
-    let is = and_both (nat_lt 0 (length (keyword_text k))) (inside (keyword_text k))
+    let is = and_parts (nat_lt 0 (length (keyword_text k))) (inside (keyword_text k))
     (holds_of_each (λ (j : Keyword). nat_lt 0 (length (keyword_text j)) && inside (keyword_text j)) refl k) in
     (ltb-true 0 (length (keyword_text k)) is.0, in_word (keyword_text k) is.1)
 

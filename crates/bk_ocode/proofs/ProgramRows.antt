@@ -1,20 +1,8 @@
 -- Small programs, computed by the step of OCODE: a loop, a string, and a call whose left operand is an item below it.
-use Rattle.std.proofs.Common.{◌≡◌, ℕ, ◌+◌, ◌==◌, pos, [], ◌∷◌, refl, Bool, true, false, Option, Some, None, List, if◌then◌else◌}
-use Rattle.std.specs.Prelude.{codes}
-use Rattle.std.specs.Fmt.{digits}
-use Rattle.bk_base.specs.Word.{packed_word}
+use Rattle.bk_ocode.proofs.Terms.{◌≡◌, ℕ, ◌+◌, ◌==◌, pos, [], ◌∷◌, refl, Bool, true, false, Option, Some, None, List, if◌then◌else◌, digits, packed_word, End, Status, DivideByZero, Word, Variable, Link, Cell, Free, Held, write, Wrch, Writes, Writen, Placement, At, State, Next, Goes, Ends, Wild, global_place, Program, run, Local, Global, Static, Contents, Stmt, Number, Query, Load, Address, Text, Monadic, Dyadic, Assign, AssignAt, Jump, JumpIf, Label, GiveResult, TakeResult, Stack, Store, Entry, Save, CallFunction, CallRoutine, ReturnItem, Return, EndProcedure, DataLabel, DataAddress, Globals, codes}
 use Rattle.bk_base.specs.Format.{parts}
-use Rattle.bk_base.specs.declared.run_end.End.{End}
-use Rattle.bk_base.specs.declared.run_end.End.TheVariants.{Status, DivideByZero}
-use Rattle.bk_ocode.specs.Cells.{Word, Variable, Link, Cell, Free, Held, write}
-use Rattle.bk_ocode.specs.OcodeState.{Wrch, Writes, Writen, Placement, At, State, Next, Goes, Ends, Wild, global_place}
 use Rattle.bk_ocode.specs.Telling.{format_bytes}
-use Rattle.bk_ocode.specs.OcodeRun.{Program, run}
-use Rattle.bk_ocode.specs.declared.stmt.Variable.TheVariants.{Local, Global, Static}
-use Rattle.bk_ocode.specs.declared.stmt.Monadic.TheVariants.{Contents}
 use Rattle.bk_ocode.specs.declared.stmt.Dyadic.TheVariants.{Add, Divide, AtMost}
-use Rattle.bk_ocode.specs.declared.stmt.Stmt.{Stmt}
-use Rattle.bk_ocode.specs.declared.stmt.Stmt.TheVariants.{Number, Query, Load, Address, Text, Monadic, Dyadic, Assign, AssignAt, Jump, JumpIf, Label, GiveResult, TakeResult, Stack, Store, Entry, Save, CallFunction, CallRoutine, ReturnItem, Return, EndProcedure, DataLabel, DataAddress, Globals}
 
 -- where things lie in these programs
 abbrev places : Placement

@@ -1,13 +1,5 @@
 -- What is printed is read again.
-use Rattle.std.proofs.Common.{◌≡◌, ℕ, ◌++◌, List, [], ◌∷◌, Some, None, Ok, Err, refl, sym, ap, ◌∙◌, append_assoc}
-use Rattle.bk_base.specs.declared.ocode_fault.OcodeKind.{OcodeKind}
-use Rattle.bk_base.specs.declared.refused.Refused.TheVariants.{Fault, Memory, Device}
-use Rattle.bk_words.specs.Words.{words_of}
-use Rattle.bk_ocode.specs.SectionText.{section_text, section_words}
-use Rattle.bk_ocode.specs.SectionStmts.{stmts_of}
-use Rattle.bk_ocode.specs.FirstFault.{section, nothing, fault}
-use Rattle.bk_ocode.specs.SectionAnswer.{texts_of, words_of_all, PrintedIsParted, PrintedAreParted, PrintedSaysAgain, PrintedIsReadAgain}
-use Rattle.bk_ocode.specs.declared.stmt.Stmt.{Stmt}
+use Rattle.bk_ocode.proofs.Terms.{◌≡◌, ℕ, ◌++◌, List, [], ◌∷◌, Some, None, Ok, Err, refl, sym, ap, ◌∙◌, append_assoc, OcodeKind, Fault, Memory, Device, words_of, section_text, section_words, stmts_of, section, nothing, fault, texts_of, words_of_all, PrintedIsParted, PrintedAreParted, PrintedSaysAgain, PrintedIsReadAgain, Stmt}
 use Rattle.bk_ocode.proofs.SectionProp.{section_whole}
 use Rattle.bk_ocode.proofs.OneSaying.{each_stmt, one_saying}
 use Rattle.bk_ocode.proofs.PrintedLemmas.{words_of-printed}

@@ -1,24 +1,6 @@
 -- What a text says, one word after another.
-use Rattle.std.proofs.Common.{◌≡◌, ◌≢◌, inl, inr, ℕ, ◌+◌, ◌<◌, ◌≤◌, ◌++◌, Bool, IsTrue, List, [], ◌∷◌, Option, Some, None, length, take, arith, refl, sym, ◌∙◌, ap, subst, length-append, append_assoc, append-nil}
-use Rattle.std.proofs.lemmas.List.{take-append-le}
-use Rattle.std.proofs.Math.Seq.{take-append_seam}
-use Rattle.std.specs.Io.KnownBytes.{Consumes}
-use Rattle.bk_base.specs.declared.limit.TheConstants.{INPUT_BYTES, OCODE_STATEMENTS}
-use Rattle.bk_words.specs.TextEnd.{AtEnd}
-use Rattle.bk_words.specs.Gathering.{Holds, IsNextWord}
-use Rattle.bk_words.specs.Taking.{TakesWords, TakesSome, Reads, ReadsAll}
-use Rattle.bk_words.specs.WordLaws.{Reads-word, Reads-end}
+use Rattle.bk_ocode.proofs.Terms.{◌≡◌, ◌≢◌, inl, inr, ℕ, ◌+◌, ◌<◌, ◌≤◌, ◌++◌, Bool, IsTrue, List, [], ◌∷◌, Option, Some, None, length, take, arith, refl, sym, ◌∙◌, ap, subst, length-append, append_assoc, append-nil, take-append-le, take-append_seam, Consumes, INPUT_BYTES, OCODE_STATEMENTS, AtEnd, Holds, IsNextWord, TakesWords, TakesSome, Reads, ReadsAll, Reads-word, Reads-end, stmt_words, section_words, InRange, IsTyped, AreTyped, context_of, stmt_fault, AreFaultless, IsSection, IsPartial, IsStmt, Takes, GivesSection, GivesNothing, Ended, Stmt}
 use Rattle.bk_words.specs.declared.words.Gathered.{Gathered}
-use Rattle.bk_ocode.specs.StmtText.{stmt_words}
-use Rattle.bk_ocode.specs.SectionText.{section_words}
-use Rattle.bk_ocode.specs.StmtRange.{InRange, IsTyped, AreTyped}
-use Rattle.bk_ocode.specs.Context.{context_of}
-use Rattle.bk_ocode.specs.Faults.{stmt_fault}
-use Rattle.bk_ocode.specs.Section.{AreFaultless, IsSection}
-use Rattle.bk_ocode.specs.FirstFault.{IsPartial, IsStmt}
-use Rattle.bk_ocode.specs.SectionAnswer.{Takes, GivesSection, GivesNothing}
-use Rattle.bk_ocode.specs.declared.standing.Position.TheVariants.{Ended}
-use Rattle.bk_ocode.specs.declared.stmt.Stmt.{Stmt}
 use Rattle.bk_ocode.proofs.CaseLemmas.{at_push}
 use Rattle.bk_ocode.proofs.Rows.{joined-append}
 use Rattle.bk_ocode.proofs.DraftLemmas.{fits_behind}

@@ -1,16 +1,5 @@
 -- Texts of lists that are written one part after another.
-use Rattle.std.proofs.Common.{◌≡◌, ℕ, ◌+◌, ◌<◌, List, [], ◌∷◌, ◌++◌, length, take, drop, get_or, refl, sym, ◌∙◌, ap, append_assoc, subst, Option}
-use Rattle.std.specs.Io.KnownBytes.{Appends}
-use Rattle.std.proofs.lemmas.List.{take_more, take-append-drop}
-use Rattle.bk_base.specs.Devices.{AppendsPart}
-use Rattle.bk_base.specs.Decimal.{spelling}
-use Rattle.bk_ocode.specs.Lists.{joined}
-use Rattle.bk_ocode.specs.StmtText.{natural_word, label_word, spaced, byte_words, case_words, global_words, stmt_text}
-use Rattle.bk_ocode.specs.SectionText.{section_text}
-use Rattle.bk_ocode.specs.declared.stmt.Case.{Case}
-use Rattle.bk_ocode.specs.declared.stmt.GlobalEntry.{GlobalEntry}
-use Rattle.bk_ocode.specs.declared.stmt.Stmt.{Stmt}
-use Rattle.bk_base.specs.DeviceLaws.{Appends-trans, AppendsPart-behind, AppendsPart-front}
+use Rattle.bk_ocode.proofs.Terms.{◌≡◌, ℕ, ◌+◌, ◌<◌, List, [], ◌∷◌, ◌++◌, length, take, drop, get_or, refl, sym, ◌∙◌, ap, append_assoc, subst, Option, Appends, take_more, take-append-drop, AppendsPart, spelling, joined, natural_word, label_word, spaced, byte_words, case_words, global_words, stmt_text, section_text, Case, GlobalEntry, Stmt, Appends-trans, AppendsPart-behind, AppendsPart-front}
 
 pub joined-append : {A B : Type 0} → (f : A → List B) (a b : List A) → joined f (a ++ b) ≡ joined f a ++ joined f b
 joined-append f [] b = refl

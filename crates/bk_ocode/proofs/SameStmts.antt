@@ -1,19 +1,8 @@
 -- Words stand for one statement, and no statement's words begin those of another.
-use Rattle.std.proofs.Common.{◌≡◌, ℕ, suc, ℤ, FitsSigned, w32, ◌<◌, ◌≤◌, ◌^◌, ◌++◌, Bool, List, [], ◌∷◌, Some, length, slice_get, arith, refl, sym, ap, ◌∙◌, append_assoc, append-nil, length-append}
+use Rattle.bk_ocode.proofs.Terms.{◌≡◌, ℕ, suc, ℤ, FitsSigned, w32, ◌<◌, ◌≤◌, ◌^◌, ◌++◌, Bool, List, [], ◌∷◌, Some, length, slice_get, arith, refl, sym, ap, ◌∙◌, append_assoc, append-nil, length-append, spelling, mag-fits, rest_same, joined, keyword, argument_words, stmt_words, natural_word, label_word, variable_word, case_words, IsLabel, IsGlobal, IsVariable, IsStmt, kind_of, keyword_of_stmt, Case, GlobalEntry, Stmt, Stmt as stmt}
 use Rattle.std.proofs.lemmas.Fmt.{decimal_injective, signed_decimal_injective}
-use Rattle.bk_base.specs.Decimal.{spelling}
-use Rattle.bk_words.specs.Numerals.{mag-fits, rest_same}
-use Rattle.bk_ocode.specs.Lists.{joined}
-use Rattle.bk_ocode.specs.StmtText.{keyword, argument_words, stmt_words, natural_word, label_word, variable_word, case_words}
-use Rattle.bk_ocode.specs.StmtRange.{IsLabel, IsGlobal, IsVariable}
-use Rattle.bk_ocode.specs.FirstFault.{IsStmt}
-use Rattle.bk_ocode.specs.Keywords.{kind_of, keyword_of_stmt}
 use Rattle.bk_ocode.specs.declared.stmt.Variable.{Variable}
 use Rattle.bk_ocode.specs.declared.stmt.Variable.TheVariants as variable
-use Rattle.bk_ocode.specs.declared.stmt.Case.{Case}
-use Rattle.bk_ocode.specs.declared.stmt.GlobalEntry.{GlobalEntry}
-use Rattle.bk_ocode.specs.declared.stmt.Stmt.{Stmt}
-use Rattle.bk_ocode.specs.declared.stmt.Stmt.TheVariants as stmt
 use Rattle.bk_ocode.proofs.KeywordLemmas.{begins_so, same_keyword}
 
 pub first_same : (v w : List ℕ) (s t : List (List ℕ)) → v ∷ s ≡ w ∷ t → v ≡ w
@@ -36,12 +25,7 @@ variable_same : (u v : Variable) → IsVariable u → IsVariable v → kind_of u
 variable_same (variable.Local m) (variable.Local n) p q kind is = ap variable.Local (natural_same m n p.1 q.1 is)
 variable_same (variable.Global m) (variable.Global n) p q kind is = ap variable.Global (natural_same m n (omega (arith, p)) (omega (arith, q)) is)
 variable_same (variable.Static m) (variable.Static n) p q kind is = ap variable.Static (label_same m n p q is)
-variable_same (variable.Local m) (variable.Global n) p q kind is = absurd (cc)
-variable_same (variable.Local m) (variable.Static n) p q kind is = absurd (cc)
-variable_same (variable.Global m) (variable.Local n) p q kind is = absurd (cc)
-variable_same (variable.Global m) (variable.Static n) p q kind is = absurd (cc)
-variable_same (variable.Static m) (variable.Local n) p q kind is = absurd (cc)
-variable_same (variable.Static m) (variable.Global n) p q kind is = absurd (cc)
+variable_same x y p q kind is = absurd (cc)
 
 -- each of these holds it
 abbrev pub Each : {A : Type 0} → (A → Type 0) → List A → Type 0

@@ -1,21 +1,10 @@
 -- Being a section is a proposition.
-use Rattle.std.proofs.Common.{List, Option}
+use Rattle.bk_ocode.proofs.Terms.{List, Option, OcodeKind, IsSection, stmts_of, Ocode, InRange, IsTyped, AreTyped, IsVariable, AreCases, AreEntries, Position, Local, Global, Static, Case, GlobalEntry, Stmt, Number, Load, Address, Text, Assign, Jump, JumpIf, Label, GiveResult, TakeResult, Stack, Entry, Save, Switch, DataLabel, DataNumber, DataAddress, Globals}
 use Rattle.std.proofs.Props.{props}
 use mathlib.Core.Sum.{⊎_set}
 use Rattle.std.proofs.Math.Nat.{ℕ_set}
-use Rattle.bk_base.specs.declared.ocode_fault.OcodeKind.{OcodeKind}
-use Rattle.bk_ocode.specs.Section.{IsSection}
-use Rattle.bk_ocode.specs.SectionStmts.{stmts_of}
-use Rattle.bk_ocode.specs.declared.section.Ocode.{Ocode}
 use Rattle.std.proofs.Math.Logic.{∥∥₁_elim}
-use Rattle.bk_ocode.specs.StmtRange.{InRange, IsTyped, AreTyped, IsVariable, AreCases, AreEntries}
-use Rattle.bk_ocode.specs.declared.standing.Position.{Position}
 use Rattle.bk_ocode.specs.declared.stmt.Variable.{Variable}
-use Rattle.bk_ocode.specs.declared.stmt.Variable.TheVariants.{Local, Global, Static}
-use Rattle.bk_ocode.specs.declared.stmt.Case.{Case}
-use Rattle.bk_ocode.specs.declared.stmt.GlobalEntry.{GlobalEntry}
-use Rattle.bk_ocode.specs.declared.stmt.Stmt.{Stmt}
-use Rattle.bk_ocode.specs.declared.stmt.Stmt.TheVariants.{Number, True, False, Query, Load, Address, Text, Monadic, Dyadic, LoadByte, Assign, AssignAt, AssignByte, Jump, JumpIf, Label, GiveResult, TakeResult, Stack, Store, Entry, Save, CallFunction, CallRoutine, ReturnItem, Return, EndProcedure, Switch, Finish, DataLabel, DataNumber, DataAddress, Globals}
 
 Kind-set : IsSet OcodeKind
 Kind-set = hlevel (⊎_set, props)
@@ -41,33 +30,18 @@ InRange-prop (Assign to) = IsVariable-prop to
 InRange-prop (Switch default cases) = hlevel (AreCases-prop cases, props)
 InRange-prop (Globals entries) = AreEntries-prop entries
 InRange-prop (Number value) = hlevel props
-InRange-prop True = hlevel props
-InRange-prop False = hlevel props
-InRange-prop Query = hlevel props
-InRange-prop (Text bytes) = hlevel props
-InRange-prop (Monadic operator) = hlevel props
-InRange-prop (Dyadic operator) = hlevel props
-InRange-prop LoadByte = hlevel props
-InRange-prop AssignAt = hlevel props
-InRange-prop AssignByte = hlevel props
 InRange-prop (Jump label) = hlevel props
 InRange-prop (JumpIf truth label) = hlevel props
 InRange-prop (Label label) = hlevel props
 InRange-prop (GiveResult label) = hlevel props
 InRange-prop (TakeResult depth) = hlevel props
 InRange-prop (Stack depth) = hlevel props
-InRange-prop Store = hlevel props
 InRange-prop (Entry label name) = hlevel props
 InRange-prop (Save depth) = hlevel props
-InRange-prop (CallFunction frame) = hlevel props
-InRange-prop (CallRoutine frame) = hlevel props
-InRange-prop ReturnItem = hlevel props
-InRange-prop Return = hlevel props
-InRange-prop EndProcedure = hlevel props
-InRange-prop Finish = hlevel props
 InRange-prop (DataLabel label) = hlevel props
 InRange-prop (DataNumber value) = hlevel props
 InRange-prop (DataAddress label) = hlevel props
+InRange-prop x = hlevel props
 
 Option_Kind-set : IsSet (Option OcodeKind)
 Option_Kind-set = hlevel (⊎_set, Kind-set, props)

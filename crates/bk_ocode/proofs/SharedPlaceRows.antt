@@ -1,13 +1,5 @@
 -- Small programs in which several rests have one number, computed by the step of OCODE, and assignments to labels without a word.
-use Rattle.std.proofs.Common.{◌≡◌, ℕ, ◌+◌, ◌==◌, pos, [], ◌∷◌, refl, Bool, true, false, Option, Some, None, List, if◌then◌else◌}
-use Rattle.bk_base.specs.declared.run_end.End.{End}
-use Rattle.bk_base.specs.declared.run_end.End.TheVariants.{Status}
-use Rattle.bk_ocode.specs.Cells.{Word, Variable, Temporary, Link, Cell, Free, Held, write}
-use Rattle.bk_ocode.specs.OcodeState.{Wrch, At, State, Next, Goes, Ends, Wild, global_place}
-use Rattle.bk_ocode.specs.OcodeRun.{Program, run}
-use Rattle.bk_ocode.specs.declared.stmt.Variable.TheVariants.{Global, Static}
-use Rattle.bk_ocode.specs.declared.stmt.Stmt.{Stmt}
-use Rattle.bk_ocode.specs.declared.stmt.Stmt.TheVariants.{Number, Load, Assign, Label, Jump, JumpIf, Stack, Entry, Save, CallRoutine, Return, EndProcedure, DataLabel, Globals}
+use Rattle.bk_ocode.proofs.Terms.{◌≡◌, ℕ, ◌+◌, ◌==◌, pos, [], ◌∷◌, refl, Bool, true, false, Option, Some, None, List, if◌then◌else◌, End, Status, Word, Variable, Temporary, Link, Cell, Free, Held, write, Wrch, At, State, Next, Goes, Ends, Wild, global_place, Program, run, Global, Static, Stmt, Number, Load, Assign, Label, Jump, JumpIf, Stack, Entry, Save, CallRoutine, Return, EndProcedure, DataLabel, Globals}
 
 abbrev program_of : (ℕ → ℕ) → (ℕ → ℕ) → List Stmt → Program
 program_of label call stmts = record {

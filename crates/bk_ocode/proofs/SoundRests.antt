@@ -1,25 +1,5 @@
 -- Each step keeps what the states of a run keep, and so does going on from a rest.
-use Rattle.std.proofs.Common.{◌≡◌, ◌⊎◌, inl, inr, ℕ, zero, suc, ◌+◌, ◌≤◌, Bool, true, false, not, List, [], ◌∷◌, ◌++◌, length, take, slice_get, Option, Some, None, refl, sym, ◌∙◌, ap, subst, arith, append_assoc}
-use Rattle.bk_base.specs.Word.{word_sum, byte_distance}
-use Rattle.bk_ocode.specs.Depth.{next_depth, depth_behind, least_depth}
-use Rattle.bk_ocode.specs.StmtRange.{InRange}
-use Rattle.bk_ocode.specs.Places.{may_stand}
-use Rattle.bk_ocode.specs.Context.{Context, at_start, after, after_all, context_of}
-use Rattle.bk_ocode.specs.Faults.{misplaced}
-use Rattle.bk_ocode.specs.Section.{AreFaultless}
-use Rattle.bk_ocode.specs.Cells.{Content, Variable, Temporary, Held, write}
-use Rattle.bk_ocode.specs.Access.{byte_at, word_with_byte_at, string_at}
-use Rattle.bk_ocode.specs.OcodeState.{Placement, Placed, Routine, Stop, Rdch, Wrch, Newline, Writes, Writen, Writed, Getbyte, Putbyte, Writef, Control, Inside, Behind, At, State, Next, Goes, Wild, rest_place}
-use Rattle.bk_ocode.specs.OcodeStep.{slot, on_some, return, tells, read_byte, routine_step, step_in, step_from, step}
-use Rattle.bk_ocode.specs.OcodeRun.{Rest, rest_of, or_rest, rests, rests_of, in_hand, kept, resumed_by, resumed, Program}
-use Rattle.bk_ocode.specs.Frames.{HasFrames}
-use Rattle.bk_ocode.specs.SoundRuns.{IsProgram, Stands, IsOwn, IsControl, Sound, SoundStep, StepsAreSound, ResumingIsSound}
-use Rattle.bk_ocode.specs.declared.standing.Position.{Position}
-use Rattle.bk_ocode.specs.declared.standing.Position.TheVariants as position
-use Rattle.bk_ocode.specs.declared.standing.StmtPlace.TheVariants.{Body}
-use Rattle.bk_ocode.specs.declared.stmt.Variable.TheVariants.{Local, Global, Static}
-use Rattle.bk_ocode.specs.declared.stmt.Stmt.{Stmt}
-use Rattle.bk_ocode.specs.declared.stmt.Stmt.TheVariants.{Number, True, False, Query, Load, Address, Text, Monadic, Dyadic, LoadByte, Assign, AssignAt, AssignByte, Jump, JumpIf, Label, GiveResult, TakeResult, Stack, Store, Entry, Save, CallFunction, CallRoutine, ReturnItem, Return, EndProcedure, Switch, Finish, DataLabel, DataNumber, DataAddress, Globals}
+use Rattle.bk_ocode.proofs.Terms.{◌≡◌, ◌⊎◌, inl, inr, ℕ, zero, suc, ◌+◌, ◌≤◌, Bool, true, false, not, List, [], ◌∷◌, ◌++◌, length, take, slice_get, Option, Some, None, refl, sym, ◌∙◌, ap, subst, arith, append_assoc, word_sum, byte_distance, next_depth, depth_behind, least_depth, InRange, may_stand, Context, at_start, after, after_all, context_of, misplaced, AreFaultless, Content, Variable, Temporary, Held, write, byte_at, word_with_byte_at, string_at, Placement, Placed, Routine, Stop, Rdch, Wrch, Newline, Writes, Writen, Writed, Getbyte, Putbyte, Writef, Control, Inside, Behind, At, State, Next, Goes, Wild, rest_place, slot, on_some, return, tells, read_byte, routine_step, step_in, step_from, step, Rest, rest_of, or_rest, rests, rests_of, in_hand, kept, resumed_by, resumed, Program, HasFrames, IsProgram, Stands, IsOwn, IsControl, Sound, SoundStep, StepsAreSound, ResumingIsSound, Position, Body, Local, Stmt, Number, True, False, Query, Load, Address, Text, Assign, Jump, JumpIf, Label, TakeResult, Stack, Store, Entry, Save, CallFunction, CallRoutine, Return, EndProcedure, Switch, Finish, DataLabel, DataNumber, DataAddress, Globals, Position as position, same_Some, not-false}
 use Rattle.bk_ocode.proofs.Chosen.{on_number-holds, on_some-holds}
 use Rattle.bk_ocode.proofs.Depths.{keeps_in, context-depth, depth_behind-append, depths_suffice}
 use Rattle.bk_ocode.proofs.JumpPlaces.{Within}
@@ -27,24 +7,17 @@ use Rattle.bk_ocode.proofs.SoundSteps.{at_front, front_of, byte_there, Running, 
 
 -- ---- in a procedure the depth is 2 at least
 
-not_not : (b : Bool) → not b ≡ false → b ≡ true
-not_not true e = refl
-not_not false e = absurd (let h : true ≡ false = e in cc)
-
 body_within : (p : Position) → may_stand p Body ≡ true → Within p ≡ true
-body_within position.Opened e = refl
-body_within (position.BehindLabel l) e = refl
-body_within position.BehindReturn e = refl
-body_within position.Inside e = refl
 body_within position.Outside e = e
 body_within position.InData e = e
 body_within position.Ended e = e
+body_within x e = refl
 
 abbrev Deep : Context → Type 0
 Deep c = Within c.position ≡ true → 2 ≤ c.depth
 
 body_deep : (c : Context) → Deep c → not (may_stand c.position Body) ≡ false → 2 ≤ c.depth
-body_deep c deep placed = deep (body_within c.position (not_not (may_stand c.position Body) placed))
+body_deep c deep placed = deep (body_within c.position (not-false (may_stand c.position Body) placed))
 
 none_within : {A : Type 0} → false ≡ true → A
 none_within e = absurd (let h : false ≡ true = e in cc)
@@ -62,8 +35,6 @@ deep-after c (TakeResult n) deep placed range least = λ w. omega (arith, range.
 deep-after c (CallFunction n) deep placed range least = λ w. omega (arith, range.0)
 deep-after c (CallRoutine n) deep placed range least = λ w. range.0
 deep-after c (Assign (Local n)) deep placed range least = λ w. omega (arith, range.0, least)
-deep-after c (Assign (Global n)) deep placed range least = λ w. omega (arith, least)
-deep-after c (Assign (Static l)) deep placed range least = λ w. omega (arith, least)
 deep-after c (Number value) deep placed range least = λ w. let h = body_deep c deep placed in omega (arith, h)
 deep-after c True deep placed range least = λ w. let h = body_deep c deep placed in omega (arith, h)
 deep-after c False deep placed range least = λ w. let h = body_deep c deep placed in omega (arith, h)
@@ -71,20 +42,14 @@ deep-after c Query deep placed range least = λ w. let h = body_deep c deep plac
 deep-after c (Load from) deep placed range least = λ w. let h = body_deep c deep placed in omega (arith, h)
 deep-after c (Address of) deep placed range least = λ w. let h = body_deep c deep placed in omega (arith, h)
 deep-after c (Text bytes) deep placed range least = λ w. let h = body_deep c deep placed in omega (arith, h)
-deep-after c (Monadic operator) deep placed range least = λ w. omega (arith, least)
-deep-after c (Dyadic operator) deep placed range least = λ w. omega (arith, least)
-deep-after c LoadByte deep placed range least = λ w. omega (arith, least)
-deep-after c AssignAt deep placed range least = λ w. omega (arith, least)
-deep-after c AssignByte deep placed range least = λ w. omega (arith, least)
 deep-after c (JumpIf truth l) deep placed range least = λ w. omega (arith, least)
-deep-after c (GiveResult l) deep placed range least = λ w. omega (arith, least)
-deep-after c ReturnItem deep placed range least = λ w. omega (arith, least)
 deep-after c (Switch default cases) deep placed range least = λ w. omega (arith, least)
 deep-after c (Jump l) deep placed range least = λ w. body_deep c deep placed
 deep-after c (Label l) deep placed range least = λ w. body_deep c deep placed
 deep-after c Store deep placed range least = λ w. body_deep c deep placed
 deep-after c Return deep placed range least = λ w. body_deep c deep placed
 deep-after c Finish deep placed range least = λ w. body_deep c deep placed
+deep-after c x deep placed range least = λ w. omega (arith, least)
 
 record IsFine (c : Context) (s : Stmt) : Type 0 where
   placed : misplaced c s ≡ false
@@ -134,9 +99,6 @@ record IsFit (stmts : List Stmt) (r : Rest) : Type 0 where
   deep : 2 ≤ r.depth
   stands : Stands stmts (taken_depth r.takes r.depth) r.behind
 
-some_is : (q r : Rest) → Some q ≡ Some r → q ≡ r
-some_is q r e = cc
-
 module _ (places : Placement) (stmts : List Stmt) (are : AreFaultless stmts) where
   range_at : (before rest : List Stmt) (c : Stmt) → stmts ≡ before ++ c ∷ rest → InRange c
   range_at before rest c whole = are.in_range (length before) c (ap (λ (l : List Stmt). slice_get l (length before)) whole ∙ at_front before rest c)
@@ -151,14 +113,14 @@ module _ (places : Placement) (stmts : List Stmt) (are : AreFaultless stmts) whe
 
   rest_fits : (before rest : List Stmt) (c : Stmt) (r : Rest) → stmts ≡ before ++ c ∷ rest → rest_of places (depth_behind 0 before) c rest ≡ Some r → IsFit stmts r
   rest_fits before rest (Entry l name) r whole is =
-      subst (IsFit stmts) (some_is _ r is)
+      subst (IsFit stmts) (same_Some _ r is)
       (record { deep = omega arith; stands = record { before = before; whole = whole; same_depth = inr tt } })
   rest_fits before rest (Label l) r whole is =
-      subst (IsFit stmts) (some_is _ r is) (record { deep = label_deep stmts before rest l are whole; stands = behind before rest (Label l) whole })
+      subst (IsFit stmts) (same_Some _ r is) (record { deep = label_deep stmts before rest l are whole; stands = behind before rest (Label l) whole })
   rest_fits before rest (CallFunction n) r whole is =
-      subst (IsFit stmts) (some_is _ r is) (record { deep = (range_at before rest (CallFunction n) whole).0; stands = behind before rest (CallFunction n) whole })
+      subst (IsFit stmts) (same_Some _ r is) (record { deep = (range_at before rest (CallFunction n) whole).0; stands = behind before rest (CallFunction n) whole })
   rest_fits before rest (CallRoutine n) r whole is =
-      subst (IsFit stmts) (some_is _ r is) (record { deep = (range_at before rest (CallRoutine n) whole).0; stands = behind before rest (CallRoutine n) whole })
+      subst (IsFit stmts) (same_Some _ r is) (record { deep = (range_at before rest (CallRoutine n) whole).0; stands = behind before rest (CallRoutine n) whole })
   rest_fits before rest c r whole is = absurd (let h : None ≡ Some r = is in cc)
 
   rests_fit : (rest before : List Stmt) (j : ℕ) (r : Rest) → stmts ≡ before ++ rest → slice_get (rests places (depth_behind 0 before) rest) j ≡ Some r → IsFit stmts r

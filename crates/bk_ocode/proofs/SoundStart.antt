@@ -1,22 +1,7 @@
 -- The first state of a program keeps what the states of a run keep.
-use Rattle.std.proofs.Common.{◌≡◌, inl, ℕ, suc, ◌-◌, ◌<◌, ◌≤◌, ◌==◌, Bool, true, false, ◌||◌, List, [], ◌∷◌, ◌++◌, fold, map, slice_get, Option, Some, None, refl, sym, ◌∙◌, ap, subst, arith, eqb-true, eq-eqb, ne_eqb, if◌then◌else◌}
-use Rattle.std.specs.Prelude.{⊤}
-use Rattle.std.specs.Option.{option_map, option_map_or}
-use Rattle.bk_base.specs.declared.limit.TheConstants.{GLOBAL_NUMBER}
-use Rattle.bk_ocode.specs.StmtRange.{InRange}
-use Rattle.bk_ocode.specs.Section.{AreFaultless}
-use Rattle.bk_ocode.specs.Access.{number_in}
-use Rattle.bk_ocode.specs.Cells.{Unset, Word, Variable, Link, Cell, Free, Held, content_of}
-use Rattle.bk_ocode.specs.OcodeState.{Placement, Placed, At, State, global_place}
-use Rattle.bk_ocode.specs.OcodeRun.{Program}
+use Rattle.bk_ocode.proofs.Terms.{◌≡◌, inl, ℕ, suc, ◌-◌, ◌<◌, ◌≤◌, ◌==◌, Bool, true, false, ◌||◌, List, [], ◌∷◌, ◌++◌, fold, map, slice_get, Option, Some, None, refl, sym, ◌∙◌, ap, subst, arith, eqb-true, eq-eqb, ne_eqb, if◌then◌else◌, ⊤, option_map, option_map_or, GLOBAL_NUMBER, InRange, AreFaultless, number_in, Unset, Word, Variable, Link, Cell, Free, Held, content_of, Placement, Placed, At, State, global_place, Program, all_data, all_globals, is_global, unset_cells, with_global, first_cells, start, IsHeld, is_usable, Sound, FirstStateIsSound, GlobalEntry, Stmt, Globals, or_right}
 use Rattle.bk_ocode.specs.SectionData.{Datum, is_in, is_datum, datum_word, GlobalSetting, entry_setting, stmt_globals, globals_of}
 use Rattle.bk_ocode.specs.Library.{library_globals}
-use Rattle.bk_ocode.specs.ProgramStart.{all_data, all_globals, is_global, unset_cells, with_global, first_cells}
-use Rattle.bk_ocode.specs.Frames.{start}
-use Rattle.bk_ocode.specs.SoundRuns.{IsHeld, is_usable, Sound, FirstStateIsSound}
-use Rattle.bk_ocode.specs.declared.stmt.GlobalEntry.{GlobalEntry}
-use Rattle.bk_ocode.specs.declared.stmt.Stmt.{Stmt}
-use Rattle.bk_ocode.specs.declared.stmt.Stmt.TheVariants.{Globals}
 use Rattle.bk_ocode.proofs.Chosen.{chosen-true, chosen-false, write-kept}
 use Rattle.bk_ocode.proofs.SoundSteps.{global_usable}
 
@@ -66,10 +51,6 @@ is_in_data (d ∷ rest) place w e = by_in (λ z. is_in_data rest place w z) (is_
     by_in go true is e = ap (λ b. b || is_datum place rest) is
     by_in go false is e = ap (λ b. b || is_datum place rest) is ∙ go e
 
-or_second : (a b : Bool) → b ≡ true → (a || b) ≡ true
-or_second true b e = refl
-or_second false b e = e
-
 module _ (program : Program) (first : ℕ) (above : global_place GLOBAL_NUMBER < first) where
   abbrev given : List Datum
   given = all_data program.sections
@@ -92,7 +73,7 @@ module _ (program : Program) (first : ℕ) (above : global_place GLOBAL_NUMBER <
   base-usable place low held = by_global (is_global place) refl (subst IsHeld (base-low place low) held)
     where
       by_word : (o : Option ℕ) → datum_word given place ≡ o → IsHeld (option_map_or (λ w. Held Variable (Word w)) o Free) → is_usable program place ≡ true
-      by_word (Some w) e h = or_second (is_global place) (is_datum place given) (is_in_data given place w e)
+      by_word (Some w) e h = or_right (is_global place) (is_datum place given) (is_in_data given place w e)
       by_word None e h = absurd h
 
       by_global : (b : Bool) → is_global place ≡ b → IsHeld (if b then Held Variable Unset else option_map_or (λ w. Held Variable (Word w)) (datum_word given place) Free) → is_usable program place ≡ true

@@ -1,26 +1,6 @@
 -- What the states of a run keep is kept by each step, and by going on from a rest.
-use Rattle.std.proofs.Common.{◌≡◌, ◌⊎◌, inl, inr, ℕ, zero, suc, ◌+◌, ◌-◌, ◌<◌, ◌≤◌, ◌^◌, ◌==◌, nat_lt, Bool, true, false, List, [], ◌∷◌, ◌++◌, length, take, slice_get, Option, Some, None, refl, sym, ◌∙◌, ap, subst, arith, eqb-true, eq-eqb, le-leb, nat_le, ◌&&◌, ◌||◌, if◌then◌else◌, append_assoc}
-use Rattle.std.specs.Prelude.{⊤, ◌%◌}
-use Rattle.std.specs.Option.{option_map}
-use Rattle.bk_base.specs.Word.{word_sum, byte_distance, byte_place}
-use Rattle.bk_base.specs.declared.limit.TheConstants.{FRAME_WORDS, GLOBAL_NUMBER}
-use Rattle.bk_ocode.specs.Depth.{next_depth, depth_behind, largest_behind, largest_depth, least_depth, assign_depth}
-use Rattle.bk_ocode.specs.StmtRange.{InRange}
-use Rattle.bk_ocode.specs.Section.{AreFaultless}
-use Rattle.bk_ocode.specs.Cells.{Content, Word, Variable, Temporary, Link, Cell, Free, Held, content_of, with_byte, write, below, settle}
-use Rattle.bk_ocode.specs.Access.{variable_in, variable_at, number_in, byte_at, word_with_byte_at}
-use Rattle.bk_ocode.specs.OcodeState.{Placement, Placed, Inside, At, State, Next, Goes, Ends, Wild, global_place}
-use Rattle.bk_ocode.specs.OcodeStep.{is_label, slot, on, push, operated, named_place, has_word, from_label, jump, jump_with, case_label, can_be_called, call, return, dyadic_word, step_by}
-use Rattle.bk_ocode.specs.OcodeRun.{Rest, rest_of, or_rest, rests, rests_of, IsAtRest, Program}
-use Rattle.bk_ocode.specs.SectionData.{is_datum}
-use Rattle.bk_ocode.specs.ProgramStart.{all_data}
-use Rattle.bk_ocode.specs.Frames.{HasFrames, start, called}
-use Rattle.bk_ocode.specs.SoundRuns.{IsHeld, is_usable, IsOpening, Stands, IsOwn, IsControl, Sound}
+use Rattle.bk_ocode.proofs.Terms.{◌≡◌, ◌⊎◌, inl, inr, ℕ, zero, suc, ◌+◌, ◌-◌, ◌<◌, ◌≤◌, ◌^◌, ◌==◌, nat_lt, Bool, true, false, List, [], ◌∷◌, ◌++◌, length, take, slice_get, Option, Some, None, refl, sym, ◌∙◌, ap, subst, arith, eqb-true, eq-eqb, le-leb, nat_le, ◌&&◌, ◌||◌, if◌then◌else◌, append_assoc, ⊤, ◌%◌, option_map, word_sum, byte_distance, byte_place, FRAME_WORDS, GLOBAL_NUMBER, next_depth, depth_behind, largest_behind, largest_depth, least_depth, assign_depth, InRange, AreFaultless, Content, Word, Variable, Temporary, Link, Cell, Held, content_of, with_byte, write, below, settle, variable_in, variable_at, number_in, byte_at, word_with_byte_at, Placement, Placed, Inside, At, State, Next, Goes, Ends, Wild, global_place, is_label, slot, on, push, operated, named_place, has_word, from_label, jump, jump_with, case_label, can_be_called, call, return, dyadic_word, step_by, Rest, rest_of, or_rest, rests, rests_of, IsAtRest, Program, is_datum, all_data, HasFrames, start, called, IsHeld, is_usable, IsOpening, Stands, IsOwn, IsControl, Sound, Local, Global, Static, Contents, Negate, Not, Stmt, Number, True, False, Query, Load, Address, Text, Monadic, Dyadic, LoadByte, Assign, AssignAt, AssignByte, Jump, JumpIf, Label, GiveResult, TakeResult, Stack, Store, Entry, Save, CallFunction, CallRoutine, ReturnItem, Return, Switch, Finish}
 use Rattle.bk_ocode.specs.declared.stmt.Variable.{Variable as Named}
-use Rattle.bk_ocode.specs.declared.stmt.Variable.TheVariants.{Local, Global, Static}
-use Rattle.bk_ocode.specs.declared.stmt.Monadic.TheVariants.{Contents, Negate, Not}
-use Rattle.bk_ocode.specs.declared.stmt.Stmt.{Stmt}
-use Rattle.bk_ocode.specs.declared.stmt.Stmt.TheVariants.{Number, True, False, Query, Load, Address, Text, Monadic, Dyadic, LoadByte, Assign, AssignAt, AssignByte, Jump, JumpIf, Label, GiveResult, TakeResult, Stack, Store, Entry, Save, CallFunction, CallRoutine, ReturnItem, Return, Switch, Finish}
 use Rattle.bk_ocode.proofs.Chosen.{below-kept, write-kept, write-there, settle-kept, on_number-holds, on_some-holds, if-holds}
 use Rattle.bk_ocode.proofs.Depths.{depth_behind-append, depths_suffice}
 
@@ -109,9 +89,7 @@ rest_at places k (t ∷ before) rest s r is =
 -- a variable that is found
 variable_found : (cell : Cell) (content : Content) → variable_in cell ≡ Some content → cell ≡ Held Variable content
 variable_found (Held Variable c) content e = let same : c ≡ content = cc in ap (λ (x : Content). Held Variable x) same
-variable_found (Held Temporary c) content e = absurd (let h : None ≡ Some content = e in cc)
-variable_found (Held Link c) content e = absurd (let h : None ≡ Some content = e in cc)
-variable_found Free content e = absurd (let h : None ≡ Some content = e in cc)
+variable_found y content e = absurd (let h : None ≡ Some content = e in cc)
 
 variable_there : (top : ℕ) (cells : ℕ → Cell) (a : ℕ) (content : Content) → variable_at top cells a ≡ Some content → cells a ≡ Held Variable content
 variable_there top cells a content e = by_low (nat_lt a top) e
@@ -284,9 +262,7 @@ module _ (program : Program) (first F : ℕ) where
 
   static_word : (l : ℕ) (cell : Cell) → has_word (Static l) cell ≡ true → (old : Content) × (cell ≡ Held Variable old)
   static_word l (Held Variable c) e = (c, refl)
-  static_word l (Held Temporary c) e = absurd (let h : false ≡ true = e in cc)
-  static_word l (Held Link c) e = absurd (let h : false ≡ true = e in cc)
-  static_word l Free e = absurd (let h : false ≡ true = e in cc)
+  static_word l x e = absurd (let h : false ≡ true = e in cc)
 
   -- a step in a procedure that goes on in it
   pub inside : (frame : ℕ) (t : State) (own : Placed) (k : ℕ) (rest : List Stmt) → IsOwn program own → 2 ≤ k → Stands own.stmts k rest →

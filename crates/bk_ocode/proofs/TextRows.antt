@@ -1,13 +1,5 @@
 -- Small examples of the definitions.
-use Rattle.std.proofs.Common.{◌≡◌, pos, negsuc, [], ◌∷◌, refl, Some, None}
-use Rattle.std.specs.Prelude.{codes}
-use Rattle.std.specs.Fmt.{digits}
-use Rattle.bk_base.specs.declared.ocode_fault.OcodeKind.TheVariants.{BadWord, LabelNotSet, LabelSetTwice, DepthsDisagree, SlotAboveDepth}
-use Rattle.bk_ocode.specs.StmtText.{stmt_text}
-use Rattle.bk_ocode.specs.SectionText.{section_text}
-use Rattle.bk_ocode.specs.Faults.{stmt_fault}
-use Rattle.bk_ocode.specs.declared.stmt.Variable.TheVariants.{Local}
-use Rattle.bk_ocode.specs.declared.stmt.Stmt.TheVariants.{Number, Load, Jump, Label, GiveResult, TakeResult, Entry, Save, Return, EndProcedure, Switch, Globals}
+use Rattle.bk_ocode.proofs.Terms.{◌≡◌, pos, negsuc, [], ◌∷◌, refl, Some, None, digits, BadWord, LabelNotSet, LabelSetTwice, DepthsDisagree, SlotAboveDepth, stmt_text, section_text, stmt_fault, Local, Number, Load, Jump, Label, GiveResult, TakeResult, Entry, Save, Return, EndProcedure, Switch, Globals, codes}
 
 text-entry : stmt_text (Entry 1 (70 ∷ [])) ≡ codes "ENTRY L1 1 70"
 unfolding digits

@@ -1,35 +1,7 @@
 -- Statements that agree with a plan of labels are a section.
-use Rattle.std.proofs.Common.{arith, ◌≡◌, ◌≢◌, ◌⊎◌, inl, inr, ℕ, zero, suc, ◌+◌, ◌-◌, ◌≤◌, ◌==◌, nat_lt, nat_le, Bool, true, false, not, cond, ◌&&◌, ◌||◌, Option, Some, None, List, [], ◌∷◌, ◌++◌, length, take, drop, slice_get, is_some, refl, sym, ap, subst, ◌∙◌, if◌then◌else◌, eqb-true, eq-eqb, ne_eqb, append_assoc, append-nil, length-append, ℤ}
+use Rattle.bk_ocode.proofs.Terms.{arith, ◌≡◌, ◌≢◌, ◌⊎◌, inl, inr, ℕ, zero, suc, ◌+◌, ◌-◌, ◌≤◌, ◌==◌, nat_lt, nat_le, Bool, true, false, not, cond, ◌||◌, Option, Some, None, List, [], ◌∷◌, ◌++◌, length, take, drop, slice_get, is_some, refl, sym, ap, subst, ◌∙◌, if◌then◌else◌, eqb-true, eq-eqb, ne_eqb, append_assoc, append-nil, length-append, ℤ, list_all, list_any, drop-append_seam, FRAME_WORDS, OCODE_STATEMENTS, OCODE_WORDS, OcodeKind, BadWord, LabelNotSet, LabelSetTwice, DepthsDisagree, SlotAboveDepth, TooLong, JumpDepths, LabelUse, Position, Outer, Body, Taker, Last, Datum, Setting, GlobalEntry, Static, Stmt, Load, Address, Assign, Jump, JumpIf, Label, GiveResult, TakeResult, Entry, Save, ReturnItem, Return, EndProcedure, Switch, DataLabel, DataNumber, DataAddress, Globals, stmt_words, next_depth, least_depth, Context, at_start, changed, set_by, mentioned, followed, label_followed, start_behind, after, after_all, label_set, jump_labels, result_label, data_labels, item_label, global_labels, role, may_stand, position_behind, IsDepth, InRange, misplaced, is_lab_from, is_data, is_entry, jumps_set, data_set, label_not_set, is_set, set_again, label_set_twice, is_other_lab, are_other_jumps, jumps_disagree, result_named, over, left_behind, follows_badly, is_badly_followed, not_followed, own_disagrees, depths_disagree, slot_above, too_long, fault_in, text_size, IsAmong, Use, unused, jumps, results, word, entry, Standing, outside, body, ended, AllJump, AllEntries, Agrees, Fits, Typed, done, enters, goes, lands, takes, returns, gives, begins, holds, points, ends, sets, times_set, TypedIsSection, JumpDepths as came, Position as position, Setting as setting, le-ltb, lt-leb, le-leb, and_from, or_from}
 use Rattle.std.specs.Bool.{⊤}
-use Rattle.std.specs.List.{list_all, list_any}
-use Rattle.std.proofs.lemmas.Bool.{le-ltb, lt-leb, le-leb}
-use Rattle.std.proofs.Math.Seq.{drop-append_seam}
-use Rattle.bk_base.specs.declared.limit.TheConstants.{FRAME_WORDS, OCODE_STATEMENTS, OCODE_WORDS}
-use Rattle.bk_base.specs.declared.ocode_fault.OcodeKind.{OcodeKind}
-use Rattle.bk_base.specs.declared.ocode_fault.OcodeKind.TheVariants.{BadWord, LabelNotSet, LabelSetTwice, DepthsDisagree, SlotAboveDepth, TooLong}
 use Rattle.bk_ocode.specs.declared.standing.Behind.TheVariants as behind
-use Rattle.bk_ocode.specs.declared.standing.JumpDepths.{JumpDepths}
-use Rattle.bk_ocode.specs.declared.standing.JumpDepths.TheVariants as came
-use Rattle.bk_ocode.specs.declared.standing.LabelUse.{LabelUse}
-use Rattle.bk_ocode.specs.declared.standing.Position.{Position}
-use Rattle.bk_ocode.specs.declared.standing.Position.TheVariants as position
-use Rattle.bk_ocode.specs.declared.standing.StmtPlace.TheVariants.{Outer, Body, Taker, Last, Datum}
-use Rattle.bk_ocode.specs.declared.standing.Setting.{Setting}
-use Rattle.bk_ocode.specs.declared.standing.Setting.TheVariants as setting
-use Rattle.bk_ocode.specs.declared.stmt.GlobalEntry.{GlobalEntry}
-use Rattle.bk_ocode.specs.declared.stmt.Variable.TheVariants.{Local, Global, Static}
-use Rattle.bk_ocode.specs.declared.stmt.Stmt.{Stmt}
-use Rattle.bk_ocode.specs.declared.stmt.Stmt.TheVariants.{Load, Address, Assign, Jump, JumpIf, Label, GiveResult, TakeResult, Entry, Save, ReturnItem, Return, EndProcedure, Switch, DataLabel, DataNumber, DataAddress, Globals}
-use Rattle.bk_ocode.specs.StmtText.{stmt_words}
-use Rattle.bk_ocode.specs.Depth.{next_depth, least_depth}
-use Rattle.bk_ocode.specs.Context.{Context, at_start, changed, set_by, mentioned, followed, label_followed, start_behind, after, after_all}
-use Rattle.bk_ocode.specs.Labels.{label_set, jump_labels, result_label, data_labels, item_label, global_labels}
-use Rattle.bk_ocode.specs.Places.{role, may_stand, position_behind}
-use Rattle.bk_ocode.specs.StmtRange.{IsDepth, InRange}
-use Rattle.bk_ocode.specs.Faults.{misplaced, is_lab_from, is_data, is_entry, jumps_set, data_set, label_not_set, is_set, set_again, label_set_twice, is_other_lab, are_other_jumps, jumps_disagree, result_named, over, left_behind, follows_badly, is_badly_followed, not_followed, own_disagrees, depths_disagree, slot_above, too_long, fault_in}
-use Rattle.bk_ocode.specs.SectionData.{text_size}
-use Rattle.bk_ocode.specs.SectionLaws.{IsAmong}
-use Rattle.bk_ocode.specs.Typing.{Use, unused, jumps, results, word, entry, Standing, outside, body, ended, AllJump, AllEntries, Agrees, Fits, Typed, done, enters, goes, lands, takes, returns, gives, begins, holds, points, ends, sets, times_set, TypedIsSection}
 use Rattle.bk_ocode.proofs.Depths.{Keeps}
 use Rattle.bk_ocode.proofs.JumpDepths.{after-same, after-label}
 use Rattle.bk_ocode.proofs.JumpPlaces.{after-entry, after-data}
@@ -72,9 +44,7 @@ whole_behind plan before s rest w = record {
 -- how often a label is set, by what is known
 abbrev times : Setting → ℕ
 times setting.Unset = 0
-times (setting.Lab d place) = 1
-times setting.Entry = 1
-times setting.Data = 1
+times x = 1
 
 -- the words of data that a statement names
 abbrev NamesData : (ℕ → Use) → Stmt → Type 0
@@ -144,15 +114,9 @@ faultless before c s k =
     (next_none (label_set_twice c s) LabelSetTwice _ k.once (next_none (depths_disagree c s) DepthsDisagree _ k.agree
     (next_none (slot_above c s) SlotAboveDepth _ k.below (next_none (too_long c s) TooLong _ k.short refl)))))
 
-either_false : (a b : Bool) → a ≡ false → b ≡ false → (a || b) ≡ false
-either_false true b e h = absurd (let n : true ≡ false = e in cc)
-either_false false b e h = h
-
 unset_once : (g : Setting) → times g ≡ 0 → is_set g ≡ false
 unset_once setting.Unset e = refl
-unset_once (setting.Lab d place) e = absurd (omega (arith, e))
-unset_once setting.Entry e = absurd (omega (arith, e))
-unset_once setting.Data e = absurd (omega (arith, e))
+unset_once x e = absurd (omega (arith, e))
 
 -- the counts and the labels of any statement
 keeps : (plan : ℕ → Use) (before : List Stmt) (c : Context) (s : Stmt) (rest : List Stmt) → Whole plan before (s ∷ rest) → Read plan before c
@@ -166,8 +130,8 @@ keeps plan before c s rest w r place set agree deep shallow = record {
   below = le-ltb c.depth (least_depth s) deep;
   short =
       let n = w.short in let m = w.small in let a = r.count in let d = r.words in
-      either_false (nat_le OCODE_STATEMENTS c.count) _ (lt-leb OCODE_STATEMENTS c.count (omega (arith, n, a)))
-      (either_false (nat_lt OCODE_WORDS (c.words + length (stmt_words s))) _ (le-ltb OCODE_WORDS (c.words + length (stmt_words s)) (omega (arith, m, d)))
+      or_from (nat_le OCODE_STATEMENTS c.count) _ (lt-leb OCODE_STATEMENTS c.count (omega (arith, n, a)))
+      (or_from (nat_lt OCODE_WORDS (c.words + length (stmt_words s))) _ (le-ltb OCODE_WORDS (c.words + length (stmt_words s)) (omega (arith, m, d)))
       (le-ltb FRAME_WORDS (next_depth c.depth s) shallow));
 }
   where
@@ -218,15 +182,16 @@ record State (plan : ℕ → Use) (a : Standing) (before : List Stmt) (c : Conte
   shallow : c.depth ≤ FRAME_WORDS
   stands : Stands plan a before c
 
+-- A statement has no fault here, and leads on.
+abbrev Step : (ℕ → Use) → Standing → List Stmt → Context → Stmt → Type 0
+Step plan b before c s = (fault_in before c s ≡ None) × State plan b (before ++ s ∷ []) (after c s)
+
 -- Rules that a statement in a procedure keeps.
 may_body : (plan : ℕ → Use) (q : Position) → Free plan q → may_stand q Body ≡ true
 may_body plan position.Inside h = refl
 may_body plan position.BehindReturn h = refl
 may_body plan (position.BehindLabel l) h = refl
-may_body plan position.Outside h = elim h [ ]
-may_body plan position.InData h = elim h [ ]
-may_body plan position.Opened h = elim h [ ]
-may_body plan position.Ended h = elim h [ ]
+may_body plan x h = elim h [ ]
 
 body_placed : (plan : ℕ → Use) (c : Context) (s : Stmt) → Free plan c.position → role s ≡ Body → misplaced c s ≡ false
 body_placed plan c s free r = ap (λ x. not (may_stand c.position x)) r ∙ ap not (may_body plan c.position free)
@@ -247,39 +212,24 @@ follows_clear plan c (position.BehindLabel l) s clear all =
 follows_clear plan c _ s clear all = refl
 
 -- no result goes to a label of another use
-jump_unresulted : (plan : ℕ → Use) (c : Context) (p k l : ℕ) → plan l ≡ jumps p k → AllMatch plan c.uses → is_some (c.uses l).result ≡ false
-jump_unresulted plan c p k l e all =
-    let h : Matches (jumps p k) (c.uses l) = subst (λ (u : Use). Matches u (c.uses l)) e (all l) in ap (λ (y : Option ℕ). is_some y) h.2
-
-word_unresulted : (plan : ℕ → Use) (c : Context) (l : ℕ) → plan l ≡ word → AllMatch plan c.uses → is_some (c.uses l).result ≡ false
-word_unresulted plan c l e all =
-    let h : Matches word (c.uses l) = subst (λ (u : Use). Matches u (c.uses l)) e (all l) in ap (λ (y : Option ℕ). is_some y) h.1
-
-entry_unresulted : (plan : ℕ → Use) (c : Context) (l : ℕ) → plan l ≡ entry → AllMatch plan c.uses → is_some (c.uses l).result ≡ false
-entry_unresulted plan c l e all =
-    let h : Matches entry (c.uses l) = subst (λ (u : Use). Matches u (c.uses l)) e (all l) in ap (λ (y : Option ℕ). is_some y) h.1
+unresulted : (plan : ℕ → Use) (c : Context) (l : ℕ) (u : Use) → plan l ≡ u → (Matches u (c.uses l) → (c.uses l).result ≡ None) → AllMatch plan c.uses → is_some (c.uses l).result ≡ false
+unresulted plan c l u e none all = ap (λ (y : Option ℕ). is_some y) (none (subst (λ (x : Use). Matches x (c.uses l)) e (all l)))
 
 jumps_unresulted : (plan : ℕ → Use) (c : Context) (p k : ℕ) (ls : List ℕ) → AllJump plan p k ls → AllMatch plan c.uses → list_any (λ label. is_some (c.uses label).result) (ls ++ []) ≡ false
 jumps_unresulted plan c p k [] h all = refl
-jumps_unresulted plan c p k (l ∷ ls) h all = either_false _ _ (jump_unresulted plan c p k l h.0 all) (jumps_unresulted plan c p k ls h.1 all)
+jumps_unresulted plan c p k (l ∷ ls) h all = or_from _ _ (unresulted plan c l (jumps p k) h.0 (λ m. m.2) all) (jumps_unresulted plan c p k ls h.1 all)
 
 entries_unresulted : (plan : ℕ → Use) (c : Context) (ls : List ℕ) → AllEntries plan ls → AllMatch plan c.uses → list_any (λ label. is_some (c.uses label).result) (ls ++ []) ≡ false
 entries_unresulted plan c [] h all = refl
-entries_unresulted plan c (l ∷ ls) h all = either_false _ _ (entry_unresulted plan c l h.0 all) (entries_unresulted plan c ls h.1 all)
+entries_unresulted plan c (l ∷ ls) h all = or_from _ _ (unresulted plan c l entry h.0 (λ m. m.1) all) (entries_unresulted plan c ls h.1 all)
 
 body_unresulted : (plan : ℕ → Use) (p : ℕ) (c : Context) (s : Stmt) → role s ≡ Body → Agrees plan p c.depth s → AllMatch plan c.uses → result_named c s ≡ false
 body_unresulted plan p c (Jump l) r h all = jumps_unresulted plan c p c.depth (l ∷ []) (h, tt) all
 body_unresulted plan p c (JumpIf truth l) r h all = jumps_unresulted plan c p (c.depth - 1) (l ∷ []) (h, tt) all
 body_unresulted plan p c (Switch default cases) r h all = jumps_unresulted plan c p (c.depth - 1) (jump_labels (Switch default cases)) h all
-body_unresulted plan p c (Load (Static l)) r h all = either_false _ _ (word_unresulted plan c l h all) refl
-body_unresulted plan p c (Load (Local n)) r h all = refl
-body_unresulted plan p c (Load (Global n)) r h all = refl
-body_unresulted plan p c (Address (Static l)) r h all = either_false _ _ (word_unresulted plan c l h all) refl
-body_unresulted plan p c (Address (Local n)) r h all = refl
-body_unresulted plan p c (Address (Global n)) r h all = refl
-body_unresulted plan p c (Assign (Static l)) r h all = either_false _ _ (word_unresulted plan c l h all) refl
-body_unresulted plan p c (Assign (Local n)) r h all = refl
-body_unresulted plan p c (Assign (Global n)) r h all = refl
+body_unresulted plan p c (Load (Static l)) r h all = or_from _ _ (unresulted plan c l word h (λ m. m.1) all) refl
+body_unresulted plan p c (Address (Static l)) r h all = or_from _ _ (unresulted plan c l word h (λ m. m.1) all) refl
+body_unresulted plan p c (Assign (Static l)) r h all = or_from _ _ (unresulted plan c l word h (λ m. m.1) all) refl
 body_unresulted plan p c (Entry l name) r h all = absurd (let e : Outer ≡ Body = r in cc)
 body_unresulted plan p c (DataLabel l) r h all = absurd (let e : Outer ≡ Body = r in cc)
 body_unresulted plan p c (DataAddress l) r h all = absurd (let e : Datum ≡ Body = r in cc)
@@ -287,22 +237,18 @@ body_unresulted plan p c (Globals entries) r h all = absurd (let e : Outer ≡ B
 body_unresulted plan p c _ r h all = refl
 
 same_lab : (d : ℕ) (g : Setting) → LabAt d g → is_other_lab d g ≡ false
-same_lab d setting.Unset h = refl
 same_lab d (setting.Lab k place) h = ap not (eq-eqb k d h)
-same_lab d setting.Entry h = refl
-same_lab d setting.Data h = refl
+same_lab d x h = refl
 
 jumps_land : (plan : ℕ → Use) (c : Context) (p k : ℕ) (ls : List ℕ) → AllJump plan p k ls → AllMatch plan c.uses → jumps_disagree c k ls ≡ false
 jumps_land plan c p k [] h all = refl
 jumps_land plan c p k (l ∷ ls) h all =
     let m : Matches (jumps p k) (c.uses l) = subst (λ (u : Use). Matches u (c.uses l)) h.0 (all l) in
-    either_false _ _ (same_lab k (c.uses l).setting m.0) (jumps_land plan c p k ls h.1 all)
+    or_from _ _ (same_lab k (c.uses l).setting m.0) (jumps_land plan c p k ls h.1 all)
 
 taken_well : (k n : ℕ) (u : LabelUse) (g : Setting) → n ≤ k → Taken n g u.behind → not_followed k u g ≡ false
-taken_well k n u setting.Unset low h = refl
 taken_well k n u (setting.Lab d place) low h = ap (is_badly_followed k) h ∙ le-ltb k n low
-taken_well k n u setting.Entry low h = refl
-taken_well k n u setting.Data low h = refl
+taken_well k n u x low h = refl
 
 body_owns : (plan : ℕ → Use) (p : ℕ) (c : Context) (s : Stmt) → role s ≡ Body → Agrees plan p c.depth s → AllMatch plan c.uses → own_disagrees c s ≡ false
 body_owns plan p c (Jump l) r h all = jumps_land plan c p c.depth (l ∷ []) (h, tt) all
@@ -311,14 +257,14 @@ body_owns plan p c (Switch default cases) r h all = jumps_land plan c p (c.depth
 body_owns plan p c (Label l) r h all = elim h [ ]
 body_owns plan p c (GiveResult l) r h all =
     let m : Matches (results p h.0) (c.uses l) = subst (λ (u : Use). Matches u (c.uses l)) h.1 (all l) in
-    either_false _ _ m.2 (taken_well (c.depth - 1) h.0 (c.uses l) (c.uses l).setting h.2 m.0)
+    or_from _ _ m.2 (taken_well (c.depth - 1) h.0 (c.uses l) (c.uses l).setting h.2 m.0)
 body_owns plan p c (TakeResult n) r h all = absurd (let e : Taker ≡ Body = r in cc)
 body_owns plan p c _ r h all = refl
 
 body_agrees : (plan : ℕ → Use) (p : ℕ) (c : Context) (s : Stmt) → Free plan c.position → role s ≡ Body → Agrees plan p c.depth s → AllMatch plan c.uses → depths_disagree c s ≡ false
 body_agrees plan p c s free r h all =
-    either_false _ _ (follows_clear plan c c.position s (free_clear plan c.position free) all)
-    (either_false _ _ (body_unresulted plan p c s r h all) (body_owns plan p c s r h all))
+    or_from _ _ (follows_clear plan c c.position s (free_clear plan c.position free) all)
+    (or_from _ _ (body_unresulted plan p c s r h all) (body_owns plan p c s r h all))
 
 -- what a statement in a procedure leaves
 body_sets : (plan : ℕ → Use) (p k : ℕ) (s : Stmt) → role s ≡ Body → Agrees plan p k s → label_set s ≡ None
@@ -343,14 +289,8 @@ body_starts c _ r = refl
 
 body_data : (plan : ℕ → Use) (p k : ℕ) (s : Stmt) → role s ≡ Body → Agrees plan p k s → NamesData plan s
 body_data plan p k (Load (Static m)) r h = (λ l a. elim a [ inl e ↦ subst (λ (x : ℕ). plan x ≡ word) e h | inr n ↦ elim n [ ] ], λ l a. elim a [ ])
-body_data plan p k (Load (Local n)) r h = (λ l a. elim a [ ], λ l a. elim a [ ])
-body_data plan p k (Load (Global n)) r h = (λ l a. elim a [ ], λ l a. elim a [ ])
 body_data plan p k (Address (Static m)) r h = (λ l a. elim a [ inl e ↦ subst (λ (x : ℕ). plan x ≡ word) e h | inr n ↦ elim n [ ] ], λ l a. elim a [ ])
-body_data plan p k (Address (Local n)) r h = (λ l a. elim a [ ], λ l a. elim a [ ])
-body_data plan p k (Address (Global n)) r h = (λ l a. elim a [ ], λ l a. elim a [ ])
 body_data plan p k (Assign (Static m)) r h = (λ l a. elim a [ inl e ↦ subst (λ (x : ℕ). plan x ≡ word) e h | inr n ↦ elim n [ ] ], λ l a. elim a [ ])
-body_data plan p k (Assign (Local n)) r h = (λ l a. elim a [ ], λ l a. elim a [ ])
-body_data plan p k (Assign (Global n)) r h = (λ l a. elim a [ ], λ l a. elim a [ ])
 body_data plan p k (DataAddress m) r h = absurd (let e : Datum ≡ Body = r in cc)
 body_data plan p k _ r h = (λ l a. elim a [ ], λ l a. elim a [ ])
 
@@ -384,31 +324,27 @@ in_body_behind plan p before c s i same since jumping = record {
 none_apart : (s : Stmt) (l : ℕ) → label_set s ≡ None → label_set s ≢ Some l
 none_apart s l e h = let n : None ≡ Some l = sym e ∙ h in cc
 
-body_keeps : (plan : ℕ → Use) (p k : ℕ) (before : List Stmt) (c : Context) (s : Stmt) (rest : List Stmt) → Whole plan before (s ∷ rest) → State plan (body p k) before c
-    → Fits plan p k s → fault_in before c s ≡ None
-body_keeps plan p k before c s rest w a fits =
+body_step : (plan : ℕ → Use) (p k : ℕ) (before : List Stmt) (c : Context) (s : Stmt) (rest : List Stmt) → Whole plan before (s ∷ rest) → State plan (body p k) before c
+    → Fits plan p k s → Step plan (body p (next_depth k s)) before c s
+body_step plan p k before c s rest w a fits =
     let f : Fits plan p c.depth s = subst (λ (x : ℕ). Fits plan p x s) (sym a.stands.0) fits in
-    faultless before c s (keeps plan before c s rest w a.read (body_placed plan c s a.stands.1 f.placed) (body_unset before c s f.placed)
-    (body_agrees plan p c s a.stands.1 f.placed f.agrees a.matches) f.deep f.shallow)
-
-body_goes : (plan : ℕ → Use) (p k : ℕ) (before : List Stmt) (c : Context) (s : Stmt) (rest : List Stmt) → Whole plan before (s ∷ rest) → State plan (body p k) before c
-    → Fits plan p k s → State plan (body p (next_depth k s)) (before ++ s ∷ []) (after c s)
-body_goes plan p k before c s rest w a fits =
-    let f : Fits plan p c.depth s = subst (λ (x : ℕ). Fits plan p x s) (sym a.stands.0) fits in
-    let none = body_sets plan p c.depth s f.placed f.agrees in
-    record {
-      read = read_behind plan before c s rest w a.read (λ l q of. let h = a.read.entered l q of in let i = ap (sets l) none in let j = ap (sets q) none in omega (arith, h, i, j))
-          (body_data plan p c.depth s f.placed f.agrees);
-      matches = named_matches plan p c.depth c.count s _ f.placed f.agrees (followed_matches plan c.position s c.uses (free_clear plan c.position a.stands.1) a.matches);
-      shallow = f.shallow;
-      stands = (
-        ap (λ (x : ℕ). next_depth x s) a.stands.0,
-        body_free plan p c.depth s f.placed f.agrees,
-        in_body_behind plan p before c s a.stands.2
-            (body_starts c s f.placed)
-            (λ l of. subst (λ (g : Setting). FromStart c.start g) (sym (after-same c s l (none_apart s l none))) (a.stands.2.since l of)) (body_jumps plan p c.depth s f.agrees),
-      );
-    }
+    let none = body_sets plan p c.depth s f.placed f.agrees in (
+      faultless before c s (keeps plan before c s rest w a.read (body_placed plan c s a.stands.1 f.placed) (body_unset before c s f.placed)
+          (body_agrees plan p c s a.stands.1 f.placed f.agrees a.matches) f.deep f.shallow),
+      record {
+        read = read_behind plan before c s rest w a.read (λ l q of. let h = a.read.entered l q of in let i = ap (sets l) none in let j = ap (sets q) none in omega (arith, h, i, j))
+            (body_data plan p c.depth s f.placed f.agrees);
+        matches = named_matches plan p c.depth c.count s _ f.placed f.agrees (followed_matches plan c.position s c.uses (free_clear plan c.position a.stands.1) a.matches);
+        shallow = f.shallow;
+        stands = (
+          ap (λ (x : ℕ). next_depth x s) a.stands.0,
+          body_free plan p c.depth s f.placed f.agrees,
+          in_body_behind plan p before c s a.stands.2
+              (body_starts c s f.placed)
+              (λ l of. subst (λ (g : Setting). FromStart c.start g) (sym (after-same c s l (none_apart s l none))) (a.stands.2.since l of)) (body_jumps plan p c.depth s f.agrees),
+        );
+      },
+    )
 
 -- A LAB of procedure p.
 start_low : (plan : ℕ → Use) (p : ℕ) (before : List Stmt) (c : Context) → Read plan before c → InBody plan p before c → c.start ≤ c.count
@@ -429,9 +365,7 @@ lab_since plan p c l low since m of = pick (l == m) refl
 of_is : (plan : ℕ → Use) (p q l : ℕ) (u : Use) → plan l ≡ u → Of p u → Of q (plan l) → p ≡ q
 of_is plan p q l (jumps r d) e of h = sym of ∙ subst (λ (x : Use). Of q x) e h
 of_is plan p q l (results r n) e of h = sym of ∙ subst (λ (x : Use). Of q x) e h
-of_is plan p q l unused e of h = elim of [ ]
-of_is plan p q l word e of h = elim of [ ]
-of_is plan p q l entry e of h = elim of [ ]
+of_is plan p q l y e of h = elim of [ ]
 
 lab_entered : (plan : ℕ → Use) (p l : ℕ) (u : Use) (before : List Stmt) (rest : List Stmt) → plan l ≡ u → Of p u → Whole plan before (Label l ∷ rest) → 1 ≤ times_set p before
     → ((m q : ℕ) → Of q (plan m) → times_set m before ≤ times_set q before) → (m q : ℕ) → Of q (plan m) → times_set m before + sets m (Some l) ≤ times_set q before + sets q (Some l)
@@ -461,31 +395,28 @@ lab_fault : (plan : ℕ → Use) (p k l : ℕ) (before : List Stmt) (c : Context
     → are_other_jumps c.depth (c.uses l).jumps ≡ false → fault_in before c (Label l) ≡ None
 lab_fault plan p k l before c rest w a own =
     faultless before c (Label l) (keeps plan before c (Label l) rest w a.read (body_placed plan c (Label l) a.stands.1 refl) refl
-    (either_false _ _ (follows_clear plan c c.position (Label l) (free_clear plan c.position a.stands.1) a.matches) own) (omega arith) a.shallow)
+    (or_from _ _ (follows_clear plan c c.position (Label l) (free_clear plan c.position a.stands.1) a.matches) own) (omega arith) a.shallow)
 
 one_came : (d : ℕ) (j : JumpDepths) → OneDepth d j → are_other_jumps d j ≡ false
 one_came d came.Unused h = refl
 one_came d (came.One k) h = ap not (eq-eqb k d h)
 one_came d came.Several h = elim h [ ]
 
-lands_fault : (plan : ℕ → Use) (p k l : ℕ) (before : List Stmt) (c : Context) (rest : List Stmt) → Whole plan before (Label l ∷ rest) → State plan (body p k) before c
-    → plan l ≡ jumps p k → fault_in before c (Label l) ≡ None
-lands_fault plan p k l before c rest w a e =
-    let m : Matches (jumps p k) (c.uses l) = subst (λ (u : Use). Matches u (c.uses l)) e (a.matches l) in
-    lab_fault plan p k l before c rest w a (one_came c.depth (c.uses l).jumps (subst (λ (x : ℕ). OneDepth x (c.uses l).jumps) (sym a.stands.0) m.1))
-
-lands_state : (plan : ℕ → Use) (p k l : ℕ) (before : List Stmt) (c : Context) (rest : List Stmt) → Whole plan before (Label l ∷ rest) → State plan (body p k) before c
-    → plan l ≡ jumps p k → State plan (body p k) (before ++ Label l ∷ []) (after c (Label l))
-lands_state plan p k l before c rest w a e =
+lands_step : (plan : ℕ → Use) (p k l : ℕ) (before : List Stmt) (c : Context) (rest : List Stmt) → Whole plan before (Label l ∷ rest) → State plan (body p k) before c
+    → plan l ≡ jumps p k → Step plan (body p k) before c (Label l)
+lands_step plan p k l before c rest w a e =
+    let n : Matches (jumps p k) (c.uses l) = subst (λ (u : Use). Matches u (c.uses l)) e (a.matches l) in
     let all = followed_matches plan c.position (Label l) c.uses (free_clear plan c.position a.stands.1) a.matches in
-    let m : Matches (jumps p k) (label_followed c.position (Label l) c.uses l) = subst (λ (u : Use). Matches u (label_followed c.position (Label l) c.uses l)) e (all l) in
-    record {
-      read = lab_read plan p l (jumps p k) before c rest e refl w a.read a.stands.2;
-      matches = changed_matches plan l (set_by (setting.Lab c.depth c.count)) (label_followed c.position (Label l) c.uses)
-          (subst (λ (u : Use). Matches u (set_by (setting.Lab c.depth c.count) (label_followed c.position (Label l) c.uses l))) (sym e) (a.stands.0, m.1, m.2)) all;
-      shallow = a.shallow;
-      stands = (a.stands.0, (p, k, e), lab_body plan p l before c a.read a.stands.2);
-    }
+    let m : Matches (jumps p k) (label_followed c.position (Label l) c.uses l) = subst (λ (u : Use). Matches u (label_followed c.position (Label l) c.uses l)) e (all l) in (
+      lab_fault plan p k l before c rest w a (one_came c.depth (c.uses l).jumps (subst (λ (x : ℕ). OneDepth x (c.uses l).jumps) (sym a.stands.0) n.1)),
+      record {
+        read = lab_read plan p l (jumps p k) before c rest e refl w a.read a.stands.2;
+        matches = changed_matches plan l (set_by (setting.Lab c.depth c.count)) (label_followed c.position (Label l) c.uses)
+            (subst (λ (u : Use). Matches u (set_by (setting.Lab c.depth c.count) (label_followed c.position (Label l) c.uses l))) (sym e) (a.stands.0, m.1, m.2)) all;
+        shallow = a.shallow;
+        stands = (a.stands.0, (p, k, e), lab_body plan p l before c a.read a.stands.2);
+      },
+    )
 
 -- A LAB and the RSTACK behind it.
 takes_fault : (plan : ℕ → Use) (p k l n : ℕ) (before : List Stmt) (c : Context) (rest : List Stmt) → Whole plan before (Label l ∷ rest) → State plan (body p k) before c
@@ -511,7 +442,7 @@ taker_fault plan p k l n before c rest w r at depth low high least =
     let placed : misplaced c (TakeResult n) ≡ false = ap (λ (x : Position). not (may_stand x Taker)) at in
     let follows : follows_badly c c.position (TakeResult n) ≡ false = ap (λ (x : Position). follows_badly c x (TakeResult n)) at ∙ over_none n (c.uses l).result least in
     faultless before c (TakeResult n) (keeps plan before c (TakeResult n) rest w r placed refl
-    (either_false _ _ follows (le-ltb c.depth n (omega (arith, depth, low)))) (omega arith) high)
+    (or_from _ _ follows (le-ltb c.depth n (omega (arith, depth, low)))) (omega arith) high)
 
 takes_state : (plan : ℕ → Use) (p k l n : ℕ) (before : List Stmt) (c : Context) (rest : List Stmt) → Whole plan before (Label l ∷ TakeResult n ∷ rest) → State plan (body p k) before c
     → plan l ≡ results p n → n ≤ k → n + 1 ≤ FRAME_WORDS
@@ -558,23 +489,17 @@ taken_set start n setting.Data known h many low = elim h [ ]
 own_lab : (p start : ℕ) (u : Use) (known : LabelUse) → Of p u → Matches u known → 1 ≤ times known.setting → FromStart start known.setting → is_lab_from start known.setting ≡ true
 own_lab p start (jumps r d) known of m many low = lab_set start d known.setting m.0 many low
 own_lab p start (results r n) known of m many low = taken_set start n known.setting known m.0 many low
-own_lab p start unused known of m many low = elim of [ ]
-own_lab p start word known of m many low = elim of [ ]
-own_lab p start entry known of m many low = elim of [ ]
-
-both_true : (a b : Bool) → a ≡ true → b ≡ true → (a && b) ≡ true
-both_true true b e h = h
-both_true false b e h = absurd (let n : false ≡ true = e in cc)
+own_lab p x y known of m many low = elim of [ ]
 
 own_set_all : (plan : ℕ → Use) (p : ℕ) (q : ℕ → Bool) (ls : List ℕ) → AllOf plan p ls → ((l : ℕ) → Of p (plan l) → q l ≡ true) → list_all q ls ≡ true
 own_set_all plan p q [] h is = refl
-own_set_all plan p q (l ∷ ls) h is = both_true _ _ (is l h.0) (own_set_all plan p q ls h.1 is)
+own_set_all plan p q (l ∷ ls) h is = and_from _ _ (is l h.0) (own_set_all plan p q ls h.1 is)
 
 jumps_all_set : (plan : ℕ → Use) (p : ℕ) (c : Context) (inner : List Stmt) → AllJumpIn plan p inner → ((l : ℕ) → Of p (plan l) → is_lab_from c.start (c.uses l).setting ≡ true)
     → list_all (jumps_set c) inner ≡ true
 jumps_all_set plan p c [] h is = refl
 jumps_all_set plan p c (s ∷ rest) h is =
-    both_true _ _ (own_set_all plan p (λ label. is_lab_from c.start (c.uses label).setting) (jump_labels s ++ result_label s) h.0 is) (jumps_all_set plan p c rest h.1 is)
+    and_from _ _ (own_set_all plan p (λ label. is_lab_from c.start (c.uses label).setting) (jump_labels s ++ result_label s) h.0 is) (jumps_all_set plan p c rest h.1 is)
 
 -- behind a procedure whose entry is not set again none of its labels is
 abbrev Elsewhere : ℕ → Standing → Type 0
@@ -608,9 +533,9 @@ unset_later p l (holds more) away of none = let h = unset_later p l more tt of (
 unset_later p l (points e range more) away of none = let h = unset_later p l more tt of (omega (arith, none)) in omega (arith, h)
 unset_later p l (ends range entries more) away of none = let h = unset_later p l more tt of (omega (arith, none)) in omega (arith, h)
 
-end_fault : (plan : ℕ → Use) (p k d : ℕ) (b : Standing) (before : List Stmt) (c : Context) (rest : List Stmt) → Whole plan before (EndProcedure ∷ rest) → State plan (body p k) before c
-    → c.position ≡ position.BehindReturn → Typed plan (outside false d) rest b → fault_in before c EndProcedure ≡ None
-end_fault plan p k d b before c rest w a at more =
+end_step : (plan : ℕ → Use) (p k d : ℕ) (b : Standing) (before : List Stmt) (c : Context) (rest : List Stmt) → Whole plan before (EndProcedure ∷ rest) → State plan (body p k) before c
+    → c.position ≡ position.BehindReturn → Typed plan (outside false d) rest b → Step plan (outside false k) before c EndProcedure
+end_step plan p k d b before c rest w a at more =
     let i = a.stands.2 in
     let is : (l : ℕ) → Of p (plan l) → is_lab_from c.start (c.uses l).setting ≡ true = λ l of.
     let once = w.once p in let opened = i.opened in
@@ -621,17 +546,15 @@ end_fault plan p k d b before c rest w a at more =
     let inner : drop c.start before ≡ i.inner = ap (λ (x : List Stmt). drop c.start x) i.split ∙ ap (λ (x : ℕ). drop x (i.front ++ i.inner)) i.starts ∙ drop-append_seam i.front i.inner in
     let set : label_not_set before c EndProcedure ≡ false = ap (λ (x : List Stmt). not (list_all (jumps_set c) x)) inner ∙ ap not (jumps_all_set plan p c i.inner i.jumping is) in
     let placed : misplaced c EndProcedure ≡ false = ap (λ (x : Position). not (may_stand x Last)) at in
-    let follows : follows_badly c c.position EndProcedure ≡ false = ap (λ (x : Position). follows_badly c x EndProcedure) at in
-    faultless before c EndProcedure (keeps plan before c EndProcedure rest w a.read placed set (either_false _ _ follows refl) (omega arith) a.shallow)
-
-end_state : (plan : ℕ → Use) (p k : ℕ) (before : List Stmt) (c : Context) (rest : List Stmt) → Whole plan before (EndProcedure ∷ rest) → State plan (body p k) before c
-    → State plan (outside false k) (before ++ EndProcedure ∷ []) (after c EndProcedure)
-end_state plan p k before c rest w a = record {
-  read = read_behind plan before c EndProcedure rest w a.read (λ x q of. let h = a.read.entered x q of in omega (arith, h)) (λ x i. elim i [ ], λ x i. elim i [ ]);
-  matches = followed_matches plan c.position EndProcedure c.uses (free_clear plan c.position a.stands.1) a.matches;
-  shallow = a.shallow;
-  stands = (a.stands.0, refl);
-}
+    let follows : follows_badly c c.position EndProcedure ≡ false = ap (λ (x : Position). follows_badly c x EndProcedure) at in (
+      faultless before c EndProcedure (keeps plan before c EndProcedure rest w a.read placed set (or_from _ _ follows refl) (omega arith) a.shallow),
+      record {
+        read = read_behind plan before c EndProcedure rest w a.read (λ x q of. let h = a.read.entered x q of in omega (arith, h)) (λ x i. elim i [ ], λ x i. elim i [ ]);
+        matches = followed_matches plan c.position EndProcedure c.uses (free_clear plan c.position a.stands.1) a.matches;
+        shallow = a.shallow;
+        stands = (a.stands.0, refl);
+      },
+    )
 
 -- Outside of procedures.
 outer_placed : (plan : ℕ → Use) (x : Bool) (k : ℕ) (before : List Stmt) (c : Context) → Stands plan (outside x k) before c → may_stand c.position Outer ≡ true
@@ -653,17 +576,15 @@ outer_entered plan l u before e never entered m q of =
     let i = apart_set plan q m l u e (never q) of in let h = entered m q of in omega (arith, h, i)
 
 never_set : (start : ℕ) (g : Setting) → times g ≡ 0 → FromStart start g
-never_set start setting.Unset e = tt
 never_set start (setting.Lab d place) e = absurd (omega (arith, e))
-never_set start setting.Entry e = tt
-never_set start setting.Data e = tt
+never_set x y e = tt
 
 enters_fault : (plan : ℕ → Use) (x : Bool) (k p : ℕ) (name : List ℕ) (before : List Stmt) (c : Context) (rest : List Stmt) → Whole plan before (Entry p name ∷ rest) → State plan (outside x k) before c
     → plan p ≡ entry → fault_in before c (Entry p name) ≡ None
 enters_fault plan x k p name before c rest w a e =
     faultless before c (Entry p name) (keeps plan before c (Entry p name) rest w a.read (ap not (outer_placed plan x k before c a.stands)) refl
-    (either_false _ _ (follows_clear plan c c.position (Entry p name) (outer_clear plan x k before c a.stands) a.matches)
-    (either_false _ _ (either_false _ _ (entry_unresulted plan c p e a.matches) refl) refl)) (omega arith) (omega arith))
+    (or_from _ _ (follows_clear plan c c.position (Entry p name) (outer_clear plan x k before c a.stands) a.matches)
+    (or_from _ _ (or_from _ _ (unresulted plan c p entry e (λ m. m.1) a.matches) refl) refl)) (omega arith) (omega arith))
 
 enters_state : (plan : ℕ → Use) (x : Bool) (k p d : ℕ) (name : List ℕ) (before : List Stmt) (c : Context) (rest : List Stmt) → Whole plan before (Entry p name ∷ Save d ∷ rest)
     → State plan (outside x k) before c → plan p ≡ entry → IsDepth d
@@ -711,70 +632,63 @@ enters_state plan x k p d name before c rest w a e depth =
     )
 
 -- Data.
-begins_fault : (plan : ℕ → Use) (x : Bool) (k l : ℕ) (before : List Stmt) (c : Context) (rest : List Stmt) → Whole plan before (DataLabel l ∷ rest) → State plan (outside x k) before c
-    → plan l ≡ word → fault_in before c (DataLabel l) ≡ None
-begins_fault plan x k l before c rest w a e =
-    faultless before c (DataLabel l) (keeps plan before c (DataLabel l) rest w a.read (ap not (outer_placed plan x k before c a.stands)) refl
-    (either_false _ _ (follows_clear plan c c.position (DataLabel l) (outer_clear plan x k before c a.stands) a.matches)
-    (either_false _ _ (either_false _ _ (word_unresulted plan c l e a.matches) refl) refl)) (omega arith) a.shallow)
-
-begins_state : (plan : ℕ → Use) (x : Bool) (k l : ℕ) (before : List Stmt) (c : Context) (rest : List Stmt) → Whole plan before (DataLabel l ∷ rest) → State plan (outside x k) before c
-    → plan l ≡ word → State plan (outside true k) (before ++ DataLabel l ∷ []) (after c (DataLabel l))
-begins_state plan x k l before c rest w a e =
+begins_step : (plan : ℕ → Use) (x : Bool) (k l : ℕ) (before : List Stmt) (c : Context) (rest : List Stmt) → Whole plan before (DataLabel l ∷ rest) → State plan (outside x k) before c
+    → plan l ≡ word → Step plan (outside true k) before c (DataLabel l)
+begins_step plan x k l before c rest w a e =
     let s : Stmt = DataLabel l in
     let u : ℕ → LabelUse = label_followed c.position s c.uses in
     let all : AllMatch plan u = followed_matches plan c.position s c.uses (outer_clear plan x k before c a.stands) a.matches in
-    let m : Matches word (u l) = subst (λ (y : Use). Matches y (u l)) e (all l) in
-    record {
-      read = read_behind plan before c s rest w a.read (outer_entered plan l word before e (λ q h. h) a.read.entered) (λ y i. elim i [ ], λ y i. elim i [ ]);
-      matches = changed_twice plan l (set_by setting.Data) mentioned u (subst (λ (y : Use). Matches y (set_by setting.Data (mentioned (u l)))) (sym e) (tt, m.1)) all;
-      shallow = a.shallow;
-      stands = (outer_depth plan x k before c a.stands, refl);
-    }
+    let m : Matches word (u l) = subst (λ (y : Use). Matches y (u l)) e (all l) in (
+      faultless before c (DataLabel l) (keeps plan before c (DataLabel l) rest w a.read (ap not (outer_placed plan x k before c a.stands)) refl
+          (or_from _ _ (follows_clear plan c c.position (DataLabel l) (outer_clear plan x k before c a.stands) a.matches)
+          (or_from _ _ (or_from _ _ (unresulted plan c l word e (λ m. m.1) a.matches) refl) refl)) (omega arith) a.shallow),
+      record {
+        read = read_behind plan before c s rest w a.read (outer_entered plan l word before e (λ q h. h) a.read.entered) (λ y i. elim i [ ], λ y i. elim i [ ]);
+        matches = changed_twice plan l (set_by setting.Data) mentioned u (subst (λ (y : Use). Matches y (set_by setting.Data (mentioned (u l)))) (sym e) (tt, m.1)) all;
+        shallow = a.shallow;
+        stands = (outer_depth plan x k before c a.stands, refl);
+      },
+    )
 
 datum_placed : (c : Context) (s : Stmt) → c.position ≡ position.InData → role s ≡ Datum → misplaced c s ≡ false
 datum_placed c s at r = ap (λ (y : Position). not (may_stand y (role s))) at ∙ ap (λ y. not (may_stand position.InData y)) r
 
-holds_fault : (plan : ℕ → Use) (k : ℕ) (v : ℤ) (before : List Stmt) (c : Context) (rest : List Stmt) → Whole plan before (DataNumber v ∷ rest) → State plan (outside true k) before c
-    → fault_in before c (DataNumber v) ≡ None
-holds_fault plan k v before c rest w a =
-    faultless before c (DataNumber v) (keeps plan before c (DataNumber v) rest w a.read (datum_placed c (DataNumber v) a.stands.1 refl) refl
-    (either_false _ _ (follows_clear plan c c.position (DataNumber v) (outer_clear plan true k before c a.stands) a.matches) refl) (omega arith) a.shallow)
-
-holds_state : (plan : ℕ → Use) (k : ℕ) (v : ℤ) (before : List Stmt) (c : Context) (rest : List Stmt) → Whole plan before (DataNumber v ∷ rest) → State plan (outside true k) before c
-    → State plan (outside true k) (before ++ DataNumber v ∷ []) (after c (DataNumber v))
-holds_state plan k v before c rest w a = record {
-  read = read_behind plan before c (DataNumber v) rest w a.read (λ x q of. let h = a.read.entered x q of in omega (arith, h)) (λ x i. elim i [ ], λ x i. elim i [ ]);
-  matches = followed_matches plan c.position (DataNumber v) c.uses (outer_clear plan true k before c a.stands) a.matches;
-  shallow = a.shallow;
-  stands = (a.stands.0, refl);
-}
+holds_step : (plan : ℕ → Use) (k : ℕ) (v : ℤ) (before : List Stmt) (c : Context) (rest : List Stmt) → Whole plan before (DataNumber v ∷ rest) → State plan (outside true k) before c
+    → Step plan (outside true k) before c (DataNumber v)
+holds_step plan k v before c rest w a = (
+  faultless before c (DataNumber v) (keeps plan before c (DataNumber v) rest w a.read (datum_placed c (DataNumber v) a.stands.1 refl) refl
+      (or_from _ _ (follows_clear plan c c.position (DataNumber v) (outer_clear plan true k before c a.stands) a.matches) refl) (omega arith) a.shallow),
+  record {
+    read = read_behind plan before c (DataNumber v) rest w a.read (λ x q of. let h = a.read.entered x q of in omega (arith, h)) (λ x i. elim i [ ], λ x i. elim i [ ]);
+    matches = followed_matches plan c.position (DataNumber v) c.uses (outer_clear plan true k before c a.stands) a.matches;
+    shallow = a.shallow;
+    stands = (a.stands.0, refl);
+  },
+)
 
 points_unresulted : (plan : ℕ → Use) (c : Context) (l : ℕ) → (plan l ≡ word) ⊎ (plan l ≡ entry) → AllMatch plan c.uses → is_some (c.uses l).result ≡ false
-points_unresulted plan c l (inl e) all = word_unresulted plan c l e all
-points_unresulted plan c l (inr e) all = entry_unresulted plan c l e all
+points_unresulted plan c l (inl e) all = unresulted plan c l word e (λ m. m.1) all
+points_unresulted plan c l (inr e) all = unresulted plan c l entry e (λ m. m.1) all
 
 points_match : (plan : ℕ → Use) (l : ℕ) (uses : ℕ → LabelUse) → (plan l ≡ word) ⊎ (plan l ≡ entry) → AllMatch plan uses → AllMatch plan (changed l mentioned uses)
 points_match plan l uses (inl e) all = word_matches plan l uses e all
 points_match plan l uses (inr e) all = entry_matches plan l uses e all
 
-points_fault : (plan : ℕ → Use) (k l : ℕ) (before : List Stmt) (c : Context) (rest : List Stmt) → Whole plan before (DataAddress l ∷ rest) → State plan (outside true k) before c
-    → (plan l ≡ word) ⊎ (plan l ≡ entry) → fault_in before c (DataAddress l) ≡ None
-points_fault plan k l before c rest w a e =
-    faultless before c (DataAddress l) (keeps plan before c (DataAddress l) rest w a.read (datum_placed c (DataAddress l) a.stands.1 refl) refl
-    (either_false _ _ (follows_clear plan c c.position (DataAddress l) (outer_clear plan true k before c a.stands) a.matches)
-    (either_false _ _ (either_false _ _ (points_unresulted plan c l e a.matches) refl) refl)) (omega arith) a.shallow)
-
-points_state : (plan : ℕ → Use) (k l : ℕ) (before : List Stmt) (c : Context) (rest : List Stmt) → Whole plan before (DataAddress l ∷ rest) → State plan (outside true k) before c
-    → (plan l ≡ word) ⊎ (plan l ≡ entry) → State plan (outside true k) (before ++ DataAddress l ∷ []) (after c (DataAddress l))
-points_state plan k l before c rest w a e = record {
-  read = read_behind plan before c (DataAddress l) rest w a.read (λ x q of. let h = a.read.entered x q of in omega (arith, h))
-      (λ x i. elim i [ ], λ x i. elim i [ inl same ↦ subst (λ (y : ℕ). (plan y ≡ word) ⊎ (plan y ≡ entry)) same e | inr n ↦ elim n [ ] ]);
-  matches = points_match plan l (label_followed c.position (DataAddress l) c.uses) e
-      (followed_matches plan c.position (DataAddress l) c.uses (outer_clear plan true k before c a.stands) a.matches);
-  shallow = a.shallow;
-  stands = (a.stands.0, refl);
-}
+points_step : (plan : ℕ → Use) (k l : ℕ) (before : List Stmt) (c : Context) (rest : List Stmt) → Whole plan before (DataAddress l ∷ rest) → State plan (outside true k) before c
+    → (plan l ≡ word) ⊎ (plan l ≡ entry) → Step plan (outside true k) before c (DataAddress l)
+points_step plan k l before c rest w a e = (
+  faultless before c (DataAddress l) (keeps plan before c (DataAddress l) rest w a.read (datum_placed c (DataAddress l) a.stands.1 refl) refl
+      (or_from _ _ (follows_clear plan c c.position (DataAddress l) (outer_clear plan true k before c a.stands) a.matches)
+      (or_from _ _ (or_from _ _ (points_unresulted plan c l e a.matches) refl) refl)) (omega arith) a.shallow),
+  record {
+    read = read_behind plan before c (DataAddress l) rest w a.read (λ x q of. let h = a.read.entered x q of in omega (arith, h))
+        (λ x i. elim i [ ], λ x i. elim i [ inl same ↦ subst (λ (y : ℕ). (plan y ≡ word) ⊎ (plan y ≡ entry)) same e | inr n ↦ elim n [ ] ]);
+    matches = points_match plan l (label_followed c.position (DataAddress l) c.uses) e
+        (followed_matches plan c.position (DataAddress l) c.uses (outer_clear plan true k before c a.stands) a.matches);
+    shallow = a.shallow;
+    stands = (a.stands.0, refl);
+  },
+)
 
 -- The end: each word that is named is set, and each entry.
 data_is : (u : Use) (known : LabelUse) → u ≡ word → Matches u known → 1 ≤ times known.setting → is_data known.setting ≡ true
@@ -802,12 +716,12 @@ either_true false b (inr e) = e
 
 all_among : (q : ℕ → Bool) (ls : List ℕ) → ((l : ℕ) → IsAmong l ls → q l ≡ true) → list_all q ls ≡ true
 all_among q [] is = refl
-all_among q (l ∷ ls) is = both_true _ _ (is l (inl refl)) (all_among q ls (λ m a. is m (inr a)))
+all_among q (l ∷ ls) is = and_from _ _ (is l (inl refl)) (all_among q ls (λ m a. is m (inr a)))
 
 all_entries_set : (plan : ℕ → Use) (c : Context) (ls : List ℕ) → AllEntries plan ls → ((l : ℕ) → plan l ≡ entry → is_entry (c.uses l).setting ≡ true)
     → list_all (λ label. is_entry (c.uses label).setting) ls ≡ true
 all_entries_set plan c [] h is = refl
-all_entries_set plan c (l ∷ ls) h is = both_true _ _ (is l h.0) (all_entries_set plan c ls h.1 is)
+all_entries_set plan c (l ∷ ls) h is = and_from _ _ (is l h.0) (all_entries_set plan c ls h.1 is)
 
 point_set : (plan : ℕ → Use) (c : Context) (l : ℕ) → ((m : ℕ) → plan m ≡ word → is_data (c.uses m).setting ≡ true) → ((m : ℕ) → plan m ≡ entry → is_entry (c.uses m).setting ≡ true)
     → (plan l ≡ word) ⊎ (plan l ≡ entry) → (is_data (c.uses l).setting || is_entry (c.uses l).setting) ≡ true
@@ -818,37 +732,35 @@ data_all_set : (plan : ℕ → Use) (c : Context) (before : List Stmt) → AllNa
     → ((l : ℕ) → plan l ≡ entry → is_entry (c.uses l).setting ≡ true) → list_all (data_set c) before ≡ true
 data_all_set plan c [] h words entries = refl
 data_all_set plan c (s ∷ rest) h words entries =
-    both_true _ _ (both_true _ _ (all_among (λ label. is_data (c.uses label).setting) (data_labels s) (λ l a. words l (h.0.0 l a)))
+    and_from _ _ (and_from _ _ (all_among (λ label. is_data (c.uses label).setting) (data_labels s) (λ l a. words l (h.0.0 l a)))
     (all_among (λ label. is_data (c.uses label).setting || is_entry (c.uses label).setting) (item_label s) (λ l a. point_set plan c l words entries (h.0.1 l a))))
     (data_all_set plan c rest h.1 words entries)
 
 nothing_later : {plan : ℕ → Use} {rest : List Stmt} {b : Standing} (l : ℕ) → Typed plan ended rest b → times_set l rest ≡ 0
 nothing_later l done = refl
 
-ends_fault : (plan : ℕ → Use) (x : Bool) (k : ℕ) (entries : List GlobalEntry) (b : Standing) (before : List Stmt) (c : Context) (rest : List Stmt)
+ends_step : (plan : ℕ → Use) (x : Bool) (k : ℕ) (entries : List GlobalEntry) (b : Standing) (before : List Stmt) (c : Context) (rest : List Stmt)
     → Whole plan before (Globals entries ∷ rest) → State plan (outside x k) before c → AllEntries plan (global_labels (Globals entries)) → Typed plan ended rest b
-    → fault_in before c (Globals entries) ≡ None
-ends_fault plan x k entries b before c rest w a own more =
+    → Step plan ended before c (Globals entries)
+ends_step plan x k entries b before c rest w a own more =
     let many : (l : ℕ) → (plan l ≡ unused → ⊥) → 1 ≤ times (c.uses l).setting = λ l used.
     let all = w.complete l used in let known = a.read.set l in let none = nothing_later l more in omega (arith, all, known, none) in
     let words : (l : ℕ) → plan l ≡ word → is_data (c.uses l).setting ≡ true = λ l e.
     data_is (plan l) (c.uses l) e (a.matches l) (many l (λ h. let n : word ≡ unused = sym e ∙ h in cc)) in
     let entered : (l : ℕ) → plan l ≡ entry → is_entry (c.uses l).setting ≡ true = λ l e.
     entry_is (plan l) (c.uses l) e (a.matches l) (many l (λ h. let n : entry ≡ unused = sym e ∙ h in cc)) in
-    let set : label_not_set before c (Globals entries) ≡ false = ap not (both_true _ _ (data_all_set plan c before a.read.naming words entered)
-    (all_entries_set plan c (global_labels (Globals entries)) own entered)) in
-    faultless before c (Globals entries) (keeps plan before c (Globals entries) rest w a.read (ap not (outer_placed plan x k before c a.stands)) set
-    (either_false _ _ (follows_clear plan c c.position (Globals entries) (outer_clear plan x k before c a.stands) a.matches)
-    (either_false _ _ (entries_unresulted plan c (global_labels (Globals entries)) own a.matches) refl)) (omega arith) a.shallow)
-
-ends_state : (plan : ℕ → Use) (x : Bool) (k : ℕ) (entries : List GlobalEntry) (before : List Stmt) (c : Context) (rest : List Stmt)
-    → Whole plan before (Globals entries ∷ rest) → State plan (outside x k) before c → State plan ended (before ++ Globals entries ∷ []) (after c (Globals entries))
-ends_state plan x k entries before c rest w a = record {
-  read = read_behind plan before c (Globals entries) rest w a.read (λ y q of. let h = a.read.entered y q of in omega (arith, h)) (λ y i. elim i [ ], λ y i. elim i [ ]);
-  matches = followed_matches plan c.position (Globals entries) c.uses (outer_clear plan x k before c a.stands) a.matches;
-  shallow = a.shallow;
-  stands = refl;
-}
+    let set : label_not_set before c (Globals entries) ≡ false = ap not (and_from _ _ (data_all_set plan c before a.read.naming words entered)
+    (all_entries_set plan c (global_labels (Globals entries)) own entered)) in (
+      faultless before c (Globals entries) (keeps plan before c (Globals entries) rest w a.read (ap not (outer_placed plan x k before c a.stands)) set
+          (or_from _ _ (follows_clear plan c c.position (Globals entries) (outer_clear plan x k before c a.stands) a.matches)
+          (or_from _ _ (entries_unresulted plan c (global_labels (Globals entries)) own a.matches) refl)) (omega arith) a.shallow),
+      record {
+        read = read_behind plan before c (Globals entries) rest w a.read (λ y q of. let h = a.read.entered y q of in omega (arith, h)) (λ y i. elim i [ ], λ y i. elim i [ ]);
+        matches = followed_matches plan c.position (Globals entries) c.uses (outer_clear plan x k before c a.stands) a.matches;
+        shallow = a.shallow;
+        stands = refl;
+      },
+    )
 
 -- All statements, one after another.
 abbrev AllFaultless : List Stmt → Context → List Stmt → Type 0
@@ -871,6 +783,11 @@ return_fits plan p k high = record { placed = refl; ranged = tt; deep = omega ar
 item_fits : (plan : ℕ → Use) (p k : ℕ) → 3 ≤ k → k ≤ FRAME_WORDS → Fits plan p k ReturnItem
 item_fits plan p k low high = record { placed = refl; ranged = tt; deep = low; shallow = omega (arith, high); agrees = tt }
 
+walk_on : (plan : ℕ → Use) (b e : Standing) (before : List Stmt) (c : Context) (s : Stmt) (rest : List Stmt) → Step plan b before c s
+    → (State plan b (before ++ s ∷ []) (after c s) → AllFaultless (before ++ s ∷ []) (after c s) rest × Reached e (after_all c (s ∷ rest)))
+    → AllFaultless before c (s ∷ rest) × Reached e (after_all c (s ∷ rest))
+walk_on plan b e before c s rest one go = let h = go one.1 in ((one.0, h.0), h.1)
+
 walk : {plan : ℕ → Use} {a : Standing} {rest : List Stmt} {b : Standing} (before : List Stmt) (c : Context) → Typed plan a rest b → Whole plan before rest → State plan a before c
     → AllFaultless before c rest × Reached b (after_all c rest)
 walk {plan} {a} before c done w s = (tt, reached plan a before c s)
@@ -881,11 +798,9 @@ walk {plan} before c (enters {x = x} {k = k} {p = p} {d = d} {name = name} {rest
     let h = walk ((before ++ Entry p name ∷ []) ++ Save d ∷ []) (after (after c (Entry p name)) (Save d)) more (whole_behind plan (before ++ Entry p name ∷ []) (Save d) rest v) both.1 in
     ((first, (both.0, h.0)), h.1)
 walk {plan} before c (goes {p = p} {k = k} {s = t} {rest = rest} fits more) w s =
-    let h = walk (before ++ t ∷ []) (after c t) more (whole_behind plan before t rest w) (body_goes plan p k before c t rest w s fits) in
-    ((body_keeps plan p k before c t rest w s fits, h.0), h.1)
+    walk_on plan _ _ before c t rest (body_step plan p k before c t rest w s fits) (walk (before ++ t ∷ []) (after c t) more (whole_behind plan before t rest w))
 walk {plan} before c (lands {p = p} {k = k} {l = l} {rest = rest} e range more) w s =
-    let h = walk (before ++ Label l ∷ []) (after c (Label l)) more (whole_behind plan before (Label l) rest w) (lands_state plan p k l before c rest w s e) in
-    ((lands_fault plan p k l before c rest w s e, h.0), h.1)
+    walk_on plan _ _ before c (Label l) rest (lands_step plan p k l before c rest w s e) (walk (before ++ Label l ∷ []) (after c (Label l)) more (whole_behind plan before (Label l) rest w))
 walk {plan} before c (takes {p = p} {k = k} {l = l} {n = n} {rest = rest} e range slot low high more) w s =
     let first = takes_fault plan p k l n before c (TakeResult n ∷ rest) w s e in
     let both = takes_state plan p k l n before c rest w s e low high in
@@ -894,34 +809,23 @@ walk {plan} before c (takes {p = p} {k = k} {l = l} {n = n} {rest = rest} e rang
     ((first, (both.0, h.0)), h.1)
 walk {plan} {b = b} before c (returns {p = p} {k = k} {rest = rest} more) w s =
     let fits = return_fits plan p k (let d = s.stands.0 in let f = s.shallow in omega (arith, d, f)) in
-    let first = body_keeps plan p k before c Return (EndProcedure ∷ rest) w s fits in
     let v = whole_behind plan before Return (EndProcedure ∷ rest) w in
-    let t = body_goes plan p k before c Return (EndProcedure ∷ rest) w s fits in
-    let second = end_fault plan p k k b (before ++ Return ∷ []) (after c Return) rest v t refl more in
-    let h = walk ((before ++ Return ∷ []) ++ EndProcedure ∷ []) (after (after c Return) EndProcedure) more (whole_behind plan (before ++ Return ∷ []) EndProcedure rest v)
-    (end_state plan p k (before ++ Return ∷ []) (after c Return) rest v t) in
-    ((first, (second, h.0)), h.1)
+    walk_on plan _ _ before c Return (EndProcedure ∷ rest) (body_step plan p k before c Return (EndProcedure ∷ rest) w s fits) (λ t. walk_on plan _ _ (before ++ Return ∷ []) (after c Return) EndProcedure rest (end_step plan p k k b (before ++ Return ∷ []) (after c Return) rest v t refl more)
+    (walk ((before ++ Return ∷ []) ++ EndProcedure ∷ []) (after (after c Return) EndProcedure) more (whole_behind plan (before ++ Return ∷ []) EndProcedure rest v)))
 walk {plan} {b = b} before c (gives {p = p} {k = k} {rest = rest} deep more) w s =
     let fits = item_fits plan p k deep (let d = s.stands.0 in let f = s.shallow in omega (arith, d, f)) in
-    let first = body_keeps plan p k before c ReturnItem (EndProcedure ∷ rest) w s fits in
     let v = whole_behind plan before ReturnItem (EndProcedure ∷ rest) w in
-    let t = body_goes plan p k before c ReturnItem (EndProcedure ∷ rest) w s fits in
-    let second = end_fault plan p (k - 1) (k - 1) b (before ++ ReturnItem ∷ []) (after c ReturnItem) rest v t refl more in
-    let h = walk ((before ++ ReturnItem ∷ []) ++ EndProcedure ∷ []) (after (after c ReturnItem) EndProcedure) more (whole_behind plan (before ++ ReturnItem ∷ []) EndProcedure rest v)
-    (end_state plan p (k - 1) (before ++ ReturnItem ∷ []) (after c ReturnItem) rest v t) in
-    ((first, (second, h.0)), h.1)
+    walk_on plan _ _ before c ReturnItem (EndProcedure ∷ rest) (body_step plan p k before c ReturnItem (EndProcedure ∷ rest) w s fits)
+    (λ t. walk_on plan _ _ (before ++ ReturnItem ∷ []) (after c ReturnItem) EndProcedure rest (end_step plan p (k - 1) (k - 1) b (before ++ ReturnItem ∷ []) (after c ReturnItem) rest v t refl more)
+    (walk ((before ++ ReturnItem ∷ []) ++ EndProcedure ∷ []) (after (after c ReturnItem) EndProcedure) more (whole_behind plan (before ++ ReturnItem ∷ []) EndProcedure rest v)))
 walk {plan} before c (begins {x = x} {k = k} {l = l} {rest = rest} e range more) w s =
-    let h = walk (before ++ DataLabel l ∷ []) (after c (DataLabel l)) more (whole_behind plan before (DataLabel l) rest w) (begins_state plan x k l before c rest w s e) in
-    ((begins_fault plan x k l before c rest w s e, h.0), h.1)
+    walk_on plan _ _ before c (DataLabel l) rest (begins_step plan x k l before c rest w s e) (walk (before ++ DataLabel l ∷ []) (after c (DataLabel l)) more (whole_behind plan before (DataLabel l) rest w))
 walk {plan} before c (holds {k = k} {v = v} {rest = rest} more) w s =
-    let h = walk (before ++ DataNumber v ∷ []) (after c (DataNumber v)) more (whole_behind plan before (DataNumber v) rest w) (holds_state plan k v before c rest w s) in
-    ((holds_fault plan k v before c rest w s, h.0), h.1)
+    walk_on plan _ _ before c (DataNumber v) rest (holds_step plan k v before c rest w s) (walk (before ++ DataNumber v ∷ []) (after c (DataNumber v)) more (whole_behind plan before (DataNumber v) rest w))
 walk {plan} before c (points {k = k} {l = l} {rest = rest} e range more) w s =
-    let h = walk (before ++ DataAddress l ∷ []) (after c (DataAddress l)) more (whole_behind plan before (DataAddress l) rest w) (points_state plan k l before c rest w s e) in
-    ((points_fault plan k l before c rest w s e, h.0), h.1)
+    walk_on plan _ _ before c (DataAddress l) rest (points_step plan k l before c rest w s e) (walk (before ++ DataAddress l ∷ []) (after c (DataAddress l)) more (whole_behind plan before (DataAddress l) rest w))
 walk {plan} {b = b} before c (ends {x = x} {k = k} {entries = entries} {rest = rest} range own more) w s =
-    let h = walk (before ++ Globals entries ∷ []) (after c (Globals entries)) more (whole_behind plan before (Globals entries) rest w) (ends_state plan x k entries before c rest w s) in
-    ((ends_fault plan x k entries b before c rest w s own more, h.0), h.1)
+    walk_on plan _ _ before c (Globals entries) rest (ends_step plan x k entries b before c rest w s own more) (walk (before ++ Globals entries ∷ []) (after c (Globals entries)) more (whole_behind plan before (Globals entries) rest w))
 
 at_place : (before : List Stmt) (c : Context) (rest : List Stmt) → AllFaultless before c rest → (k : ℕ) (s : Stmt) → slice_get rest k ≡ Some s
     → fault_in (before ++ take k rest) (after_all c (take k rest)) s ≡ None

@@ -1,12 +1,5 @@
 -- What a table says of labels, where its list becomes longer, or one label is changed.
-use Rattle.std.proofs.Common.{◌≡◌, ◌≢◌, ◌⊎◌, inl, inr, ℕ, zero, suc, ◌<◌, ◌≤◌, ◌==◌, true, false, Option, Some, List, [], ◌∷◌, ◌++◌, length, set, if◌then◌else◌, refl, sym, ap, ◌∙◌, arith}
-use Rattle.std.specs.Prelude.{slice_get}
-use Rattle.std.proofs.lemmas.Bool.{eq-eqb}
-use Rattle.std.proofs.lemmas.Bool.Decides.{eqb_tells}
-use Rattle.std.proofs.lemmas.Option.{slice_get_past}
-use Rattle.bk_ocode.specs.declared.standing.LabelUse.{LabelUse}
-use Rattle.bk_ocode.specs.Context.{fresh}
-use Rattle.bk_ocode.specs.KnownUses.{use_or}
+use Rattle.bk_ocode.proofs.Terms.{◌≡◌, ◌≢◌, ◌⊎◌, inl, inr, ℕ, zero, suc, ◌<◌, ◌≤◌, ◌==◌, true, false, Option, Some, List, [], ◌∷◌, ◌++◌, length, set, if◌then◌else◌, refl, sym, ap, ◌∙◌, arith, eqb_tells, slice_get_past, LabelUse, fresh, use_or, slice_get, eq-eqb}
 
 -- one label more in the list, of which the same is known
 pub lowered : (h : ℕ → LabelUse) (xs : List LabelUse) (x : LabelUse) (n : ℕ) → n ≡ length xs → x ≡ h n → (j : ℕ) → use_or (h j) (slice_get (xs ++ x ∷ []) j) ≡ use_or (h j) (slice_get xs j)
@@ -23,11 +16,9 @@ set_there (y ∷ ys) x (suc l) low = set_there ys x l (omega (arith, low))
 
 set_beside : (xs : List LabelUse) (x : LabelUse) (l j : ℕ) → j ≢ l → slice_get (set xs l x) j ≡ slice_get xs j
 set_beside [] x zero j other = refl
-set_beside [] x (suc l) j other = refl
 set_beside (y ∷ ys) x zero zero other = absurd (other refl)
-set_beside (y ∷ ys) x zero (suc j) other = refl
-set_beside (y ∷ ys) x (suc l) zero other = refl
 set_beside (y ∷ ys) x (suc l) (suc j) other = set_beside ys x l j (λ e. other (ap suc e))
+set_beside z x u v other = refl
 
 differ : (a b : ℕ) → a ≢ b → (a == b) ≡ false
 differ a b other = by (eqb_tells a b)

@@ -1,5 +1,4 @@
-use Rattle.std.proofs.Common.{refl}
-use Rattle.bk_gen.specs.PlainCode.{pairs}
+use Rattle.bk_gen.proofs.Terms.{refl, pairs}
 use Rattle.bk_gen.proofs.Loops.{pushed_on, pushed_all}
 use Rattle.bk_gen.proofs.table.push_pairs.Goals as goal
 

@@ -1,5 +1,4 @@
-use Rattle.std.proofs.Common.{◌≡◌, drop}
-use Rattle.bk_ocode.specs.Keywords.{find_keyword}
+use Rattle.bk_ocode.proofs.Terms.{◌≡◌, drop, find_keyword}
 use Rattle.bk_ocode.proofs.keyword.find_in.Given as goal
 
 abbrev pub invariant-loop-keyword : goal.invariant-loop-keyword

@@ -1,7 +1,4 @@
-use Rattle.std.proofs.Common.{ℕ, List, IfNone, sym, subst}
-use Rattle.bk_words.specs.Gathering.{Holds}
-use Rattle.bk_ocode.specs.PartialStmts.{NoArgument}
-use Rattle.bk_ocode.specs.declared.keyword.Keyword.{Keyword}
+use Rattle.bk_ocode.proofs.Terms.{ℕ, List, IfNone, sym, subst, Holds, NoArgument, Keyword}
 use Rattle.bk_ocode.proofs.partial.short_stmt.Goals as goal
 
 pub returns-in_err-number-in-Number-clause-none : goal.returns-in_err-number-in-Number-clause-none

@@ -1,8 +1,4 @@
-use Rattle.std.proofs.Common.{◌≡◌, ℕ, List, IfErr, sym, subst}
-use Rattle.bk_words.specs.Gathering.{Holds}
-use Rattle.bk_ocode.specs.PartialStmts.{IsUnfit}
-use Rattle.bk_ocode.specs.declared.partial.Partial.{Partial}
-use Rattle.bk_ocode.specs.declared.partial.Unfit.{Unfit}
+use Rattle.bk_ocode.proofs.Terms.{◌≡◌, ℕ, List, IfErr, sym, subst, Holds, IsUnfit, Partial, Unfit}
 use Rattle.bk_ocode.specs.declared.partial.Unfit.TheVariants.{BadNumber}
 use Rattle.bk_ocode.proofs.partial.take.Goals as goal
 

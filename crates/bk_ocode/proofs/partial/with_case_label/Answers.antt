@@ -1,8 +1,4 @@
-use Rattle.std.proofs.Common.{◌≡◌, ◌+◌, ◌++◌, ◌∷◌, [], ℕ, List, length, length-append, arith, ap, subst, codes, w32}
-use Rattle.std.proofs.lemmas.Int.{to_z-of_z}
-use Rattle.bk_ocode.specs.StmtText.{natural_word, label_word}
-use Rattle.bk_ocode.specs.PartialStmts.{IsStep}
-use Rattle.bk_ocode.specs.declared.stmt.Case.{Case}
+use Rattle.bk_ocode.proofs.Terms.{◌≡◌, ◌+◌, ◌++◌, ◌∷◌, [], ℕ, List, length, length-append, arith, ap, subst, codes, w32, to_z-of_z, natural_word, label_word, IsStep, Case}
 use Rattle.bk_ocode.proofs.CaseLemmas.{values-push, AreCases-push, typed-push, case_words-push}
 use Rattle.bk_ocode.proofs.partial.with_case_label.Goals as goal
 

@@ -1,6 +1,4 @@
-use Rattle.std.proofs.Common.{◌≡◌, ℤ, true, false, w32, sym, ap, ◌∙◌}
-use Rattle.std.proofs.lemmas.Int.{to_z-of_z}
-use Rattle.bk_ocode.specs.PartialStmts.{has_value}
+use Rattle.bk_ocode.proofs.Terms.{◌≡◌, ℤ, true, false, w32, sym, ap, ◌∙◌, to_z-of_z, has_value}
 use Rattle.bk_ocode.proofs.SameStmts.{number_same}
 use Rattle.bk_ocode.proofs.partial.with_value.Goals as goal
 

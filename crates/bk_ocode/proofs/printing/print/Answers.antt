@@ -1,8 +1,4 @@
-use Rattle.std.proofs.Common.{rules, ◌≡◌, ◌∙◌, ◌++◌, ◌∷◌, [], ap, append-nil, sym, get_or}
-use Rattle.bk_base.specs.DeviceLaws.{Begins-trans}
-use Rattle.bk_ocode.specs.StmtText.{stmt_text}
-use Rattle.bk_ocode.specs.SectionText.{section_text}
-use Rattle.bk_ocode.specs.declared.stmt.Stmt.{Stmt}
+use Rattle.bk_ocode.proofs.Terms.{rules, ◌≡◌, ◌∙◌, ◌++◌, ◌∷◌, [], ap, append-nil, sym, get_or, Begins-trans, stmt_text, section_text, Stmt}
 use Rattle.bk_ocode.proofs.Parts.{on_err}
 use Rattle.bk_ocode.proofs.Rows.{line_rows, AppendsPart-row, Appends-row}
 use Rattle.bk_ocode.proofs.printing.print.Goals as goal

@@ -1,7 +1,4 @@
-use Rattle.std.proofs.Common.{◌≡◌, ◌<◌, take}
-use Rattle.std.specs.Io.KnownBytes.{Appends, Keeps}
-use Rattle.bk_base.specs.Devices.{Begins}
-use Rattle.bk_ocode.specs.SectionText.{section_text}
+use Rattle.bk_ocode.proofs.Terms.{◌≡◌, ◌<◌, take, Appends, Keeps, Begins, section_text}
 use Rattle.bk_ocode.proofs.printing.print.Given as goal
 
 abbrev pub invariant-loop-stmt : goal.invariant-loop-stmt

@@ -1,6 +1,4 @@
-use Rattle.std.proofs.Common.{rules, ℕ, append-nil}
-use Rattle.bk_base.specs.DeviceLaws.{Begins-trans}
-use Rattle.bk_ocode.specs.StmtText.{spaced, byte_words}
+use Rattle.bk_ocode.proofs.Terms.{rules, ℕ, append-nil, Begins-trans, spaced, byte_words}
 use Rattle.bk_ocode.proofs.Parts.{on_err}
 use Rattle.bk_ocode.proofs.Rows.{byte_rows, AppendsPart-row, Appends-row}
 use Rattle.bk_ocode.proofs.printing.put_bytes.Goals as goal

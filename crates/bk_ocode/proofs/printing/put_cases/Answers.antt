@@ -1,7 +1,4 @@
-use Rattle.std.proofs.Common.{rules, refl}
-use Rattle.bk_base.specs.DeviceLaws.{Begins-trans}
-use Rattle.bk_ocode.specs.StmtText.{spaced, case_words}
-use Rattle.bk_ocode.specs.declared.stmt.Case.{Case}
+use Rattle.bk_ocode.proofs.Terms.{rules, refl, Begins-trans, spaced, case_words, Case}
 use Rattle.bk_ocode.proofs.Parts.{on_err}
 use Rattle.bk_ocode.proofs.Rows.{case_rows, AppendsPart-row, Appends-row}
 use Rattle.bk_ocode.proofs.printing.put_cases.Goals as goal

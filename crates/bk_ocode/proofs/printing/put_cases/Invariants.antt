@@ -1,7 +1,4 @@
-use Rattle.std.proofs.Common.{◌≡◌, take}
-use Rattle.std.specs.Io.KnownBytes.{Appends, Keeps}
-use Rattle.bk_base.specs.Devices.{Begins}
-use Rattle.bk_ocode.specs.StmtText.{spaced, case_words}
+use Rattle.bk_ocode.proofs.Terms.{◌≡◌, take, Appends, Keeps, Begins, spaced, case_words}
 use Rattle.bk_ocode.proofs.printing.put_cases.Given as goal
 
 abbrev pub invariant-loop-case : goal.invariant-loop-case

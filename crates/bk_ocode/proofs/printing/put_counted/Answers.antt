@@ -1,6 +1,4 @@
-use Rattle.std.proofs.Common.{◌∷◌, length, refl}
-use Rattle.bk_ocode.specs.StmtText.{natural_word, byte_words, spaced}
-use Rattle.bk_base.specs.DeviceLaws.{AppendsPart-front, AppendsPart-behind}
+use Rattle.bk_ocode.proofs.Terms.{◌∷◌, length, refl, natural_word, byte_words, spaced, AppendsPart-front, AppendsPart-behind}
 use Rattle.bk_ocode.proofs.Parts.{on_err}
 use Rattle.bk_ocode.proofs.printing.put_counted.Goals as goal
 

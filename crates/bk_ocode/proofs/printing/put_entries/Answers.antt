@@ -1,7 +1,4 @@
-use Rattle.std.proofs.Common.{rules, refl}
-use Rattle.bk_base.specs.DeviceLaws.{Begins-trans}
-use Rattle.bk_ocode.specs.StmtText.{spaced, global_words}
-use Rattle.bk_ocode.specs.declared.stmt.GlobalEntry.{GlobalEntry}
+use Rattle.bk_ocode.proofs.Terms.{rules, refl, Begins-trans, spaced, global_words, GlobalEntry}
 use Rattle.bk_ocode.proofs.Parts.{on_err}
 use Rattle.bk_ocode.proofs.Rows.{global_rows, AppendsPart-row, Appends-row}
 use Rattle.bk_ocode.proofs.printing.put_entries.Goals as goal

@@ -1,7 +1,4 @@
-use Rattle.std.proofs.Common.{◌≡◌, take}
-use Rattle.std.specs.Io.KnownBytes.{Appends, Keeps}
-use Rattle.bk_base.specs.Devices.{Begins}
-use Rattle.bk_ocode.specs.StmtText.{spaced, global_words}
+use Rattle.bk_ocode.proofs.Terms.{◌≡◌, take, Appends, Keeps, Begins, spaced, global_words}
 use Rattle.bk_ocode.proofs.printing.put_entries.Given as goal
 
 abbrev pub invariant-loop-entry : goal.invariant-loop-entry

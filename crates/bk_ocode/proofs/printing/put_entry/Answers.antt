@@ -1,8 +1,4 @@
-use Rattle.std.proofs.Common.{rules, ◌++◌, [], ◌∷◌, List, ℕ, ap, refl, append-nil}
-use Rattle.std.specs.Io.KnownBytes.{Appends}
-use Rattle.bk_base.specs.Devices.{AppendsPart}
-use Rattle.bk_ocode.specs.StmtText.{natural_word, label_word}
-use Rattle.bk_base.specs.DeviceLaws.{AppendsPart-front, AppendsPart-behind}
+use Rattle.bk_ocode.proofs.Terms.{rules, ◌++◌, [], ◌∷◌, List, ℕ, ap, refl, append-nil, Appends, AppendsPart, natural_word, label_word, AppendsPart-front, AppendsPart-behind}
 use Rattle.bk_ocode.proofs.Parts.{on_err}
 use Rattle.bk_ocode.proofs.printing.put_entry.Goals as goal
 

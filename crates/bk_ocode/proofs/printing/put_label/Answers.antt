@@ -1,7 +1,4 @@
-use Rattle.std.proofs.Common.{rules, pos, [], ◌∷◌, refl}
-use Rattle.bk_base.specs.Decimal.{spelling}
-use Rattle.bk_base.specs.Devices.{AppendsPart}
-use Rattle.bk_base.specs.DeviceLaws.{AppendsPart-front, AppendsPart-behind}
+use Rattle.bk_ocode.proofs.Terms.{rules, pos, [], ◌∷◌, refl, spelling, AppendsPart, AppendsPart-front, AppendsPart-behind}
 use Rattle.bk_ocode.proofs.Parts.{on_err}
 use Rattle.bk_ocode.proofs.printing.put_label.Goals as goal
 

@@ -1,7 +1,4 @@
-use Rattle.std.proofs.Common.{rules, [], ◌∷◌, refl}
-use Rattle.bk_base.specs.Devices.{AppendsPart}
-use Rattle.bk_base.specs.DeviceLaws.{Begins-trans, AppendsPart-behind}
-use Rattle.bk_base.specs.Decimal.{spelling}
+use Rattle.bk_ocode.proofs.Terms.{rules, [], ◌∷◌, refl, AppendsPart, Begins-trans, AppendsPart-behind, spelling}
 use Rattle.bk_ocode.proofs.Parts.{on_err}
 use Rattle.bk_ocode.proofs.printing.put_number.Goals as goal
 

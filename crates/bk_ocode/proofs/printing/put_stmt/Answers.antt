@@ -1,8 +1,4 @@
-use Rattle.std.proofs.Common.{rules, ◌++◌, [], ◌∷◌, refl, append_assoc}
-use Rattle.std.specs.Io.KnownBytes.{Appends}
-use Rattle.bk_base.specs.Devices.{AppendsPart}
-use Rattle.bk_base.specs.DeviceLaws.{Begins-trans, AppendsPart-front, AppendsPart-behind}
-use Rattle.bk_ocode.specs.StmtText.{spaced, argument_words, keyword}
+use Rattle.bk_ocode.proofs.Terms.{rules, ◌++◌, [], ◌∷◌, refl, append_assoc, Appends, AppendsPart, Begins-trans, AppendsPart-front, AppendsPart-behind, spaced, argument_words, keyword}
 use Rattle.bk_ocode.proofs.Parts.{on_err}
 use Rattle.bk_ocode.proofs.printing.put_stmt.Goals as goal
 

@@ -1,8 +1,4 @@
-use Rattle.std.proofs.Common.{rules, ◌++◌, ◌∷◌, length, sym, refl, append_assoc}
-use Rattle.std.specs.Io.KnownBytes.{Appends}
-use Rattle.bk_base.specs.Devices.{AppendsPart}
-use Rattle.bk_ocode.specs.StmtText.{natural_word, label_word, spaced, case_words}
-use Rattle.bk_base.specs.DeviceLaws.{AppendsPart-front, AppendsPart-behind, Appends-trans}
+use Rattle.bk_ocode.proofs.Terms.{rules, ◌++◌, ◌∷◌, length, sym, refl, append_assoc, Appends, AppendsPart, natural_word, label_word, spaced, case_words, AppendsPart-front, AppendsPart-behind, Appends-trans}
 use Rattle.bk_ocode.proofs.Parts.{on_err}
 use Rattle.bk_ocode.proofs.printing.put_switch.Goals as goal
 

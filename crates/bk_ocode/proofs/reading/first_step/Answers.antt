@@ -1,8 +1,4 @@
-use Rattle.std.proofs.Common.{◌≡◌, ◌∙◌, true, false, sym, ap, refl}
-use Rattle.bk_ocode.specs.Keywords.{keyword_role}
-use Rattle.bk_ocode.specs.Places.{may_stand}
-use Rattle.bk_ocode.specs.Drafts.{context_in}
-use Rattle.bk_ocode.specs.declared.standing.StmtPlace.{StmtPlace}
+use Rattle.bk_ocode.proofs.Terms.{◌≡◌, ◌∙◌, true, false, sym, ap, refl, keyword_role, may_stand, context_in, StmtPlace}
 use Rattle.bk_ocode.proofs.KeywordLemmas.{placed_so}
 use Rattle.bk_ocode.proofs.reading.first_step.Goals as goal
 

@@ -1,14 +1,4 @@
-use Rattle.std.proofs.Common.{◌≡◌, inl, inr, ◌≢◌, ◌+◌, ◌++◌, ◌∷◌, ◌∙◌, [], List, None, false, nat_lt, arith, ltb-false, ltb-true, true, Err, append-nil, sym, ap, subst, rules, refl}
-use Rattle.bk_base.specs.declared.limit.TheConstants.{OCODE_WORDS}
-use Rattle.bk_base.specs.declared.ocode_fault.OcodeFault.{OcodeFault}
-use Rattle.bk_base.specs.declared.refused.Refused.{Refused}
-use Rattle.bk_ocode.specs.SectionText.{section_words}
-use Rattle.bk_ocode.specs.Context.{Context, context_of}
-use Rattle.bk_ocode.specs.Faults.{misplaced, stmt_fault}
-use Rattle.bk_ocode.specs.PartialStmts.{part_words}
-use Rattle.bk_ocode.specs.SectionAnswer.{Takes, GivesSection, Answers}
-use Rattle.bk_ocode.specs.declared.standing.Position.TheVariants.{Ended}
-use Rattle.bk_ocode.specs.declared.stmt.Stmt.{Stmt}
+use Rattle.bk_ocode.proofs.Terms.{◌≡◌, inl, inr, ◌≢◌, ◌+◌, ◌++◌, ◌∷◌, ◌∙◌, [], List, None, false, nat_lt, arith, ltb-false, ltb-true, true, Err, append-nil, sym, ap, subst, rules, refl, OCODE_WORDS, OcodeFault, Refused, section_words, Context, context_of, misplaced, stmt_fault, part_words, Takes, GivesSection, Answers, Ended, Stmt}
 use Rattle.bk_ocode.proofs.Completions.{begins_part, part_goes_on}
 use Rattle.bk_ocode.proofs.CutSections.{stops_behind}
 use Rattle.bk_ocode.proofs.FaultLemmas.{stops_at, placed_more, refused_at, rule_at, filled_at, end_at, words_tally, words_within}

@@ -1,15 +1,4 @@
-use Rattle.std.proofs.Common.{◌≡◌, ◌+◌, ◌-◌, ◌<◌, ◌≤◌, ◌++◌, ℕ, List, false, IsTrue, length}
-use Rattle.std.specs.Io.KnownBytes.{Keeps}
-use Rattle.bk_base.specs.declared.limit.TheConstants.{INPUT_BYTES, OCODE_STATEMENTS, OCODE_WORDS}
-use Rattle.bk_words.specs.Taking.{Reads}
-use Rattle.bk_ocode.specs.StmtText.{stmt_words}
-use Rattle.bk_ocode.specs.Context.{context_of}
-use Rattle.bk_ocode.specs.Faults.{misplaced}
-use Rattle.bk_ocode.specs.declared.stmt.Stmt.{Stmt}
-use Rattle.bk_ocode.specs.SectionText.{section_words}
-use Rattle.bk_ocode.specs.FirstFault.{IsPartial}
-use Rattle.bk_ocode.specs.Drafts.{IsDraft}
-use Rattle.bk_ocode.specs.PartialStmts.{IsPartialPart, part_words}
+use Rattle.bk_ocode.proofs.Terms.{◌≡◌, ◌+◌, ◌-◌, ◌<◌, ◌≤◌, ◌++◌, ℕ, List, false, IsTrue, length, Keeps, INPUT_BYTES, OCODE_STATEMENTS, OCODE_WORDS, Reads, stmt_words, context_of, misplaced, Stmt, section_words, IsPartial, IsDraft, IsPartialPart, part_words}
 use Rattle.bk_ocode.proofs.reading.next_section.Given as goal
 
 abbrev pub invariant-loop-alloc : goal.invariant-loop-alloc

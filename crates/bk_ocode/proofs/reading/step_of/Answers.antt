@@ -1,9 +1,5 @@
-use Rattle.std.proofs.Common.{◌≡◌, ◌<◌, ◌++◌, ◌∷◌, [], ℕ, List, Option, Some, IfErr, length, sym, subst}
+use Rattle.bk_ocode.proofs.Terms.{◌≡◌, ◌<◌, ◌++◌, ◌∷◌, [], ℕ, List, Option, Some, IfErr, length, sym, subst, Holds, part_words, IsUnfit, BeginNone, Partial, Unfit}
 use Rattle.std.proofs.lemmas.Result.{IfErr-weaker}
-use Rattle.bk_words.specs.Gathering.{Holds}
-use Rattle.bk_ocode.specs.PartialStmts.{part_words, IsUnfit, BeginNone}
-use Rattle.bk_ocode.specs.declared.partial.Partial.{Partial}
-use Rattle.bk_ocode.specs.declared.partial.Unfit.{Unfit}
 use Rattle.bk_ocode.specs.declared.partial.Unfit.TheVariants.{BadNumber}
 use Rattle.bk_ocode.proofs.FaultLemmas.{partial_some}
 use Rattle.bk_ocode.proofs.NextWords.{unfit_none}

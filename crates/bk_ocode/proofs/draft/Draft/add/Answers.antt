@@ -1,8 +1,4 @@
-use Rattle.std.proofs.Common.{◌≡◌, ◌∙◌, ◌+◌, ap, ℕ, length-append, arith, length, List, ◌∷◌, []}
-use Rattle.bk_ocode.specs.Context.{start_from}
-use Rattle.bk_ocode.specs.KnownUses.{uses_of}
-use Rattle.bk_ocode.specs.Drafts.{context_in}
-use Rattle.bk_ocode.specs.declared.stmt.Stmt.{Stmt}
+use Rattle.bk_ocode.proofs.Terms.{◌≡◌, ◌∙◌, ◌+◌, ap, ℕ, length-append, arith, length, List, ◌∷◌, [], start_from, uses_of, context_in, Stmt}
 use Rattle.bk_ocode.proofs.DraftLemmas.{context-push, named_so, fits_behind, start_from-low}
 use Rattle.bk_ocode.proofs.draft.Draft.add.Goals as goal
 

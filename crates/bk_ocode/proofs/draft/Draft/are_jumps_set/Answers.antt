@@ -1,8 +1,4 @@
-use Rattle.std.proofs.Common.{sym, ◌∙◌, ap, List}
-use Rattle.std.specs.List.{list_all}
-use Rattle.bk_ocode.specs.Drafts.{context_in}
-use Rattle.bk_ocode.specs.Faults.{is_lab_from}
-use Rattle.bk_ocode.specs.declared.stmt.Case.{Case}
+use Rattle.bk_ocode.proofs.Terms.{sym, ◌∙◌, ap, List, list_all, context_in, is_lab_from, Case}
 use Rattle.bk_ocode.proofs.DraftLemmas.{jumps_set-switch}
 use Rattle.bk_ocode.proofs.draft.Draft.are_jumps_set.Goals as goal
 

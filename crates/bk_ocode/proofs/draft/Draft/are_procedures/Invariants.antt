@@ -1,7 +1,4 @@
-use Rattle.std.proofs.Common.{◌≡◌, true, take}
-use Rattle.std.specs.List.{list_all}
-use Rattle.bk_ocode.specs.KnownUses.{uses_of}
-use Rattle.bk_ocode.specs.Faults.{is_entry}
+use Rattle.bk_ocode.proofs.Terms.{◌≡◌, true, take, list_all, uses_of, is_entry}
 use Rattle.bk_ocode.proofs.draft.Draft.are_procedures.Given as goal
 
 abbrev pub invariant-loop-entry : goal.invariant-loop-entry

@@ -1,7 +1,4 @@
-use Rattle.std.proofs.Common.{◌≡◌, true, take}
-use Rattle.std.specs.List.{list_all}
-use Rattle.bk_ocode.specs.Faults.{data_set}
-use Rattle.bk_ocode.specs.Drafts.{context_in}
+use Rattle.bk_ocode.proofs.Terms.{◌≡◌, true, take, list_all, data_set, context_in}
 use Rattle.bk_ocode.proofs.draft.Draft.is_all_data_set.Given as goal
 
 abbrev pub invariant-loop-stmt : goal.invariant-loop-stmt

@@ -1,7 +1,4 @@
-use Rattle.std.proofs.Common.{◌≡◌, false, take}
-use Rattle.std.specs.List.{list_any}
-use Rattle.bk_ocode.specs.KnownUses.{uses_of}
-use Rattle.bk_ocode.specs.Faults.{is_other_lab}
+use Rattle.bk_ocode.proofs.Terms.{◌≡◌, false, take, list_any, uses_of, is_other_lab}
 use Rattle.bk_ocode.proofs.draft.Draft.is_case_elsewhere.Given as goal
 
 abbrev pub invariant-loop-case : goal.invariant-loop-case

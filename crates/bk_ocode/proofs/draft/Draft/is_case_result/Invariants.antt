@@ -1,6 +1,4 @@
-use Rattle.std.proofs.Common.{◌≡◌, false, take, is_some}
-use Rattle.std.specs.List.{list_any}
-use Rattle.bk_ocode.specs.KnownUses.{uses_of}
+use Rattle.bk_ocode.proofs.Terms.{◌≡◌, false, take, is_some, list_any, uses_of}
 use Rattle.bk_ocode.proofs.draft.Draft.is_case_result.Given as goal
 
 abbrev pub invariant-loop-case : goal.invariant-loop-case

@@ -1,8 +1,4 @@
-use Rattle.std.proofs.Common.{◌≡◌, ◌-◌, sym, ◌∙◌, ap, List, ℕ, rules}
-use Rattle.std.specs.List.{list_any}
-use Rattle.bk_ocode.specs.Drafts.{context_in}
-use Rattle.bk_ocode.specs.Faults.{is_other_lab}
-use Rattle.bk_ocode.specs.declared.stmt.Case.{Case}
+use Rattle.bk_ocode.proofs.Terms.{◌≡◌, ◌-◌, sym, ◌∙◌, ap, List, ℕ, rules, list_any, context_in, is_other_lab, Case}
 use Rattle.bk_ocode.proofs.DraftLemmas.{own_disagrees-switch}
 use Rattle.bk_ocode.proofs.draft.Draft.is_deep_elsewhere.Goals as goal
 

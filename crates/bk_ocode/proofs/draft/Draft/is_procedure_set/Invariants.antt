@@ -1,7 +1,4 @@
-use Rattle.std.proofs.Common.{◌≡◌, true, take}
-use Rattle.std.specs.List.{list_all}
-use Rattle.bk_ocode.specs.Faults.{jumps_set}
-use Rattle.bk_ocode.specs.Drafts.{context_in}
+use Rattle.bk_ocode.proofs.Terms.{◌≡◌, true, take, list_all, jumps_set, context_in}
 use Rattle.bk_ocode.proofs.draft.Draft.is_procedure_set.Given as goal
 
 abbrev pub invariant-loop-stmt : goal.invariant-loop-stmt

@@ -1,8 +1,4 @@
-use Rattle.std.proofs.Common.{◌∙◌, ap, not, ◌&&◌, List}
-use Rattle.std.specs.List.{list_all}
-use Rattle.bk_ocode.specs.Drafts.{context_in}
-use Rattle.bk_ocode.specs.Faults.{is_entry, data_set}
-use Rattle.bk_ocode.specs.declared.stmt.GlobalEntry.{GlobalEntry}
+use Rattle.bk_ocode.proofs.Terms.{◌∙◌, ap, not, ◌&&◌, List, list_all, context_in, is_entry, data_set, GlobalEntry}
 use Rattle.bk_ocode.proofs.DraftLemmas.{label_not_set-globals}
 use Rattle.bk_ocode.proofs.draft.Draft.lacks_label.Goals as goal
 

@@ -1,8 +1,4 @@
-use Rattle.std.proofs.Common.{sym, ◌∙◌, ap, List, is_some}
-use Rattle.std.specs.List.{list_any}
-use Rattle.bk_ocode.specs.Drafts.{context_in}
-use Rattle.bk_ocode.specs.declared.stmt.Case.{Case}
-use Rattle.bk_ocode.specs.declared.stmt.GlobalEntry.{GlobalEntry}
+use Rattle.bk_ocode.proofs.Terms.{sym, ◌∙◌, ap, List, is_some, list_any, context_in, Case, GlobalEntry}
 use Rattle.bk_ocode.proofs.DraftLemmas.{result_named-switch, result_named-globals}
 use Rattle.bk_ocode.proofs.draft.Draft.names_result.Goals as goal
 

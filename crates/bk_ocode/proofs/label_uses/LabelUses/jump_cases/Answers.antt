@@ -1,5 +1,4 @@
-use Rattle.bk_ocode.specs.Context.{jumped}
-use Rattle.bk_ocode.specs.KnownUses.{uses_of}
+use Rattle.bk_ocode.proofs.Terms.{jumped, uses_of}
 use Rattle.bk_ocode.proofs.DraftLemmas.{jumped_more}
 use Rattle.bk_ocode.proofs.label_uses.LabelUses.jump_cases.Goals as goal
 

@@ -1,6 +1,4 @@
-use Rattle.std.proofs.Common.{◌≡◌, take, map}
-use Rattle.bk_ocode.specs.Context.{all_changed, jumped}
-use Rattle.bk_ocode.specs.KnownUses.{uses_of}
+use Rattle.bk_ocode.proofs.Terms.{◌≡◌, take, map, all_changed, jumped, uses_of}
 use Rattle.bk_ocode.proofs.label_uses.LabelUses.jump_cases.Given as goal
 
 abbrev pub invariant-loop-case : goal.invariant-loop-case

@@ -1,11 +1,4 @@
-use Rattle.std.proofs.Common.{ℕ, List, ◌∙◌, ap, arith}
-use Rattle.std.proofs.Math.Path.{fun_ext}
-use Rattle.std.specs.Prelude.{slice_get}
-use Rattle.std.specs.BTreeMap.{get}
-use Rattle.std.specs.Ordering.{nat_cmp}
-use Rattle.bk_ocode.specs.declared.standing.LabelUse.{LabelUse}
-use Rattle.bk_ocode.specs.KnownUses.{use_or, uses_of}
-use Rattle.bk_ocode.specs.Context.{fresh}
+use Rattle.bk_ocode.proofs.Terms.{ℕ, List, ◌∙◌, ap, arith, fun_ext, get, nat_cmp, LabelUse, use_or, uses_of, fresh, slice_get}
 use Rattle.bk_ocode.proofs.Uses.{lowered}
 use Rattle.bk_ocode.proofs.label_uses.LabelUses.lower.Goals as goal
 

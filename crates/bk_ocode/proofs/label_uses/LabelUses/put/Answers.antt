@@ -1,11 +1,5 @@
-use Rattle.std.proofs.Common.{ℕ, Some, ◌∙◌, sym, ap, if◌then◌else◌, arith}
-use Rattle.std.proofs.Math.Path.{fun_ext}
-use Rattle.std.specs.BTreeMap.{get}
+use Rattle.bk_ocode.proofs.Terms.{ℕ, Some, ◌∙◌, sym, ap, if◌then◌else◌, arith, fun_ext, get, nat_cmp, LabelUse, use_or, uses_of, fresh, changed}
 use Rattle.std.specs.Cmp.{unsigned_ties}
-use Rattle.std.specs.Ordering.{nat_cmp}
-use Rattle.bk_ocode.specs.declared.standing.LabelUse.{LabelUse}
-use Rattle.bk_ocode.specs.KnownUses.{use_or, uses_of}
-use Rattle.bk_ocode.specs.Context.{fresh, changed}
 use Rattle.bk_ocode.proofs.Uses.{low_set, high_set}
 use Rattle.bk_ocode.proofs.label_uses.LabelUses.put.Goals as goal
 

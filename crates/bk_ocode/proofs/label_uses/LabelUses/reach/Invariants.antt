@@ -1,5 +1,4 @@
-use Rattle.std.proofs.Common.{◌≡◌, ◌+◌, ◌-◌, length}
-use Rattle.bk_ocode.specs.KnownUses.{uses_of}
+use Rattle.bk_ocode.proofs.Terms.{◌≡◌, ◌+◌, ◌-◌, length, uses_of}
 use Rattle.bk_ocode.proofs.label_uses.LabelUses.reach.Given as goal
 
 abbrev pub invariant-loop-self : goal.invariant-loop-self

@@ -1,6 +1,4 @@
-use Rattle.std.proofs.Common.{◌≡◌, ◌∙◌, ◌+◌, ℕ, sym, ap, arith, take, max}
-use Rattle.bk_ocode.specs.Depth.{next_depth, depth_behind, largest_behind}
-use Rattle.bk_ocode.specs.declared.stmt.Stmt.{Stmt}
+use Rattle.bk_ocode.proofs.Terms.{◌≡◌, ◌∙◌, ◌+◌, ℕ, sym, ap, arith, take, max, next_depth, depth_behind, largest_behind, Stmt}
 use Rattle.bk_ocode.proofs.Depths.{depth_within-at, depth_behind-more, largest_behind-more}
 use Rattle.bk_ocode.proofs.section.Ocode.depth.Goals as goal
 

@@ -1,6 +1,4 @@
-use Rattle.std.proofs.Common.{◌≡◌, ◌≤◌, take}
-use Rattle.bk_base.specs.declared.limit.TheConstants.{FRAME_WORDS}
-use Rattle.bk_ocode.specs.Depth.{depth_behind, largest_behind}
+use Rattle.bk_ocode.proofs.Terms.{◌≡◌, ◌≤◌, take, FRAME_WORDS, depth_behind, largest_behind}
 use Rattle.bk_ocode.proofs.section.Ocode.depth.Given as goal
 
 abbrev pub invariant-loop-stmt : goal.invariant-loop-stmt
