@@ -1,28 +1,17 @@
 -- A byte fits into a word whose bytes from its place on are 0.
-use Rattle.std.proofs.Common.{◌≡◌, ℕ, zero, suc, ◌+◌, ◌-◌, ◌*◌, ◌%◌, ◌^◌, ◌<◌, ◌≤◌, List, length, get_or, set, ap, ◌∙◌, arith}
-use Rattle.std.proofs.lemmas.List.{length-set, get_or-set_same}
-use Rattle.bk_intcode.specs.Inner.Packing.{IsFilled}
+use Rattle.bk_intcode.proofs.Terms.{◌≡◌, ℕ, suc, ◌+◌, ◌-◌, ◌*◌, ◌%◌, ◌^◌, ◌<◌, ◌≤◌, List, length, get_or, set, ap, ◌∙◌, arith, length-set, get_or-set_same, IsFilled}
 
 pub byte-weighs : (place byte : ℕ) → place < 4 → byte < 2 ^ 8 → 2 ^ (8 * place) * byte < 2 ^ 32
-byte-weighs zero byte low small = omega arith
-byte-weighs (suc zero) byte low small = omega arith
-byte-weighs (suc (suc zero)) byte low small = omega arith
-byte-weighs (suc (suc (suc zero))) byte low small = omega arith
 byte-weighs (suc (suc (suc (suc k)))) byte low small = absurd (omega arith)
+byte-weighs x byte low small = omega arith
 
 pub byte-fits : (place byte word : ℕ) → place < 4 → byte < 2 ^ 8 → word < 2 ^ (8 * place) → word + 2 ^ (8 * place) * byte < 2 ^ (8 * (place + 1))
-byte-fits zero byte word low small fits = omega arith
-byte-fits (suc zero) byte word low small fits = omega arith
-byte-fits (suc (suc zero)) byte word low small fits = omega arith
-byte-fits (suc (suc (suc zero))) byte word low small fits = omega arith
 byte-fits (suc (suc (suc (suc k)))) byte word low small fits = absurd (omega arith)
+byte-fits x byte word low small fits = omega arith
 
 pub byte-bounded : (place : ℕ) → place < 4 → 2 ^ (8 * (place + 1)) ≤ 2 ^ 32
-byte-bounded zero low = omega arith
-byte-bounded (suc zero) low = omega arith
-byte-bounded (suc (suc zero)) low = omega arith
-byte-bounded (suc (suc (suc zero))) low = omega arith
 byte-bounded (suc (suc (suc (suc k)))) low = absurd (omega arith)
+byte-bounded x low = omega arith
 
 -- the last word with a byte put into it
 pub filled-more : (words changed : List ℕ) (filled byte : ℕ) → IsFilled words filled → (filled ≡ 0 → ⊥) → byte < 2 ^ 8

@@ -1,17 +1,8 @@
 -- A format in a store, and its parts.
-use Rattle.std.proofs.Common.{◌≡◌, ℕ, zero, suc, ◌+◌, ◌-◌, ◌<◌, ◌≤◌, ◌^◌, ◌%◌, ◌==◌, nat_lt, nat_le, arith, Bool, true, false, ◌&&◌, List, [], ◌∷◌, length, drop, Option, Some, None, slice_get, refl, sym, ap, ◌∙◌, subst, if◌then◌else◌}
-use Rattle.std.proofs.lemmas.Bool.{eqb-true}
-use Rattle.std.proofs.lemmas.Bool.Decides.{nat_tests}
-use Rattle.std.proofs.lemmas.List.{length-drop}
+use Rattle.bk_intcode.proofs.Terms.{◌≡◌, ℕ, zero, suc, ◌+◌, ◌-◌, ◌<◌, ◌≤◌, ◌^◌, ◌%◌, ◌==◌, nat_lt, nat_le, arith, Bool, true, false, ◌&&◌, List, [], ◌∷◌, length, drop, Option, Some, None, slice_get, refl, sym, ap, ◌∙◌, subst, if◌then◌else◌, eqb-true, nat_tests, length-drop, ⊤, option_and_then, word_sum, Directive, Text, whole_text, cut_text, text_then, byte_of, string_rest, piece_text, plain, with_argument, aligning, lettered, directive, format_rest, format_text, Piece, Piece as piece}
 use Rattle.std.proofs.Math.Dec.{eqb-suc-zero}
-use Rattle.std.specs.Prelude.{⊤, option_and_then}
 use Rattle.std.specs.Option.{option_map, option_map_or}
-use Rattle.bk_base.specs.Word.{word_sum}
 use Rattle.bk_base.specs.Format.{FormatPart, Byte, Percent, String, Number, Character, Column, capital, is_digit, column_or_percent, directive as part_behind_percent, part_at, further, parts_behind, parts}
-use Rattle.bk_intcode.specs.declared.output.Piece.{Piece}
-use Rattle.bk_intcode.specs.declared.output.Piece.TheVariants as piece
-use Rattle.bk_intcode.specs.declared.output.Directive.{Directive}
-use Rattle.bk_intcode.specs.Output.{Text, whole_text, cut_text, text_then, byte_of, string_rest, piece_text, plain, with_argument, aligning, lettered, directive, format_rest, format_text}
 use Rattle.bk_intcode.specs.FormatLaws.{parts_text, FormatIsOfParts}
 
 module _ (store : List ℕ) (f : ℕ) where
@@ -52,14 +43,10 @@ module _ (store : List ℕ) (f : ℕ) where
       if i then code else
       if p then Some (record { piece = piece.Byte 37; bytes = 2; arguments = 0 }) else plain 37)
       ≡ directive_of a (if s then String else if n then Number else if c then Character else if i then behind else if q then Percent else Byte 37)
-  by_letter a code behind is true n c i p q same = refl
-  by_letter a code behind is false true c i p q same = refl
-  by_letter a code behind is false false true i p q same = refl
   by_letter a code behind is false false false true p q same = is
-  by_letter a code behind is false false false false true true same = refl
-  by_letter a code behind is false false false false false false same = refl
   by_letter a code behind is false false false false true false same = cc
   by_letter a code behind is false false false false false true same = cc
+  by_letter a code behind is x y z u v w same = refl
 
   percent_sign : (c : ℕ) → (capital c == 37) ≡ (c == 37)
   percent_sign c = by_case (nat_le 97 c && nat_le c 122) refl

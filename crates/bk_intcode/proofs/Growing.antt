@@ -1,6 +1,5 @@
 -- Words that grow.
-use Rattle.std.proofs.Common.{ℕ, List}
-use Rattle.bk_intcode.specs.Placement.{Growth}
+use Rattle.bk_intcode.proofs.Terms.{ℕ, List, Growth}
 
 -- words of which the last has as many bytes
 abbrev pub growth_of : List ℕ → ℕ → Growth

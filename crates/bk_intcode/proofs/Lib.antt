@@ -1,3 +1,4 @@
+mod Terms
 mod Blaming
 mod Bytes
 mod Formats

@@ -1,12 +1,5 @@
 -- Where labels are set, and what a table of them holds.
-use Rattle.std.proofs.Common.{◌≡◌, ℕ, zero, suc, ◌+◌, ◌<◌, ◌≤◌, Bool, true, false, cond, eqb, List, [], ◌∷◌, ◌++◌, length, get_or, take, refl, sym, ap, ◌∙◌, arith, ◌||◌, Some, inl, inr}
-use Rattle.std.specs.Prelude.{slice_get, if◌then◌else◌, ◌==◌}
-use Rattle.std.proofs.lemmas.Bool.{cases_Bool, eqb-true, eqb-false, eq-eqb, ne_eqb, or_cases, or_parts, or_right, false_from_ne_true}
-use Rattle.std.proofs.lemmas.List.{take_more, take_all}
-use Rattle.bk_intcode.specs.declared.item.Item.{Item}
-use Rattle.bk_intcode.specs.declared.item.Item.TheVariants.{Instruction, SetLabel, Byte, Word, LabelWord, SetGlobal, Frame, End}
-use Rattle.bk_intcode.specs.Segment.{IsSegment, item_sets, sets}
-use Rattle.bk_intcode.specs.Placement.{label_place, label_number, segment_size}
+use Rattle.bk_intcode.proofs.Terms.{◌≡◌, ℕ, zero, suc, ◌+◌, ◌<◌, ◌≤◌, Bool, true, false, cond, eqb, List, [], ◌∷◌, ◌++◌, length, get_or, take, refl, sym, ap, ◌∙◌, arith, ◌||◌, Some, inl, inr, cases_Bool, eqb-true, eqb-false, eq-eqb, ne_eqb, or_cases, or_parts, or_right, false_from_ne_true, take_more, take_all, Item, SetLabel, SetGlobal, IsSegment, item_sets, sets, label_place, label_number, segment_size, slice_get, if◌then◌else◌, ◌==◌}
 
 -- what a table holds after so many items
 abbrev pub numbered : ℕ → List Item → ℕ → ℕ → ℕ → ℕ
@@ -20,13 +13,8 @@ got (y ∷ xs) (suc i) d x within e = got xs i d x (omega arith) e
 
 sets_it : (item : Item) (label : ℕ) → item_sets label item ≡ true → item ≡ SetLabel label
 sets_it (SetLabel l) label e = ap (λ n. SetLabel n) (eqb-true l label e)
-sets_it (Instruction f i operand) label e = cc
-sets_it (Byte b) label e = cc
-sets_it (Word w) label e = cc
-sets_it (LabelWord l) label e = cc
 sets_it (SetGlobal number l) label e = cc
-sets_it (Frame n) label e = cc
-sets_it End label e = cc
+sets_it x label e = cc
 
 -- a label that the first items set is set by one of them
 before : (items : List Item) (i label : ℕ) → sets label (take i items) ≡ true → (j : ℕ) × (j < i) × (slice_get items j ≡ Some (SetLabel label))

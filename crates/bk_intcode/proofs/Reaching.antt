@@ -1,19 +1,11 @@
 -- What items reach is what their words take, and more items reach no less.
-use Rattle.std.proofs.Common.{◌≡◌, ℕ, ◌+◌, ◌%◌, ◌^◌, ◌<◌, ◌≤◌, Bool, true, false, eqb, List, [], ◌∷◌, ◌++◌, length, get_or, take, drop, refl, sym, ap, ◌∙◌, arith, add-zero, length-append}
-use Rattle.std.specs.Prelude.{fold, if◌then◌else◌, nat_lt}
-use Rattle.std.proofs.lemmas.List.{length-set, take-append-drop, take_all}
-use Rattle.std.proofs.lemmas.List.Sums.{fold_more, fold-append}
+use Rattle.bk_intcode.proofs.Terms.{◌≡◌, ℕ, ◌+◌, ◌%◌, ◌^◌, ◌<◌, ◌≤◌, Bool, true, false, eqb, List, [], ◌∷◌, ◌++◌, length, get_or, take, drop, refl, sym, ap, ◌∙◌, arith, add-zero, length-append, length-set, take-append-drop, take_all, fold_more, fold-append, word_of, Item, Instruction, SetLabel, Byte, Word, LabelWord, SetGlobal, Growth, item_words, grown, growth, segment_size, address_size, operand_size, item_size, reached, reached_all, fold, if◌then◌else◌, nat_lt}
 use Rattle.std.proofs.lemmas.List.Folds.{fold_along}
-use Rattle.bk_base.specs.Word.{word_of}
 use Rattle.bk_intcode.specs.declared.item.Function.{Function}
 use Rattle.bk_intcode.specs.declared.item.Operand.{Operand}
 use Rattle.bk_intcode.specs.declared.item.Operand.TheVariants.{Number, Local, Global, Label}
-use Rattle.bk_intcode.specs.declared.item.Item.{Item}
-use Rattle.bk_intcode.specs.declared.item.Item.TheVariants.{Instruction, SetLabel, Byte, Word, LabelWord, SetGlobal, Frame, End}
 use Rattle.bk_intcode.specs.Instructions.{fields, instruction_at, instruction_words}
-use Rattle.bk_intcode.specs.Placement.{Growth, item_words, grown, growth, segment_size}
 use Rattle.bk_intcode.specs.declared.extent.Extent.{Extent}
-use Rattle.bk_intcode.specs.Inner.Reach.{address_size, operand_size, item_size, reached, reached_all}
 
 -- how far words reach that lie from an address on
 abbrev pub extent_of : ℕ → Growth → Extent
@@ -53,12 +45,10 @@ extent-grown_byte start b ws filled labels false e =
 pub extent-grown : (start : ℕ) (labels : ℕ → ℕ) (g : Growth) (item : Item) → extent_of start (grown labels g item) ≡ reached (extent_of start g) item
 extent-grown start labels g (Byte b) = extent-grown_byte start b g.words g.filled labels (eqb g.filled 0) refl
 extent-grown start labels g (Instruction f i operand) = extent-append start g.words _ _ 0 (length-item labels (Instruction f i operand))
-extent-grown start labels g (SetLabel l) = extent-append start g.words [] 0 0 refl
 extent-grown start labels g (Word w) = extent-append start g.words _ 1 0 refl
 extent-grown start labels g (LabelWord l) = extent-append start g.words _ 1 0 refl
 extent-grown start labels g (SetGlobal number l) = extent-append start g.words [] 0 0 refl
-extent-grown start labels g (Frame n) = extent-append start g.words [] 0 0 refl
-extent-grown start labels g End = extent-append start g.words [] 0 0 refl
+extent-grown start labels g _ = extent-append start g.words [] 0 0 refl
 
 pub extent-growth : (start : ℕ) (labels : ℕ → ℕ) (items : List Item) → extent_of start (growth labels items) ≡ reached_all start items
 extent-growth start labels items =

@@ -1,8 +1,5 @@
 -- The routines of the library and their globals, one after another.
-use Rattle.std.proofs.Common.{◌≡◌, ℕ, zero, suc, ◌+◌, ◌-◌, ◌*◌, ◌<◌, ◌≤◌, List, [], ◌∷◌, ◌++◌, get_or, take, length, refl, sym, append_assoc, ap, ◌∙◌, arith}
-use Rattle.std.specs.Prelude.{fold, slice_set}
-use Rattle.std.proofs.lemmas.List.Sums.{fold_more}
-use Rattle.bk_intcode.specs.Placement.{Setting, library_settings, library_words, routine_words, operation_word, with_setting}
+use Rattle.bk_intcode.proofs.Terms.{◌≡◌, ℕ, zero, suc, ◌+◌, ◌-◌, ◌*◌, ◌<◌, ◌≤◌, List, [], ◌∷◌, ◌++◌, get_or, take, length, refl, sym, append_assoc, ap, ◌∙◌, arith, fold, slice_set, fold_more, Setting, library_settings, library_words, routine_words, operation_word, with_setting}
 
 -- the first so many routines
 abbrev pub routines : ℕ → List ℕ
@@ -13,16 +10,8 @@ pub routines-all : routines 9 ≡ library_words
 routines-all = refl
 
 pub library_setting : (k : ℕ) (d : Setting) → k < 9 → get_or library_settings k d ≡ record { global = k + 2; value = 1016 + 2 * k }
-library_setting zero d h = refl
-library_setting (suc zero) d h = refl
-library_setting (suc (suc zero)) d h = refl
-library_setting (suc (suc (suc zero))) d h = refl
-library_setting (suc (suc (suc (suc zero)))) d h = refl
-library_setting (suc (suc (suc (suc (suc zero))))) d h = refl
-library_setting (suc (suc (suc (suc (suc (suc zero)))))) d h = refl
-library_setting (suc (suc (suc (suc (suc (suc (suc zero))))))) d h = refl
-library_setting (suc (suc (suc (suc (suc (suc (suc (suc zero)))))))) d h = refl
 library_setting (suc (suc (suc (suc (suc (suc (suc (suc (suc k))))))))) d h = absurd (omega arith)
+library_setting x d h = refl
 
 pub routines-more : (global : ℕ) → 2 ≤ global → routines (global + 1 - 2) ≡ routines (global - 2) ++ routine_words global
 routines-more global low =

@@ -1,16 +1,8 @@
 -- How runs that exchange bytes with devices begin, go on and end.
-use Rattle.std.proofs.Common.{◌≡◌, ◌≢◌, ℕ, zero, suc, ◌+◌, ◌-◌, ◌^◌, ◌⊎◌, inl, inr, arith, List, [], ◌∷◌, ◌++◌, Option, None, Some, IsTrue, Bool, true, false, refl, sym, ap, subst, ◌∙◌, append_assoc, append-nil, if◌then◌else◌}
-use Rattle.std.specs.Io.KnownBytes.{append_known, Consumes, Appends, Keeps}
-use Rattle.std.proofs.KnownBytes.{Consumes-nil, Appends-nil, Consumes-trans, Appends-trans, Consumes-kept, Appends-kept}
+use Rattle.bk_intcode.proofs.Terms.{append_known, Consumes, Appends, Keeps, Consumes-nil, Appends-nil, Consumes-trans, Appends-trans, Consumes-kept, Appends-kept, Status, DivideByZero, StoreLimit, StepLimit, BadOperation, ReadFault, WriteFault, AppendsPart, Begins, Begins-trans, Text, output_text, Goes, Outputs, Asks, Ends, step, Going, Over, next_byte, behind_next, after, run, Told, Exchanged, Follows, Leads, NotAsked, SinceAsk, LeadsToAsk, FlushesFirst, Paused, Finished, Waiting, CutShort, FailedOnTheWay, Broken, Went, Ran, IsOwn, AskFails, CameBy, Answered, ◌≡◌, ◌≢◌, ℕ, zero, suc, ◌+◌, ◌-◌, ◌^◌, ◌⊎◌, inl, inr, arith, List, [], ◌∷◌, ◌++◌, Option, None, Some, IsTrue, Bool, true, false, refl, sym, ap, subst, ◌∙◌, append_assoc, append-nil, if◌then◌else◌}
 use Rattle.bk_base.specs.declared.run_end.End.{End}
-use Rattle.bk_base.specs.declared.run_end.End.TheVariants.{Status, DivideByZero, StoreLimit, StepLimit, BadOperation, ReadFault, WriteFault}
-use Rattle.bk_base.specs.Devices.{AppendsPart, Begins}
-use Rattle.bk_base.specs.DeviceLaws.{Begins-trans}
 use Rattle.bk_intcode.specs.declared.registers.Registers.{Registers}
 use Rattle.bk_intcode.specs.declared.output.Output.{Output}
-use Rattle.bk_intcode.specs.Output.{Text, output_text}
-use Rattle.bk_intcode.specs.Step.{Goes, Outputs, Asks, Ends, step}
-use Rattle.bk_intcode.specs.Runs.{Going, Over, next_byte, behind_next, after, run, Told, Exchanged, Follows, Leads, NotAsked, SinceAsk, LeadsToAsk, FlushesFirst, Paused, Finished, Waiting, CutShort, FailedOnTheWay, Broken, Went, Ran, IsOwn, AskFails, CameBy, Answered}
 use Rattle.bk_intcode.specs.RunLaws.{onwards, run-add}
 
 -- ---- what devices exchange
@@ -428,10 +420,7 @@ module _ (Holds : List ℕ → Type 0) (k m : ℕ) (store : List ℕ) (r : Regis
   went_on StepLimit store'' r'' next = paused_on store'' r'' next
   went_on ReadFault store'' r'' next = waiting_on next
   went_on WriteFault store'' r'' next = failed_on next
-  went_on (Status v) store'' r'' next = finished_on (Status v) next
-  went_on DivideByZero store'' r'' next = finished_on DivideByZero next
-  went_on StoreLimit store'' r'' next = finished_on StoreLimit next
-  went_on BadOperation store'' r'' next = finished_on BadOperation next
+  went_on x store'' r'' next = finished_on x next
 
 -- ---- an end with more steps left
 
@@ -502,10 +491,7 @@ module _ (Holds : List ℕ → Type 0) (m j : ℕ) (store : List ℕ) (r : Regis
   went_more StepLimit store' r' other p = absurd (other refl)
   went_more ReadFault store' r' other p = waiting_more p
   went_more WriteFault store' r' other p = failed_more p
-  went_more (Status v) store' r' other p = finished_more (Status v) p
-  went_more DivideByZero store' r' other p = finished_more DivideByZero p
-  went_more StoreLimit store' r' other p = finished_more StoreLimit p
-  went_more BadOperation store' r' other p = finished_more BadOperation p
+  went_more x store' r' other p = finished_more x p
 
 -- ---- the flush at the end
 
@@ -573,10 +559,7 @@ module _ (Holds : List ℕ → Type 0) (n : ℕ) (store : List ℕ) (r : Registe
   flush_passes StepLimit p = paused_still p
   flush_passes ReadFault p = waiting_still p
   flush_passes WriteFault p = inl (failed_still p)
-  flush_passes (Status v) p = finished_still (Status v) p
-  flush_passes DivideByZero p = finished_still DivideByZero p
-  flush_passes StoreLimit p = finished_still StoreLimit p
-  flush_passes BadOperation p = finished_still BadOperation p
+  flush_passes x p = finished_still x p
 
   -- the flush fails
   flush_fails : (e : End) → Went Holds e n store r store' r' old mid → Broken Holds n store r old new
@@ -584,9 +567,7 @@ module _ (Holds : List ℕ → Type 0) (n : ℕ) (store : List ℕ) (r : Registe
   flush_fails ReadFault p = inl (inr (waiting_still p))
   flush_fails WriteFault p = inl (failed_still p)
   flush_fails (Status v) p = inr (inr (Status v, finished_still (Status v) p))
-  flush_fails DivideByZero p = inr (inr (DivideByZero, finished_still DivideByZero p))
-  flush_fails StoreLimit p = inr (inr (StoreLimit, finished_still StoreLimit p))
-  flush_fails BadOperation p = inr (inr (BadOperation, finished_still BadOperation p))
+  flush_fails x p = inr (inr (x, finished_still x p))
 
   -- a flush keeps the end, or makes it a write fault
   pub went_flushed : (e f : End) → (f ≡ e) ⊎ (f ≡ WriteFault) → Went Holds e n store r store' r' old mid → Ran Holds f n store r store' r' old new
@@ -606,9 +587,7 @@ module _ (Holds : List ℕ → Type 0) (store : List ℕ) (r : Registers) (store
   went_own DivideByZero told own is = finished_ends Holds store r DivideByZero told is
   went_own StoreLimit told own is = finished_ends Holds store r StoreLimit told is
   went_own BadOperation told own is = finished_ends Holds store r BadOperation told is
-  went_own StepLimit told own is = absurd own
-  went_own ReadFault told own is = absurd own
-  went_own WriteFault told own is = absurd own
+  went_own x told own is = absurd own
 
   -- a reader that did not fail before asked its device
   module _ (reads reads' writes' : ℕ) (asked : List ℕ) (s : Registers) (old new : Told) (is : step store r ≡ Asks asked s) (still : Still old new)
@@ -629,11 +608,7 @@ module _ (Holds : List ℕ → Type 0) (store : List ℕ) (r : Registers) (store
         → Went Holds e 1 store r store' r' old new
     went_ask_fails ReadFault fails flushed = waits (failed_read reads (λ none. flushed none (λ e. cc)))
     went_ask_fails WriteFault fails flushed = inr (waits not_asked)
-    went_ask_fails (Status v) fails flushed = absurd fails
-    went_ask_fails DivideByZero fails flushed = absurd fails
-    went_ask_fails StoreLimit fails flushed = absurd fails
-    went_ask_fails BadOperation fails flushed = absurd fails
-    went_ask_fails StepLimit fails flushed = absurd fails
+    went_ask_fails x fails flushed = absurd fails
 
   pub went_part : (what : Output) (old new : Told) → step store r ≡ Outputs what store' r' → (p : AppendsPart old.taken new.taken (output_text store' what).bytes)
       → Exchanged old new [] p.part → NotAsked old new [] → FailedOnTheWay Holds 1 store r old new

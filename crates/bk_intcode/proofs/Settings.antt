@@ -1,19 +1,8 @@
 -- Settings of globals, and segments that are placed one after another.
-use Rattle.std.proofs.Common.{◌≡◌, ℕ, ◌+◌, ◌-◌, ◌<◌, ◌≤◌, List, [], ◌∷◌, ◌++◌, length, get_or, set, take, drop, refl, sym, ap, ◌∙◌, arith, map, length-append, append_assoc}
-use Rattle.std.specs.Prelude.{fold, replicate}
-use Rattle.std.proofs.lemmas.List.{take_more, drop_more, map_more, append-nil, drop_all, take_all, length-set, set-append_left}
-use Rattle.std.proofs.lemmas.List.Sums.{fold-append, fold_push}
-use Rattle.bk_intcode.specs.declared.item.Item.{Item}
-use Rattle.bk_intcode.specs.declared.item.Item.TheVariants.{Instruction, SetLabel, Byte, Word, LabelWord, SetGlobal, Frame, End}
+use Rattle.bk_intcode.proofs.Terms.{◌≡◌, ℕ, ◌+◌, ◌-◌, ◌<◌, ◌≤◌, List, [], ◌∷◌, ◌++◌, length, get_or, set, take, drop, refl, sym, ap, ◌∙◌, arith, map, length-append, append_assoc, take_more, drop_more, map_more, append-nil, drop_all, take_all, length-set, set-append_left, fold-append, fold_push, Item, Instruction, SetGlobal, IsSegment, items_of, Setting, Growth, SEGMENTS, grown, library_settings, item_settings, segment_settings, all_settings, all_words, with_setting, segment_size, segment_words, label_number, stack_start, loaded_store, placed, AreSegments, AreBounded, settings_joined, items_bounded, segments_bounded, library_bounded, settings_length, below, below_length, stack_more, grown_behind, fold, replicate}
 use Rattle.bk_intcode.specs.declared.segment.Intcode.{Intcode}
-use Rattle.bk_intcode.specs.Segment.{IsSegment}
-use Rattle.bk_intcode.specs.SegmentItems.{items_of}
 use Rattle.bk_intcode.specs.SizeLaws.{segment_length}
-use Rattle.bk_intcode.specs.Placement.{Setting, Growth, SEGMENTS, grown, library_settings, item_settings, segment_settings, all_settings, all_words, with_setting, segment_size, segment_words, label_number, stack_start, loaded_store}
-use Rattle.bk_intcode.specs.Inner.Placed.{placed}
 use Rattle.bk_intcode.specs.SegmentLaws.{segment_whole}
-use Rattle.bk_intcode.specs.LoadedWords.{AreSegments, AreBounded, settings_joined, items_bounded, segments_bounded, library_bounded, settings_length, below, below_length, stack_more}
-use Rattle.bk_intcode.specs.ItemWords.{grown_behind}
 use Rattle.bk_intcode.proofs.Growing.{growth_of}
 use Rattle.bk_intcode.proofs.Places.{got}
 

@@ -1,14 +1,6 @@
 -- Texts that are written a piece at a time.
-use Rattle.std.proofs.Common.{◌≡◌, ◌≢◌, ℕ, zero, suc, nat_eq, arith, ◌+◌, ◌-◌, List, [], ◌∷◌, ◌++◌, Option, Some, None, Bool, true, false, Result, Ok, Err, OnOk, OnErr, refl, sym, ap, ◌∙◌, append_assoc}
-use Rattle.std.proofs.lemmas.Bool.Decides.{nat_tests}
-use Rattle.std.specs.Io.KnownBytes.{Appends, Keeps}
-use Rattle.std.proofs.KnownBytes.{Appends-nil, Appends-trans, Appends-kept}
-use Rattle.bk_base.specs.Devices.{AppendsPart}
-use Rattle.bk_base.specs.Word.{word_sum}
-use Rattle.bk_intcode.specs.declared.output.Directive.{Directive}
-use Rattle.bk_intcode.specs.Output.{Text, whole_text, cut_text, text_then, byte_of, string_rest, piece_text, directive, format_rest}
+use Rattle.bk_intcode.proofs.Terms.{◌≡◌, ◌≢◌, ℕ, zero, suc, nat_eq, arith, ◌+◌, ◌-◌, List, [], ◌∷◌, ◌++◌, Option, Some, None, Bool, true, false, Result, Ok, Err, OnOk, OnErr, refl, sym, ap, ◌∙◌, append_assoc, nat_tests, Appends, Keeps, Appends-nil, Appends-trans, Appends-kept, AppendsPart, word_sum, Directive, Text, whole_text, cut_text, text_then, byte_of, string_rest, piece_text, directive, format_rest, Telling, PutsBytes}
 use Rattle.bk_base.specs.declared.device.Failed.{Failed}
-use Rattle.bk_intcode.specs.Inner.Telling.{Telling, PutsBytes}
 
 -- ---- bytes
 

@@ -16,7 +16,6 @@ pub mod StepLaws
 pub mod Runs
 pub mod RunLaws
 pub mod RunLengths
-pub mod RunWords
 pub mod ShorterStores
 pub mod RunInputs
 pub mod State

@@ -4,7 +4,6 @@ ghost use Rattle.bk_intcode.specs.ItemWords.{ItemsAreJoined, SizesAreAdded, Word
 ghost use Rattle.bk_intcode.specs.LoadedWords.{SegmentsLieInOrder, SegmentsLieApart, LoadedStoreHolds};
 ghost use Rattle.bk_intcode.specs.RunInputs.{RunsDependOnWhatTheyRead, RunsThatLeaveInput};
 ghost use Rattle.bk_intcode.specs.RunLengths.{RunsKeepLength};
-ghost use Rattle.bk_intcode.specs.RunWords.{RunsKeepWords};
 ghost use Rattle.bk_intcode.specs.ShorterStores.{RunsReadTheFront, RunsInShorterStores};
 ghost use Rattle.bk_intcode.specs.SizeLaws.{SizesIgnoreLabels, LabelsLieWithin, LabelsStandAtTheirItems};
 
@@ -76,12 +75,6 @@ pub fn loaded_store_holds()
 #[tactic(auto, using(crate::specs::RunLengths::run_length))]
 pub fn runs_keep_length()
     ensures { RunsKeepLength }
-{}
-
-/// A run on words below 2^32 is on words below 2^32.
-#[tactic(auto, using(crate::specs::RunWords::run_words))]
-pub fn runs_keep_words()
-    ensures { RunsKeepWords }
 {}
 
 /// A run reads its input from the front.

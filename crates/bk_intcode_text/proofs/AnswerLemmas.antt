@@ -1,22 +1,6 @@
 -- What the words of a whole text say, from what was taken of it.
-use Rattle.std.proofs.Common.{◌≡◌, inl, inr, ℕ, ◌<◌, ◌++◌, Bool, IsTrue, List, [], Option, Some, None, Result, Ok, Err, length, map, refl, sym, ◌∙◌, subst}
-use Rattle.std.specs.Io.KnownBytes.{Consumes}
-use Rattle.bk_base.specs.Devices.{NothingLeft}
-use Rattle.bk_base.specs.declared.limit.TheConstants.{INPUT_BYTES}
-use Rattle.bk_base.specs.declared.intcode_fault.IntcodeFault.{IntcodeFault}
-use Rattle.bk_base.specs.declared.intcode_fault.IntcodeKind.{IntcodeKind}
-use Rattle.bk_base.specs.declared.refused.Refused.{Refused}
-use Rattle.bk_base.specs.declared.refused.Refused.TheVariants.{Fault, Memory, Device}
+use Rattle.bk_intcode_text.proofs.Terms.{◌≡◌, inl, inr, ℕ, ◌<◌, ◌++◌, Bool, IsTrue, List, [], Option, Some, None, Result, Ok, Err, length, map, refl, sym, ◌∙◌, subst, Consumes, NothingLeft, INPUT_BYTES, IntcodeFault, IntcodeKind, Refused, Fault, Memory, Device, Item, items_of, item_text, AtEnd, words_of, GivesSegment, GivesNothing, GivesFault, CutAt, Saying, segment, nothing, fault, Says, Takes, Answers, AnswersWords, Stands, StandsWhateverFollows, words_of-all, words_of-ended, known, nothing_left_at}
 use Rattle.bk_intcode.specs.declared.segment.Intcode.{Intcode}
-use Rattle.bk_intcode.specs.declared.item.Item.{Item}
-use Rattle.bk_intcode.specs.SegmentItems.{items_of}
-use Rattle.bk_intcode_text.specs.ItemText.{item_text}
-use Rattle.bk_words.specs.TextEnd.{AtEnd}
-use Rattle.bk_words.specs.Words.{words_of}
-use Rattle.bk_intcode_text.specs.SegmentReading.{GivesSegment, GivesNothing, GivesFault, CutAt}
-use Rattle.bk_intcode_text.specs.FirstSaying.{Saying, segment, nothing, fault, Says}
-use Rattle.bk_intcode_text.specs.SegmentAnswer.{Takes, Answers, AnswersWords, Stands, StandsWhateverFollows}
-use Rattle.bk_words.specs.WordLaws.{words_of-all, words_of-ended, known, nothing_left_at}
 
 -- what a text says, from what was taken of it
 segment_says : (all taken left : List ℕ) (end : Type 0) (items : List Item) → all ≡ taken ++ left → GivesSegment taken end items → (end → left ≡ []) → Says (segment items) (words_of all)

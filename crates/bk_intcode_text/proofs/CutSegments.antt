@@ -1,17 +1,5 @@
 -- Words of a segment that did not end before the device failed.
-use Rattle.std.proofs.Common.{◌≡◌, inl, inr, ℕ, ◌+◌, ◌++◌, Bool, List, [], ◌∷◌, Option, length, map, arith, refl, sym, ap, ◌∙◌, append_assoc}
-use Rattle.std.proofs.lemmas.Bool.{cases_lt}
-use Rattle.std.specs.Io.KnownBytes.{Consumes}
-use Rattle.bk_base.specs.DeviceLaws.{Consumes-trans}
-use Rattle.bk_base.specs.declared.intcode_fault.IntcodeKind.TheVariants.{Truncated}
-use Rattle.bk_intcode.specs.declared.item.Item.{Item}
-use Rattle.bk_words.specs.Words.{words_of}
-use Rattle.bk_words.specs.Gathering.{BeginsWord}
-use Rattle.bk_words.specs.WordLaws.{words_of-more_blanks, EndsInBlank-append}
-use Rattle.bk_intcode_text.specs.ItemText.{item_text}
-use Rattle.bk_intcode_text.specs.SegmentReading.{IsPartial, StopsAtDevice}
-use Rattle.bk_intcode_text.specs.FirstSaying.{segment, nothing, fault}
-use Rattle.bk_intcode_text.specs.SegmentAnswer.{Takes, NoSegmentPassed}
+use Rattle.bk_intcode_text.proofs.Terms.{◌≡◌, inl, inr, ℕ, ◌+◌, ◌++◌, Bool, List, [], ◌∷◌, Option, length, map, arith, refl, sym, ap, ◌∙◌, append_assoc, cases_lt, Consumes, Consumes-trans, Truncated, Item, words_of, BeginsWord, words_of-more_blanks, EndsInBlank-append, item_text, IsPartial, StopsAtDevice, segment, nothing, fault, Takes, NoSegmentPassed}
 use Rattle.bk_intcode_text.proofs.ReadingLemmas.{Read}
 use Rattle.bk_intcode_text.proofs.OneSaying.{one_saying}
 

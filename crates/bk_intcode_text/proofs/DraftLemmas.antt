@@ -1,8 +1,5 @@
 -- The labels and the largest frame of items, one item more.
-use Rattle.std.proofs.Common.{◌≡◌, ◌≢◌, ℕ, ◌++◌, ◌||◌, ◌==◌, if◌then◌else◌, Bool, true, false, List, [], ◌∷◌, refl, ◌∙◌, ap}
-use Rattle.bk_intcode.specs.Segment.{sets, item_sets, is_frame, gives_frame}
-use Rattle.bk_intcode.specs.declared.item.Item.{Item}
-use Rattle.bk_intcode.specs.declared.item.Item.TheVariants.{Instruction, SetLabel, Byte, Word, LabelWord, SetGlobal, Frame, End}
+use Rattle.bk_intcode_text.proofs.Terms.{◌≡◌, ◌≢◌, ℕ, ◌++◌, ◌||◌, ◌==◌, if◌then◌else◌, Bool, true, false, List, [], ◌∷◌, refl, ◌∙◌, ap, sets, item_sets, is_frame, gives_frame, Item, Instruction, SetLabel, Frame}
 
 or_assoc : (a b c : Bool) → (a || (b || c)) ≡ ((a || b) || c)
 or_assoc true b c = refl
@@ -28,14 +25,8 @@ no_set _ other label = refl
 
 -- an item that gives no frame
 no_frame : (item : Item) → ((n : ℕ) → item ≢ Frame n) → is_frame item ≡ false
-no_frame (SetLabel l) other = refl
-no_frame (Instruction f i o) other = refl
-no_frame (LabelWord l) other = refl
-no_frame (SetGlobal n l) other = refl
-no_frame (Byte b) other = refl
-no_frame (Word w) other = refl
 no_frame (Frame n) other = absurd (other n refl)
-no_frame End other = refl
+no_frame x other = refl
 
 pub sets-other : (label : ℕ) (items all : List Item) (item : Item) → all ≡ items ++ item ∷ [] → ((l : ℕ) → item ≢ SetLabel l) → sets label all ≡ sets label items
 sets-other label items all item is other =

@@ -1,16 +1,5 @@
 -- No item's word has more than 16 bytes.
-use Rattle.std.proofs.Common.{◌≡◌, ℕ, ◌<◌, ◌≤◌, ◌^◌, Bool, true, false, pos, List, ◌∷◌, length, get_or, arith, ap, length-append}
-use Rattle.std.proofs.lemmas.Fmt.{length-decimal-le}
-use Rattle.bk_base.specs.Decimal.{spelling}
-use Rattle.bk_base.specs.declared.intcode_fault.IntcodeKind.TheVariants.{BadNumber}
-use Rattle.bk_intcode.specs.declared.item.Operand.{Operand}
-use Rattle.bk_intcode.specs.declared.item.Operand.TheVariants.{Number, Local, Global, Label}
-use Rattle.bk_intcode.specs.declared.item.Item.{Item}
-use Rattle.bk_intcode.specs.declared.item.Item.TheVariants.{Instruction, SetLabel, Byte, Word, LabelWord, SetGlobal, Frame, End}
-use Rattle.bk_intcode_text.specs.ItemText.{indirect_text, operand_text, item_text}
-use Rattle.bk_intcode.specs.Segment.{IsOperand, IsItem}
-use Rattle.bk_words.specs.Numerals.{length-global, length-word}
-use Rattle.bk_intcode_text.specs.WordMeaning.{WordFault, begins_item}
+use Rattle.bk_intcode_text.proofs.Terms.{◌≡◌, ℕ, ◌<◌, ◌≤◌, ◌^◌, Bool, true, false, pos, List, ◌∷◌, length, get_or, arith, ap, length-append, length-decimal-le, spelling, BadNumber, Operand, Number, Local, Global, Label, Item, Instruction, SetLabel, Byte, Word, LabelWord, SetGlobal, Frame, End, indirect_text, operand_text, item_text, IsOperand, IsItem, length-global, length-word, WordFault, begins_item}
 
 length-natural : (n : ℕ) → n < 2 ^ 31 → length (spelling (pos n)) ≤ 10
 length-natural n small = length-decimal-le 10 n (omega arith) (omega arith) (omega arith)

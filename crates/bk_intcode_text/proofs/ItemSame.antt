@@ -1,19 +1,5 @@
 -- One word stands for one item.
-use Rattle.std.proofs.Common.{◌≡◌, ◌≢◌, ℕ, ◌<◌, ◌≤◌, ◌^◌, ◌++◌, ◌==◌, nat_eq, Bool, true, false, if◌then◌else◌, pos, ℤ, FitsSigned, w32, List, [], ◌∷◌, length, get_or, arith, refl, sym, ap, ◌∙◌}
-use Rattle.std.proofs.lemmas.Fmt.{decimal_injective, signed_decimal_injective}
-use Rattle.std.proofs.lemmas.List.{get_or_append_left}
-use Rattle.std.proofs.Math.Seq.{take-append_seam, drop-append-add}
-use Rattle.std.specs.Int.{IsInRange}
-use Rattle.bk_base.specs.Decimal.{spelling}
-use Rattle.bk_intcode.specs.declared.item.Function.{Function}
-use Rattle.bk_intcode.specs.declared.item.Function.TheVariants.{Load, Store, Add, Jump, JumpTrue, JumpFalse, Call, Operate}
-use Rattle.bk_intcode.specs.declared.item.Operand.{Operand}
-use Rattle.bk_intcode.specs.declared.item.Operand.TheVariants.{Number, Local, Global, Label}
-use Rattle.bk_intcode.specs.declared.item.Item.{Item}
-use Rattle.bk_intcode.specs.declared.item.Item.TheVariants.{Instruction, SetLabel, Byte, Word, LabelWord, SetGlobal, Frame, End}
-use Rattle.bk_intcode_text.specs.ItemText.{letter, indirect_text, operand_text, item_text}
-use Rattle.bk_intcode.specs.Segment.{IsOperand, IsItem}
-use Rattle.bk_words.specs.Numerals.{mag-fits, rest_same, apart, digit-at, at_seam, no_spelling}
+use Rattle.bk_intcode_text.proofs.Terms.{◌≡◌, ◌≢◌, ℕ, ◌<◌, ◌≤◌, ◌^◌, ◌++◌, ◌==◌, nat_eq, Bool, true, false, if◌then◌else◌, pos, ℤ, FitsSigned, w32, List, [], ◌∷◌, length, get_or, arith, refl, sym, ap, ◌∙◌, decimal_injective, signed_decimal_injective, get_or_append_left, take-append_seam, drop-append-add, IsInRange, spelling, Function, Load, Store, Add, Jump, JumpTrue, JumpFalse, Call, Operate, Operand, Number, Local, Global, Label, Item, Instruction, SetLabel, Byte, Word, LabelWord, SetGlobal, Frame, End, letter, indirect_text, operand_text, item_text, IsOperand, IsItem, mag-fits, rest_same, apart, digit-at, at_seam, no_spelling}
 use Rattle.bk_intcode_text.proofs.OperandLemmas.{no_operand-indirect}
 use Rattle.bk_intcode_text.proofs.WordLemmas.{other_class, letter-class, global_parts}
 
@@ -83,7 +69,6 @@ global_same n l m k small below is =
 pub item_same : (a b : Item) → IsItem a → IsItem b → item_text a ≡ item_text b → a ≡ b
 item_same (Instruction f i o) (Instruction g j p) x y is = let h = indirect_same i j o p x y (tails_same (letter f) (letter g) (indirect_text i ++ operand_text o) (indirect_text j ++ operand_text p) is) in let e : f ≡ g = letter_same f g (heads_same (letter f) (letter g) (indirect_text i ++ operand_text o) (indirect_text j ++ operand_text p) is) in ap (λ q. Instruction q i o) e ∙ ap (λ q. Instruction g q o) h.0 ∙ ap (λ q. Instruction g j q) h.1
 item_same (Instruction f i o) (SetLabel k) x y is = absurd (other_class (SetLabel k) y (letter f) (indirect_text i ++ operand_text o) 0 (letter-class f) refl (sym is))
-item_same (Instruction f i o) (Byte m) x y is = absurd (other_class (Instruction f i o) x 67 (spelling (pos m)) 67 refl refl is)
 item_same (Instruction f i o) (Word m) x y is = absurd (other_class (Instruction f i o) x 68 (spelling m) 68 refl refl is)
 item_same (Instruction f i o) (LabelWord k) x y is = absurd (other_class (Instruction f i o) x 68 (76 ∷ spelling (pos k)) 68 refl refl is)
 item_same (Instruction f i o) (SetGlobal m k) x y is = absurd (other_class (Instruction f i o) x 71 (spelling (pos m) ++ 76 ∷ spelling (pos k)) 71 refl refl is)
@@ -91,7 +76,6 @@ item_same (Instruction f i o) (Frame m) x y is = absurd (other_class (Instructio
 item_same (Instruction f i o) End x y is = absurd (other_class (Instruction f i o) x 90 [] 90 refl refl is)
 item_same (SetLabel l) (Instruction g j p) x y is = absurd (other_class (SetLabel l) x (letter g) (indirect_text j ++ operand_text p) 0 (letter-class g) refl is)
 item_same (SetLabel l) (SetLabel k) x y is = ap SetLabel (natural_same l k (omega (arith, x.0, x.1)) (omega (arith, y.0, y.1)) is)
-item_same (SetLabel l) (Byte m) x y is = absurd (other_class (SetLabel l) x 67 (spelling (pos m)) 67 refl refl is)
 item_same (SetLabel l) (Word m) x y is = absurd (other_class (SetLabel l) x 68 (spelling m) 68 refl refl is)
 item_same (SetLabel l) (LabelWord k) x y is = absurd (other_class (SetLabel l) x 68 (76 ∷ spelling (pos k)) 68 refl refl is)
 item_same (SetLabel l) (SetGlobal m k) x y is = absurd (other_class (SetLabel l) x 71 (spelling (pos m) ++ 76 ∷ spelling (pos k)) 71 refl refl is)
@@ -107,7 +91,6 @@ item_same (Byte n) (Frame m) x y is = absurd (other_class (Byte n) x 81 (spellin
 item_same (Byte n) End x y is = absurd (other_class (Byte n) x 90 [] 90 refl refl is)
 item_same (Word n) (Instruction g j p) x y is = absurd (other_class (Instruction g j p) y 68 (spelling n) 68 refl refl (sym is))
 item_same (Word n) (SetLabel k) x y is = absurd (other_class (SetLabel k) y 68 (spelling n) 68 refl refl (sym is))
-item_same (Word n) (Byte m) x y is = absurd (other_class (Word n) x 67 (spelling (pos m)) 67 refl refl is)
 item_same (Word n) (Word m) x y is = ap Word (word_same n m x y (rest_same 68 (spelling n) (spelling m) is))
 item_same (Word n) (LabelWord k) x y is = absurd (no_mark n x 76 (spelling (pos k)) refl (omega arith) (rest_same 68 (spelling n) (76 ∷ spelling (pos k)) is))
 item_same (Word n) (SetGlobal m k) x y is = absurd (other_class (Word n) x 71 (spelling (pos m) ++ 76 ∷ spelling (pos k)) 71 refl refl is)
@@ -115,7 +98,6 @@ item_same (Word n) (Frame m) x y is = absurd (other_class (Word n) x 81 (spellin
 item_same (Word n) End x y is = absurd (other_class (Word n) x 90 [] 90 refl refl is)
 item_same (LabelWord l) (Instruction g j p) x y is = absurd (other_class (Instruction g j p) y 68 (76 ∷ spelling (pos l)) 68 refl refl (sym is))
 item_same (LabelWord l) (SetLabel k) x y is = absurd (other_class (SetLabel k) y 68 (76 ∷ spelling (pos l)) 68 refl refl (sym is))
-item_same (LabelWord l) (Byte m) x y is = absurd (other_class (LabelWord l) x 67 (spelling (pos m)) 67 refl refl is)
 item_same (LabelWord l) (Word m) x y is = absurd (no_mark m y 76 (spelling (pos l)) refl (omega arith) (sym (rest_same 68 (76 ∷ spelling (pos l)) (spelling m) is)))
 item_same (LabelWord l) (LabelWord k) x y is = ap LabelWord (natural_same l k (omega (arith, x.0, x.1)) (omega (arith, y.0, y.1)) (rest_same 76 (spelling (pos l)) (spelling (pos k)) (rest_same 68 (76 ∷ spelling (pos l)) (76 ∷ spelling (pos k)) is)))
 item_same (LabelWord l) (SetGlobal m k) x y is = absurd (other_class (LabelWord l) x 71 (spelling (pos m) ++ 76 ∷ spelling (pos k)) 71 refl refl is)
@@ -123,7 +105,6 @@ item_same (LabelWord l) (Frame m) x y is = absurd (other_class (LabelWord l) x 8
 item_same (LabelWord l) End x y is = absurd (other_class (LabelWord l) x 90 [] 90 refl refl is)
 item_same (SetGlobal n l) (Instruction g j p) x y is = absurd (other_class (Instruction g j p) y 71 (spelling (pos n) ++ 76 ∷ spelling (pos l)) 71 refl refl (sym is))
 item_same (SetGlobal n l) (SetLabel k) x y is = absurd (other_class (SetLabel k) y 71 (spelling (pos n) ++ 76 ∷ spelling (pos l)) 71 refl refl (sym is))
-item_same (SetGlobal n l) (Byte m) x y is = absurd (other_class (SetGlobal n l) x 67 (spelling (pos m)) 67 refl refl is)
 item_same (SetGlobal n l) (Word m) x y is = absurd (other_class (SetGlobal n l) x 68 (spelling m) 68 refl refl is)
 item_same (SetGlobal n l) (LabelWord k) x y is = absurd (other_class (SetGlobal n l) x 68 (76 ∷ spelling (pos k)) 68 refl refl is)
 item_same (SetGlobal n l) (SetGlobal m k) x y is = let h = global_same n l m k (omega (arith, x.0)) (omega (arith, y.0)) (rest_same 71 (spelling (pos n) ++ 76 ∷ spelling (pos l)) (spelling (pos m) ++ 76 ∷ spelling (pos k)) is) in ap (λ q. SetGlobal q l) (natural_same n m (omega (arith, x.0)) (omega (arith, y.0)) h.0) ∙ ap (λ q. SetGlobal m q) (natural_same l k (omega (arith, x.1.0, x.1.1)) (omega (arith, y.1.0, y.1.1)) h.1)
@@ -131,7 +112,6 @@ item_same (SetGlobal n l) (Frame m) x y is = absurd (other_class (SetGlobal n l)
 item_same (SetGlobal n l) End x y is = absurd (other_class (SetGlobal n l) x 90 [] 90 refl refl is)
 item_same (Frame n) (Instruction g j p) x y is = absurd (other_class (Instruction g j p) y 81 (spelling (pos n)) 81 refl refl (sym is))
 item_same (Frame n) (SetLabel k) x y is = absurd (other_class (SetLabel k) y 81 (spelling (pos n)) 81 refl refl (sym is))
-item_same (Frame n) (Byte m) x y is = absurd (other_class (Frame n) x 67 (spelling (pos m)) 67 refl refl is)
 item_same (Frame n) (Word m) x y is = absurd (other_class (Frame n) x 68 (spelling m) 68 refl refl is)
 item_same (Frame n) (LabelWord k) x y is = absurd (other_class (Frame n) x 68 (76 ∷ spelling (pos k)) 68 refl refl is)
 item_same (Frame n) (SetGlobal m k) x y is = absurd (other_class (Frame n) x 71 (spelling (pos m) ++ 76 ∷ spelling (pos k)) 71 refl refl is)
@@ -139,9 +119,9 @@ item_same (Frame n) (Frame m) x y is = ap Frame (natural_same n m (omega (arith,
 item_same (Frame n) End x y is = absurd (other_class (Frame n) x 90 [] 90 refl refl is)
 item_same End (Instruction g j p) x y is = absurd (other_class (Instruction g j p) y 90 [] 90 refl refl (sym is))
 item_same End (SetLabel k) x y is = absurd (other_class (SetLabel k) y 90 [] 90 refl refl (sym is))
-item_same End (Byte m) x y is = absurd (other_class End x 67 (spelling (pos m)) 67 refl refl is)
 item_same End (Word m) x y is = absurd (other_class End x 68 (spelling m) 68 refl refl is)
 item_same End (LabelWord k) x y is = absurd (other_class End x 68 (76 ∷ spelling (pos k)) 68 refl refl is)
 item_same End (SetGlobal m k) x y is = absurd (other_class End x 71 (spelling (pos m) ++ 76 ∷ spelling (pos k)) 71 refl refl is)
 item_same End (Frame m) x y is = absurd (other_class End x 81 (spelling (pos m)) 81 refl refl is)
 item_same End End x y is = refl
+item_same z (Byte m) x y is = absurd (other_class z x 67 (spelling (pos m)) 67 refl refl is)

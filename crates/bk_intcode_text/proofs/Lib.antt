@@ -1,3 +1,4 @@
+mod Terms
 mod Parts
 mod SegmentLemmas
 mod OperandLemmas

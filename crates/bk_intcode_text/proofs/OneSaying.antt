@@ -1,27 +1,6 @@
 -- The words of a text say one thing.
-use Rattle.std.proofs.Common.{◌≡◌, ◌≢◌, ◌⊎◌, inl, inr, ℕ, zero, suc, ◌+◌, ◌-◌, ◌<◌, ◌≤◌, ◌^◌, ◌++◌, ◌||◌, ◌&&◌, ◌==◌, nat_lt, Bool, true, false, IsTrue, if◌then◌else◌, pos, List, [], ◌∷◌, Some, None, length, take, get_or, map, slice_get, arith, refl, sym, ap, ◌∙◌, subst, append_assoc, append-nil, length-append, length-take, eq-eqb, lt-ltb}
+use Rattle.bk_intcode_text.proofs.Terms.{◌≡◌, ◌≢◌, inl, inr, ℕ, zero, suc, ◌+◌, ◌-◌, ◌<◌, ◌≤◌, ◌^◌, ◌++◌, ◌&&◌, ◌==◌, nat_lt, Bool, true, false, IsTrue, if◌then◌else◌, pos, List, [], ◌∷◌, Some, None, length, take, get_or, map, slice_get, arith, refl, sym, ap, ◌∙◌, subst, append_assoc, append-nil, length-append, length-take, eq-eqb, lt-ltb, list_all, cases_lt, length-map, decimal_injective, spelling, INTCODE_ITEMS, IntcodeKind, BadLetter, BadNumber, ByteOver255, LabelNotSet, LabelSetTwice, Truncated, TooLong, FrameGivenTwice, sets, item_uses, operand_uses, IsSegment, IsItem, AreItems, operand_is_set, use_is_set, gives_frame, Function, Load, Operand, Label, Item, Instruction, SetLabel, Byte, LabelWord, SetGlobal, Frame, End, letter, item_text, all_set, item_fault, Means, WordFault, begins_item, IsByteOver255, IsPartial, FaultBehind, FaultAt, CutAt, segment, nothing, fault, Says, SayOneThing, rest_same, first-numeral, false_from_ne_true, or_cases}
 use borrow.Author.Tests.{eqb-true}
-use Rattle.std.specs.List.{list_all}
-use Rattle.std.proofs.lemmas.Bool.{cases_lt}
-use Rattle.std.proofs.lemmas.List.{length-map}
-use Rattle.std.proofs.lemmas.Fmt.{decimal_injective}
-use Rattle.bk_base.specs.Decimal.{spelling}
-use Rattle.bk_base.specs.declared.limit.TheConstants.{INTCODE_ITEMS}
-use Rattle.bk_base.specs.declared.intcode_fault.IntcodeKind.{IntcodeKind}
-use Rattle.bk_base.specs.declared.intcode_fault.IntcodeKind.TheVariants.{BadLetter, BadNumber, ByteOver255, LabelNotSet, LabelSetTwice, Truncated, TooLong, FrameGivenTwice}
-use Rattle.bk_intcode.specs.Segment.{sets, item_uses, operand_uses, IsSegment, IsItem, AreItems, operand_is_set, use_is_set, gives_frame}
-use Rattle.bk_intcode.specs.declared.item.Function.{Function}
-use Rattle.bk_intcode.specs.declared.item.Function.TheVariants.{Load, Store, Add, Jump, JumpTrue, JumpFalse, Call, Operate}
-use Rattle.bk_intcode.specs.declared.item.Operand.{Operand}
-use Rattle.bk_intcode.specs.declared.item.Operand.TheVariants.{Number, Local, Global, Label}
-use Rattle.bk_intcode.specs.declared.item.Item.{Item}
-use Rattle.bk_intcode.specs.declared.item.Item.TheVariants.{Instruction, SetLabel, Byte, Word, LabelWord, SetGlobal, Frame, End}
-use Rattle.bk_intcode_text.specs.ItemText.{letter, item_text}
-use Rattle.bk_intcode_text.specs.ItemFault.{all_set, item_fault}
-use Rattle.bk_intcode_text.specs.WordMeaning.{Means, WordFault, begins_item, IsByteOver255}
-use Rattle.bk_intcode_text.specs.SegmentReading.{IsPartial, FaultBehind, FaultAt, CutAt}
-use Rattle.bk_intcode_text.specs.FirstSaying.{segment, nothing, fault, Says, SayOneThing}
-use Rattle.bk_words.specs.Numerals.{rest_same, first-numeral}
 use Rattle.bk_intcode_text.proofs.WordLemmas.{each_digit, other_class, nothing-empty}
 use Rattle.bk_intcode_text.proofs.PartialLemmas.{get_low, get-take, sets-at}
 use Rattle.bk_intcode_text.proofs.ItemSame.{item_same}
@@ -82,12 +61,7 @@ large_no_item : (n : ℕ) → 255 < n → n < 2 ^ 31 → (item : Item) → IsIte
 large_no_item n large small (Byte b) fits = λ is.
     let same : b ≡ n = decimal_injective b n (omega arith) (omega arith) (rest_same 67 (spelling (pos b)) (spelling (pos n)) is) in absurd (omega arith)
 large_no_item n large small (Instruction f i o) fits = other_class (Instruction f i o) fits 67 (spelling (pos n)) 67 refl refl
-large_no_item n large small (SetLabel l) fits = other_class (SetLabel l) fits 67 (spelling (pos n)) 67 refl refl
-large_no_item n large small (Word w) fits = other_class (Word w) fits 67 (spelling (pos n)) 67 refl refl
-large_no_item n large small (LabelWord l) fits = other_class (LabelWord l) fits 67 (spelling (pos n)) 67 refl refl
-large_no_item n large small (SetGlobal m l) fits = other_class (SetGlobal m l) fits 67 (spelling (pos n)) 67 refl refl
-large_no_item n large small (Frame m) fits = other_class (Frame m) fits 67 (spelling (pos n)) 67 refl refl
-large_no_item n large small End fits = other_class End fits 67 (spelling (pos n)) 67 refl refl
+large_no_item n large small x fits = other_class x fits 67 (spelling (pos n)) 67 refl refl
 
 -- a word that has a fault by itself stands for no item
 fault_no_item : (word : List ℕ) (kind : IntcodeKind) (item : Item) → WordFault word kind → Means word item → ⊥
@@ -96,11 +70,7 @@ fault_no_item word BadLetter item bad m =
     let other : begins_item (get_or word 0 0) ≡ false = bad in cc
 fault_no_item word BadNumber item bad m = bad.1 item m.in_range m.text
 fault_no_item word ByteOver255 item bad m = large_no_item bad.0 bad.1 bad.2 item m.in_range (m.text ∙ bad.3)
-fault_no_item word LabelNotSet item bad m = absurd bad
-fault_no_item word LabelSetTwice item bad m = absurd bad
-fault_no_item word Truncated item bad m = absurd bad
-fault_no_item word TooLong item bad m = absurd bad
-fault_no_item word FrameGivenTwice item bad m = absurd bad
+fault_no_item word x item bad m = absurd bad
 
 -- an item without a fault behind others has none
 no_fault_behind : (before : List Item) (item : Item) (kind : IntcodeKind) → IsItem item → item_fault before item ≡ None → FaultBehind before (item_text item) kind → ⊥
@@ -142,46 +112,12 @@ word_kind_same word ByteOver255 LabelSetTwice x y = absurd y
 word_kind_same word ByteOver255 Truncated x y = absurd y
 word_kind_same word ByteOver255 TooLong x y = absurd y
 word_kind_same word ByteOver255 FrameGivenTwice x y = absurd y
-word_kind_same word LabelNotSet BadLetter x y = absurd x
-word_kind_same word LabelNotSet BadNumber x y = absurd x
-word_kind_same word LabelNotSet ByteOver255 x y = absurd x
 word_kind_same word LabelNotSet LabelNotSet x y = refl
-word_kind_same word LabelNotSet LabelSetTwice x y = absurd x
-word_kind_same word LabelNotSet Truncated x y = absurd x
-word_kind_same word LabelNotSet TooLong x y = absurd x
-word_kind_same word LabelNotSet FrameGivenTwice x y = absurd x
-word_kind_same word LabelSetTwice BadLetter x y = absurd x
-word_kind_same word LabelSetTwice BadNumber x y = absurd x
-word_kind_same word LabelSetTwice ByteOver255 x y = absurd x
-word_kind_same word LabelSetTwice LabelNotSet x y = absurd x
 word_kind_same word LabelSetTwice LabelSetTwice x y = refl
-word_kind_same word LabelSetTwice Truncated x y = absurd x
-word_kind_same word LabelSetTwice TooLong x y = absurd x
-word_kind_same word LabelSetTwice FrameGivenTwice x y = absurd x
-word_kind_same word Truncated BadLetter x y = absurd x
-word_kind_same word Truncated BadNumber x y = absurd x
-word_kind_same word Truncated ByteOver255 x y = absurd x
-word_kind_same word Truncated LabelNotSet x y = absurd x
-word_kind_same word Truncated LabelSetTwice x y = absurd x
 word_kind_same word Truncated Truncated x y = refl
-word_kind_same word Truncated TooLong x y = absurd x
-word_kind_same word Truncated FrameGivenTwice x y = absurd x
-word_kind_same word TooLong BadLetter x y = absurd x
-word_kind_same word TooLong BadNumber x y = absurd x
-word_kind_same word TooLong ByteOver255 x y = absurd x
-word_kind_same word TooLong LabelNotSet x y = absurd x
-word_kind_same word TooLong LabelSetTwice x y = absurd x
-word_kind_same word TooLong Truncated x y = absurd x
 word_kind_same word TooLong TooLong x y = refl
-word_kind_same word TooLong FrameGivenTwice x y = absurd x
-word_kind_same word FrameGivenTwice BadLetter x y = absurd x
-word_kind_same word FrameGivenTwice BadNumber x y = absurd x
-word_kind_same word FrameGivenTwice ByteOver255 x y = absurd x
-word_kind_same word FrameGivenTwice LabelNotSet x y = absurd x
-word_kind_same word FrameGivenTwice LabelSetTwice x y = absurd x
-word_kind_same word FrameGivenTwice Truncated x y = absurd x
-word_kind_same word FrameGivenTwice TooLong x y = absurd x
 word_kind_same word FrameGivenTwice FrameGivenTwice x y = refl
+word_kind_same z u v x y = absurd x
 
 kind_same : (before : List Item) (word : List ℕ) (j k : IntcodeKind) → FaultBehind before word j → FaultBehind before word k → j ≡ k
 kind_same before word j k (inl x) (inl y) = word_kind_same word j k x y
@@ -190,14 +126,6 @@ kind_same before word j k (inr p) (inl y) = absurd (fault_no_item word k p.0 y p
 kind_same before word j k (inr p) (inr q) =
     let same : p.0 ≡ q.0 = item_same p.0 q.0 p.1.in_range q.1.in_range (p.1.text ∙ sym q.1.text) in
     let h : Some j ≡ Some k = sym p.2 ∙ ap (λ i. item_fault before i) same ∙ q.2 in cc
-
-or_cases : (a b : Bool) → (a || b) ≡ true → (a ≡ true) ⊎ (b ≡ true)
-or_cases true b is = inl refl
-or_cases false b is = inr is
-
-is_false : (b : Bool) → (b ≡ true → ⊥) → b ≡ false
-is_false true other = absurd (other refl)
-is_false false other = refl
 
 get-of_take : {X : Type 0} (xs : List X) (n k : ℕ) (x : X) → slice_get (take n xs) k ≡ Some x → (k < n) × (slice_get xs k ≡ Some x)
 get-of_take [] n k x at = absurd (let h : None ≡ Some x = ap (λ l. slice_get l k) (sym (take-nil n)) ∙ at in cc)
@@ -217,23 +145,12 @@ sets-place label (SetLabel m ∷ items) is = elim (or_cases (m == label) (sets l
   | inr e ↦ let r = sets-place label items e in (suc r.0, r.1)
 ]
 sets-place label (Instruction f i o ∷ items) is = let r = sets-place label items is in (suc r.0, r.1)
-sets-place label (Byte b ∷ items) is = let r = sets-place label items is in (suc r.0, r.1)
-sets-place label (Word w ∷ items) is = let r = sets-place label items is in (suc r.0, r.1)
-sets-place label (LabelWord l ∷ items) is = let r = sets-place label items is in (suc r.0, r.1)
-sets-place label (SetGlobal n l ∷ items) is = let r = sets-place label items is in (suc r.0, r.1)
-sets-place label (End ∷ items) is = let r = sets-place label items is in (suc r.0, r.1)
-sets-place label (Frame n ∷ items) is = let r = sets-place label items is in (suc r.0, r.1)
+sets-place label (x ∷ items) is = let r = sets-place label items is in (suc r.0, r.1)
 
 frame-place : (items : List Item) → gives_frame items ≡ true → (j n : ℕ) × (slice_get items j ≡ Some (Frame n))
 frame-place [] is = absurd (let h : false ≡ true = is in cc)
 frame-place (Frame n ∷ items) is = (0, n, refl)
-frame-place (Instruction f i o ∷ items) is = let r = frame-place items is in (suc r.0, r.1, r.2)
-frame-place (Byte b ∷ items) is = let r = frame-place items is in (suc r.0, r.1, r.2)
-frame-place (Word w ∷ items) is = let r = frame-place items is in (suc r.0, r.1, r.2)
-frame-place (LabelWord l ∷ items) is = let r = frame-place items is in (suc r.0, r.1, r.2)
-frame-place (SetGlobal n l ∷ items) is = let r = frame-place items is in (suc r.0, r.1, r.2)
-frame-place (End ∷ items) is = let r = frame-place items is in (suc r.0, r.1, r.2)
-frame-place (SetLabel l ∷ items) is = let r = frame-place items is in (suc r.0, r.1, r.2)
+frame-place (x ∷ items) is = let r = frame-place items is in (suc r.0, r.1, r.2)
 
 list_all-make : {X : Type 0} (p : X → Bool) (xs : List X) → ((k : ℕ) (x : X) → slice_get xs k ≡ Some x → p x ≡ true) → list_all p xs ≡ true
 list_all-make p [] each = refl
@@ -245,13 +162,13 @@ few-before items whole k item at =
     lt-ltb (length (take k items)) INTCODE_ITEMS (omega (arith, low, whole.counted, length-take k items))
 
 unset-before : (items : List Item) → IsSegment items → (k label : ℕ) → slice_get items k ≡ Some (SetLabel label) → sets label (take k items) ≡ false
-unset-before items whole k label at = is_false (sets label (take k items)) (λ set.
+unset-before items whole k label at = false_from_ne_true (sets label (take k items)) (λ set.
     let j = sets-place label (take k items) set in
     let p = get-of_take items k j.0 (SetLabel label) j.1 in
     let same : j.0 ≡ k = whole.set_once j.0 k label p.1 at in omega (arith, p.0, same))
 
 no_frame-before : (items : List Item) → IsSegment items → (k n : ℕ) → slice_get items k ≡ Some (Frame n) → gives_frame (take k items) ≡ false
-no_frame-before items whole k n at = is_false (gives_frame (take k items)) (λ given.
+no_frame-before items whole k n at = false_from_ne_true (gives_frame (take k items)) (λ given.
     let j = frame-place (take k items) given in
     let p = get-of_take items k j.0 (Frame j.1) j.2 in
     let same : j.0 ≡ k = whole.one_frame j.0 k j.1 n p.1 at in omega (arith, p.0, same))
@@ -274,9 +191,7 @@ set-before_end items whole k at j label item here uses =
 
 operand-set-before : (front : List Item) (o : Operand) → ((label : ℕ) → IsTrue (operand_uses label o) → sets label front ≡ true) → operand_is_set front o ≡ true
 operand-set-before front (Label l) each = each l (eq-eqb l l refl)
-operand-set-before front (Number n) each = refl
-operand-set-before front (Local n) each = refl
-operand-set-before front (Global n) each = refl
+operand-set-before front x each = refl
 
 use-set-before : (front : List Item) (item : Item) → ((label : ℕ) → IsTrue (item_uses label item) → sets label front ≡ true) → use_is_set front item ≡ true
 use-set-before front (Instruction f i o) each = operand-set-before front o each
@@ -313,11 +228,7 @@ segment_faultless : (items : List Item) → IsSegment items → (k : ℕ) (item 
 segment_faultless items whole k End at = none-of_two (all_set (take k items)) (nat_lt (length (take k items)) INTCODE_ITEMS) LabelNotSet TooLong (all_set-before items whole k at) (few-before items whole k End at)
 segment_faultless items whole k (SetLabel l) at = none-of_label (sets l (take k items)) (nat_lt (length (take k items)) INTCODE_ITEMS) LabelSetTwice TooLong (unset-before items whole k l at) (few-before items whole k (SetLabel l) at)
 segment_faultless items whole k (Frame n) at = none-of_frame (gives_frame (take k items)) (nat_lt (length (take k items)) INTCODE_ITEMS) FrameGivenTwice TooLong (no_frame-before items whole k n at) (few-before items whole k (Frame n) at)
-segment_faultless items whole k (Instruction f i o) at = none-of_one (nat_lt (length (take k items)) INTCODE_ITEMS) TooLong (few-before items whole k (Instruction f i o) at)
-segment_faultless items whole k (Byte b) at = none-of_one (nat_lt (length (take k items)) INTCODE_ITEMS) TooLong (few-before items whole k (Byte b) at)
-segment_faultless items whole k (Word w) at = none-of_one (nat_lt (length (take k items)) INTCODE_ITEMS) TooLong (few-before items whole k (Word w) at)
-segment_faultless items whole k (LabelWord l) at = none-of_one (nat_lt (length (take k items)) INTCODE_ITEMS) TooLong (few-before items whole k (LabelWord l) at)
-segment_faultless items whole k (SetGlobal n l) at = none-of_one (nat_lt (length (take k items)) INTCODE_ITEMS) TooLong (few-before items whole k (SetGlobal n l) at)
+segment_faultless items whole k x at = none-of_one (nat_lt (length (take k items)) INTCODE_ITEMS) TooLong (few-before items whole k x at)
 
 -- items that a segment begins are not begun: the end is among them
 begun_no_segment : (a b c : List Item) → IsSegment a → IsPartial b → b ≡ a ++ c → ⊥

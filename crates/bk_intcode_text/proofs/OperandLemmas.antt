@@ -1,12 +1,5 @@
 -- Which bytes spell no operand.
-use Rattle.std.proofs.Common.{◌≡◌, ◌≢◌, ℕ, pos, ℤ, FitsSigned, w32, List, [], ◌∷◌, arith, refl}
-use Rattle.bk_base.specs.Decimal.{spelling}
-use Rattle.bk_intcode.specs.Segment.{IsLabel}
-use Rattle.bk_intcode.specs.declared.item.Operand.{Operand}
-use Rattle.bk_intcode.specs.declared.item.Operand.TheVariants.{Number, Local, Global, Label}
-use Rattle.bk_intcode_text.specs.ItemText.{operand_text}
-use Rattle.bk_intcode.specs.Segment.{IsOperand}
-use Rattle.bk_words.specs.Numerals.{apart, rest_same, no_spelling, spelling-some}
+use Rattle.bk_intcode_text.proofs.Terms.{◌≡◌, ◌≢◌, ℕ, pos, ℤ, FitsSigned, w32, List, [], ◌∷◌, arith, refl, spelling, IsLabel, Operand, Number, Local, Global, Label, operand_text, IsOperand, apart, rest_same, no_spelling, spelling-some}
 
 pub no_operand-empty : (o : Operand) → IsOperand o → operand_text o ≢ []
 no_operand-empty (Number n) fits = spelling-some n fits

@@ -1,19 +1,6 @@
 -- Items of a segment that goes on, one item more, and the whole segment.
-use Rattle.std.proofs.Common.{◌≡◌, ◌≢◌, ◌⊎◌, inl, inr, ℕ, zero, suc, ◌<◌, ◌++◌, ◌||◌, ◌&&◌, ◌==◌, nat_lt, Bool, true, false, IsTrue, if◌then◌else◌, List, [], ◌∷◌, Some, None, length, take, slice_get, arith, refl, sym, ◌∙◌, ap, subst, eq-eqb, length-append}
-use Rattle.std.specs.List.{list_all}
-use Rattle.std.proofs.lemmas.Bool.{cases_lt}
+use Rattle.bk_intcode_text.proofs.Terms.{◌≡◌, ◌≢◌, ◌⊎◌, inl, inr, ℕ, zero, suc, ◌<◌, ◌++◌, ◌||◌, ◌&&◌, ◌==◌, nat_lt, Bool, true, false, IsTrue, if◌then◌else◌, List, [], ◌∷◌, Some, None, length, take, slice_get, arith, refl, sym, ◌∙◌, ap, subst, eq-eqb, length-append, list_all, cases_lt, take-append-le, take-append_seam, INTCODE_ITEMS, LabelNotSet, LabelSetTwice, TooLong, FrameGivenTwice, sets, item_sets, item_uses, operand_uses, IsSegment, IsItem, AreItems, operand_is_set, use_is_set, is_frame, gives_frame, Operand, Label, Item, Instruction, SetLabel, LabelWord, SetGlobal, Frame, End, all_set, label_not_set, label_set_twice, too_long, frame_given_twice, item_fault, IsPartial}
 use borrow.Author.Tests.{ltb-true, eqb-true}
-use Rattle.std.proofs.lemmas.List.{take-append-le}
-use Rattle.std.proofs.Math.Seq.{take-append_seam}
-use Rattle.bk_base.specs.declared.limit.TheConstants.{INTCODE_ITEMS}
-use Rattle.bk_base.specs.declared.intcode_fault.IntcodeKind.TheVariants.{LabelNotSet, LabelSetTwice, TooLong, FrameGivenTwice}
-use Rattle.bk_intcode.specs.Segment.{sets, item_sets, item_uses, operand_uses, IsSegment, IsItem, AreItems, operand_is_set, use_is_set, is_frame, gives_frame}
-use Rattle.bk_intcode.specs.declared.item.Operand.{Operand}
-use Rattle.bk_intcode.specs.declared.item.Operand.TheVariants.{Number, Local, Global, Label}
-use Rattle.bk_intcode.specs.declared.item.Item.{Item}
-use Rattle.bk_intcode.specs.declared.item.Item.TheVariants.{Instruction, SetLabel, Byte, Word, LabelWord, SetGlobal, Frame, End}
-use Rattle.bk_intcode_text.specs.ItemFault.{all_set, label_not_set, label_set_twice, too_long, frame_given_twice, item_fault}
-use Rattle.bk_intcode_text.specs.SegmentReading.{IsPartial}
 
 pub at_push : {X : Type 0} (xs : List X) (y : X) (k : ℕ) (x : X) → slice_get (xs ++ y ∷ []) k ≡ Some x → ((k < length xs) × (slice_get xs k ≡ Some x)) ⊎ ((k ≡ length xs) × (y ≡ x))
 at_push [] y zero x is = inr (refl, cc)
@@ -147,19 +134,13 @@ sets-of label l items same set = let is : l ≡ label = eqb-true l label same in
 
 operand-set : (items : List Item) (label : ℕ) (o : Operand) → operand_is_set items o ≡ true → IsTrue (operand_uses label o) → IsTrue (sets label items)
 operand-set items label (Label l) set uses = sets-of label l items uses set
-operand-set items label (Number n) set uses = absurd (let h : false ≡ true = uses in cc)
-operand-set items label (Local n) set uses = absurd (let h : false ≡ true = uses in cc)
-operand-set items label (Global n) set uses = absurd (let h : false ≡ true = uses in cc)
+operand-set items x y set uses = absurd (let h : false ≡ true = uses in cc)
 
 use-set : (items : List Item) (label : ℕ) (item : Item) → use_is_set items item ≡ true → IsTrue (item_uses label item) → IsTrue (sets label items)
 use-set items label (Instruction f i o) set uses = operand-set items label o set uses
 use-set items label (LabelWord l) set uses = sets-of label l items uses set
 use-set items label (SetGlobal n l) set uses = sets-of label l items uses set
-use-set items label (SetLabel l) set uses = absurd (let h : false ≡ true = uses in cc)
-use-set items label (Byte b) set uses = absurd (let h : false ≡ true = uses in cc)
-use-set items label (Word w) set uses = absurd (let h : false ≡ true = uses in cc)
-use-set items label (Frame n) set uses = absurd (let h : false ≡ true = uses in cc)
-use-set items label End set uses = absurd (let h : false ≡ true = uses in cc)
+use-set items x y set uses = absurd (let h : false ≡ true = uses in cc)
 
 sets-more : (label : ℕ) (items more : List Item) → IsTrue (sets label items) → IsTrue (sets label (items ++ more))
 sets-more label [] more set = absurd (let h : false ≡ true = set in cc)

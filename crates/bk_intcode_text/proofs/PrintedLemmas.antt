@@ -1,22 +1,7 @@
 -- The words of what is printed.
-use Rattle.std.proofs.Common.{◌≡◌, ◌≢◌, ℕ, suc, ◌++◌, Bool, true, false, pos, List, [], ◌∷◌, map, arith, refl, sym, ap, ◌∙◌, append_assoc}
-use Rattle.bk_base.specs.Decimal.{spelling}
-use Rattle.bk_intcode.specs.declared.item.Function.{Function}
-use Rattle.bk_intcode.specs.declared.item.Function.TheVariants.{Load, Store, Add, Jump, JumpTrue, JumpFalse, Call, Operate}
-use Rattle.bk_intcode.specs.declared.item.Operand.{Operand}
-use Rattle.bk_intcode.specs.declared.item.Operand.TheVariants.{Number, Local, Global, Label}
-use Rattle.bk_intcode.specs.declared.item.Item.{Item}
-use Rattle.bk_intcode.specs.declared.item.Item.TheVariants.{Instruction, SetLabel, Byte, Word, LabelWord, SetGlobal, Frame, End}
-use Rattle.bk_intcode_text.specs.ItemText.{letter, indirect_text, operand_text, item_text}
-use Rattle.bk_intcode.specs.Segment.{IsOperand, IsItem, AreItems}
-use Rattle.bk_intcode.specs.SegmentItems.{items_of}
+use Rattle.bk_intcode_text.proofs.Terms.{◌≡◌, ◌≢◌, ℕ, suc, ◌++◌, Bool, true, false, pos, List, [], ◌∷◌, map, arith, refl, sym, ap, ◌∙◌, append_assoc, spelling, Function, Load, Operand, Number, Local, Global, Label, Item, Instruction, SetLabel, Byte, Word, LabelWord, SetGlobal, Frame, End, letter, indirect_text, operand_text, item_text, IsOperand, IsItem, AreItems, items_of, segment_text, is_blank, words_of, AreInWord, texts_of, words_of_all, PrintedIsParted, PrintedAreParted, PrintedSaysAgain, numeral-inside, spelling-inside, words_of-word, AreInWord-append}
 use Rattle.bk_intcode.specs.SegmentLaws.{segment_whole}
-use Rattle.bk_intcode_text.specs.SegmentText.{segment_text}
-use Rattle.bk_words.specs.Words.{is_blank, words_of, AreInWord}
-use Rattle.bk_intcode_text.specs.FirstSaying.{texts_of, words_of_all, PrintedIsParted, PrintedAreParted, PrintedSaysAgain}
-use Rattle.bk_words.specs.Numerals.{numeral-inside, spelling-inside}
 use Rattle.bk_intcode_text.proofs.WordLemmas.{nothing-empty}
-use Rattle.bk_words.specs.WordLaws.{words_of-word, AreInWord-append}
 
 operand-inside : (o : Operand) → IsOperand o → AreInWord (operand_text o)
 operand-inside (Number n) fits = spelling-inside n fits

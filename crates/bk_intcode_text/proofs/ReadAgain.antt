@@ -1,13 +1,5 @@
 -- What is printed is read again.
-use Rattle.std.proofs.Common.{◌≡◌, ℕ, ◌++◌, List, Some, None, Ok, Err}
-use Rattle.bk_base.specs.declared.intcode_fault.IntcodeKind.{IntcodeKind}
-use Rattle.bk_base.specs.declared.refused.Refused.TheVariants.{Fault, Memory, Device}
-use Rattle.bk_intcode.specs.declared.item.Item.{Item}
-use Rattle.bk_intcode.specs.SegmentItems.{items_of}
-use Rattle.bk_intcode_text.specs.SegmentText.{segment_text}
-use Rattle.bk_words.specs.Words.{words_of}
-use Rattle.bk_intcode_text.specs.FirstSaying.{segment, nothing, fault}
-use Rattle.bk_intcode_text.specs.SegmentAnswer.{PrintedIsReadAgain}
+use Rattle.bk_intcode_text.proofs.Terms.{◌≡◌, ℕ, ◌++◌, List, Some, None, Ok, Err, IntcodeKind, Fault, Memory, Device, Item, items_of, segment_text, words_of, segment, nothing, fault, PrintedIsReadAgain}
 use Rattle.bk_intcode_text.proofs.PrintedLemmas.{printed_again}
 use Rattle.bk_intcode_text.proofs.OneSaying.{one_saying}
 

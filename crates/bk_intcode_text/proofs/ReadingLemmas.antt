@@ -1,25 +1,7 @@
 -- What a text says, one word after another.
-use Rattle.std.proofs.Common.{◌≡◌, ◌≢◌, inl, inr, ℕ, ◌+◌, ◌<◌, ◌++◌, Bool, true, false, List, [], ◌∷◌, Option, Some, None, length, map, arith, refl, sym, ◌∙◌, ap, subst, length-append}
-use Rattle.std.proofs.lemmas.List.{map-append}
-use Rattle.std.specs.Io.KnownBytes.{Consumes}
-use Rattle.bk_base.specs.declared.intcode_fault.IntcodeKind.{IntcodeKind}
-use Rattle.bk_base.specs.declared.intcode_fault.IntcodeKind.TheVariants.{Truncated}
-use Rattle.bk_intcode.specs.declared.item.Item.{Item}
-use Rattle.bk_intcode.specs.declared.item.Item.TheVariants.{End}
-use Rattle.bk_intcode_text.specs.declared.words.Found.{Found}
+use Rattle.bk_intcode_text.proofs.Terms.{◌≡◌, ◌≢◌, inl, inr, ℕ, ◌+◌, ◌<◌, ◌++◌, Bool, true, false, List, [], ◌∷◌, Option, Some, None, length, map, arith, refl, sym, ◌∙◌, ap, subst, length-append, map-append, Consumes, IntcodeKind, Truncated, Item, End, item_text, item_fault, AtEnd, words_of, EndsInBlank, TakesWord, IsNext, IsPartial, FaultBehind, GivesSegment, GivesNothing, GivesFault, StopsAtWord, Takes, Consumes-trans, IsParted, IsParted-word, EndsInBlank-word, TakesWords-word, words_of-last, words_of-more_blanks, Found, Found as founds}
 use Rattle.bk_intcode_text.specs.declared.words.Found.TheVariants.{Fault, Nothing}
-use Rattle.bk_intcode_text.specs.declared.words.Found.TheVariants as founds
-use Rattle.bk_intcode_text.specs.ItemText.{item_text}
-use Rattle.bk_intcode_text.specs.ItemFault.{item_fault}
-use Rattle.bk_words.specs.TextEnd.{AtEnd}
-use Rattle.bk_words.specs.Words.{words_of, EndsInBlank}
-use Rattle.bk_words.specs.Gathering.{TakesWord}
 use Rattle.bk_words.specs.Taking.{TakesWords}
-use Rattle.bk_intcode_text.specs.Next.{IsNext}
-use Rattle.bk_intcode_text.specs.SegmentReading.{IsPartial, FaultBehind, GivesSegment, GivesNothing, GivesFault, StopsAtWord}
-use Rattle.bk_intcode_text.specs.SegmentAnswer.{Takes}
-use Rattle.bk_base.specs.DeviceLaws.{Consumes-trans}
-use Rattle.bk_words.specs.WordLaws.{IsParted, IsParted-word, EndsInBlank-word, TakesWords-word, words_of-last, words_of-more_blanks}
 use Rattle.bk_intcode_text.proofs.PartialLemmas.{IsPartial-push, IsSegment-of}
 
 -- what was taken so far: the words of these items, parted from those that follow

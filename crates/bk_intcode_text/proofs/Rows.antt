@@ -1,15 +1,7 @@
 -- Small examples of the definitions.
-use Rattle.std.proofs.Common.{◌≡◌, pos, negsuc, [], ◌∷◌, refl, true, false, Some, None}
+use Rattle.bk_intcode_text.proofs.Terms.{◌≡◌, pos, negsuc, [], ◌∷◌, refl, true, false, Some, None, LabelNotSet, LabelSetTwice, FrameGivenTwice, Load, Store, Jump, Local, Global, Label, Instruction, SetLabel, Byte, Word, LabelWord, SetGlobal, Frame, End, item_text, segment_text, item_fault, words_of}
 use Rattle.std.specs.Prelude.{codes}
 use Rattle.std.specs.Fmt.{digits}
-use Rattle.bk_base.specs.declared.intcode_fault.IntcodeKind.TheVariants.{LabelNotSet, LabelSetTwice, FrameGivenTwice}
-use Rattle.bk_intcode.specs.declared.item.Function.TheVariants.{Load, Store, Jump}
-use Rattle.bk_intcode.specs.declared.item.Operand.TheVariants.{Local, Global, Label}
-use Rattle.bk_intcode.specs.declared.item.Item.TheVariants.{Instruction, SetLabel, Byte, Word, LabelWord, SetGlobal, Frame, End}
-use Rattle.bk_intcode_text.specs.ItemText.{item_text}
-use Rattle.bk_intcode_text.specs.SegmentText.{segment_text}
-use Rattle.bk_intcode_text.specs.ItemFault.{item_fault}
-use Rattle.bk_words.specs.Words.{words_of}
 
 text-indirect : item_text (Instruction Load true (Global (pos 4))) ≡ codes "LIG4"
 unfolding digits

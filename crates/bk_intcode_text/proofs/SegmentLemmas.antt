@@ -1,12 +1,5 @@
 -- Facts on the items of segments.
-use Rattle.std.proofs.Common.{◌≡◌, ℕ, ◌+◌, ◌<◌, List, [], ◌∷◌, ◌++◌, length, take, drop, get_or, refl, sym, ◌∙◌, ap, append_assoc, append-nil, subst, Option}
-use Rattle.std.specs.Io.KnownBytes.{Appends}
-use Rattle.bk_base.specs.Devices.{AppendsPart}
-use Rattle.bk_base.specs.DeviceLaws.{Appends-trans, AppendsPart-behind, AppendsPart-front}
-use Rattle.std.proofs.lemmas.List.{take_more, take-append-drop}
-use Rattle.bk_intcode.specs.declared.item.Item.{Item}
-use Rattle.bk_intcode_text.specs.ItemText.{item_text}
-use Rattle.bk_intcode_text.specs.SegmentText.{segment_text}
+use Rattle.bk_intcode_text.proofs.Terms.{◌≡◌, ℕ, ◌+◌, ◌<◌, List, [], ◌∷◌, ◌++◌, length, take, drop, get_or, refl, sym, ◌∙◌, ap, append_assoc, append-nil, subst, Option, Appends, AppendsPart, Appends-trans, AppendsPart-behind, AppendsPart-front, take_more, take-append-drop, Item, item_text, segment_text}
 
 pub segment_text-append : (a b : List Item) → segment_text (a ++ b) ≡ segment_text a ++ segment_text b
 segment_text-append [] b = refl

@@ -1,21 +1,5 @@
 -- Which words stand for no item.
-use Rattle.std.proofs.Common.{◌≡◌, ◌≢◌, ℕ, ◌+◌, ◌<◌, ◌≤◌, ◌^◌, ◌++◌, ◌-◌, zero, suc, nat_eq, eq-eqb, Bool, true, false, if◌then◌else◌, pos, ℤ, FitsSigned, w32, List, [], ◌∷◌, length, get_or, take, drop, arith, refl, sym, ap, ◌∙◌, subst, inl, inr, length-append, length-drop}
-use Rattle.bk_base.specs.Decimal.{spelling}
-use Rattle.bk_intcode.specs.Segment.{IsLabel}
-use Rattle.bk_intcode.specs.declared.item.Function.{Function}
-use Rattle.bk_intcode.specs.declared.item.Function.TheVariants.{Load, Store, Add, Jump, JumpTrue, JumpFalse, Call, Operate}
-use Rattle.bk_intcode.specs.declared.item.Operand.{Operand}
-use Rattle.bk_intcode.specs.declared.item.Item.{Item}
-use Rattle.bk_intcode.specs.declared.item.Item.TheVariants.{Instruction, SetLabel, Byte, Word, LabelWord, SetGlobal, Frame, End}
-use Rattle.bk_intcode_text.specs.ItemText.{letter, indirect_text, operand_text, item_text}
-use Rattle.bk_intcode.specs.Segment.{IsOperand, IsItem}
-use Rattle.bk_intcode_text.specs.WordMeaning.{MeansNothing, is_digit, is_function, WordFault}
-use Rattle.bk_words.specs.Numerals.{fits-pos, rest_same, digit-at, at_seam, first-numeral, no_spelling, spelling-some}
-use Rattle.std.specs.Int.{IsInRange}
-use Rattle.std.proofs.lemmas.Bool.{cases_lt}
-use Rattle.std.proofs.Math.Seq.{take-append_seam, drop-append-add}
-use Rattle.std.proofs.lemmas.List.{get_or_append_left, take_all}
-use Rattle.bk_base.specs.declared.intcode_fault.IntcodeKind.TheVariants.{BadNumber}
+use Rattle.bk_intcode_text.proofs.Terms.{◌≡◌, ◌≢◌, ℕ, ◌+◌, ◌<◌, ◌≤◌, ◌^◌, ◌++◌, ◌-◌, zero, suc, nat_eq, eq-eqb, Bool, true, false, if◌then◌else◌, pos, ℤ, FitsSigned, w32, List, [], ◌∷◌, length, get_or, take, drop, arith, refl, sym, ap, ◌∙◌, subst, inl, inr, length-append, length-drop, spelling, IsLabel, Function, Load, Operand, Item, Instruction, SetLabel, Byte, Word, LabelWord, SetGlobal, Frame, End, letter, indirect_text, operand_text, item_text, IsOperand, IsItem, MeansNothing, is_digit, is_function, WordFault, fits-pos, rest_same, digit-at, at_seam, first-numeral, no_spelling, spelling-some, IsInRange, cases_lt, take-append_seam, drop-append-add, get_or_append_left, take_all, BadNumber}
 use Rattle.bk_intcode_text.proofs.OperandLemmas.{no_operand-indirect}
 
 -- The kind of item that begins with a byte: 0 an instruction, 1 a label that is set, else the letter.
@@ -94,58 +78,29 @@ nothing-empty End fits = λ is. let h : 90 ∷ nil ≡ nil = is in cc
 
 -- what is no number of a byte, behind `C`
 pub nothing-byte : (rest : List ℕ) → ((n : ℕ) → n < 256 → spelling (pos n) ≢ rest) → MeansNothing (67 ∷ rest)
-nothing-byte rest none (Instruction f i o) fits = other_class (Instruction f i o) fits 67 rest 67 refl refl
-nothing-byte rest none (SetLabel l) fits = other_class (SetLabel l) fits 67 rest 67 refl refl
 nothing-byte rest none (Byte n) fits = λ is. none n fits (rest_same 67 (spelling (pos n)) rest is)
-nothing-byte rest none (Word n) fits = other_class (Word n) fits 67 rest 67 refl refl
-nothing-byte rest none (LabelWord l) fits = other_class (LabelWord l) fits 67 rest 67 refl refl
-nothing-byte rest none (SetGlobal n l) fits = other_class (SetGlobal n l) fits 67 rest 67 refl refl
-nothing-byte rest none (Frame n) fits = other_class (Frame n) fits 67 rest 67 refl refl
-nothing-byte rest none End fits = other_class End fits 67 rest 67 refl refl
+nothing-byte rest none x fits = other_class x fits 67 rest 67 refl refl
 
 -- what is neither `L` and a label nor a number, behind `D`
 pub nothing-data : (rest : List ℕ) → ((z : ℤ) → FitsSigned w32 z → spelling z ≢ rest) → ((l : ℕ) → IsLabel l → 76 ∷ spelling (pos l) ≢ rest) → MeansNothing (68 ∷ rest)
-nothing-data rest no_number no_label (Instruction f i o) fits = other_class (Instruction f i o) fits 68 rest 68 refl refl
-nothing-data rest no_number no_label (SetLabel l) fits = other_class (SetLabel l) fits 68 rest 68 refl refl
-nothing-data rest no_number no_label (Byte n) fits = other_class (Byte n) fits 68 rest 68 refl refl
 nothing-data rest no_number no_label (Word n) fits = λ is. no_number n fits (rest_same 68 (spelling n) rest is)
 nothing-data rest no_number no_label (LabelWord l) fits = λ is. no_label l fits (rest_same 68 (76 ∷ spelling (pos l)) rest is)
-nothing-data rest no_number no_label (SetGlobal n l) fits = other_class (SetGlobal n l) fits 68 rest 68 refl refl
-nothing-data rest no_number no_label (Frame n) fits = other_class (Frame n) fits 68 rest 68 refl refl
-nothing-data rest no_number no_label End fits = other_class End fits 68 rest 68 refl refl
+nothing-data rest no_number no_label x fits = other_class x fits 68 rest 68 refl refl
 
 -- what is not the number of a global, `L` and a label, behind `G`
 pub nothing-global : (rest : List ℕ) → ((n l : ℕ) → n ≤ 999 → IsLabel l → spelling (pos n) ++ 76 ∷ spelling (pos l) ≢ rest) → MeansNothing (71 ∷ rest)
-nothing-global rest none (Instruction f i o) fits = other_class (Instruction f i o) fits 71 rest 71 refl refl
-nothing-global rest none (SetLabel l) fits = other_class (SetLabel l) fits 71 rest 71 refl refl
-nothing-global rest none (Byte n) fits = other_class (Byte n) fits 71 rest 71 refl refl
-nothing-global rest none (Word n) fits = other_class (Word n) fits 71 rest 71 refl refl
-nothing-global rest none (LabelWord l) fits = other_class (LabelWord l) fits 71 rest 71 refl refl
 nothing-global rest none (SetGlobal n l) fits = λ is. none n l fits.0 fits.1 (rest_same 71 (spelling (pos n) ++ 76 ∷ spelling (pos l)) rest is)
-nothing-global rest none (Frame n) fits = other_class (Frame n) fits 71 rest 71 refl refl
-nothing-global rest none End fits = other_class End fits 71 rest 71 refl refl
+nothing-global rest none x fits = other_class x fits 71 rest 71 refl refl
 
 -- what is no number of a frame, behind `Q`
 pub nothing-frame : (rest : List ℕ) → ((n : ℕ) → 16 ≤ n → n ≤ 65535 → spelling (pos n) ≢ rest) → MeansNothing (81 ∷ rest)
-nothing-frame rest none (Instruction f i o) fits = other_class (Instruction f i o) fits 81 rest 81 refl refl
-nothing-frame rest none (SetLabel l) fits = other_class (SetLabel l) fits 81 rest 81 refl refl
-nothing-frame rest none (Byte n) fits = other_class (Byte n) fits 81 rest 81 refl refl
-nothing-frame rest none (Word n) fits = other_class (Word n) fits 81 rest 81 refl refl
-nothing-frame rest none (LabelWord l) fits = other_class (LabelWord l) fits 81 rest 81 refl refl
-nothing-frame rest none (SetGlobal n l) fits = other_class (SetGlobal n l) fits 81 rest 81 refl refl
 nothing-frame rest none (Frame n) fits = λ is. none n fits.0 fits.1 (rest_same 81 (spelling (pos n)) rest is)
-nothing-frame rest none End fits = other_class End fits 81 rest 81 refl refl
+nothing-frame rest none x fits = other_class x fits 81 rest 81 refl refl
 
 -- something behind `Z`
 pub nothing-end : (rest : List ℕ) → rest ≢ [] → MeansNothing (90 ∷ rest)
-nothing-end rest some (Instruction f i o) fits = other_class (Instruction f i o) fits 90 rest 90 refl refl
-nothing-end rest some (SetLabel l) fits = other_class (SetLabel l) fits 90 rest 90 refl refl
-nothing-end rest some (Byte n) fits = other_class (Byte n) fits 90 rest 90 refl refl
-nothing-end rest some (Word n) fits = other_class (Word n) fits 90 rest 90 refl refl
-nothing-end rest some (LabelWord l) fits = other_class (LabelWord l) fits 90 rest 90 refl refl
-nothing-end rest some (SetGlobal n l) fits = other_class (SetGlobal n l) fits 90 rest 90 refl refl
-nothing-end rest some (Frame n) fits = other_class (Frame n) fits 90 rest 90 refl refl
 nothing-end rest some End fits = λ is. some (sym (rest_same 90 [] rest is))
+nothing-end rest some x fits = other_class x fits 90 rest 90 refl refl
 
 tails : (a b : ℕ) (x y : List ℕ) → a ∷ x ≡ b ∷ y → x ≡ y
 tails a b x y is = cc
@@ -160,13 +115,7 @@ no_operand-behind false true o rest fits none direct = λ is. no_operand-indirec
 
 pub nothing-instruction : (g : Function) (j : Bool) (rest : List ℕ) → ((o : Operand) → IsOperand o → operand_text o ≢ rest) → (j ≡ false → (more : List ℕ) → rest ≢ 73 ∷ more) → MeansNothing (letter g ∷ (indirect_text j ++ rest))
 nothing-instruction g j rest none direct (Instruction f i o) fits = λ is. no_operand-behind i j o rest fits none direct (tails (letter f) (letter g) (indirect_text i ++ operand_text o) (indirect_text j ++ rest) is)
-nothing-instruction g j rest none direct (SetLabel l) fits = other_class (SetLabel l) fits (letter g) (indirect_text j ++ rest) 0 (letter-class g) refl
-nothing-instruction g j rest none direct (Byte n) fits = other_class (Byte n) fits (letter g) (indirect_text j ++ rest) 0 (letter-class g) refl
-nothing-instruction g j rest none direct (Word n) fits = other_class (Word n) fits (letter g) (indirect_text j ++ rest) 0 (letter-class g) refl
-nothing-instruction g j rest none direct (LabelWord l) fits = other_class (LabelWord l) fits (letter g) (indirect_text j ++ rest) 0 (letter-class g) refl
-nothing-instruction g j rest none direct (SetGlobal n l) fits = other_class (SetGlobal n l) fits (letter g) (indirect_text j ++ rest) 0 (letter-class g) refl
-nothing-instruction g j rest none direct (Frame n) fits = other_class (Frame n) fits (letter g) (indirect_text j ++ rest) 0 (letter-class g) refl
-nothing-instruction g j rest none direct End fits = other_class End fits (letter g) (indirect_text j ++ rest) 0 (letter-class g) refl
+nothing-instruction g j rest none direct x fits = other_class x fits (letter g) (indirect_text j ++ rest) 0 (letter-class g) refl
 
 -- where the first `L` of a global's number, `L` and a label stands
 place_is : (n l i : ℕ) (rest : List ℕ) → n < 2 ^ 64 → spelling (pos n) ++ 76 ∷ spelling (pos l) ≡ rest → get_or rest i 0 ≡ 76 → ((k : ℕ) → k < i → get_or rest k 0 ≢ 76) → i ≡ length (spelling (pos n))

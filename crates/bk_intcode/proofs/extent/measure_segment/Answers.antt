@@ -1,7 +1,4 @@
-use Rattle.std.proofs.Common.{◌||◌, sym, ap, ◌∙◌, arith, unwrap_or}
-use Rattle.std.proofs.lemmas.List.{drop_all}
-use Rattle.bk_intcode.specs.Segment.{frame_of}
-use Rattle.bk_intcode.specs.Placement.{starts}
+use Rattle.bk_intcode.proofs.Terms.{◌||◌, sym, ap, ◌∙◌, arith, unwrap_or, drop_all, frame_of, starts}
 use Rattle.bk_intcode.proofs.Places.{or_false}
 use Rattle.bk_intcode.proofs.Reaching.{stepped, part-next, all-next}
 use Rattle.bk_intcode.proofs.extent.measure_segment.Goals as goal

@@ -1,7 +1,4 @@
-use Rattle.std.proofs.Common.{◌≡◌, ◌<◌, ◌≤◌, ◌||◌, take, drop, unwrap_or}
-use Rattle.bk_intcode.specs.Segment.{frame_of}
-use Rattle.bk_intcode.specs.Placement.{starts}
-use Rattle.bk_intcode.specs.Inner.Reach.{reached_all}
+use Rattle.bk_intcode.proofs.Terms.{◌≡◌, ◌<◌, ◌≤◌, ◌||◌, take, drop, unwrap_or, frame_of, starts, reached_all}
 use Rattle.bk_intcode.proofs.extent.measure_segment.Given as goal
 
 abbrev pub invariant-loop-item : goal.invariant-loop-item

@@ -1,7 +1,4 @@
-use Rattle.std.proofs.Common.{◌≡◌, ◌+◌, ◌-◌, ◌*◌, ap, sym, ◌∙◌, arith, take}
-use Rattle.std.specs.Prelude.{fold, slice_set}
-use Rattle.std.proofs.lemmas.List.{length-set}
-use Rattle.bk_intcode.specs.Placement.{library_settings, with_setting}
+use Rattle.bk_intcode.proofs.Terms.{◌≡◌, ◌+◌, ◌-◌, ◌*◌, ap, sym, ◌∙◌, arith, take, fold, slice_set, length-set, library_settings, with_setting}
 use Rattle.bk_intcode.proofs.Routines.{library-more}
 use Rattle.bk_intcode.proofs.library.set_globals.Goals as goal
 

@@ -1,6 +1,4 @@
-use Rattle.std.proofs.Common.{◌≡◌, ◌-◌, take, length}
-use Rattle.std.specs.Prelude.{fold}
-use Rattle.bk_intcode.specs.Placement.{library_settings, with_setting}
+use Rattle.bk_intcode.proofs.Terms.{◌≡◌, ◌-◌, take, length, fold, library_settings, with_setting}
 use Rattle.bk_intcode.proofs.library.set_globals.Given as goal
 
 abbrev pub invariant-loop-global : goal.invariant-loop-global

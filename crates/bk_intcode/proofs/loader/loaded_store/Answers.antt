@@ -1,5 +1,4 @@
-use Rattle.std.proofs.Common.{◌≡◌, ◌+◌, ap, ◌∙◌, arith, length}
-use Rattle.bk_intcode.specs.Placement.{segment_size}
+use Rattle.bk_intcode.proofs.Terms.{◌≡◌, ◌+◌, ap, ◌∙◌, arith, length, segment_size}
 use Rattle.bk_intcode.proofs.Settings.{stack-item, stack-next, placed-next, length-placed, store-whole}
 use Rattle.bk_intcode.proofs.loader.loaded_store.Goals as goal
 

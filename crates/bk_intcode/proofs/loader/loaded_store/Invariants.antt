@@ -1,8 +1,4 @@
-use Rattle.std.proofs.Common.{◌≡◌, ◌≤◌, map, drop, take, length}
-use Rattle.std.specs.Prelude.{fold}
-use Rattle.bk_intcode.specs.SegmentItems.{items_of}
-use Rattle.bk_intcode.specs.Placement.{SEGMENTS, stack_start}
-use Rattle.bk_intcode.specs.Inner.Placed.{placed}
+use Rattle.bk_intcode.proofs.Terms.{◌≡◌, ◌≤◌, map, drop, take, length, fold, items_of, SEGMENTS, stack_start, placed}
 use Rattle.bk_intcode.proofs.loader.loaded_store.Given as goal
 
 abbrev pub invariant-loop-segment : goal.invariant-loop-segment

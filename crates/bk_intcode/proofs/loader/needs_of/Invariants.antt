@@ -1,7 +1,4 @@
-use Rattle.std.proofs.Common.{◌≡◌, ◌≤◌, ◌||◌, map, drop}
-use Rattle.std.specs.Prelude.{max}
-use Rattle.bk_intcode.specs.SegmentItems.{items_of}
-use Rattle.bk_intcode.specs.Placement.{SEGMENTS, stack_start, any_starts, greatest_frame}
+use Rattle.bk_intcode.proofs.Terms.{◌≡◌, ◌≤◌, ◌||◌, map, drop, max, items_of, SEGMENTS, stack_start, any_starts, greatest_frame}
 use Rattle.bk_intcode.proofs.loader.needs_of.Given as goal
 
 abbrev pub invariant-loop-segment : goal.invariant-loop-segment

@@ -1,5 +1,4 @@
-use Rattle.std.proofs.Common.{◌≡◌, ◌≢◌, ℕ, ◌-◌, ◌*◌, ◌+◌, ◌^◌, ◌<◌, List, arith, get_or, set, ap, ◌∙◌, length}
-use Rattle.std.proofs.lemmas.List.{get_or_read}
+use Rattle.bk_intcode.proofs.Terms.{◌≡◌, ◌≢◌, ℕ, ◌-◌, ◌*◌, ◌+◌, ◌^◌, ◌<◌, List, arith, get_or, set, ap, ◌∙◌, length, get_or_read}
 use Rattle.bk_intcode.proofs.Bytes.{byte-weighs, byte-fits, byte-bounded, filled-more}
 use Rattle.bk_intcode.proofs.packing.add_byte.Goals as goal
 

@@ -1,13 +1,4 @@
-use Rattle.std.proofs.Common.{◌≡◌, ℕ, ◌+◌, ◌<◌, ap, sym, ◌∙◌, arith, List, take, length, get_or}
-use Rattle.std.specs.Prelude.{fold}
-use Rattle.std.proofs.lemmas.List.{append-nil, take_all}
-use Rattle.std.proofs.lemmas.List.Sums.{fold_more}
-use Rattle.bk_intcode.specs.Placement.{Growth, grown, segment_settings, segment_words, with_setting}
-use Rattle.bk_intcode.specs.declared.item.Item.{Item}
-use Rattle.bk_intcode.specs.Inner.LabelNumbers.{number_of}
-use Rattle.bk_intcode.specs.Inner.Packing.{IsFilled}
-use Rattle.bk_intcode.specs.LoadedWords.{items_bounded}
-use Rattle.bk_intcode.specs.ItemWords.{words_behind}
+use Rattle.bk_intcode.proofs.Terms.{◌≡◌, ℕ, ◌+◌, ◌<◌, ap, sym, ◌∙◌, arith, List, take, length, get_or, fold, append-nil, take_all, fold_more, Growth, grown, segment_settings, segment_words, with_setting, Item, number_of, IsFilled, items_bounded, words_behind}
 use Rattle.bk_intcode.proofs.Growing.{growth_of}
 use Rattle.bk_intcode.proofs.Settings.{settings-behind, global-within, grown-long, grown-kept, grown-set}
 use Rattle.bk_intcode.proofs.packing.push_items.Goals as goal

@@ -1,8 +1,4 @@
-use Rattle.std.proofs.Common.{◌≡◌, take}
-use Rattle.std.specs.Prelude.{fold}
-use Rattle.bk_intcode.specs.Placement.{grown, segment_settings, with_setting}
-use Rattle.bk_intcode.specs.Inner.LabelNumbers.{number_of}
-use Rattle.bk_intcode.specs.Inner.Packing.{IsFilled}
+use Rattle.bk_intcode.proofs.Terms.{◌≡◌, take, fold, grown, segment_settings, with_setting, number_of, IsFilled}
 use Rattle.bk_intcode.proofs.Growing.{growth_of}
 use Rattle.bk_intcode.proofs.packing.push_items.Given as goal
 

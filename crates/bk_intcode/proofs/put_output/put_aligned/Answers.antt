@@ -1,5 +1,4 @@
-use Rattle.std.proofs.Common.{rules, ◌≡◌, ℕ, ◌-◌, List, ◌++◌, length, replicate, refl}
-use Rattle.bk_base.specs.Word.{signed}
+use Rattle.bk_intcode.proofs.Terms.{rules, ◌≡◌, ℕ, ◌-◌, List, ◌++◌, length, replicate, refl, signed}
 use Rattle.bk_base.specs.Decimal.{spelling}
 use Rattle.bk_base.specs.Format.{aligned, width}
 use Rattle.bk_intcode.proofs.TellSteps.{part_front, puts_behind, puts_given}

@@ -1,6 +1,4 @@
-use Rattle.std.proofs.Common.{rules, ◌≡◌, ℕ, ◌+◌, ◌-◌, ◌<◌, ◌++◌, arith, sym, ◌∙◌, ap, replicate}
-use Rattle.std.proofs.lemmas.List.{replicate-append-replicate}
-use Rattle.std.specs.Io.KnownBytes.{Keeps}
+use Rattle.bk_intcode.proofs.Terms.{rules, ◌≡◌, ℕ, ◌+◌, ◌-◌, ◌<◌, ◌++◌, arith, sym, ◌∙◌, ap, replicate, replicate-append-replicate, Keeps}
 use Rattle.bk_intcode.proofs.TellSteps.{part_before}
 use Rattle.bk_intcode.proofs.put_output.put_blanks.Goals as goal
 

@@ -1,6 +1,4 @@
-use Rattle.std.proofs.Common.{replicate}
-use Rattle.std.specs.Io.KnownBytes.{Appends}
-use Rattle.bk_base.specs.Devices.{Begins}
+use Rattle.bk_intcode.proofs.Terms.{replicate, Appends, Begins}
 use Rattle.bk_intcode.proofs.put_output.put_blanks.Given as goal
 
 abbrev pub invariant-loop-i : goal.invariant-loop-i

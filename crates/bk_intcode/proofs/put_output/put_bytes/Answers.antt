@@ -1,6 +1,4 @@
-use Rattle.std.proofs.Common.{◌≡◌, suc, ◌+◌, ◌-◌, [], ◌∷◌, Some, refl, sym, arith}
-use Rattle.bk_base.specs.DeviceLaws.{Begins-trans}
-use Rattle.bk_intcode.specs.Output.{byte_of, whole_text}
+use Rattle.bk_intcode.proofs.Terms.{◌≡◌, suc, ◌+◌, ◌-◌, [], ◌∷◌, Some, refl, sym, arith, Begins-trans, byte_of, whole_text}
 use Rattle.bk_intcode.proofs.TellSteps.{telling_on, string_rest-byte}
 use Rattle.bk_intcode.proofs.put_output.put_bytes.Goals as goal
 

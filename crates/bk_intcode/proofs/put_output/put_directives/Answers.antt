@@ -1,8 +1,4 @@
-use Rattle.std.proofs.Common.{rules, ◌≡◌, ℕ, suc, ◌+◌, ◌-◌, ◌<◌, List, Some, None, true, sym, ◌∙◌, arith}
-use Rattle.bk_base.specs.Word.{word_sum}
-use Rattle.bk_base.specs.DeviceLaws.{Begins-trans}
-use Rattle.bk_intcode.specs.declared.output.Directive.{Directive}
-use Rattle.bk_intcode.specs.Output.{directive, piece_text, text_then, format_rest}
+use Rattle.bk_intcode.proofs.Terms.{rules, ◌≡◌, ℕ, suc, ◌+◌, ◌-◌, ◌<◌, List, Some, None, true, sym, ◌∙◌, arith, word_sum, Begins-trans, Directive, directive, piece_text, text_then, format_rest}
 use Rattle.bk_intcode.proofs.TellSteps.{telling_on, telling_all, telling_end, telling_cut, telling_failed, format_rest-none, format_rest-directive, format_rest-cut}
 use Rattle.bk_intcode.proofs.put_output.put_directives.Goals as goal
 

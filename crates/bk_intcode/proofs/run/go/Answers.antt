@@ -1,6 +1,4 @@
-use Rattle.std.proofs.Common.{◌≡◌, ◌+◌, ◌-◌, arith, refl, ◌∙◌}
-use Rattle.bk_base.specs.DeviceLaws.{Begins-refl, Begins-trans}
-use Rattle.bk_base.specs.declared.run_end.End.TheVariants.{StepLimit}
+use Rattle.bk_intcode.proofs.Terms.{◌≡◌, ◌+◌, ◌-◌, arith, refl, ◌∙◌, Begins-refl, Begins-trans, StepLimit}
 use Rattle.bk_intcode.proofs.RunSteps.{paused_none, went_on, went_more}
 use Rattle.bk_intcode.proofs.run.go.Goals as goal
 

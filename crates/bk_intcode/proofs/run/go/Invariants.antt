@@ -1,6 +1,4 @@
-use Rattle.std.proofs.Common.{◌≡◌}
-use Rattle.bk_base.specs.Devices.{Begins}
-use Rattle.bk_intcode.specs.Runs.{HeldBy, Paused}
+use Rattle.bk_intcode.proofs.Terms.{◌≡◌, Begins, HeldBy, Paused}
 use Rattle.bk_intcode.proofs.run.go.Given as goal
 
 abbrev pub invariant-loop-i : goal.invariant-loop-i

@@ -1,8 +1,5 @@
-use Rattle.std.proofs.Common.{ℕ, Some, Err, ◌≡◌, ◌≢◌, refl, sym, ◌∙◌, ap}
-use Rattle.bk_base.specs.declared.run_end.End.TheVariants.{StoreLimit, ReadFault, WriteFault}
+use Rattle.bk_intcode.proofs.Terms.{ℕ, Some, Err, ◌≡◌, ◌≢◌, refl, sym, ◌∙◌, ap, StoreLimit, ReadFault, WriteFault, Answer, Answer as answer}
 use Rattle.bk_intcode.specs.Inner.Effects.{turn_of, byte_or_end}
-use Rattle.bk_intcode.specs.declared.run.Answer.{Answer}
-use Rattle.bk_intcode.specs.declared.run.Answer.TheVariants as answer
 use Rattle.bk_intcode.proofs.RunSteps.{finished_ends, paused_goes, paused_asks, paused_outputs, finished_outputs, went_part, exchanged_took, went_own, went_ask_fails}
 use Rattle.bk_intcode.proofs.run.turn.Goals as goal
 

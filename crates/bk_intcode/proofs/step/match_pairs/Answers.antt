@@ -1,7 +1,4 @@
-use Rattle.std.proofs.Common.{ap, ◌≡◌, ℕ, suc, List, Some, slice_get, refl, sym, ◌∙◌, arith, nat_eq, false}
-use Rattle.bk_base.specs.Word.{word_sum}
-use Rattle.bk_intcode.specs.Step.{matched}
-use Rattle.std.proofs.lemmas.Bool.Decides.{nat_tests}
+use Rattle.bk_intcode.proofs.Terms.{ap, ◌≡◌, ℕ, suc, List, Some, slice_get, refl, sym, ◌∙◌, arith, nat_eq, false, word_sum, matched, nat_tests}
 use Rattle.bk_intcode.proofs.step.match_pairs.Goals as goal
 
 -- one pair that does not match

@@ -1,5 +1,4 @@
-use Rattle.std.proofs.Common.{◌≡◌, ◌-◌}
-use Rattle.bk_intcode.specs.Step.{matched}
+use Rattle.bk_intcode.proofs.Terms.{◌≡◌, ◌-◌, matched}
 use Rattle.bk_intcode.proofs.step.match_pairs.Given as goal
 
 abbrev pub invariant-loop-i : goal.invariant-loop-i

@@ -1,7 +1,5 @@
-use Rattle.std.proofs.Common.{◌≡◌, ◌≤◌, ◌<◌, ◌^◌, ◌++◌, pos, w32, ℤ, length, arith, length-append, ap, ◌∙◌}
+use Rattle.bk_intcode_text.proofs.Terms.{◌≡◌, ◌≤◌, ◌<◌, ◌^◌, ◌++◌, pos, w32, ℤ, length, arith, length-append, ap, ◌∙◌, spelling, length-global}
 use Rattle.std.proofs.lemmas.Int.{to_z_pos}
-use Rattle.bk_base.specs.Decimal.{spelling}
-use Rattle.bk_words.specs.Numerals.{length-global}
 use Rattle.bk_intcode_text.proofs.item_word.add_global.Goals as goal
 
 pub returns-clause-digits : goal.returns-clause-digits

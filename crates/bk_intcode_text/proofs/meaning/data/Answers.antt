@@ -1,5 +1,4 @@
-use Rattle.std.proofs.Common.{sym, pos}
-use Rattle.bk_base.specs.Decimal.{spelling}
+use Rattle.bk_intcode_text.proofs.Terms.{sym, pos, spelling}
 use Rattle.bk_intcode_text.proofs.Parts.{on_none}
 use Rattle.bk_intcode_text.proofs.WordLemmas.{nothing-data, no_data-label}
 use Rattle.bk_intcode_text.proofs.meaning.data.Goals as goal

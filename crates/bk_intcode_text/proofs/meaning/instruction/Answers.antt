@@ -1,6 +1,4 @@
-use Rattle.std.proofs.Common.{◌∷◌, List, ℕ, sym, subst}
-use Rattle.bk_intcode_text.specs.ItemText.{letter}
-use Rattle.bk_intcode_text.specs.WordMeaning.{MeansNothing}
+use Rattle.bk_intcode_text.proofs.Terms.{◌∷◌, List, ℕ, sym, subst, letter, MeansNothing}
 use Rattle.bk_intcode_text.proofs.Parts.{on_none}
 use Rattle.bk_intcode_text.proofs.WordLemmas.{nothing-instruction}
 use Rattle.bk_intcode_text.proofs.meaning.instruction.Goals as goal

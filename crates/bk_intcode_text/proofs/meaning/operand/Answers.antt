@@ -1,7 +1,4 @@
-use Rattle.std.proofs.Common.{◌≡◌, ◌≢◌, ◌∙◌, ◌∷◌, ap, sym, subst, List, ℕ}
-use Rattle.bk_intcode.specs.declared.item.Operand.{Operand}
-use Rattle.bk_intcode_text.specs.ItemText.{operand_text}
-use Rattle.bk_intcode.specs.Segment.{IsOperand}
+use Rattle.bk_intcode_text.proofs.Terms.{◌≡◌, ◌≢◌, ◌∙◌, ◌∷◌, ap, sym, subst, List, ℕ, Operand, operand_text, IsOperand}
 use Rattle.bk_intcode_text.proofs.Parts.{on_none}
 use Rattle.bk_intcode_text.proofs.OperandLemmas.{no_operand-empty, no_operand-local, no_operand-global, no_operand-label}
 use Rattle.bk_intcode_text.proofs.meaning.operand.Goals as goal

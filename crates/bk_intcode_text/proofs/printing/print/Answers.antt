@@ -1,5 +1,4 @@
-use Rattle.std.proofs.Common.{rules}
-use Rattle.bk_base.specs.DeviceLaws.{Begins-trans}
+use Rattle.bk_intcode_text.proofs.Terms.{rules, Begins-trans}
 use Rattle.bk_intcode_text.proofs.Parts.{on_err}
 use Rattle.bk_intcode_text.proofs.SegmentLemmas.{AppendsPart-line, Appends-line}
 use Rattle.bk_intcode_text.proofs.printing.print.Goals as goal

@@ -1,7 +1,4 @@
-use Rattle.std.proofs.Common.{◌≡◌, ◌<◌, take}
-use Rattle.std.specs.Io.KnownBytes.{Appends, Keeps}
-use Rattle.bk_base.specs.Devices.{Begins}
-use Rattle.bk_intcode_text.specs.SegmentText.{segment_text}
+use Rattle.bk_intcode_text.proofs.Terms.{◌≡◌, ◌<◌, take, Appends, Keeps, Begins, segment_text}
 use Rattle.bk_intcode_text.proofs.printing.print.Given as goal
 
 abbrev pub invariant-loop-item : goal.invariant-loop-item

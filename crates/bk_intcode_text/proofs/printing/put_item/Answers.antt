@@ -1,6 +1,4 @@
-use Rattle.std.proofs.Common.{sym, ap, ◌∙◌, ◌++◌, ◌≡◌, ◌∷◌, [], List, ℕ}
-use Rattle.bk_intcode_text.specs.ItemText.{item_text}
-use Rattle.bk_base.specs.DeviceLaws.{AppendsPart-kept, AppendsPart-front}
+use Rattle.bk_intcode_text.proofs.Terms.{sym, ap, ◌∙◌, ◌++◌, ◌≡◌, ◌∷◌, [], List, ℕ, item_text, AppendsPart-kept, AppendsPart-front}
 use Rattle.bk_intcode_text.proofs.Parts.{on_err}
 use Rattle.bk_intcode_text.proofs.printing.put_item.Goals as goal
 

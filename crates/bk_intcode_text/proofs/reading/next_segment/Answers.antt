@@ -1,11 +1,4 @@
-use Rattle.std.proofs.Common.{◌≡◌, ◌+◌, ◌++◌, ◌∷◌, [], List, length, Err, sym, subst, ap, ◌∙◌, arith, rules, None, length-append}
-use Rattle.bk_base.specs.declared.intcode_fault.IntcodeFault.{IntcodeFault}
-use Rattle.bk_base.specs.declared.refused.Refused.{Refused}
-use Rattle.bk_intcode.specs.declared.item.Item.{Item}
-use Rattle.bk_intcode.specs.declared.item.Item.TheVariants.{End}
-use Rattle.bk_intcode_text.specs.ItemFault.{item_fault}
-use Rattle.bk_intcode_text.specs.SegmentReading.{GivesSegment}
-use Rattle.bk_intcode_text.specs.SegmentAnswer.{Answers, Takes}
+use Rattle.bk_intcode_text.proofs.Terms.{◌≡◌, ◌+◌, ◌++◌, ◌∷◌, [], List, length, Err, sym, subst, ap, ◌∙◌, arith, rules, None, length-append, IntcodeFault, Refused, Item, End, item_fault, GivesSegment, Answers, Takes}
 use Rattle.bk_intcode_text.proofs.PartialLemmas.{IsSegment-of, no_fault-few}
 use Rattle.bk_intcode_text.proofs.CutSegments.{stops_behind}
 use Rattle.bk_intcode_text.proofs.ReadingLemmas.{nothing_left, cut, word_fault, item_fault_here, segment_here, cut_behind, Read-push, IsPartial-more, stops_here}

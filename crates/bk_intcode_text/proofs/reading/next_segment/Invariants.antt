@@ -1,11 +1,5 @@
-use Rattle.std.proofs.Common.{◌≡◌, ◌-◌, ◌<◌, ◌≤◌, ℕ, List, [], IsTrue, length, map}
-use Rattle.std.specs.Io.KnownBytes.{Consumes, Keeps}
-use Rattle.bk_base.specs.declared.limit.TheConstants.{INPUT_BYTES, INTCODE_ITEMS}
-use Rattle.bk_intcode_text.specs.ItemText.{item_text}
-use Rattle.bk_words.specs.Words.{words_of, EndsInBlank}
+use Rattle.bk_intcode_text.proofs.Terms.{◌≡◌, ◌-◌, ◌<◌, ◌≤◌, ℕ, List, [], IsTrue, length, map, Consumes, Keeps, INPUT_BYTES, INTCODE_ITEMS, item_text, words_of, EndsInBlank, IsPartial, IsParted}
 use Rattle.bk_intcode_text.specs.Drafts.{IsDraft}
-use Rattle.bk_intcode_text.specs.SegmentReading.{IsPartial}
-use Rattle.bk_words.specs.WordLaws.{IsParted}
 use Rattle.bk_intcode_text.proofs.reading.next_segment.Given as goal
 
 abbrev pub invariant-loop-found : goal.invariant-loop-found

@@ -1,8 +1,4 @@
-use Rattle.std.proofs.Common.{◌≡◌, ◌∙◌, ◌∷◌, sym, subst, ap, List, ℕ, Some}
-use Rattle.bk_base.specs.declared.intcode_fault.IntcodeKind.{IntcodeKind}
-use Rattle.bk_intcode.specs.declared.item.Item.{Item}
-use Rattle.bk_words.specs.Gathering.{Holds}
-use Rattle.bk_intcode_text.specs.WordMeaning.{Means, WordFault, begins_item}
+use Rattle.bk_intcode_text.proofs.Terms.{◌≡◌, ◌∙◌, ◌∷◌, sym, subst, ap, List, ℕ, Some, IntcodeKind, Item, Holds, Means, WordFault, begins_item}
 use Rattle.bk_intcode_text.proofs.Parts.{if_ok_map, if_err_map}
 use Rattle.bk_intcode_text.proofs.ItemLengths.{long_fault}
 use Rattle.bk_intcode_text.proofs.words.held_meaning.Goals as goal

@@ -1,7 +1,4 @@
-use Rattle.std.proofs.Common.{◌≡◌, ◌+◌, Bool, List, ℕ, sym, subst, length}
-use Rattle.std.specs.Io.KnownBytes.{Consumes}
-use Rattle.bk_words.specs.TextEnd.{AtEnd}
-use Rattle.bk_intcode_text.specs.Next.{IsNext}
+use Rattle.bk_intcode_text.proofs.Terms.{◌≡◌, ◌+◌, Bool, List, ℕ, sym, subst, length, Consumes, AtEnd, IsNext}
 use Rattle.bk_intcode_text.specs.declared.words.Found.TheVariants.{Item}
 use Rattle.bk_intcode_text.proofs.words.next_item.Goals as goal
 

@@ -1,8 +1,4 @@
-use Rattle.std.proofs.Common.{◌≡◌, ◌+◌, ◌≤◌, eqb, ap, ◌∙◌, arith, take, unwrap_or}
-use Rattle.std.specs.BTreeMap.{get}
-use Rattle.std.specs.Ordering.{nat_cmp}
-use Rattle.bk_base.specs.declared.limit.TheConstants.{STORE_MOST}
-use Rattle.bk_intcode.specs.Placement.{segment_size}
+use Rattle.bk_intcode.proofs.Terms.{◌≡◌, ◌+◌, ◌≤◌, eqb, ap, ◌∙◌, arith, take, unwrap_or, get, nat_cmp, STORE_MOST, segment_size}
 use Rattle.bk_intcode.proofs.Reaching.{stepped, part-next, all-next, reached-size}
 use Rattle.bk_intcode.proofs.Places.{table-set, table-kept, table-all, cond_le}
 use Rattle.bk_intcode.proofs.labels.Labels.of.Goals as goal

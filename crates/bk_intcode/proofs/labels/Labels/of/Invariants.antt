@@ -1,8 +1,4 @@
-use Rattle.std.proofs.Common.{◌≡◌, ℕ, ◌<◌, ◌≤◌, take, unwrap_or}
-use Rattle.std.specs.BTreeMap.{get}
-use Rattle.std.specs.Ordering.{nat_cmp}
-use Rattle.bk_base.specs.declared.limit.TheConstants.{STORE_MOST}
-use Rattle.bk_intcode.specs.Inner.Reach.{reached_all}
+use Rattle.bk_intcode.proofs.Terms.{◌≡◌, ℕ, ◌<◌, ◌≤◌, take, unwrap_or, get, nat_cmp, STORE_MOST, reached_all}
 use Rattle.bk_intcode.proofs.Places.{numbered}
 use Rattle.bk_intcode.proofs.labels.Labels.of.Given as goal
 

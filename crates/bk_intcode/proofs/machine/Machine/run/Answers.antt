@@ -1,6 +1,4 @@
-use Rattle.std.proofs.Common.{refl}
-use Rattle.std.proofs.KnownBytes.{Keeps-refl}
-use Rattle.bk_base.specs.DeviceLaws.{Begins-trans}
+use Rattle.bk_intcode.proofs.Terms.{refl, Keeps-refl, Begins-trans}
 use Rattle.bk_intcode.proofs.RunSteps.{went_flushed}
 use Rattle.bk_intcode.proofs.machine.Machine.run.Goals as goal
 

@@ -1,9 +1,7 @@
-use Rattle.std.proofs.Common.{◌≡◌, ◌++◌, ◌∷◌, [], ◌∙◌, sym, ap, ◌==◌, ◌||◌, true, if◌then◌else◌}
+use Rattle.bk_intcode_text.proofs.Terms.{◌≡◌, ◌++◌, ◌∷◌, [], ◌∙◌, sym, ap, ◌==◌, ◌||◌, true, if◌then◌else◌, Item, SetLabel, Frame}
 use Rattle.std.specs.BTreeSet.{contains}
 use Rattle.std.specs.Cmp.{unsigned_ties}
 use Rattle.std.specs.Ordering.{nat_cmp}
-use Rattle.bk_intcode.specs.declared.item.Item.{Item}
-use Rattle.bk_intcode.specs.declared.item.Item.TheVariants.{SetLabel, Frame}
 use Rattle.bk_intcode_text.proofs.DraftLemmas.{sets-other, gives_frame-other, gives_frame-frame, sets-label, cond_or}
 use Rattle.bk_intcode_text.proofs.draft.Draft.add.Goals as goal
 

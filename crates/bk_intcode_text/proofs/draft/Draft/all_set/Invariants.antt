@@ -1,6 +1,4 @@
-use Rattle.std.proofs.Common.{◌≡◌, true, take}
-use Rattle.std.specs.List.{list_all}
-use Rattle.bk_intcode.specs.Segment.{use_is_set}
+use Rattle.bk_intcode_text.proofs.Terms.{◌≡◌, true, take, list_all, use_is_set}
 use Rattle.bk_intcode_text.proofs.draft.Draft.all_set.Given as goal
 
 abbrev pub invariant-loop-item : goal.invariant-loop-item
