@@ -1,21 +1,11 @@
 -- The scheme's statements of a section without faults are an accepted section.
-use Rattle.bk_trans.proofs.Words.{arith, ◌≡◌, ℕ, suc, ◌+◌, ◌≤◌, List, [], ◌∷◌, ◌++◌, length, refl, ap, subst, OCODE_LABEL, OCODE_STATEMENTS, OCODE_WORDS, Declarations, Point, meaning, word, depth, wrong, claim, words_of, faults, told_of, meanings, words, SoundSection, joined, Use, times_set}
-use Rattle.bk_scope.proofs.Lemmas.{section_clean, section_sound}
-use Rattle.bk_ocode.specs.Section.{IsSection}
-use Rattle.bk_ocode.specs.SectionData.{text_size}
+use Rattle.bk_trans.proofs.Words.{arith, ◌≡◌, ℕ, suc, ◌+◌, ◌≤◌, List, [], ◌∷◌, ◌++◌, length, refl, ap, subst, OCODE_LABEL, OCODE_STATEMENTS, OCODE_WORDS, Declarations, Point, word, words_of, faults, told_of, meanings, words, SoundSection, joined, Use, times_set}
+use Rattle.bk_trans.proofs.Terms.{section_clean, section_sound, IsSection, text_size, Target, program_of, labels_of_declarations, Part, parts_of_declarations, target_of, named_tree, scheme, AreWords, SchemeIsAccepted}
 use Rattle.bk_ocode.proofs.Lemmas.{typed_is_section}
-use Rattle.bk_trans.specs.declared.around.Target.{Target}
 use Rattle.bk_trans.specs.Program as p
-use Rattle.bk_trans.specs.Filling.{program_of}
-use Rattle.bk_trans.specs.Labels.{labels_of_declarations}
-use Rattle.bk_trans.specs.Parts.{Part, parts_of_declarations, target_of}
-use Rattle.bk_trans.specs.Naming.{named_tree}
-use Rattle.bk_trans.specs.Scheme.{scheme}
-use Rattle.bk_trans.specs.Laws.{AreWords, SchemeIsAccepted}
 use Rattle.bk_trans.proofs.Named.{filling_names}
 use Rattle.bk_trans.proofs.Few.{labels_are_few}
-use Rattle.bk_trans.proofs.Counted.{statements_are_few, words_are_few}
-use Rattle.bk_trans.proofs.Once.{labels_are_set_once}
+use Rattle.bk_trans.proofs.Counted.{labels_are_set_once, statements_are_few, words_are_few}
 use Rattle.bk_trans.proofs.Marks.{Mark, AllRight, right_front, right_back}
 use Rattle.bk_trans.proofs.Sections.{part_marks, look, look_right, look_set, section_marked, section_typed}
 use Rattle.bk_trans.proofs.Scopes.{AllFound, PartsRight}
@@ -25,11 +15,8 @@ use Rattle.bk_trans.proofs.Numbered.{section_found}
 -- each word that is told is one
 all_quiet : (xs : List Point) → AreWords (words_of xs) → AllQuiet xs
 all_quiet [] h = tt
-all_quiet (meaning b ∷ xs) h = (tt, all_quiet xs h)
 all_quiet (word v ∷ xs) h = (h 0 v refl, all_quiet xs (λ k w at. h (suc k) w at))
-all_quiet (depth m ∷ xs) h = (tt, all_quiet xs h)
-all_quiet (wrong f ∷ xs) h = (tt, all_quiet xs h)
-all_quiet (claim c f ∷ xs) h = (tt, all_quiet xs h)
+all_quiet (_ ∷ xs) h = (tt, all_quiet xs h)
 
 found_front : (ts xs ys : List Target) → AllFound ts (xs ++ ys) → AllFound ts xs
 found_front ts [] ys h = tt
@@ -54,8 +41,7 @@ accepted ds sound quiet few short small =
     let plan : ℕ → Use = look ms in
     let once : (l : ℕ) → times_set l (scheme (named_tree ds)) ≤ 1 = λ l. (labels_are_set_once (named_tree ds) l).0 in
     let right : AllRight plan ms = look_right ms (λ l. let h = once l in let i = section_marked l ps in omega (arith, h, i)) in
-    let whole : PartsRight plan ts ps = parts_right plan ts ps (section_found ds quiet) right in
-    let good = section_good plan ts ds sound quiet few whole in
+    let good = section_good plan ts ds sound quiet few (parts_right plan ts ps (section_found ds quiet) right) in
     typed_is_section plan (scheme (named_tree ds)) (section_typed plan ps good right short) once
     (λ l used. let h = look_set ms l used in let i = section_marked l ps in omega (arith, h, i)) short small
 

@@ -1,22 +1,9 @@
 -- What single pieces add to what was written: names, labels, words of data, switches and procedures.
 use Rattle.bk_trans.proofs.Words.{◌≡◌, ℕ, ◌+◌, true, Option, Some, None, List, [], ◌∷◌, ◌++◌, map, length, refl, sym, ap, ◌∙◌, append_assoc, arith, append-nil, map-append, first_bytes, signed, Operator, Expressions, Items, no_items, item, Bound, Local, Case, Stmt, Number, Load, Dyadic, Assign, Jump, JumpIf, Stack, Store, Entry, Save, EndProcedure, Switch, DataLabel, DataNumber, DataAddress, joined}
-use Rattle.bk_tree.specs.declared.tree.Operator.TheVariants as o
-use Rattle.bk_scope.specs.declared.bound.Bound.TheVariants as b
-use Rattle.bk_ocode.specs.declared.stmt.Variable.TheVariants.{Static}
-use Rattle.bk_ocode.specs.declared.stmt.Dyadic.TheVariants as d
-use Rattle.bk_ocode.specs.declared.stmt.Stmt.TheVariants.{Address, Label}
-use Rattle.bk_trans.specs.declared.aim.Aim.TheVariants as aim
+use Rattle.bk_trans.proofs.Terms.{Operator as o, Bound as b, Static, Dyadic as d, Address, Label, Aim as aim, Ready, Goal, Around, Target, word, variable_in_words, case_in_words, entry_in_words, target_in_words, stmt_in_words, Supply, meaning, constant, constants_of, step_of, dropped, Part, static_item, static_table, label_place, parts_of_items, target_of, target_of_word, target_of_label, goal, goal_of, goal_in, variable, push, outermost, valued, looping, switching, go, test_of_step, first_of, label_or, procedure_code, data_code, entries_of, word_code, entry_of}
 use Rattle.bk_trans.specs.declared.evaluation.Evaluation.TheVariants as evaluation
-use Rattle.bk_trans.specs.declared.unresolved.Unresolved.TheVariants.{Ready}
-use Rattle.bk_trans.specs.declared.around.Goal.{Goal}
-use Rattle.bk_trans.specs.declared.around.Around.{Around}
-use Rattle.bk_trans.specs.declared.around.Target.{Target}
-use Rattle.bk_trans.specs.Alike.{word, variable_in_words, case_in_words, entry_in_words, target_in_words, stmt_in_words}
 use Rattle.bk_trans.specs.Filling as f
-use Rattle.bk_trans.specs.Filling.{Supply, meaning, constant, constants_of, step_of, dropped}
 use Rattle.bk_trans.specs.Labels as n
-use Rattle.bk_trans.specs.Parts.{Part, static_item, static_table, label_place, parts_of_items, target_of, target_of_word, target_of_label}
-use Rattle.bk_trans.specs.Scheme.{goal, goal_of, goal_in, variable, push, outermost, valued, looping, switching, go, test_of_step, first_of, label_or, procedure_code, data_code, entries_of, word_code, entry_of}
 use Rattle.bk_trans.specs.Writing.{Writing, after, place_of, word_of, push_of, goto_code, settled_word, settled, with_code, with_choices, no_choices, with_left, takes_labels, past_meaning, puts_label, puts_case, puts_default, puts_table, puts_item, puts_items, evaluation_of, puts_switch, before_body, steps_on, goes_on, outside_of, inside, puts_entry, begins_procedure, ends_procedure}
 use Rattle.bk_trans.proofs.Adds.{Near, near, near_after, near_is, Alike, alike, alike_is, is_alike, alike_both, label_in_words, first_none, At, Adds, nothing, then, put, labelled, renumbered, resumed, unchosen}
 
@@ -54,14 +41,13 @@ go_near x y s t h k = and (ap Stack h.depths.same) (and (ap Jump h.labels.same) 
 module _ (gs : List Goal) (ts : List Target) (placed : Placed gs ts) where
   -- the words of names
   pub variable_near : (x : Bound) → variable_in_words (settled_word gs (word_of x)) ≡ variable_in_words (variable ts x)
-  variable_near (b.Constant v) = refl
   variable_near (b.Static m) = ap Static (placed.at_number m).labels.same
   variable_near (b.Global None) = refl
   variable_near _ = refl
 
   pub push_near : (x : Bound) → stmt_in_words (settled gs (push_of x)) ≡ stmt_in_words (push ts x)
-  push_near (b.Constant None) = refl
   push_near (b.Static m) = ap Load (variable_near (b.Static m))
+  push_near (b.Constant None) = refl
   push_near (b.Global None) = refl
   push_near _ = refl
 
@@ -114,7 +100,6 @@ in_procedure = record { goes_on = near_goal (goal 0 0); leaves = near_goal (goal
 
 -- places more
 pub target_near : (x : Bound) {j l : ℕ} → Near j l → Alike target_in_words (target_of_word j x) (target_of_word l x)
-target_near (b.Constant v) h = record { same = refl }
 target_near (b.Static m) h = record { same = ap (λ i. record { number = m; label = i; depth = word 0 } ∷ []) h.same }
 target_near _ h = record { same = refl }
 
@@ -220,9 +205,8 @@ put_table {gs} {ts} es {w} {g} {k} at =
 
 pub label_or_near : {j l : ℕ} → Near j l → (x y : Option ℕ) → label_in_words x ≡ label_in_words y → word (label_or j x) ≡ word (label_or l y)
 label_or_near h None None e = h.same
-label_or_near h None (Some m) e = absurd cc
-label_or_near h (Some m) None e = absurd cc
 label_or_near h (Some m) (Some i) e = cc
+label_or_near h _ _ e = absurd cc
 
 -- a SWITCHON: its body was written aside, behind its value
 pub switched : {gs : List Goal} {ts : List Target} {w v u : Writing} {c e : List Stmt} {ps qs : List Part} {ks : List Case} {x : Option ℕ} {g h : Supply} {k i j l : ℕ} → Near j l
@@ -232,11 +216,10 @@ switched {gs} {ts} {w} {v} {u} {c} {e} {ps} {qs} {ks} {x} {g} {h} {k} {i} {j} {l
     let inner = then a (unchosen no_choices (resumed b)) in
     let choice : stmt_in_words (Switch (label_or j u.choices.default_label) u.choices.cases) ≡ stmt_in_words (Switch (label_or l x) ks) = ap (λ z. Switch z (map case_in_words u.choices.cases)) (label_or_near near_label _ _ b.its_default) ∙ ap (λ z. Switch (word (label_or l x)) z) b.its_cases.same in
     let own : Stmt = Switch (label_or j u.choices.default_label) u.choices.cases in
-    let body : Alike stmt_in_words (own ∷ map (settled gs) u.code) (Switch (label_or l x) ks ∷ e) = and choice b.its_code in
     let before = map (settled gs) w.code in
     record {
       its_code = is_alike (map-append (settled gs) (v.code ++ Ready own ∷ u.code) (Ready (Label j) ∷ []) ∙ ap (λ z. z ++ Label j ∷ []) (map-append (settled gs) v.code (Ready own ∷ u.code)))
-          (alike_is (alike_both (alike_both a.its_code body) (one (Label j) (Label l) (ap Label near_label.same)))
+          (alike_is (alike_both (alike_both a.its_code (and choice b.its_code)) (one (Label j) (Label l) (ap Label near_label.same)))
           (ap (λ z. z ++ Label l ∷ []) (append_assoc before c (Switch (label_or l x) ks ∷ e)) ∙ append_assoc before (c ++ Switch (label_or l x) ks ∷ e) (Label l ∷ [])));
       its_procedures = inner.its_procedures;
       its_data = inner.its_data;
@@ -249,7 +232,6 @@ switched {gs} {ts} {w} {v} {u} {c} {e} {ps} {qs} {ks} {x} {g} {h} {k} {i} {j} {l
 
 -- a procedure, whose parts stand behind it
 pub entry_near : (x : Bound) {j l : ℕ} → Near j l → Alike entry_in_words (entry_of j x) (entry_of l x)
-entry_near (b.Constant v) h = record { same = refl }
 entry_near (b.Global (Some g)) h = record { same = ap (λ i. record { number = g; label = i } ∷ []) h.same }
 entry_near _ h = record { same = refl }
 

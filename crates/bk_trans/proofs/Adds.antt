@@ -2,15 +2,7 @@
 -- Numbers are near each other where they are the same word.
 use Rattle.bk_trans.proofs.Words.{◌≡◌, ℕ, ◌+◌, ◌%◌, ◌^◌, Option, Some, None, List, [], ◌∷◌, ◌++◌, map, refl, sym, ap, ◌∙◌, append_assoc, append-nil, map-append, Case, Stmt, joined}
 use Rattle.std.proofs.Math.Nat.{mod-add-mod, mod-mod}
-use Rattle.bk_trans.specs.declared.around.Goal.{Goal}
-use Rattle.bk_trans.specs.declared.around.Target.{Target}
-use Rattle.bk_trans.specs.declared.unresolved.Unresolved.{Unresolved}
-use Rattle.bk_trans.specs.declared.unresolved.Unresolved.TheVariants.{Ready}
-use Rattle.bk_trans.specs.Alike.{word, case_in_words, entry_in_words, target_in_words, stmt_in_words}
-use Rattle.bk_trans.specs.Filling.{Supply}
-use Rattle.bk_trans.specs.Parts.{Part, target_of}
-use Rattle.bk_trans.specs.Scheme.{first_of, procedure_code, data_code, entries_of}
-use Rattle.bk_trans.specs.Writing.{Writing, after, settled, puts_drafts, puts_all, with_code, with_choices, takes_labels}
+use Rattle.bk_trans.proofs.Terms.{Goal, Target, Unresolved, Ready, word, case_in_words, entry_in_words, target_in_words, stmt_in_words, Supply, Part, target_of, first_of, procedure_code, data_code, entries_of, Writing, after, settled, puts_drafts, puts_all, with_code, with_choices, takes_labels}
 
 -- numbers that are the same word
 pub record Near (a b : ℕ) : Type 0 where
@@ -61,10 +53,8 @@ first_more : (x y z u v : Option ℕ) → label_in_words u ≡ label_in_words (f
     → label_in_words v ≡ label_in_words (first_of x (first_of y z))
 first_more None None z None v h k = k
 first_more None None z (Some l) v h k = absurd cc
-first_more None (Some m) z None v h k = absurd cc
-first_more None (Some m) z (Some l) v h k = k ∙ h
-first_more (Some n) y z None v h k = absurd cc
-first_more (Some n) y z (Some l) v h k = k ∙ h
+first_more _ _ z None v h k = absurd cc
+first_more _ _ z (Some l) v h k = k ∙ h
 
 -- what is left, and the label that is next
 pub record At (w : Writing) (g : Supply) (n : ℕ) : Type 0 where

@@ -1,13 +1,7 @@
 -- What nodes are written as, by what is written one after another: blocks, declarations, calls and FOR.
 use Rattle.bk_trans.proofs.Words.{◌≡◌, ℕ, ◌+◌, ◌<◌, true, cond, List, [], ◌∷◌, length, refl, sym, ap, ◌∙◌, arith, Mention, Expression, Expressions, Action, Actions, Definitions, block, declarations_in, definitions, apply, for_loop, size, Stack, Store, CallFunction}
 use Rattle.bk_tree.specs.declared.tree.Decl.{Decl}
-use Rattle.bk_trans.specs.declared.aim.Aim.{Aim}
-use Rattle.bk_trans.specs.declared.aim.Aim.TheVariants as aim
-use Rattle.bk_trans.specs.Filling.{step_of}
-use Rattle.bk_trans.specs.Scheme.{looping}
-use Rattle.bk_trans.specs.declared.unresolved.Unresolved.{Unresolved}
-use Rattle.bk_trans.specs.declared.around.Around.{Around}
-use Rattle.bk_trans.specs.Writing.{Writing, Reached, reached, after, puts, puts_drafts, puts_all, with_code, takes_labels, past_step, before_body, ends_for, aimed, written, each_written, act_written, each_act_written, acted_apart, declared, one_declared, defined, any_variables, each_acted_apart}
+use Rattle.bk_trans.proofs.Terms.{Aim, Aim as aim, step_of, looping, Unresolved, Around, Writing, Reached, reached, after, puts, puts_drafts, puts_all, with_code, takes_labels, past_step, before_body, ends_for, aimed, written, each_written, act_written, each_act_written, acted_apart, declared, one_declared, defined, any_variables, each_acted_apart}
 
 pub without_declarations : (a : Around) (s l : ℕ) (ds : List Decl) (cs : Actions) (w : Writing) → length ds ≡ 0
     → act_written a s (block l (declarations_in ds) cs) w ≡ each_act_written a s cs w

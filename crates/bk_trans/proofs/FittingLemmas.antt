@@ -1,9 +1,7 @@
 -- What lists of statements whose numbers fit come to.
 use Rattle.bk_trans.proofs.Words.{◌≡◌, ℕ, zero, suc, ◌<◌, ◌^◌, Some, List, [], ◌∷◌, map, slice_get, refl, ap, ◌∙◌, arith, Case, GlobalEntry, Stmt, AreTyped}
 use Rattle.std.specs.Prelude.{FitsSigned}
-use Rattle.std.specs.Int.{w32}
-use Rattle.bk_trans.specs.Alike.{word, case_in_words, entry_in_words, in_words}
-use Rattle.bk_trans.specs.Fitting.{CasesFit, EntriesFit, AllFit}
+use Rattle.bk_trans.proofs.Terms.{w32, word, case_in_words, entry_in_words, in_words, CasesFit, EntriesFit, AllFit}
 
 pub word_is : (n : ℕ) → n < 2 ^ 32 → word n ≡ n
 word_is n h = omega arith

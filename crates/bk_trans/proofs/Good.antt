@@ -1,14 +1,9 @@
 -- What the code of a part of the named tree asks for, in procedure p with depth s: each name's word is there, a jump finds its
 -- label, each command stands where it may, CASEs differ, and the frame has room.
-use Rattle.bk_trans.proofs.Words.{◌≡◌, ℕ, ◌+◌, ◌<◌, ◌≤◌, ◌^◌, Bool, true, false, Some, None, List, [], ◌∷◌, ◌++◌, ⊤, FRAME_WORDS, GLOBAL_NUMBER, Bound, AllDiffer, IsLabel, IsDepth, Use}
-use Rattle.bk_tree.specs.declared.tree.Simple.TheVariants as w
-use Rattle.bk_scope.specs.declared.bound.Bound.TheVariants as b
+use Rattle.bk_trans.proofs.Words.{◌≡◌, ℕ, ◌+◌, ◌<◌, ◌≤◌, ◌^◌, Bool, true, false, Some, List, [], ◌∷◌, ◌++◌, ⊤, FRAME_WORDS, GLOBAL_NUMBER, Bound, AllDiffer, IsLabel, IsDepth, Use}
+use Rattle.bk_trans.proofs.Terms.{Simple as w, Bound as b, Goal, Target, count, behind_definition, behind_declaration, behind_declarations, goal_of}
 use Rattle.bk_ocode.specs.Typing as typing
-use Rattle.bk_trans.specs.declared.around.Goal.{Goal}
-use Rattle.bk_trans.specs.declared.around.Target.{Target}
 use Rattle.bk_trans.specs.Program.{Term, Terms, Condition, Lvalue, Lvalues, Command, Commands, Declaration, Declarations, Definition, Definitions, Starts, named, parens, unary, address, binary, choice, apply, valof, none, more, holds, within, fails, both, either, word, contents, subscript, byte, inside, nowhere, onto, assign, call, goto, label, case_of, default, when, test, while, for_loop, switch, result, simple, block, repeat, repeat_while, no_commands, also, statics, lets, no_declarations, declare, variables, no_definitions, define, no_starts, value, vector}
-use Rattle.bk_trans.specs.Depths.{count, behind_definition, behind_declaration, behind_declarations}
-use Rattle.bk_trans.specs.Scheme.{goal_of}
 
 -- which exits there are
 pub record Exits : Type 0 where
@@ -38,14 +33,12 @@ IsWord plan l = (plan l ≡ typing.word) × IsLabel l
 -- what a name means that is pushed at depth s, and one that is stored with depth s, its value included
 abbrev pub Pushed : (ℕ → Use) → List Target → ℕ → Bound → Type 0
 Pushed plan ts s (b.Constant v) = ⊤
-Pushed plan ts s (b.Global None) = ⊥
 Pushed plan ts s (b.Global (Some g)) = g ≤ GLOBAL_NUMBER
 Pushed plan ts s (b.Static m) = IsWord plan ((goal_of ts m).label)
 Pushed plan ts s (b.Variable k i) = (2 ≤ i) × (i + 1 ≤ s)
-Pushed plan ts s (b.Label k m) = ⊥
+Pushed plan ts s _ = ⊥
 
 abbrev pub Held : (ℕ → Use) → List Target → ℕ → Bound → Type 0
-Held plan ts s (b.Constant v) = ⊥
 Held plan ts s (b.Global (Some g)) = g ≤ GLOBAL_NUMBER
 Held plan ts s (b.Static m) = IsWord plan ((goal_of ts m).label)
 Held plan ts s (b.Variable k i) = (2 ≤ i) × (i + 1 ≤ s)
@@ -107,9 +100,8 @@ abbrev mutual
   GoodAt plan ts p s (word x) = Held plan ts s x
   GoodAt plan ts p s (contents e) = Good plan ts p s e
   GoodAt plan ts p s (subscript a b) = Good plan ts p s a × Good plan ts p (s + 1) b
-  GoodAt plan ts p s (byte a b) = ⊥
   GoodAt plan ts p s (inside x) = GoodAt plan ts p s x
-  GoodAt plan ts p s nowhere = ⊥
+  GoodAt plan ts p s _ = ⊥
 
   -- what is stored into, with depth s, and a value above
   pub GoodOnto : (ℕ → Use) → List Target → ℕ → ℕ → Lvalue → Type 0
@@ -146,8 +138,7 @@ abbrev mutual
   GoodIn plan ts p x s (simple w.Loop) = x.loop ≡ true
   GoodIn plan ts p x s (simple w.EndCase) = x.switch ≡ true
   GoodIn plan ts p x s (block no_declarations cs) = GoodThrough plan ts p x s cs
-  GoodIn plan ts p x s (block (declare h hs) cs) =
-      GoodDeclared plan ts p s (declare h hs) × GoodThrough plan ts p x (behind_declarations s (declare h hs)) cs
+  GoodIn plan ts p x s (block (declare h hs) cs) = GoodDeclared plan ts p s (declare h hs) × GoodThrough plan ts p x (behind_declarations s (declare h hs)) cs
   GoodIn plan ts p x s (repeat c) = GoodIn plan ts p (in_loop x) s c
   GoodIn plan ts p x s (repeat_while t c e) = GoodIn plan ts p (in_loop x) s c × GoodIf plan ts p s e
   GoodIn plan ts p x s _ = ⊤

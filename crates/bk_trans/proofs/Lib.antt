@@ -1,3 +1,4 @@
+mod Terms
 mod Words
 mod Blocks
 mod Adds
@@ -9,10 +10,10 @@ mod Ranges
 mod Rows
 mod FormRows
 mod TreeNodes
-mod Few
 mod Once
 mod Named
 mod Counted
+mod Few
 mod Marks
 mod Good
 mod Steps
@@ -22,6 +23,7 @@ mod Marked
 mod Sections
 mod Scopes
 mod Told
+mod Asked
 mod Bodies
 mod Nested
 mod Numbered

@@ -1,14 +1,6 @@
 -- The code of a part sets each label as often as its marks have it.
 use Rattle.bk_trans.proofs.Words.{arith, ◌≡◌, ℕ, ◌+◌, Bool, true, false, not, pos, int_lt, Some, List, [], ◌∷◌, ◌++◌, refl, ⊤, signed, Stmt, sets, times_set}
-use Rattle.bk_tree.specs.declared.tree.Simple.TheVariants as w
-use Rattle.bk_ocode.specs.declared.stmt.Dyadic.TheVariants as two
-use Rattle.bk_ocode.specs.declared.stmt.Stmt.TheVariants as t
-use Rattle.bk_trans.specs.declared.around.Around.{Around}
-use Rattle.bk_trans.specs.declared.around.Target.{Target}
-use Rattle.bk_trans.specs.Program.{Term, Terms, Condition, Lvalue, Lvalues, Command, Commands, Declaration, Declarations, Definition, Definitions, Starts, named, number, truth, parens, unary, address, binary, choice, apply, valof, none, more, holds, within, fails, both, either, word, contents, subscript, byte, inside, nowhere, no_lvalues, onto, empty, assign, call, label, case_of, default, when, test, while, for_loop, switch, result, simple, block, repeat, repeat_while, no_commands, also, statics, lets, no_declarations, declare, routine, function, variables, no_definitions, define, no_starts, value, vector}
-use Rattle.bk_trans.specs.Labels.{labels, labels_if, labels_at, labels_onto, labels_in, labels_of_declaration, labels_of_declarations, labels_of_definition}
-use Rattle.bk_trans.specs.Depths.{count, behind_declaration, behind_declarations, behind_definition, has_variables}
-use Rattle.bk_trans.specs.Scheme.{by_turns, value_code, each_code, jump_code, address_code, store_code, value_codes, store_codes, command_code, through_code, declarations_code, declaration_code, definitions_code, definition_code, starts_code, valued, looping, switching}
+use Rattle.bk_trans.proofs.Terms.{Simple as w, Dyadic as two, Stmt as t, Around, Target, Term, Terms, Condition, Lvalue, Lvalues, Command, Commands, Declaration, Declarations, Definition, Definitions, Starts, named, truth, parens, unary, address, binary, choice, apply, valof, none, more, holds, within, fails, both, either, contents, subscript, byte, inside, no_lvalues, onto, assign, call, label, case_of, default, when, test, while, for_loop, switch, result, simple, block, repeat, repeat_while, no_commands, also, statics, lets, no_declarations, declare, routine, function, variables, no_definitions, define, no_starts, value, vector, labels, labels_if, labels_at, labels_onto, labels_in, labels_of_declaration, labels_of_declarations, labels_of_definition, count, behind_declaration, behind_declarations, behind_definition, has_variables, by_turns, value_code, each_code, jump_code, address_code, store_code, value_codes, store_codes, command_code, through_code, declarations_code, declaration_code, definitions_code, definition_code, starts_code, valued, looping, switching}
 use Rattle.bk_trans.proofs.Once.{set_both, push_none, truth_none, chosen_none, store_none, prefix_none, infix_none}
 use Rattle.bk_trans.proofs.Marks.{Mark, marks, marks_each, marks_if, marks_at, marks_onto, marks_all_onto, marks_from, marks_by_turns, marks_in, marks_through, marks_of_declaration, marks_of_declarations, marks_of_definition, marks_of_definitions, marks_of_starts}
 
@@ -29,136 +21,123 @@ AllMarked l _ _ = ⊥
 turns_marked : (l : ℕ) (cs ds : List (List Stmt)) (ms ns : List (List Mark)) → AllMarked l cs ms → AllMarked l ds ns → times_set l (by_turns cs ds) ≡ times_marked l (marks_by_turns ms ns)
 turns_marked l [] ds [] ns h i = refl
 turns_marked l [] ds (m ∷ ms) ns h i = elim h [ ]
-turns_marked l (c ∷ cs) [] [] ns h i = elim h [ ]
 turns_marked l (c ∷ cs) [] (m ∷ ms) [] h i = refl
 turns_marked l (c ∷ cs) [] (m ∷ ms) (n ∷ ns) h i = elim i [ ]
-turns_marked l (c ∷ cs) (d ∷ ds) [] ns h i = elim h [ ]
+turns_marked l (c ∷ cs) _ [] ns h i = elim h [ ]
 turns_marked l (c ∷ cs) (d ∷ ds) (m ∷ ms) [] h i = elim i [ ]
-turns_marked l (c ∷ cs) (d ∷ ds) (m ∷ ms) (n ∷ ns) h i =
-    let j = turns_marked l cs ds ms ns h.1 i.1 in let a = h.0 in let e = i.0 in simp (set_both, marked_both) (omega (arith, j, a, e))
+turns_marked l (c ∷ cs) (d ∷ ds) (m ∷ ms) (n ∷ ns) h i = simp (set_both, marked_both) (omega (arith, turns_marked l cs ds ms ns h.1 i.1, h.0, i.0))
 
-mutual
-  pub value_marked : (l : ℕ) (ts : List Target) (p s n : ℕ) (e : Term) → times_set l (value_code ts s n e) ≡ times_marked l (marks p s n e)
-  value_marked l ts p s n (named x) = let h = push_none l ts x in omega (arith, h)
-  value_marked l ts p s n (number v) = refl
-  value_marked l ts p s n (truth x) = let h = truth_none l x in omega (arith, h)
-  value_marked l ts p s n (parens e) = value_marked l ts p s n e
-  value_marked l ts p s n (unary f e) = let h = value_marked l ts p s n e in let i = prefix_none l f in simp (set_both) (omega (arith, h, i))
-  value_marked l ts p s n (address x) = address_marked l ts p s n x
-  value_marked l ts p s n (binary f x y) =
-      let h = value_marked l ts p s n x in let i = value_marked l ts p (s + 1) (n + labels x) y in let j = infix_none l f in simp (set_both, marked_both) (omega (arith, h, i, j))
-  value_marked l ts p s n (choice c x y) =
-      let h = if_marked l ts p s (n + 2) c false n in let i = value_marked l ts p s (n + 2 + labels_if c) x in let j = value_marked l ts p s (n + 2 + labels_if c + labels x) y in
-      simp (set_both, marked_both) (omega (arith, h, i, j))
-  value_marked l ts p s n (apply e es) =
-      let h = value_marked l ts p (s + 2 + count es) n e in let i = each_marked l ts p (s + 2) (n + labels e) es in simp (set_both, marked_both) (omega (arith, h, i))
-  value_marked l ts p s n (valof c) = let h = command_marked l ts (valued n) p s (n + 1) c in simp (set_both) (omega (arith, h))
-  value_marked l ts p s n _ = refl
+module _ (l : ℕ) (ts : List Target) where
+  mutual
+    pub value_marked : (p s n : ℕ) (e : Term) → times_set l (value_code ts s n e) ≡ times_marked l (marks p s n e)
+    value_marked p s n (named x) = let h = push_none l ts x in omega (arith, h)
+    value_marked p s n (truth x) = let h = truth_none l x in omega (arith, h)
+    value_marked p s n (parens e) = value_marked p s n e
+    value_marked p s n (unary f e) = let h = value_marked p s n e in let i = prefix_none l f in simp (set_both) (omega (arith, h, i))
+    value_marked p s n (address x) = address_marked p s n x
+    value_marked p s n (binary f x y) =
+        let h = value_marked p s n x in let i = value_marked p (s + 1) (n + labels x) y in let j = infix_none l f in simp (set_both, marked_both) (omega (arith, h, i, j))
+    value_marked p s n (choice c x y) =
+        let h = if_marked p s (n + 2) c false n in let i = value_marked p s (n + 2 + labels_if c) x in let j = value_marked p s (n + 2 + labels_if c + labels x) y in
+        simp (set_both, marked_both) (omega (arith, h, i, j))
+    value_marked p s n (apply e es) =
+        let h = value_marked p (s + 2 + count es) n e in let i = each_marked p (s + 2) (n + labels e) es in simp (set_both, marked_both) (omega (arith, h, i))
+    value_marked p s n (valof c) = let h = command_marked (valued n) p s (n + 1) c in simp (set_both) (omega (arith, h))
+    value_marked p s n _ = refl
 
-  each_marked : (l : ℕ) (ts : List Target) (p s n : ℕ) (es : Terms) → times_set l (each_code ts s n es) ≡ times_marked l (marks_each p s n es)
-  each_marked l ts p s n none = refl
-  each_marked l ts p s n (more e es) = let h = value_marked l ts p s n e in let i = each_marked l ts p (s + 1) (n + labels e) es in simp (set_both, marked_both) (omega (arith, h, i))
+    each_marked : (p s n : ℕ) (es : Terms) → times_set l (each_code ts s n es) ≡ times_marked l (marks_each p s n es)
+    each_marked p s n none = refl
+    each_marked p s n (more e es) = let h = value_marked p s n e in let i = each_marked p (s + 1) (n + labels e) es in simp (set_both, marked_both) (omega (arith, h, i))
 
-  if_marked : (l : ℕ) (ts : List Target) (p s n : ℕ) (c : Condition) (x : Bool) (m : ℕ) → times_set l (jump_code ts s n c x m) ≡ times_marked l (marks_if p s n c x)
-  if_marked l ts p s n (holds e) x m = let h = value_marked l ts p s n e in simp (set_both) (omega (arith, h))
-  if_marked l ts p s n (within c) x m = if_marked l ts p s n c x m
-  if_marked l ts p s n (fails c) x m = if_marked l ts p s n c (not x) m
-  if_marked l ts p s n (both c d) false m =
-      let h = if_marked l ts p s (n + 1) c false m in let i = if_marked l ts p s (n + 1 + labels_if c) d false m in simp (set_both, marked_both) (omega (arith, h, i))
-  if_marked l ts p s n (both c d) true m =
-      let h = if_marked l ts p s (n + 1) c false n in let i = if_marked l ts p s (n + 1 + labels_if c) d true m in simp (set_both, marked_both) (omega (arith, h, i))
-  if_marked l ts p s n (either c d) true m =
-      let h = if_marked l ts p s (n + 1) c true m in let i = if_marked l ts p s (n + 1 + labels_if c) d true m in simp (set_both, marked_both) (omega (arith, h, i))
-  if_marked l ts p s n (either c d) false m =
-      let h = if_marked l ts p s (n + 1) c true n in let i = if_marked l ts p s (n + 1 + labels_if c) d false m in simp (set_both, marked_both) (omega (arith, h, i))
+    if_marked : (p s n : ℕ) (c : Condition) (x : Bool) (m : ℕ) → times_set l (jump_code ts s n c x m) ≡ times_marked l (marks_if p s n c x)
+    if_marked p s n (holds e) x m = let h = value_marked p s n e in simp (set_both) (omega (arith, h))
+    if_marked p s n (within c) x m = if_marked p s n c x m
+    if_marked p s n (fails c) x m = if_marked p s n c (not x) m
+    if_marked p s n (both c d) false m =
+        let h = if_marked p s (n + 1) c false m in let i = if_marked p s (n + 1 + labels_if c) d false m in simp (set_both, marked_both) (omega (arith, h, i))
+    if_marked p s n (both c d) true m =
+        let h = if_marked p s (n + 1) c false n in let i = if_marked p s (n + 1 + labels_if c) d true m in simp (set_both, marked_both) (omega (arith, h, i))
+    if_marked p s n (either c d) true m =
+        let h = if_marked p s (n + 1) c true m in let i = if_marked p s (n + 1 + labels_if c) d true m in simp (set_both, marked_both) (omega (arith, h, i))
+    if_marked p s n (either c d) false m =
+        let h = if_marked p s (n + 1) c true n in let i = if_marked p s (n + 1 + labels_if c) d false m in simp (set_both, marked_both) (omega (arith, h, i))
 
-  address_marked : (l : ℕ) (ts : List Target) (p s n : ℕ) (x : Lvalue) → times_set l (address_code ts s n x) ≡ times_marked l (marks_at p s n x)
-  address_marked l ts p s n (word y) = refl
-  address_marked l ts p s n (contents e) = value_marked l ts p s n e
-  address_marked l ts p s n (subscript x y) =
-      let h = value_marked l ts p s n x in let i = value_marked l ts p (s + 1) (n + labels x) y in simp (set_both, marked_both) (omega (arith, h, i))
-  address_marked l ts p s n (inside x) = address_marked l ts p s n x
-  address_marked l ts p s n _ = refl
+    address_marked : (p s n : ℕ) (x : Lvalue) → times_set l (address_code ts s n x) ≡ times_marked l (marks_at p s n x)
+    address_marked p s n (contents e) = value_marked p s n e
+    address_marked p s n (subscript x y) = simp (set_both, marked_both) (omega (arith, value_marked p s n x, value_marked p (s + 1) (n + labels x) y))
+    address_marked p s n (inside x) = address_marked p s n x
+    address_marked p s n _ = refl
 
-  onto_marked : (l : ℕ) (ts : List Target) (p s n : ℕ) (x : Lvalue) → times_set l (store_code ts s n x) ≡ times_marked l (marks_onto p s n x)
-  onto_marked l ts p s n (word y) = refl
-  onto_marked l ts p s n (contents e) = let h = value_marked l ts p s n e in simp (set_both) (omega (arith, h))
-  onto_marked l ts p s n (subscript x y) =
-      let h = value_marked l ts p s n x in let i = value_marked l ts p (s + 1) (n + labels x) y in simp (set_both, marked_both) (omega (arith, h, i))
-  onto_marked l ts p s n (byte x y) =
-      let h = value_marked l ts p s n x in let i = value_marked l ts p (s + 1) (n + labels x) y in simp (set_both, marked_both) (omega (arith, h, i))
-  onto_marked l ts p s n (inside x) = onto_marked l ts p s n x
-  onto_marked l ts p s n nowhere = refl
+    onto_marked : (p s n : ℕ) (x : Lvalue) → times_set l (store_code ts s n x) ≡ times_marked l (marks_onto p s n x)
+    onto_marked p s n (contents e) = let h = value_marked p s n e in simp (set_both) (omega (arith, h))
+    onto_marked p s n (subscript x y) = simp (set_both, marked_both) (omega (arith, value_marked p s n x, value_marked p (s + 1) (n + labels x) y))
+    onto_marked p s n (byte x y) = simp (set_both, marked_both) (omega (arith, value_marked p s n x, value_marked p (s + 1) (n + labels x) y))
+    onto_marked p s n (inside x) = onto_marked p s n x
+    onto_marked p s n _ = refl
 
-  all_onto_marked : (l : ℕ) (ts : List Target) (p s n : ℕ) (xs : Lvalues) → AllMarked l (store_codes ts s n xs) (marks_all_onto p s n xs)
-  all_onto_marked l ts p s n no_lvalues = tt
-  all_onto_marked l ts p s n (onto x xs) = (onto_marked l ts p s n x, all_onto_marked l ts p s (n + labels_at x) xs)
+    all_onto_marked : (p s n : ℕ) (xs : Lvalues) → AllMarked l (store_codes ts s n xs) (marks_all_onto p s n xs)
+    all_onto_marked p s n no_lvalues = tt
+    all_onto_marked p s n (onto x xs) = (onto_marked p s n x, all_onto_marked p s (n + labels_at x) xs)
 
-  from_marked : (l : ℕ) (ts : List Target) (p s n : ℕ) (es : Terms) → AllMarked l (value_codes ts s n es) (marks_from p s n es)
-  from_marked l ts p s n none = tt
-  from_marked l ts p s n (more e es) = (value_marked l ts p s n e, from_marked l ts p s (n + labels e) es)
+    from_marked : (p s n : ℕ) (es : Terms) → AllMarked l (value_codes ts s n es) (marks_from p s n es)
+    from_marked p s n none = tt
+    from_marked p s n (more e es) = (value_marked p s n e, from_marked p s (n + labels e) es)
 
-  pub command_marked : (l : ℕ) (ts : List Target) (a : Around) (p s n : ℕ) (c : Command) → times_set l (command_code ts a s n c) ≡ times_marked l (marks_in p s n c)
-  command_marked l ts a p s n empty = refl
-  command_marked l ts a p s n (assign xs es) =
-      turns_marked l _ _ _ _ (from_marked l ts p s (n + labels_onto xs) es) (all_onto_marked l ts p (s + 1) n xs)
-  command_marked l ts a p s n (call e es) =
-      let h = value_marked l ts p (s + 2 + count es) n e in let i = each_marked l ts p (s + 2) (n + labels e) es in simp (set_both, marked_both) (omega (arith, h, i))
-  command_marked l ts a p s n (label x c) = let h = command_marked l ts a p s (n + 1) c in omega (arith, h)
-  command_marked l ts a p s n (case_of x c) = let h = command_marked l ts a p s (n + 1) c in omega (arith, h)
-  command_marked l ts a p s n (default c) = let h = command_marked l ts a p s (n + 1) c in omega (arith, h)
-  command_marked l ts a p s n (when x e c) =
-      let h = if_marked l ts p s (n + 1) e (not x) n in let i = command_marked l ts a p s (n + 1 + labels_if e) c in simp (set_both, marked_both) (omega (arith, h, i))
-  command_marked l ts a p s n (test e c d) =
-      let h = if_marked l ts p s (n + 2) e false n in let i = command_marked l ts a p s (n + 2 + labels_if e) c in
-      let j = command_marked l ts a p s (n + 2 + labels_if e + labels_in c) d in simp (set_both, marked_both) (omega (arith, h, i, j))
-  command_marked l ts a p s n (while x e c) =
-      let h = if_marked l ts p s (n + 3) e x (n + 1) in let i = command_marked l ts (looping n (n + 2) s a) p s (n + 3 + labels_if e) c in
-      simp (set_both, marked_both) (omega (arith, h, i))
-  command_marked l ts a p s n (for_loop x y k c) =
-      let h = value_marked l ts p s (n + 4) x in let i = value_marked l ts p (s + 1) (n + 4 + labels x) y in
-      let j = command_marked l ts (looping (n + 2) (n + 3) (s + 2) a) p (s + 2) (n + 4 + labels x + labels y) c in
-      let d = chosen_none l (int_lt (signed k) (pos 0)) (t.Dyadic two.AtLeast) (t.Dyadic two.AtMost) refl refl in
-      simp (set_both, marked_both) (omega (arith, h, i, j, d))
-  command_marked l ts a p s n (switch e c) =
-      let h = value_marked l ts p s (n + 1) e in let i = command_marked l ts (switching n s a) p s (n + 1 + labels e) c in simp (set_both, marked_both) (omega (arith, h, i))
-  command_marked l ts a p s n (result e) = let h = value_marked l ts p s n e in simp (set_both) (omega (arith, h))
-  command_marked l ts a p s n (block no_declarations cs) = through_marked l ts a p s n cs
-  command_marked l ts a p s n (block (declare x xs) cs) =
-      let h = one_declared_marked l ts p s n x in let j = declared_marked l ts p (behind_declaration s x) (n + labels_of_declaration x) xs in
-      let i = through_marked l ts a p (behind_declarations s (declare x xs)) (n + labels_of_declarations (declare x xs)) cs in simp (set_both, marked_both) (omega (arith, h, j, i))
-  command_marked l ts a p s n (repeat c) = let h = command_marked l ts (looping n (n + 1) s a) p s (n + 2) c in simp (set_both, marked_both) (omega (arith, h))
-  command_marked l ts a p s n (repeat_while x c e) =
-      let h = command_marked l ts (looping (n + 1) (n + 2) s a) p s (n + 3) c in let i = if_marked l ts p s (n + 3 + labels_in c) e x n in
-      simp (set_both, marked_both) (omega (arith, h, i))
-  command_marked l ts a p s n (simple w.Break) = refl
-  command_marked l ts a p s n _ = refl
+    pub command_marked : (a : Around) (p s n : ℕ) (c : Command) → times_set l (command_code ts a s n c) ≡ times_marked l (marks_in p s n c)
+    command_marked a p s n (assign xs es) = turns_marked l _ _ _ _ (from_marked p s (n + labels_onto xs) es) (all_onto_marked p (s + 1) n xs)
+    command_marked a p s n (call e es) =
+        let h = value_marked p (s + 2 + count es) n e in let i = each_marked p (s + 2) (n + labels e) es in simp (set_both, marked_both) (omega (arith, h, i))
+    command_marked a p s n (label x c) = let h = command_marked a p s (n + 1) c in omega (arith, h)
+    command_marked a p s n (case_of x c) = let h = command_marked a p s (n + 1) c in omega (arith, h)
+    command_marked a p s n (default c) = let h = command_marked a p s (n + 1) c in omega (arith, h)
+    command_marked a p s n (when x e c) =
+        let h = if_marked p s (n + 1) e (not x) n in let i = command_marked a p s (n + 1 + labels_if e) c in simp (set_both, marked_both) (omega (arith, h, i))
+    command_marked a p s n (test e c d) =
+        let h = if_marked p s (n + 2) e false n in let i = command_marked a p s (n + 2 + labels_if e) c in
+        let j = command_marked a p s (n + 2 + labels_if e + labels_in c) d in simp (set_both, marked_both) (omega (arith, h, i, j))
+    command_marked a p s n (while x e c) =
+        simp (set_both, marked_both) (omega (arith, if_marked p s (n + 3) e x (n + 1), command_marked (looping n (n + 2) s a) p s (n + 3 + labels_if e) c))
+    command_marked a p s n (for_loop x y k c) =
+        let h = value_marked p s (n + 4) x in let i = value_marked p (s + 1) (n + 4 + labels x) y in
+        let j = command_marked (looping (n + 2) (n + 3) (s + 2) a) p (s + 2) (n + 4 + labels x + labels y) c in
+        let d = chosen_none l (int_lt (signed k) (pos 0)) (t.Dyadic two.AtLeast) (t.Dyadic two.AtMost) refl refl in
+        simp (set_both, marked_both) (omega (arith, h, i, j, d))
+    command_marked a p s n (switch e c) =
+        let h = value_marked p s (n + 1) e in let i = command_marked (switching n s a) p s (n + 1 + labels e) c in simp (set_both, marked_both) (omega (arith, h, i))
+    command_marked a p s n (result e) = let h = value_marked p s n e in simp (set_both) (omega (arith, h))
+    command_marked a p s n (block no_declarations cs) = through_marked a p s n cs
+    command_marked a p s n (block (declare x xs) cs) =
+        let h = one_declared_marked p s n x in let j = declared_marked p (behind_declaration s x) (n + labels_of_declaration x) xs in
+        let i = through_marked a p (behind_declarations s (declare x xs)) (n + labels_of_declarations (declare x xs)) cs in simp (set_both, marked_both) (omega (arith, h, j, i))
+    command_marked a p s n (repeat c) = let h = command_marked (looping n (n + 1) s a) p s (n + 2) c in simp (set_both, marked_both) (omega (arith, h))
+    command_marked a p s n (repeat_while x c e) =
+        simp (set_both, marked_both) (omega (arith, command_marked (looping (n + 1) (n + 2) s a) p s (n + 3) c, if_marked p s (n + 3 + labels_in c) e x n))
+    command_marked a p s n (simple w.Break) = refl
+    command_marked a p s n _ = refl
 
-  through_marked : (l : ℕ) (ts : List Target) (a : Around) (p s n : ℕ) (cs : Commands) → times_set l (through_code ts a s n cs) ≡ times_marked l (marks_through p s n cs)
-  through_marked l ts a p s n no_commands = refl
-  through_marked l ts a p s n (also c cs) =
-      let h = command_marked l ts a p s n c in let i = through_marked l ts a p s (n + labels_in c) cs in simp (set_both, marked_both) (omega (arith, h, i))
+    through_marked : (a : Around) (p s n : ℕ) (cs : Commands) → times_set l (through_code ts a s n cs) ≡ times_marked l (marks_through p s n cs)
+    through_marked a p s n no_commands = refl
+    through_marked a p s n (also c cs) = simp (set_both, marked_both) (omega (arith, command_marked a p s n c, through_marked a p s (n + labels_in c) cs))
 
-  declared_marked : (l : ℕ) (ts : List Target) (p s n : ℕ) (xs : Declarations) → times_set l (declarations_code ts s n xs) ≡ times_marked l (marks_of_declarations p s n xs)
-  declared_marked l ts p s n no_declarations = refl
-  declared_marked l ts p s n (declare x xs) =
-      let h = one_declared_marked l ts p s n x in let i = declared_marked l ts p (behind_declaration s x) (n + labels_of_declaration x) xs in simp (set_both, marked_both) (omega (arith, h, i))
+    declared_marked : (p s n : ℕ) (xs : Declarations) → times_set l (declarations_code ts s n xs) ≡ times_marked l (marks_of_declarations p s n xs)
+    declared_marked p s n no_declarations = refl
+    declared_marked p s n (declare x xs) =
+        let h = one_declared_marked p s n x in let i = declared_marked p (behind_declaration s x) (n + labels_of_declaration x) xs in simp (set_both, marked_both) (omega (arith, h, i))
 
-  one_declared_marked : (l : ℕ) (ts : List Target) (p s n : ℕ) (x : Declaration) → times_set l (declaration_code ts s n x) ≡ times_marked l (marks_of_declaration p s n x)
-  one_declared_marked l ts p s n (statics ks) = refl
-  one_declared_marked l ts p s n (lets xs) = let h = defined_marked l ts p s n xs in let i = store_none l (has_variables xs) in simp (set_both) (omega (arith, h, i))
+    one_declared_marked : (p s n : ℕ) (x : Declaration) → times_set l (declaration_code ts s n x) ≡ times_marked l (marks_of_declaration p s n x)
+    one_declared_marked p s n (statics ks) = refl
+    one_declared_marked p s n (lets xs) = let h = defined_marked p s n xs in let i = store_none l (has_variables xs) in simp (set_both) (omega (arith, h, i))
 
-  defined_marked : (l : ℕ) (ts : List Target) (p s n : ℕ) (xs : Definitions) → times_set l (definitions_code ts s n xs) ≡ times_marked l (marks_of_definitions p s n xs)
-  defined_marked l ts p s n no_definitions = refl
-  defined_marked l ts p s n (define x xs) =
-      let h = one_defined_marked l ts p s n x in let i = defined_marked l ts p (behind_definition s x) (n + labels_of_definition x) xs in simp (set_both, marked_both) (omega (arith, h, i))
+    defined_marked : (p s n : ℕ) (xs : Definitions) → times_set l (definitions_code ts s n xs) ≡ times_marked l (marks_of_definitions p s n xs)
+    defined_marked p s n no_definitions = refl
+    defined_marked p s n (define x xs) =
+        let h = one_defined_marked p s n x in let i = defined_marked p (behind_definition s x) (n + labels_of_definition x) xs in simp (set_both, marked_both) (omega (arith, h, i))
 
-  one_defined_marked : (l : ℕ) (ts : List Target) (p s n : ℕ) (x : Definition) → times_set l (definition_code ts s n x) ≡ times_marked l (marks_of_definition p s n x)
-  one_defined_marked l ts p s n (routine x letters k c) = refl
-  one_defined_marked l ts p s n (function x letters k e) = refl
-  one_defined_marked l ts p s n (variables is) = started_marked l ts p s n is
+    one_defined_marked : (p s n : ℕ) (x : Definition) → times_set l (definition_code ts s n x) ≡ times_marked l (marks_of_definition p s n x)
+    one_defined_marked p s n (variables is) = started_marked p s n is
+    one_defined_marked p s n _ = refl
 
-  started_marked : (l : ℕ) (ts : List Target) (p s n : ℕ) (is : Starts) → times_set l (starts_code ts s n is) ≡ times_marked l (marks_of_starts p s n is)
-  started_marked l ts p s n no_starts = refl
-  started_marked l ts p s n (value e is) = let h = value_marked l ts p s n e in let i = started_marked l ts p (s + 1) (n + labels e) is in simp (set_both, marked_both) (omega (arith, h, i))
-  started_marked l ts p s n (vector k is) = let h = started_marked l ts p (s + k + 2) n is in omega (arith, h)
+    started_marked : (p s n : ℕ) (is : Starts) → times_set l (starts_code ts s n is) ≡ times_marked l (marks_of_starts p s n is)
+    started_marked p s n no_starts = refl
+    started_marked p s n (value e is) = let h = value_marked p s n e in let i = started_marked p (s + 1) (n + labels e) is in simp (set_both, marked_both) (omega (arith, h, i))
+    started_marked p s n (vector k is) = let h = started_marked p (s + k + 2) n is in omega (arith, h)

@@ -1,9 +1,6 @@
 -- Statements whose numbers are in their ranges are the same in words.
-use Rattle.bk_trans.proofs.Words.{◌≡◌, ℕ, zero, suc, ◌<◌, ◌≤◌, ◌^◌, Some, List, [], ◌∷◌, map, slice_get, refl, ap, ◌∙◌, arith, FRAME_WORDS, OCODE_LABEL, Local, Case, GlobalEntry, Stmt, Number, Load, Assign, Jump, JumpIf, GiveResult, TakeResult, Stack, Entry, Save, CallFunction, CallRoutine, Switch, DataLabel, DataAddress, Globals, IsLabel, IsSlot, IsDepth, IsVariable, InRange}
-use Rattle.bk_ocode.specs.declared.stmt.Variable.{Variable}
-use Rattle.bk_ocode.specs.declared.stmt.Variable.TheVariants.{Global, Static}
-use Rattle.bk_ocode.specs.declared.stmt.Stmt.TheVariants.{Address, Label}
-use Rattle.bk_trans.specs.Alike.{word, variable_in_words, case_in_words, entry_in_words, stmt_in_words, in_words}
+use Rattle.bk_trans.proofs.Words.{◌≡◌, ℕ, zero, suc, ◌<◌, ◌≤◌, ◌^◌, Some, List, [], ◌∷◌, map, slice_get, refl, ap, ◌∙◌, arith, FRAME_WORDS, OCODE_LABEL, Local, Case, GlobalEntry, Stmt, Load, Assign, Jump, JumpIf, GiveResult, TakeResult, Stack, Entry, Save, CallFunction, CallRoutine, Switch, DataLabel, DataAddress, Globals, IsLabel, IsSlot, IsDepth, IsVariable, InRange}
+use Rattle.bk_trans.proofs.Terms.{Variable, Global, Static, Address, Label, word, variable_in_words, case_in_words, entry_in_words, stmt_in_words, in_words}
 
 small : (n : ℕ) → n < 2 ^ 32 → word n ≡ n
 small n h = omega arith
@@ -33,7 +30,6 @@ entries_are (x ∷ xs) h =
     ap (λ l. record { number = x.number; label = l } ∷ map entry_in_words xs) (label_is x.label (h zero x refl)) ∙ ap (λ l. x ∷ l) (entries_are xs (λ k d e. h (suc k) d e))
 
 stmt_is : (s : Stmt) → InRange s → stmt_in_words s ≡ s
-stmt_is (Number v) h = refl
 stmt_is (Load x) h = ap Load (variable_is x h)
 stmt_is (Address x) h = ap Address (variable_is x h)
 stmt_is (Assign x) h = ap Assign (variable_is x h)

@@ -1,16 +1,8 @@
 -- What names in scope mean at a place of a section without faults, and that a label and a static word that are in scope have a
 -- target in their plan.
-use Rattle.bk_trans.proofs.Words.{arith, ◌≡◌, ◌⊎◌, inl, inr, ℕ, ◌+◌, ◌≤◌, Bool, true, false, cond, Option, Some, None, List, [], ◌∷◌, ◌++◌, length, refl, sym, ap, subst, ◌∙◌, ⊤, OCODE_LABEL, Action, Actions, Items, Definitions, label, case_of, default, when, test, while, switch, block, repeat, repeat_while, no_actions, also, no_declarations, declare, no_items, item, routine, function, variables, no_definitions, define, Bound, Static, Label, Enclosing, Binding, bound_in, bind, bind_all, is_global, looping, switching, labels_of, labels_of_each, Spot, past, numbered, behind, behind_done, behind_constant, behind_one_defined, labels_in_scope, procedure_in_scope, procedures_in_scope, statics_in_scope, place_behind_one_defined, IsLabel, IsDepth, Use}
-use Rattle.std.specs.Str.{bytes_eq}
-use Rattle.std.proofs.lemmas.Slice.Eq.{bytes_eq-Decides}
+use Rattle.bk_trans.proofs.Words.{arith, ◌≡◌, ◌⊎◌, inl, inr, ℕ, ◌+◌, ◌≤◌, Bool, true, false, cond, Option, Some, None, List, [], ◌∷◌, ◌++◌, length, refl, sym, ap, subst, ◌∙◌, ⊤, OCODE_LABEL, Action, Actions, Items, Definitions, label, case_of, default, when, test, while, switch, block, repeat, repeat_while, no_actions, also, no_declarations, no_items, item, routine, function, variables, no_definitions, define, Bound, Static, Label, Enclosing, Binding, bound_in, bind, bind_all, is_global, looping, switching, labels_of, labels_of_each, Spot, past, numbered, behind, behind_done, behind_constant, behind_one_defined, labels_in_scope, procedure_in_scope, procedures_in_scope, statics_in_scope, place_behind_one_defined, IsLabel, IsDepth, Use}
+use Rattle.bk_trans.proofs.Terms.{bytes_eq, bytes_eq-Decides, Goal, Target, meant, statics_named, term_named, condition_named, command_named, commands_named, definition_named, definitions_named, labels, labels_if, labels_in, labels_through, labels_of_procedure, labels_of_definition, labels_of_definitions, behind_definition, Part, label_place, target_of, target_of_word, parts_of_items, parts, parts_if, parts_in, parts_through, parts_of_definition, parts_of_definitions, goal, goal_of}
 use Rattle.bk_ocode.specs.Typing as typing
-use Rattle.bk_trans.specs.declared.around.Goal.{Goal}
-use Rattle.bk_trans.specs.declared.around.Target.{Target}
-use Rattle.bk_trans.specs.Naming.{meant, statics_named, term_named, condition_named, command_named, commands_named, definition_named, definitions_named}
-use Rattle.bk_trans.specs.Labels.{labels, labels_if, labels_in, labels_through, labels_of_procedure, labels_of_definition, labels_of_definitions}
-use Rattle.bk_trans.specs.Depths.{behind_definition}
-use Rattle.bk_trans.specs.Parts.{Part, label_place, target_of, target_of_word, parts_of_items, parts, parts_if, parts_in, parts_through, parts_of_definition, parts_of_definitions}
-use Rattle.bk_trans.specs.Scheme.{goal, goal_of}
 use Rattle.bk_trans.proofs.Marks.{Mark, marks, marks_if, marks_in, marks_through, AllRight, right_front, right_back}
 use Rattle.bk_trans.proofs.Good.{IsGoal, IsWord}
 use Rattle.bk_trans.proofs.Sections.{part_marks, name_marks}
@@ -89,11 +81,14 @@ sees_labels P k n xs bs all own y z e = elim (look_label k n xs bs y) [
 ]
 
 -- procedures of a LET
+abbrev pub procedure_names : Definitions → List (List ℕ)
+procedure_names no_definitions = []
+procedure_names (define (routine l x fs c) ds) = x ∷ procedure_names ds
+procedure_names (define (function l x fs e) ds) = x ∷ procedure_names ds
+procedure_names (define (variables l xs is) ds) = procedure_names ds
+
 abbrev pub AmongProcedures : List ℕ → Definitions → Type 0
-AmongProcedures y no_definitions = ⊥
-AmongProcedures y (define (routine l x fs c) ds) = (x ≡ y) ⊎ AmongProcedures y ds
-AmongProcedures y (define (function l x fs e) ds) = (x ≡ y) ⊎ AmongProcedures y ds
-AmongProcedures y (define (variables l xs is) ds) = AmongProcedures y ds
+AmongProcedures y ds = Among y (procedure_names ds)
 
 look_one : (n : ℕ) (x y : List ℕ) (bs : List Binding) (g : Bool) → Looked (bound_in (cond g bs (bind x (Static n) bs)) y) (bound_in bs y) (x ≡ y) (λ i. Static i)
 look_one n x y bs true = inl refl
@@ -195,7 +190,6 @@ mutual
       (parts_back plan ts (parts d (n + 1) h) _ a) (right_back plan (marks q d (n + 1) h) _ r.1)
   label_found plan ts q k i y bs p s (block l no_declarations cs) d n e deep low high among a r =
       label_found_through plan ts q k i y bs p s cs d n e deep low (omega (arith, high)) among (subst (λ (m : ℕ). PartsRight plan ts (parts_through d m (commands_named bs p s cs))) (no_more n) a) r
-  label_found plan ts q k i y bs p s (block l (declare x xs) cs) d n e deep low high among a r = elim among [ ]
   label_found plan ts q k i y bs p s (repeat l c) d n e deep low high among a r =
       label_found plan ts q k i y bs (looping p) s c d (n + 2) e deep (omega (arith, low)) (omega (arith, high)) among a r.1.1
   label_found plan ts q k i y bs p s (repeat_while l b c f) d n e deep low high among a r =

@@ -1,13 +1,7 @@
 -- A whole section: its procedures, data and GLOBAL agree with a plan, where each part is good and has its marks.
 use Rattle.bk_trans.proofs.Words.{arith, ◌≡◌, inr, ℕ, zero, suc, ◌+◌, ◌-◌, ◌≤◌, ◌==◌, Bool, true, false, cond, Some, None, List, [], ◌∷◌, ◌++◌, length, map, slice_get, refl, sym, ap, subst, ◌∙◌, eqb-true, eq-eqb, length-append, ⊤, signed, GLOBAL_NUMBER, OCODE_LABEL, OCODE_STATEMENTS, Bound, GlobalEntry, Stmt, joined, IsLabel, IsGlobal, AreEntries, Use, outside, ended, AllEntries, Typed, done, enters, returns, gives, begins, points, ends, sets, times_set}
-use Rattle.bk_scope.specs.declared.bound.Bound.TheVariants as b
-use Rattle.bk_ocode.specs.declared.stmt.Stmt.TheVariants as t
+use Rattle.bk_trans.proofs.Terms.{Bound as b, Stmt as t, Target, routine, function, labels, labels_in, labels_of_procedure, labels_of_definition, Part, procedure, static_item, static_table, parts, parts_in, target_of, outermost, procedure_code, word_code, data_code, entry_of, entries_of, section_code}
 use Rattle.bk_ocode.specs.Typing as typing
-use Rattle.bk_trans.specs.declared.around.Target.{Target}
-use Rattle.bk_trans.specs.Program.{routine, function, variables}
-use Rattle.bk_trans.specs.Labels.{labels, labels_in, labels_of_procedure, labels_of_definition}
-use Rattle.bk_trans.specs.Parts.{Part, procedure, static_item, static_table, label_place, parts, parts_in, target_of}
-use Rattle.bk_trans.specs.Scheme.{outermost, procedure_code, word_code, data_code, entry_of, entries_of, section_code}
 use Rattle.bk_trans.proofs.Once.{set_both, words_none}
 use Rattle.bk_trans.proofs.Marks.{Mark, marks, marks_in, AllRight, right_front, right_back}
 use Rattle.bk_trans.proofs.Marked.{times_marked, marked_both, value_marked, command_marked}
@@ -29,10 +23,9 @@ name_marks n _ = []
 abbrev pub part_marks : Part → List Mark
 part_marks (procedure n (routine x name k c)) = entry_mark n ∷ name_marks n x ++ marks_in n (k + 2) (n + labels_of_procedure x) c
 part_marks (procedure n (function x name k e)) = entry_mark n ∷ name_marks n x ++ marks n (k + 2) (n + labels_of_procedure x) e
-part_marks (procedure n (variables is)) = []
 part_marks (static_item n k) = word_mark n ∷ []
 part_marks (static_table n ws) = word_mark n ∷ []
-part_marks (label_place n s x) = []
+part_marks _ = []
 
 -- a procedure's own name
 abbrev pub GoodName : Bound → Type 0
@@ -47,10 +40,9 @@ GoodPart plan ts (procedure n (routine x name k c)) =
 GoodPart plan ts (procedure n (function x name k e)) =
     (1 ≤ n) × (n + labels_of_definition (function x name k e) ≤ OCODE_LABEL + 1) × GoodName x × Room (k + 2)
     × Good plan ts n (k + 2) e × AllTables plan (parts (k + 2) (n + labels_of_procedure x) e)
-GoodPart plan ts (procedure n (variables is)) = ⊤
 GoodPart plan ts (static_item n k) = IsLabel n
 GoodPart plan ts (static_table n ws) = IsLabel n
-GoodPart plan ts (label_place n s x) = ⊤
+GoodPart plan ts _ = ⊤
 
 abbrev pub AllGood : (ℕ → Use) → List Target → List Part → Type 0
 AllGood plan ts [] = ⊤
@@ -102,7 +94,6 @@ procedure_typed plan ts y d (procedure n (function x name k e)) g r =
       depth = k + 2 + 1 - 1;
       typed = typed_then (enters r.0 ((low, omega (arith, high, one)), short_bytes name) (omega arith, much) inner) (gives (omega arith) done);
     }
-procedure_typed plan ts y d (procedure n (variables is)) g r = record { mode = y; depth = d; typed = done }
 procedure_typed plan ts y d _ g r = record { mode = y; depth = d; typed = done }
 
 procedures_typed : (plan : ℕ → Use) (ts : List Target) (y : Bool) (d : ℕ) (xs : List Part) → AllGood plan ts xs → AllRight plan (joined part_marks xs)
@@ -118,7 +109,6 @@ name_typed : (plan : ℕ → Use) (y : Bool) (d n : ℕ) (x : Bound) → plan n 
     → Outer plan y d (word_code n x)
 name_typed plan y d n (b.Static m) e range high r =
     record { mode = true; depth = d; typed = begins r.0 (omega arith, omega (arith, high)) (points (inr e) range done) }
-name_typed plan y d n (b.Constant v) e range high r = record { mode = y; depth = d; typed = done }
 name_typed plan y d n _ e range high r = record { mode = y; depth = d; typed = done }
 
 words_typed : (plan : ℕ → Use) (d : ℕ) (ws : List ℕ) → Typed plan (outside true d) (map (λ w. t.DataNumber (signed w)) ws) (outside true d)
@@ -132,10 +122,9 @@ datum_typed plan ts y d (procedure n (routine x name k c)) g r =
 datum_typed plan ts y d (procedure n (function x name k e)) g r =
     let low = g.0 in let high : n + (labels_of_procedure x + labels e) ≤ OCODE_LABEL + 1 = g.1 in let one = one_label x in
     name_typed plan y d n x r.0 (low, omega (arith, high, one)) (omega (arith, high)) (right_front plan (name_marks n x) _ r.1)
-datum_typed plan ts y d (procedure n (variables is)) g r = record { mode = y; depth = d; typed = done }
 datum_typed plan ts y d (static_item n k) g r = record { mode = true; depth = d; typed = begins r.0 g (typing.holds done) }
 datum_typed plan ts y d (static_table n ws) g r = record { mode = true; depth = d; typed = begins r.0 g (words_typed plan d ws) }
-datum_typed plan ts y d (label_place n s x) g r = record { mode = y; depth = d; typed = done }
+datum_typed plan ts y d _ g r = record { mode = y; depth = d; typed = done }
 
 data_typed : (plan : ℕ → Use) (ts : List Target) (y : Bool) (d : ℕ) (xs : List Part) → AllGood plan ts xs → AllRight plan (joined part_marks xs) → Outer plan y d (joined data_code xs)
 data_typed plan ts y d [] g r = record { mode = y; depth = d; typed = done }
@@ -155,7 +144,6 @@ entries_both plan (x ∷ xs) ys h i = (h.0, h.1, h.2, entries_both plan xs ys h.
 
 entry_good : (plan : ℕ → Use) (n : ℕ) (x : Bound) → plan n ≡ typing.entry → IsLabel n → GoodName x → EntriesGood plan (entry_of n x)
 entry_good plan n (b.Global (Some g)) e range h = (e, h, range, tt)
-entry_good plan n (b.Global None) e range h = tt
 entry_good plan n _ e range h = tt
 
 part_entries : (plan : ℕ → Use) (ts : List Target) (x : Part) → GoodPart plan ts x → AllRight plan (part_marks x) → EntriesGood plan (entries_of x)
@@ -165,7 +153,6 @@ part_entries plan ts (procedure n (routine x name k c)) g r =
 part_entries plan ts (procedure n (function x name k e)) g r =
     let low = g.0 in let high : n + (labels_of_procedure x + labels e) ≤ OCODE_LABEL + 1 = g.1 in let one = one_label x in
     entry_good plan n x r.0 (low, omega (arith, high, one)) g.2
-part_entries plan ts (procedure n (variables is)) g r = tt
 part_entries plan ts _ g r = tt
 
 all_entries : (plan : ℕ → Use) (ts : List Target) (xs : List Part) → AllGood plan ts xs → AllRight plan (joined part_marks xs) → EntriesGood plan (joined entries_of xs)
@@ -190,7 +177,6 @@ entry_few n _ = omega arith
 part_few : (ts : List Target) (x : Part) → length (entries_of x) ≤ length (procedure_code ts x)
 part_few ts (procedure n (routine x name k c)) = let h = entry_few n x in omega (arith, h)
 part_few ts (procedure n (function x name k e)) = let h = entry_few n x in omega (arith, h)
-part_few ts (procedure n (variables is)) = omega arith
 part_few ts _ = omega arith
 
 entries_few : (ts : List Target) (xs : List Part) → length (joined entries_of xs) ≤ length (joined (procedure_code ts) xs)
@@ -259,7 +245,6 @@ look_set (m ∷ ms) l used = pick (l == m.spot) refl (λ h. look_set ms l h)
 -- a part sets what its marks have
 name_marked : (l n : ℕ) (x : Bound) → times_set l (word_code n x) ≡ times_marked l (name_marks n x)
 name_marked l n (b.Static m) = omega arith
-name_marked l n (b.Constant v) = refl
 name_marked l n _ = refl
 
 part_marked : (l : ℕ) (ts : List Target) (x : Part) → times_set l (procedure_code ts x) + times_set l (data_code x) ≡ times_marked l (part_marks x)
@@ -267,15 +252,13 @@ part_marked l ts (procedure n (routine x name k c)) =
     let h = name_marked l n x in let i = command_marked l ts outermost n (k + 2) (n + labels_of_procedure x) c in simp (set_both, marked_both) (omega (arith, h, i))
 part_marked l ts (procedure n (function x name k e)) =
     let h = name_marked l n x in let i = value_marked l ts n (k + 2) (n + labels_of_procedure x) e in simp (set_both, marked_both) (omega (arith, h, i))
-part_marked l ts (procedure n (variables is)) = refl
 part_marked l ts (static_item n k) = omega arith
 part_marked l ts (static_table n ws) = let h = words_none l ws in omega (arith, h)
-part_marked l ts (label_place n s x) = refl
+part_marked l ts _ = refl
 
 parts_marked : (l : ℕ) (ts : List Target) (xs : List Part) → times_set l (joined (procedure_code ts) xs) + times_set l (joined data_code xs) ≡ times_marked l (joined part_marks xs)
 parts_marked l ts [] = refl
-parts_marked l ts (x ∷ xs) =
-    let h = part_marked l ts x in let i = parts_marked l ts xs in simp (set_both, marked_both) (omega (arith, h, i))
+parts_marked l ts (x ∷ xs) = simp (set_both, marked_both) (omega (arith, part_marked l ts x, parts_marked l ts xs))
 
 pub section_marked : (l : ℕ) (xs : List Part) → times_set l (section_code xs) ≡ times_marked l (joined part_marks xs)
 section_marked l xs =

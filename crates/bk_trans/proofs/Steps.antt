@@ -1,18 +1,8 @@
 -- Statements of a procedure one behind another, from one depth to another, and each statement that the scheme gives by itself.
 use Rattle.bk_trans.proofs.Words.{arith, ◌≡◌, ℕ, ◌+◌, ◌-◌, ◌≤◌, Bool, true, false, cond, List, [], ◌∷◌, ◌++◌, length, ℤ, int_lt, pos, refl, sym, subst, Some, None, length-take, FRAME_WORDS, NAME_BYTES, signed, first_bytes, Operator, Prefix, Bound, Stmt, IsLabel, IsDepth, Use, jumps, results, Standing, body, Fits, Typed, done, enters, goes, lands, takes, returns, gives, begins, points, ends}
-use Rattle.bk_tree.specs.declared.tree.Operator.TheVariants as o
-use Rattle.bk_tree.specs.declared.tree.Prefix.TheVariants as q
-use Rattle.bk_scope.specs.declared.bound.Bound.TheVariants as b
-use Rattle.bk_ocode.specs.declared.stmt.Variable.TheVariants as v
-use Rattle.bk_ocode.specs.declared.stmt.Monadic.{Monadic as MonadicOperator}
-use Rattle.bk_ocode.specs.declared.stmt.Dyadic.{Dyadic as DyadicOperator}
-use Rattle.bk_ocode.specs.declared.stmt.Dyadic.TheVariants as two
-use Rattle.bk_ocode.specs.declared.stmt.Stmt.TheVariants as t
+use Rattle.bk_trans.proofs.Terms.{Operator as o, Prefix as q, Bound as b, Variable as v, Monadic as MonadicOperator, Dyadic as DyadicOperator, Dyadic as two, Stmt as t, Goal, Target, variable, push, prefix_code, infix_code, truth_value, go, test_of_step}
 use Rattle.bk_ocode.specs.Depth.{next_depth}
 use Rattle.bk_ocode.specs.Typing as typing
-use Rattle.bk_trans.specs.declared.around.Goal.{Goal}
-use Rattle.bk_trans.specs.declared.around.Target.{Target}
-use Rattle.bk_trans.specs.Scheme.{variable, push, prefix_code, infix_code, truth_value, go, test_of_step}
 use Rattle.bk_trans.proofs.Good.{IsGoal, Pushed, Held}
 
 -- one stretch behind another
@@ -69,18 +59,16 @@ fits_local plan p k i low below high = record { placed = refl; ranged = (low, om
 pub fits_push : (plan : ℕ → Use) (ts : List Target) (p k : ℕ) (x : Bound) → Pushed plan ts k x → k + 1 ≤ FRAME_WORDS → Fits plan p k (push ts x)
 fits_push plan ts p k (b.Constant None) h high = fits_number plan p k (pos 0) high
 fits_push plan ts p k (b.Constant (Some w)) h high = fits_number plan p k (signed w) high
-fits_push plan ts p k (b.Global None) h high = elim h [ ]
 fits_push plan ts p k (b.Global (Some g)) h high = record { placed = refl; ranged = h; deep = omega arith; shallow = high; agrees = tt }
 fits_push plan ts p k (b.Static m) h high = record { placed = refl; ranged = h.1; deep = omega arith; shallow = high; agrees = h.0 }
 fits_push plan ts p k (b.Variable j i) h high = fits_local plan p k i h.0 h.1 high
-fits_push plan ts p k (b.Label j m) h high = elim h [ ]
+fits_push plan ts p k _ h high = elim h [ ]
 
 pub next_push : (ts : List Target) (k : ℕ) (x : Bound) → next_depth k (push ts x) ≡ k + 1
 next_push ts k (b.Constant None) = refl
 next_push ts k _ = refl
 
 pub fits_address : (plan : ℕ → Use) (ts : List Target) (p k : ℕ) (x : Bound) → Held plan ts k x → k + 1 ≤ FRAME_WORDS → Fits plan p k (t.Address (variable ts x))
-fits_address plan ts p k (b.Constant y) h high = elim h [ ]
 fits_address plan ts p k (b.Global (Some g)) h high = record { placed = refl; ranged = h; deep = omega arith; shallow = high; agrees = tt }
 fits_address plan ts p k (b.Static m) h high = record { placed = refl; ranged = h.1; deep = omega arith; shallow = high; agrees = h.0 }
 fits_address plan ts p k (b.Variable j i) h high = record { placed = refl; ranged = (h.0, omega (arith, h, high)); deep = h.1; shallow = high; agrees = tt }
@@ -88,7 +76,6 @@ fits_address plan ts p k _ h high = elim h [ ]
 
 -- the value is above
 pub fits_assign : (plan : ℕ → Use) (ts : List Target) (p k : ℕ) (x : Bound) → Held plan ts k x → 2 ≤ k → k + 1 ≤ FRAME_WORDS → Fits plan p (k + 1) (t.Assign (variable ts x))
-fits_assign plan ts p k (b.Constant y) h low high = elim h [ ]
 fits_assign plan ts p k (b.Global (Some g)) h low high = record { placed = refl; ranged = h; deep = omega (arith, low); shallow = omega (arith, high); agrees = tt }
 fits_assign plan ts p k (b.Static m) h low high = record { placed = refl; ranged = h.1; deep = omega (arith, low); shallow = omega (arith, high); agrees = h.0 }
 fits_assign plan ts p k (b.Variable j i) h low high = record { placed = refl; ranged = (h.0, omega (arith, h, high)); deep = omega (arith, h); shallow = omega (arith, high); agrees = tt }
@@ -200,6 +187,5 @@ infix_steps plan p s low high o.Differ = dyadic_steps plan p s low high two.Neqv
 -- to a label, and back to the depth of the text
 pub go_steps : (plan : ℕ → Use) (p s : ℕ) (g : Goal) → IsGoal plan p g → 2 ≤ s → s ≤ FRAME_WORDS → Steps plan p s (go g s) s
 go_steps plan p s g h low high =
-    step g.depth (t.Stack g.depth) (fits_stack plan p s g.depth h.2) refl
-    (step g.depth (t.Jump g.label) (fits_jump plan p g.depth g.label h.0 h.1 h.2.1) refl
+    step g.depth (t.Stack g.depth) (fits_stack plan p s g.depth h.2) refl (step g.depth (t.Jump g.label) (fits_jump plan p g.depth g.label h.0 h.1 h.2.1) refl
     (last s (t.Stack s) (fits_stack plan p g.depth s (low, high)) refl))

@@ -1,26 +1,11 @@
 -- What is written of a part of a section is the scheme's code of it: going through a part adds its statements, what stands by
 -- itself in it, and its choices, where what declarations went to is the same in words.
 use Rattle.bk_trans.proofs.Words.{◌≡◌, ℕ, ◌+◌, Bool, true, false, not, cond, None, List, [], ◌∷◌, ◌++◌, map, length, refl, sym, ap, ◌∙◌, append_assoc, arith, append-nil, map-append, first_bytes, signed, Operator, Expression, Expressions, Action, Actions, Declaration, Declarations, Definition, Definitions, Starts, name, number, text, truth, query, parens, unary, binary, choice, apply, valof, table, none, more, empty, assign, call, goto, label, case_of, default, when, test, while, for_loop, switch, result, simple, block, repeat, repeat_while, no_actions, also, constants, definitions, no_declarations, declare, routine, function, variables, no_definitions, define, no_starts, value, vector, size, Local, Stmt, Number, Query, Text, Dyadic, Assign, AssignAt, AssignByte, Jump, JumpIf, GiveResult, TakeResult, Stack, Store, CallFunction, CallRoutine, ReturnItem, Return, Finish}
-use Rattle.bk_tree.specs.declared.tree.Operator.TheVariants as o
-use Rattle.bk_tree.specs.declared.tree.Prefix.TheVariants as q
-use Rattle.bk_tree.specs.declared.tree.Simple.TheVariants as w
-use Rattle.bk_tree.specs.declared.tree.Sort.TheVariants as sort
-use Rattle.bk_ocode.specs.declared.stmt.Dyadic.TheVariants as d
-use Rattle.bk_ocode.specs.declared.stmt.Stmt.TheVariants.{Address, Label}
-use Rattle.bk_trans.specs.declared.aim.Aim.TheVariants as aim
-use Rattle.bk_trans.specs.declared.unresolved.Unresolved.{Unresolved}
-use Rattle.bk_trans.specs.declared.around.Goal.{Goal}
-use Rattle.bk_trans.specs.declared.around.Around.{Around}
-use Rattle.bk_trans.specs.declared.around.Target.{Target}
-use Rattle.bk_trans.specs.Alike.{stmt_in_words}
+use Rattle.bk_trans.proofs.Terms.{Operator as o, Prefix as q, Simple as w, Sort as sort, Dyadic as d, Address, Label, Aim as aim, Unresolved, Goal, Around, Target, stmt_in_words, Supply, meaning, constant, constants_of, step_of, dropped, Part, procedure, parts, parts_each, parts_if, parts_at, parts_onto, parts_from, parts_in, parts_through, parts_of_declarations, parts_of_declaration, parts_of_definitions, parts_of_definition, parts_of_starts, outermost, valued, prefix_code, infix_code, truth_value, cases, cases_through, default_in, default_through, by_turns, value_code, each_code, jump_code, address_code, store_code, value_codes, store_codes, command_code, through_code, declarations_code, declaration_code, definitions_code, definition_code, starts_code, Writing, Stored, Reached, reached, after, settled_word, settled, word_of, push_of, goto_code, puts_drafts, puts, with_code, with_choices, no_choices, takes_labels, written, each_written, address_written, store_written, stores_written, values_written, act_written, each_act_written, declared, one_declared, defined, one_defined, started, any_variables, steps_on, goes_on, begins_procedure}
 use Rattle.bk_trans.specs.Program as p
 use Rattle.bk_trans.specs.Filling as f
-use Rattle.bk_trans.specs.Filling.{Supply, meaning, constant, constants_of, step_of, dropped}
 use Rattle.bk_trans.specs.Labels as n
 use Rattle.bk_trans.specs.Depths as depths
-use Rattle.bk_trans.specs.Parts.{Part, procedure, parts, parts_each, parts_if, parts_at, parts_onto, parts_from, parts_in, parts_through, parts_of_declarations, parts_of_declaration, parts_of_definitions, parts_of_definition, parts_of_starts}
-use Rattle.bk_trans.specs.Scheme.{outermost, valued, prefix_code, infix_code, truth_value, cases, cases_through, default_in, default_through, by_turns, value_code, each_code, jump_code, address_code, store_code, value_codes, store_codes, command_code, through_code, declarations_code, declaration_code, definitions_code, definition_code, starts_code}
-use Rattle.bk_trans.specs.Writing.{Writing, Stored, Reached, reached, after, settled_word, settled, word_of, push_of, goto_code, puts_drafts, puts, with_code, with_choices, no_choices, takes_labels, written, each_written, address_written, store_written, stores_written, values_written, act_written, each_act_written, declared, one_declared, defined, one_defined, started, any_variables, steps_on, goes_on, begins_procedure}
 use Rattle.bk_trans.proofs.Adds.{Near, near, near_after, near_is, alike, is_alike, At, Adds, nothing, then, put, put_drafts, put_both, put_twice, labelled, renumbered, resumed, unchosen, recoded}
 use Rattle.bk_trans.proofs.Additions.{NearAround, Placed, one, same, and, go_near, variable_near, push_near, goto_near, took_meaning, took, in_valof, in_loop, in_switch, in_procedure, put_label, put_case, put_default, put_items, no_parts, put_table, switched, begun_at, procedure_done, before_near, steps_near, goes_near, tail_cases, ways_of_values}
 
@@ -46,6 +31,11 @@ module _ (gs : List Goal) (ts : List Target) (placed : Placed gs ts) where
   jumping : {w v : Writing} {c : List Stmt} {ps : List Part} {g : Supply} {k : ℕ} (z : Bool) {l j : ℕ} → Near l j → Adds gs ts w c ps [] None g k v
       → Adds gs ts w (c ++ JumpIf z j ∷ []) ps [] None g k (puts (JumpIf z l) v)
   jumping z {l} {j} h a = put a (one (JumpIf z l) (JumpIf z j) (ap (JumpIf z) h.same))
+
+  -- a condition that is a value and a jump by it
+  pushing : (e : Expression) → Valued e → ((g : Supply) → f.condition e g ≡ f.one p.holds (f.term e g))
+      → ((s : ℕ) (z : Bool) (l : ℕ) (w : Writing) → written s (aim.Jump z l) e w ≡ puts (JumpIf z l) (written s aim.Value e w)) → Tied e
+  pushing e push is jumps = record { value = push; jump = λ s t w g k ns at z i j h. rw (is g) (rw (jumps s z i w) (jumping z h (push s t w g k ns at))) }
 
   -- an operator that is no `&` or `|`, or whose value is pushed
   two_values : (x : Operator) (l m : ℕ) (e h : Expression) → Tied e → Tied h → Valued (binary l x m e h)
@@ -123,10 +113,9 @@ module _ (gs : List Goal) (ts : List Target) (placed : Placed gs ts) where
       let test = then own (tc.jump s t (takes_labels 2 w) g (k + 2) ns own.at false w.next k at.next) in
       let yes = then test (ta.value s t _ _ _ ns test.at) in
       let between = put (nothing {gs = gs} {ts = ts} yes.at) (and {s = GiveResult (after w.next 1)} {r = GiveResult (k + 1)} (ap GiveResult (near_after 1 at.next).same) (one (Label w.next) (Label k) (ap Label at.next.same))) in
-      let no = then between (tb.value s t _ _ _ ns between.at) in
       let ends = and {s = GiveResult (after w.next 1)} {r = GiveResult (k + 1)} (ap GiveResult (near_after 1 at.next).same)
       (and {s = Label (after w.next 1)} {r = Label (k + 1)} (ap Label (near_after 1 at.next).same) (one (TakeResult s) (TakeResult t) (ap TakeResult ns.same))) in
-      renumbered (put (then yes no) ends) (omega arith)
+      renumbered (put (then yes (then between (tb.value s t _ _ _ ns between.at))) ends) (omega arith)
 
   -- the arguments of a call and what is called, before the call itself
   calling : (e : Expression) (es : Expressions) → Tied e → Eached es → (s t : ℕ) (w : Writing) (g : Supply) (k : ℕ) → Near s t → At w g k
@@ -236,10 +225,9 @@ module _ (gs : List Goal) (ts : List Target) (placed : Placed gs ts) where
   no_turns (x ∷ xs) = refl
 
   same_variables : (ds : Definitions) (g : Supply) → any_variables ds ≡ depths.has_variables (f.all_defined ds g).part
-  same_variables no_definitions g = refl
   same_variables (define (routine l x fs c) ds) g = same_variables ds (f.defined (routine l x fs c) g).left
   same_variables (define (function l x fs e) ds) g = same_variables ds (f.defined (function l x fs e) g).left
-  same_variables (define (variables l xs is) ds) g = refl
+  same_variables _ g = refl
 
   put_store : (z : Bool) {w v : Writing} {c : List Stmt} {ps : List Part} {g : Supply} {k : ℕ} → Adds gs ts w c ps [] None g k v → Adds gs ts w (c ++ cond z (Store ∷ []) []) ps [] None g k (cond z (puts Store v) v)
   put_store true a = put a (alike stmt_in_words (Store ∷ []))
@@ -247,82 +235,27 @@ module _ (gs : List Goal) (ts : List Target) (placed : Placed gs ts) where
 
   mutual
     tied : (e : Expression) → Tied e
-    tied (name l x) = record {
-      value = named_value l x;
-      jump = λ s t w g k ns at z i j h. jumping z h (named_value l x s t w g k ns at);
-    }
-    tied (number l v) = record {
-      value = λ s t w g k ns at. leaf (Number (signed v)) (Number (signed v)) refl at;
-      jump = λ s t w g k ns at z i j h. jumping z h (leaf (Number (signed v)) (Number (signed v)) refl at);
-    }
-    tied (text l x) = record {
-      value = λ s t w g k ns at. leaf (Text (first_bytes x)) (Text (first_bytes x)) refl at;
-      jump = λ s t w g k ns at z i j h. jumping z h (leaf (Text (first_bytes x)) (Text (first_bytes x)) refl at);
-    }
-    tied (truth l v) = record {
-      value = λ s t w g k ns at. leaf (truth_value v) (truth_value v) refl at;
-      jump = λ s t w g k ns at z i j h. jumping z h (leaf (truth_value v) (truth_value v) refl at);
-    }
-    tied (query l) = record {
-      value = λ s t w g k ns at. leaf Query Query refl at;
-      jump = λ s t w g k ns at z i j h. jumping z h (leaf Query Query refl at);
-    }
+    tied (name l x) = pushing (name l x) (named_value l x) (λ g. refl) (λ s z i w. refl)
+    tied (number l v) = pushing (number l v) (λ s t w g k ns at. leaf (Number (signed v)) (Number (signed v)) refl at) (λ g. refl) (λ s z i w. refl)
+    tied (text l x) = pushing (text l x) (λ s t w g k ns at. leaf (Text (first_bytes x)) (Text (first_bytes x)) refl at) (λ g. refl) (λ s z i w. refl)
+    tied (truth l v) = pushing (truth l v) (λ s t w g k ns at. leaf (truth_value v) (truth_value v) refl at) (λ g. refl) (λ s z i w. refl)
+    tied (query l) = pushing (query l) (λ s t w g k ns at. leaf Query Query refl at) (λ g. refl) (λ s z i w. refl)
     tied (parens l e) = record { value = (tied e).value; jump = (tied e).jump }
-    tied (unary l q.Address e) = record {
-      value = (reaching e).address;
-      jump = λ s t w g k ns at z i j h. jumping z h ((reaching e).address s t w g k ns at);
-    }
+    tied (unary l q.Address e) = pushing (unary l q.Address e) (reaching e).address (λ g. refl) (λ s z i w. refl)
     tied (unary l q.Not e) = record {
       value = λ s t w g k ns at. put ((tied e).value s t w g k ns at) (alike stmt_in_words _);
       jump = λ s t w g k ns at z i j h. (tied e).jump s t w g k ns at (not z) i j h;
     }
-    tied (unary l q.Contents e) = record {
-      value = λ s t w g k ns at. put ((tied e).value s t w g k ns at) (alike stmt_in_words (prefix_code q.Contents));
-      jump = λ s t w g k ns at z i j h. jumping z h (put ((tied e).value s t w g k ns at) (alike stmt_in_words (prefix_code q.Contents)));
-    }
-    tied (unary l q.Plus e) = record {
-      value = λ s t w g k ns at. put ((tied e).value s t w g k ns at) (alike stmt_in_words (prefix_code q.Plus));
-      jump = λ s t w g k ns at z i j h. jumping z h (put ((tied e).value s t w g k ns at) (alike stmt_in_words (prefix_code q.Plus)));
-    }
-    tied (unary l q.Minus e) = record {
-      value = λ s t w g k ns at. put ((tied e).value s t w g k ns at) (alike stmt_in_words (prefix_code q.Minus));
-      jump = λ s t w g k ns at z i j h. jumping z h (put ((tied e).value s t w g k ns at) (alike stmt_in_words (prefix_code q.Minus)));
-    }
+    tied (unary l x e) = pushing (unary l x e) (λ s t w g k ns at. put ((tied e).value s t w g k ns at) (alike stmt_in_words (prefix_code x))) (λ g. refl) (λ s z i w. refl)
     tied (binary l o.Both m a c) = record { value = two_values o.Both l m a c (tied a) (tied c); jump = both_tested l m a c (tied a) (tied c) }
     tied (binary l o.Either m a c) = record { value = two_values o.Either l m a c (tied a) (tied c); jump = either_tested l m a c (tied a) (tied c) }
-    tied (binary l o.Subscript m a c) = record { value = two_values o.Subscript l m a c (tied a) (tied c); jump = λ s t w g k ns at z i j h. jumping z h (two_values o.Subscript l m a c (tied a) (tied c) s t w g k ns at) }
-    tied (binary l o.Byte m a c) = record { value = two_values o.Byte l m a c (tied a) (tied c); jump = λ s t w g k ns at z i j h. jumping z h (two_values o.Byte l m a c (tied a) (tied c) s t w g k ns at) }
-    tied (binary l o.Times m a c) = record { value = two_values o.Times l m a c (tied a) (tied c); jump = λ s t w g k ns at z i j h. jumping z h (two_values o.Times l m a c (tied a) (tied c) s t w g k ns at) }
-    tied (binary l o.Over m a c) = record { value = two_values o.Over l m a c (tied a) (tied c); jump = λ s t w g k ns at z i j h. jumping z h (two_values o.Over l m a c (tied a) (tied c) s t w g k ns at) }
-    tied (binary l o.Rem m a c) = record { value = two_values o.Rem l m a c (tied a) (tied c); jump = λ s t w g k ns at z i j h. jumping z h (two_values o.Rem l m a c (tied a) (tied c) s t w g k ns at) }
-    tied (binary l o.Add m a c) = record { value = two_values o.Add l m a c (tied a) (tied c); jump = λ s t w g k ns at z i j h. jumping z h (two_values o.Add l m a c (tied a) (tied c) s t w g k ns at) }
-    tied (binary l o.Subtract m a c) = record { value = two_values o.Subtract l m a c (tied a) (tied c); jump = λ s t w g k ns at z i j h. jumping z h (two_values o.Subtract l m a c (tied a) (tied c) s t w g k ns at) }
-    tied (binary l o.Equal m a c) = record { value = two_values o.Equal l m a c (tied a) (tied c); jump = λ s t w g k ns at z i j h. jumping z h (two_values o.Equal l m a c (tied a) (tied c) s t w g k ns at) }
-    tied (binary l o.Unequal m a c) = record { value = two_values o.Unequal l m a c (tied a) (tied c); jump = λ s t w g k ns at z i j h. jumping z h (two_values o.Unequal l m a c (tied a) (tied c) s t w g k ns at) }
-    tied (binary l o.Less m a c) = record { value = two_values o.Less l m a c (tied a) (tied c); jump = λ s t w g k ns at z i j h. jumping z h (two_values o.Less l m a c (tied a) (tied c) s t w g k ns at) }
-    tied (binary l o.Greater m a c) = record { value = two_values o.Greater l m a c (tied a) (tied c); jump = λ s t w g k ns at z i j h. jumping z h (two_values o.Greater l m a c (tied a) (tied c) s t w g k ns at) }
-    tied (binary l o.AtMost m a c) = record { value = two_values o.AtMost l m a c (tied a) (tied c); jump = λ s t w g k ns at z i j h. jumping z h (two_values o.AtMost l m a c (tied a) (tied c) s t w g k ns at) }
-    tied (binary l o.AtLeast m a c) = record { value = two_values o.AtLeast l m a c (tied a) (tied c); jump = λ s t w g k ns at z i j h. jumping z h (two_values o.AtLeast l m a c (tied a) (tied c) s t w g k ns at) }
-    tied (binary l o.ShiftLeft m a c) = record { value = two_values o.ShiftLeft l m a c (tied a) (tied c); jump = λ s t w g k ns at z i j h. jumping z h (two_values o.ShiftLeft l m a c (tied a) (tied c) s t w g k ns at) }
-    tied (binary l o.ShiftRight m a c) = record { value = two_values o.ShiftRight l m a c (tied a) (tied c); jump = λ s t w g k ns at z i j h. jumping z h (two_values o.ShiftRight l m a c (tied a) (tied c) s t w g k ns at) }
-    tied (binary l o.Same m a c) = record { value = two_values o.Same l m a c (tied a) (tied c); jump = λ s t w g k ns at z i j h. jumping z h (two_values o.Same l m a c (tied a) (tied c) s t w g k ns at) }
-    tied (binary l o.Differ m a c) = record { value = two_values o.Differ l m a c (tied a) (tied c); jump = λ s t w g k ns at z i j h. jumping z h (two_values o.Differ l m a c (tied a) (tied c) s t w g k ns at) }
-    tied (choice l m c a b) = record {
-      value = chosen l m c a b (tied c) (tied a) (tied b);
-      jump = λ s t w g k ns at z i j h. jumping z h (chosen l m c a b (tied c) (tied a) (tied b) s t w g k ns at);
-    }
-    tied (apply l m e es) = record {
-      value = λ s t w g k ns at. put (calling e es (tied e) (tied_each es) s t w g k ns at) (same {s = CallFunction s} {r = CallFunction t} (ap CallFunction ns.same));
-      jump = λ s t w g k ns at z i j h. jumping z h (put (calling e es (tied e) (tied_each es) s t w g k ns at) (same {s = CallFunction s} {r = CallFunction t} (ap CallFunction ns.same)));
-    }
-    tied (table l es) = record {
-      value = λ s t w g k ns at. put_table es at;
-      jump = λ s t w g k ns at z i j h. jumping z h (put_table es at);
-    }
-    tied (valof l c) = record {
-      value = λ s t w g k ns at. valof_value l c (acted c) s t w g k ns at;
-      jump = λ s t w g k ns at z i j h. jumping z h (valof_value l c (acted c) s t w g k ns at);
-    }
+    tied (binary l x m a c) = pushing (binary l x m a c) (two_values x l m a c (tied a) (tied c)) (λ g. refl) (λ s z i w. refl)
+    tied (choice l m c a b) = pushing (choice l m c a b) (chosen l m c a b (tied c) (tied a) (tied b)) (λ g. refl) (λ s z i w. refl)
+    tied (apply l m e es) =
+        pushing (apply l m e es) (λ s t w g k ns at. put (calling e es (tied e) (tied_each es) s t w g k ns at) (same {s = CallFunction s} {r = CallFunction t} (ap CallFunction ns.same)))
+        (λ g. refl) (λ s z i w. refl)
+    tied (table l es) = pushing (table l es) (λ s t w g k ns at. put_table es at) (λ g. refl) (λ s z i w. refl)
+    tied (valof l c) = pushing (valof l c) (valof_value l c (acted c)) (λ g. refl) (λ s z i w. refl)
 
     tied_each : (es : Expressions) → Eached es
     tied_each none s t w g k ns at = renumbered (nothing at) (omega arith)
@@ -348,35 +281,7 @@ module _ (gs : List Goal) (ts : List Target) (placed : Placed gs ts) where
       address = λ s t w g k ns at. resumed (two_behind a c (tied a) (tied c) s t (with_code [] w) g k ns (record { left = at.left; next = at.next }));
       store = λ s t w g k ns at. put (two_behind a c (tied a) (tied c) s t w g k ns at) (alike stmt_in_words (AssignByte ∷ []));
     }
-    reaching (number l v) = nowhere (number l v) (λ g. refl) (λ s w. refl) (λ s w. refl)
-    reaching (text l x) = nowhere (text l x) (λ g. refl) (λ s w. refl) (λ s w. refl)
-    reaching (truth l v) = nowhere (truth l v) (λ g. refl) (λ s w. refl) (λ s w. refl)
-    reaching (query l) = nowhere (query l) (λ g. refl) (λ s w. refl) (λ s w. refl)
-    reaching (choice l m c a b) = nowhere (choice l m c a b) (λ g. refl) (λ s w. refl) (λ s w. refl)
-    reaching (apply l m e es) = nowhere (apply l m e es) (λ g. refl) (λ s w. refl) (λ s w. refl)
-    reaching (valof l c) = nowhere (valof l c) (λ g. refl) (λ s w. refl) (λ s w. refl)
-    reaching (table l es) = nowhere (table l es) (λ g. refl) (λ s w. refl) (λ s w. refl)
-    reaching (unary l q.Address e) = nowhere (unary l q.Address e) (λ g. refl) (λ s w. refl) (λ s w. refl)
-    reaching (unary l q.Plus e) = nowhere (unary l q.Plus e) (λ g. refl) (λ s w. refl) (λ s w. refl)
-    reaching (unary l q.Minus e) = nowhere (unary l q.Minus e) (λ g. refl) (λ s w. refl) (λ s w. refl)
-    reaching (unary l q.Not e) = nowhere (unary l q.Not e) (λ g. refl) (λ s w. refl) (λ s w. refl)
-    reaching (binary l o.Times m a c) = nowhere (binary l o.Times m a c) (λ g. refl) (λ s w. refl) (λ s w. refl)
-    reaching (binary l o.Over m a c) = nowhere (binary l o.Over m a c) (λ g. refl) (λ s w. refl) (λ s w. refl)
-    reaching (binary l o.Rem m a c) = nowhere (binary l o.Rem m a c) (λ g. refl) (λ s w. refl) (λ s w. refl)
-    reaching (binary l o.Add m a c) = nowhere (binary l o.Add m a c) (λ g. refl) (λ s w. refl) (λ s w. refl)
-    reaching (binary l o.Subtract m a c) = nowhere (binary l o.Subtract m a c) (λ g. refl) (λ s w. refl) (λ s w. refl)
-    reaching (binary l o.Equal m a c) = nowhere (binary l o.Equal m a c) (λ g. refl) (λ s w. refl) (λ s w. refl)
-    reaching (binary l o.Unequal m a c) = nowhere (binary l o.Unequal m a c) (λ g. refl) (λ s w. refl) (λ s w. refl)
-    reaching (binary l o.Less m a c) = nowhere (binary l o.Less m a c) (λ g. refl) (λ s w. refl) (λ s w. refl)
-    reaching (binary l o.Greater m a c) = nowhere (binary l o.Greater m a c) (λ g. refl) (λ s w. refl) (λ s w. refl)
-    reaching (binary l o.AtMost m a c) = nowhere (binary l o.AtMost m a c) (λ g. refl) (λ s w. refl) (λ s w. refl)
-    reaching (binary l o.AtLeast m a c) = nowhere (binary l o.AtLeast m a c) (λ g. refl) (λ s w. refl) (λ s w. refl)
-    reaching (binary l o.ShiftLeft m a c) = nowhere (binary l o.ShiftLeft m a c) (λ g. refl) (λ s w. refl) (λ s w. refl)
-    reaching (binary l o.ShiftRight m a c) = nowhere (binary l o.ShiftRight m a c) (λ g. refl) (λ s w. refl) (λ s w. refl)
-    reaching (binary l o.Same m a c) = nowhere (binary l o.Same m a c) (λ g. refl) (λ s w. refl) (λ s w. refl)
-    reaching (binary l o.Differ m a c) = nowhere (binary l o.Differ m a c) (λ g. refl) (λ s w. refl) (λ s w. refl)
-    reaching (binary l o.Both m a c) = nowhere (binary l o.Both m a c) (λ g. refl) (λ s w. refl) (λ s w. refl)
-    reaching (binary l o.Either m a c) = nowhere (binary l o.Either m a c) (λ g. refl) (λ s w. refl) (λ s w. refl)
+    reaching e = nowhere e (λ g. refl) (λ s w. refl) (λ s w. refl)
 
     stored : (es : Expressions) → Stores_each es
     stored none s t r before g k ns at h = record { codes_are = h ∙ ap (map (map stmt_in_words)) (sym (append-nil before)); writing_is = renumbered (nothing at) (omega arith) }
@@ -400,14 +305,11 @@ module _ (gs : List Goal) (ts : List Target) (placed : Placed gs ts) where
     set none s t w xs ys g k ns at h = renumbered (nothing at) (omega arith)
     set (more e es) s t w [] [] g k ns at h =
         let first = resumed ((tied e).value s t (with_code [] w) g k ns (record { left = at.left; next = at.next })) in
-        let rest = set es s t _ [] [] _ _ ns first.at refl in
-        renumbered (recoded (then first rest) (no_turns _)) (omega arith)
-    set (more e es) s t w [] (y ∷ ys) g k ns at h = absurd cc
-    set (more e es) s t w (x ∷ xs) [] g k ns at h = absurd cc
+        renumbered (recoded (then first (set es s t _ [] [] _ _ ns first.at refl)) (no_turns _)) (omega arith)
     set (more e es) s t w (x ∷ xs) (y ∷ ys) g k ns at h =
         let first = put_drafts _ ((tied e).value s t w g k ns at) (record { same = heads_are x y xs ys h }) in
-        let rest = set es s t _ xs ys _ _ ns first.at (tails_are x y xs ys h) in
-        renumbered (then first rest) (omega arith)
+        renumbered (then first (set es s t _ xs ys _ _ ns first.at (tails_are x y xs ys h))) (omega arith)
+    set (more e es) s t w _ _ g k ns at h = absurd cc
 
     acted : (c : Action) → Acted c
     acted empty x y s t w g k na ns at = renumbered (nothing at) (omega arith)
@@ -430,8 +332,7 @@ module _ (gs : List Goal) (ts : List Target) (placed : Placed gs ts) where
     acted (when l v e c) y z s t w g k na ns at =
         let own = labelled {gs = gs} {ts = ts} 1 at in
         let test = then own ((tied e).jump s t (takes_labels 1 w) g (k + 1) ns own.at (not v) w.next k at.next) in
-        let body = then test (acted c y z s t _ _ _ na ns test.at) in
-        renumbered (put body (same {s = Label w.next} {r = Label k} (ap Label at.next.same))) (omega arith)
+        renumbered (put (then test (acted c y z s t _ _ _ na ns test.at)) (same {s = Label w.next} {r = Label k} (ap Label at.next.same))) (omega arith)
     acted (test l e a c) y z s t w g k na ns at =
         let own = labelled {gs = gs} {ts = ts} 2 at in
         let test = then own ((tied e).jump s t (takes_labels 2 w) g (k + 2) ns own.at false w.next k at.next) in
@@ -460,8 +361,7 @@ module _ (gs : List Goal) (ts : List Target) (placed : Placed gs ts) where
     acted (switch l e c) y z s t w g k na ns at =
         let own = labelled {gs = gs} {ts = ts} 1 at in
         let first = then own ((tied e).value s t (takes_labels 1 w) g (k + 1) ns own.at) in
-        let body = acted_aside c (acted c) _ _ s t _ _ _ (in_switch at.next ns na) ns first.at in
-        renumbered (switched at.next first body) (omega arith)
+        renumbered (switched at.next first (acted_aside c (acted c) _ _ s t _ _ _ (in_switch at.next ns na) ns first.at)) (omega arith)
     acted (result l e) y z s t w g k na ns at = put ((tied e).value s t w g k ns at) (same {s = GiveResult y.valof} {r = GiveResult z.valof} (ap GiveResult na.valof.same))
     acted (simple l w.Break) y z s t w g k na ns at = renumbered (put (nothing at) (go_near _ _ s t na.leaves ns)) (omega arith)
     acted (simple l w.Loop) y z s t w g k na ns at = renumbered (put (nothing at) (go_near _ _ s t na.goes_on ns)) (omega arith)
@@ -502,8 +402,7 @@ module _ (gs : List Goal) (ts : List Target) (placed : Placed gs ts) where
 
     declared_one : (e : Declaration) → Declared_one e
     declared_one (constants l sort.Static is) r t g k ns at = record { writing_is = put_items is at; depth_is = ns }
-    declared_one (constants l sort.Manifest is) r t g k ns at = rw (no_parts is g) (record { writing_is = renumbered (took (λ v. (dropped is v).left) at) (omega arith); depth_is = ns })
-    declared_one (constants l sort.Global is) r t g k ns at = rw (no_parts is g) (record { writing_is = renumbered (took (λ v. (dropped is v).left) at) (omega arith); depth_is = ns })
+    declared_one (constants l _ is) r t g k ns at = rw (no_parts is g) (record { writing_is = renumbered (took (λ v. (dropped is v).left) at) (omega arith); depth_is = ns })
     declared_one (definitions l es) r t g k ns at =
         let all = all_defined es r t g k ns at in
         rw (← same_variables es g) (record { writing_is = put_store (any_variables es) all.writing_is; depth_is = all.depth_is })

@@ -1,14 +1,10 @@
 -- What is told of a part of a section without faults: no depth is past the limit, each word is one, and no claim was made before.
-use Rattle.bk_trans.proofs.Words.{arith, ◌+◌, ◌<◌, ◌≤◌, ◌^◌, Option, List, [], ◌∷◌, ◌++◌, length, ⊤, FRAME_WORDS, Operator, Prefix, Expression, name, number, parens, unary, binary, choice, apply, valof, table, size, Bound, Enclosing, Role, Value, Truth, Address, Destination, Binding, bound_in, Claim, deeper, valued, labelled, parenthesised, role_of_operand, role_of_operands, place_of_second, labels_of, labels_in_scope, Spot, onward, past, behind, Point, meaning, word, depth, claims_behind, used_at, depth_named, prefixed, pushed, each_constant, told, told_each, told_done}
-use Rattle.bk_tree.specs.declared.tree.Operator.TheVariants as o
-use Rattle.bk_tree.specs.declared.tree.Prefix.TheVariants as q
-use Rattle.bk_scope.specs.Laws.{Clean}
-use Rattle.bk_scope.proofs.Lemmas.{first_clean, second_clean}
+use Rattle.bk_trans.proofs.Words.{arith, ◌+◌, ◌<◌, ◌≤◌, ◌^◌, Option, List, [], ◌∷◌, ◌++◌, length, ⊤, FRAME_WORDS, Operator, Prefix, Expression, name, parens, unary, binary, choice, apply, valof, table, size, Bound, Enclosing, Role, Value, Truth, Destination, Binding, bound_in, Claim, deeper, valued, labelled, parenthesised, role_of_operand, role_of_operands, place_of_second, labels_of, labels_in_scope, Spot, onward, past, behind, Point, word, depth, claims_behind, used_at, depth_named, prefixed, pushed, each_constant, told, told_each, told_done}
+use Rattle.bk_trans.proofs.Terms.{Operator as o, Prefix as q, Clean, first_clean, second_clean}
 
 abbrev pub IsFine : Point → Type 0
 IsFine (depth m) = m ≤ FRAME_WORDS
 IsFine (word v) = v < 2 ^ 32
-IsFine (meaning b) = ⊤
 IsFine _ = ⊤
 
 abbrev pub AllPoints : (Point → Type 0) → List Point → Type 0
@@ -49,24 +45,16 @@ Fine xs = Told IsFine xs
 
 -- roles in which a word is pushed
 abbrev pub Pushing : Role → Type 0
-Pushing Value = ⊤
 Pushing (Destination x l) = ⊥
 Pushing _ = ⊤
 
 within_pushes : (r : Role) → Pushing r → Pushing (parenthesised r)
-within_pushes Value h = tt
 within_pushes (Destination x l) h = h
 within_pushes _ h = tt
 
 operand_pushes : (f : Prefix) (r : Role) (e : Expression) → Pushing (role_of_operand f r e)
 operand_pushes q.Not Truth e = tt
-operand_pushes q.Address r e = tt
-operand_pushes q.Not Value e = tt
-operand_pushes q.Not (Address x l) e = tt
-operand_pushes q.Not (Destination x l) e = tt
-operand_pushes q.Contents r e = tt
-operand_pushes q.Plus r e = tt
-operand_pushes q.Minus r e = tt
+operand_pushes _ _ e = tt
 
 operands_push : (f : Operator) (r : Role) → Pushing (role_of_operands f r)
 operands_push o.Both Truth = tt
@@ -74,14 +62,12 @@ operands_push o.Either Truth = tt
 operands_push f r = tt
 
 named_room : (r : Role) (p : Enclosing) (y : Option Bound) → Pushing r → AllFine (depth_named r p y) → p.depth + 1 ≤ FRAME_WORDS
-named_room Value p y i h = h.0
 named_room (Destination x l) p y i h = elim i [ ]
 named_room _ p y i h = h.0
 
 -- the frame has room for what is pushed
 pub told_room : (r : Role) (bs : List Binding) (p : Enclosing) (s : Spot) (e : Expression) → Pushing r → AllFine (told r bs p s e) → p.depth + 1 ≤ FRAME_WORDS
 told_room r bs p s (name l x) i h = named_room r p (bound_in bs x) i (all_back (used_at p.procedure s.place l x (bound_in bs x)) _ h)
-told_room r bs p s (number l n) i h = h.0
 told_room r bs p s (parens l e) i h = told_room (parenthesised r) bs p (past 1 s) e (within_pushes r i) h
 told_room r bs p s (unary l f e) i h = told_room (role_of_operand f r e) bs p (past 1 s) e (operand_pushes f r e) (all_back (prefixed f bs (past 1 s) e) _ h)
 told_room r bs p s (binary l f m a b) i h =

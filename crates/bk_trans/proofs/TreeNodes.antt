@@ -1,8 +1,6 @@
 -- The nodes of the named tree of a section: filling gives no more of them than its source has.
 use Rattle.bk_trans.proofs.Words.{arith, ◌≤◌, ℕ, ◌+◌, length, Expression, Expressions, Action, Actions, Declaration, Declarations, Items, Definition, Definitions, Starts}
-use Rattle.bk_tree.specs.declared.tree.Operator.TheVariants as o
-use Rattle.bk_tree.specs.declared.tree.Prefix.TheVariants as q
-use Rattle.bk_tree.specs.declared.tree.Sort.TheVariants as s
+use Rattle.bk_trans.proofs.Terms.{Operator as o, Prefix as q, Sort as s}
 use Rattle.bk_tree.specs.Tree as t
 use Rattle.bk_tree.specs.Limits as tree
 use Rattle.bk_trans.specs.Program as p
@@ -156,12 +154,9 @@ mutual
   kept_in (t.case_of l e c) g = let h = kept_in c (constant g).left in omega (arith, h)
   kept_in (t.default l c) g = let h = kept_in c g in omega (arith, h)
   kept_in (t.when l x e c) g = let h = (kept e g).1 in let i = kept_in c (condition e g).left in omega (arith, h, i)
-  kept_in (t.test l e x y) g =
-      let h = (kept e g).1 in let i = kept_in x (condition e g).left in let j = kept_in y (command x (condition e g).left).left in omega (arith, h, i, j)
+  kept_in (t.test l e x y) g = omega (arith, (kept e g).1, kept_in x (condition e g).left, kept_in y (command x (condition e g).left).left)
   kept_in (t.while l x e c) g = let h = (kept e g).1 in let i = kept_in c (condition e g).left in omega (arith, h, i)
-  kept_in (t.for_loop l v x y k c) g =
-      let h = (kept x g).0 in let i = (kept y (term x g).left).0 in let j = kept_in c (step_of k (term y (term x g).left).left).left in
-      omega (arith, h, i, j)
+  kept_in (t.for_loop l v x y k c) g = omega (arith, (kept x g).0, (kept y (term x g).left).0, kept_in c (step_of k (term y (term x g).left).left).left)
   kept_in (t.switch l e c) g = let h = (kept e g).0 in let i = kept_in c (term e g).left in omega (arith, h, i)
   kept_in (t.result l e) g = let h = (kept e g).0 in omega (arith, h)
   kept_in (t.block l ds cs) g = let h = kept_declared ds g in let i = kept_through cs (all_declared ds g).left in omega (arith, h, i)
@@ -179,8 +174,7 @@ mutual
 
   kept_one : (d : Declaration) (g : Supply) → nodes_of_one (declared d g).part ≤ tree.nodes_of_declaration d
   kept_one (t.constants l s.Static is) g = statics_kept is g
-  kept_one (t.constants l s.Manifest is) g = dropped_kept is g
-  kept_one (t.constants l s.Global is) g = dropped_kept is g
+  kept_one (t.constants l _ is) g = dropped_kept is g
   kept_one (t.definitions l ds) g = kept_defined ds g
 
   kept_defined : (ds : Definitions) (g : Supply) → nodes_defined (all_defined ds g).part ≤ tree.nodes_of_definitions ds

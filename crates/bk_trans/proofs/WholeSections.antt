@@ -1,19 +1,8 @@
 -- The statements that are written of a section are the scheme's, in words.
 use Rattle.bk_trans.proofs.Words.{◌≡◌, ℕ, ◌==◌, Bool, true, false, cond, List, [], ◌∷◌, map, refl, sym, ap, ◌∙◌, Declarations, Bound, meanings, words, Stmt, Globals, joined}
 use Rattle.bk_scope.specs.Known.{Known}
-use Rattle.bk_tree.specs.Limits.{Within}
-use Rattle.bk_ocode.specs.Section.{IsSection}
-use Rattle.bk_trans.specs.declared.around.Goal.{Goal}
-use Rattle.bk_trans.specs.declared.around.Target.{Target}
-use Rattle.bk_trans.specs.Alike.{word, target_in_words, stmt_in_words, in_words}
+use Rattle.bk_trans.proofs.Terms.{Within, IsSection, Goal, Target, word, target_in_words, stmt_in_words, in_words, Supply, program_of, AllFit, AreWords, named_tree, Part, target_of, parts_of_declarations, goal, goal_of, entries_of, scheme, reached, starting, section_written, AreWritten}
 use Rattle.bk_trans.specs.Filling as f
-use Rattle.bk_trans.specs.Filling.{Supply, program_of}
-use Rattle.bk_trans.specs.Fitting.{AllFit}
-use Rattle.bk_trans.specs.Laws.{AreWords}
-use Rattle.bk_trans.specs.Naming.{named_tree}
-use Rattle.bk_trans.specs.Parts.{Part, target_of, parts_of_declarations}
-use Rattle.bk_trans.specs.Scheme.{goal, goal_of, entries_of, scheme}
-use Rattle.bk_trans.specs.Writing.{reached, starting, section_written, AreWritten}
 use Rattle.bk_trans.proofs.Adds.{near, Alike, alike_both}
 use Rattle.bk_trans.proofs.FittingLemmas.{all_are}
 use Rattle.bk_trans.proofs.Accepted.{scheme_is_accepted}
@@ -29,8 +18,6 @@ one_near false x y u v h k = k
 
 goals_near : (xs ys : List Target) → map target_in_words xs ≡ map target_in_words ys → (m : ℕ) → NearGoal (goal_of xs m) (goal_of ys m)
 goals_near [] [] h m = record { labels = near 0; depths = near 0 }
-goals_near [] (y ∷ ys) h m = absurd cc
-goals_near (x ∷ xs) [] h m = absurd cc
 goals_near (x ∷ xs) (y ∷ ys) h m =
     let head : ◌≡◌ {A = Target} (target_in_words x) (target_in_words y) = cc in
     let tail : map target_in_words xs ≡ map target_in_words ys = cc in
@@ -38,6 +25,7 @@ goals_near (x ∷ xs) (y ∷ ys) h m =
     let label : word x.label ≡ word y.label = ap (λ t. t.label) head in
     let depth : word x.depth ≡ word y.depth = ap (λ t. t.depth) head in
     rw number (one_near (y.number == m) (goal x.label x.depth) (goal y.label y.depth) (goal_of xs m) (goal_of ys m) (record { labels = record { same = label }; depths = record { same = depth } }) (goals_near xs ys tail m))
+goals_near _ _ h m = absurd cc
 
 nowhere : Placed [] []
 nowhere = record { at_number = λ m. record { labels = near 0; depths = near 0 } }

@@ -1,15 +1,10 @@
 -- What the proofs cite of the crates below: numbers and lists, the tree, scopes, and OCODE.
-pub use Rattle.std.proofs.Common.{Bool, List, None, Option, Some, [], ap, append_assoc, arith, cond, eq-eqb, eqb-true, false, inl, inr, int_lt, length, length-append, map, max, min, negsuc, not, pos, refl, slice_get, subst, suc, sym, true, zero, ℕ, ℤ, ◌%◌, ◌*◌, ◌++◌, ◌+◌, ◌-◌, ◌<◌, ◌==◌, ◌^◌, ◌∙◌, ◌∷◌, ◌≡◌, ◌≤◌, ◌⊎◌}
-pub use Rattle.std.proofs.lemmas.Bool.{cases_lt, false≢true, le-ltb, ne_eqb}
+pub use Rattle.bk_trans.proofs.Terms.{Bool, List, None, Option, Some, [], ap, append_assoc, arith, cond, eq-eqb, eqb-true, false, inl, inr, int_lt, length, length-append, map, max, min, negsuc, not, pos, refl, slice_get, subst, suc, sym, true, zero, ℕ, ℤ, ◌%◌, ◌*◌, ◌++◌, ◌+◌, ◌-◌, ◌<◌, ◌==◌, ◌^◌, ◌∙◌, ◌∷◌, ◌≡◌, ◌≤◌, ◌⊎◌, cases_lt, false≢true, le-ltb, ne_eqb, signed, line_of, size, Operator, Prefix, Bound, Stmt, Local}
 pub use Rattle.std.proofs.lemmas.List.{append-nil, length-take, map-append}
 pub use Rattle.std.specs.Bool.{⊤}
 pub use Rattle.bk_base.specs.Strings.{first_bytes}
-pub use Rattle.bk_base.specs.Word.{signed}
 pub use Rattle.bk_base.specs.declared.limit.TheConstants.{FRAME_WORDS, GLOBAL_NUMBER, NAME_BYTES, OCODE_LABEL, OCODE_STATEMENTS, OCODE_WORDS, VEC_NUMBER}
-pub use Rattle.bk_tree.specs.Parts.{line_of, size}
 pub use Rattle.bk_tree.specs.Tree.{Action, Actions, Declaration, Declarations, Definition, Definitions, Expression, Expressions, Items, Mention, Starts, also, apply, assign, binary, block, call, case_of, choice, constants, declarations_in, declare, default, define, definitions, empty, for_loop, function, goto, item, label, more, name, no_actions, no_declarations, no_definitions, no_items, no_starts, none, number, parens, query, repeat, repeat_while, result, routine, simple, switch, table, test, text, truth, unary, valof, value, variables, vector, when, while}
-pub use Rattle.bk_tree.specs.declared.tree.Operator.{Operator}
-pub use Rattle.bk_tree.specs.declared.tree.Prefix.{Prefix}
 pub use Rattle.bk_scope.specs.Cases.{AllDiffer, NoneOf}
 pub use Rattle.bk_scope.specs.Constants.{constant_word}
 pub use Rattle.bk_scope.specs.Entering.{labels_of, labels_of_each, with_formals}
@@ -23,7 +18,6 @@ pub use Rattle.bk_scope.specs.Scoping.{globals_in_scope, labels_in_scope, manife
 pub use Rattle.bk_scope.specs.Sound.{Callable, FrameSound, GlobalsSound, GoesTo, HasWord, HasWordUpTo, HaveWords, ManifestsSound, Sound, SoundDeclared, SoundDefined, SoundDestinations, SoundDone, SoundDoneEach, SoundEach, SoundOneDeclared, SoundOneDefined, SoundSection, SoundStarted, StaticsSound, Usable}
 pub use Rattle.bk_scope.specs.Spots.{Spot, beginning, behind, behind_constant, behind_declared, behind_done, behind_each, behind_one_declared, behind_one_defined, numbered, numbers, numbers_declared, numbers_defined, numbers_done, numbers_done_each, numbers_each, numbers_items, numbers_one_declared, numbers_one_defined, numbers_started, onward, past, procedures_in, symbols_each}
 pub use Rattle.bk_scope.specs.Wrong.{Wrong, dynamic_name, global_out_of_range, label_not_here, no_result_or_return, not_assignable, text_of, vec_out_of_range}
-pub use Rattle.bk_scope.specs.declared.bound.Bound.{Bound}
 pub use Rattle.bk_scope.specs.declared.bound.Bound.TheVariants.{Constant, Global, Label, Static, Variable}
 pub use Rattle.bk_scope.specs.declared.place.Enclosing.{Enclosing}
 pub use Rattle.bk_scope.specs.declared.role.Role.{Role}
@@ -33,6 +27,4 @@ pub use Rattle.bk_ocode.specs.StmtRange.{AreCases, AreEntries, AreTyped, InRange
 pub use Rattle.bk_ocode.specs.Typing.{AllEntries, AllJump, Fits, Standing, Typed, Use, begins, body, done, ended, ends, enters, gives, goes, jumps, lands, outside, points, results, returns, sets, takes, times_set}
 pub use Rattle.bk_ocode.specs.declared.stmt.Case.{Case}
 pub use Rattle.bk_ocode.specs.declared.stmt.GlobalEntry.{GlobalEntry}
-pub use Rattle.bk_ocode.specs.declared.stmt.Stmt.{Stmt}
 pub use Rattle.bk_ocode.specs.declared.stmt.Stmt.TheVariants.{Assign, AssignAt, AssignByte, CallFunction, CallRoutine, DataAddress, DataLabel, DataNumber, Dyadic, EndProcedure, Entry, Finish, GiveResult, Globals, Jump, JumpIf, Load, LoadByte, Monadic, Number, Query, Return, ReturnItem, Save, Stack, Store, Switch, TakeResult, Text, True}
-pub use Rattle.bk_ocode.specs.declared.stmt.Variable.TheVariants.{Local}

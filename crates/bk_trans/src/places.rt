@@ -41,7 +41,7 @@ fn set_place(goals: &mut Vec<Goal>, target: Target) -> Result<(), AllocError>
 pub fn places_of(alloc: Global, targets: &[Target]) -> Result<Vec<Goal>, AllocError>
     ensures { IfOk result (λ goals. PlacesOf goals.items targets.now) }
 {
-    let mut goals = Vec::new(alloc);
+    let mut goals = Vec::with_capacity(alloc, targets.len())?;
     let mut left = targets.len();
     while left > 0 {
         left -= 1;

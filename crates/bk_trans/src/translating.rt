@@ -27,6 +27,7 @@ impl<'a> Writing<'a> {
         Writing {
             alloc,
             code: Vec::new(alloc),
+            spare: Vec::new(alloc),
             procedures: Vec::new(alloc),
             data_words: Vec::new(alloc),
             entries: Vec::new(alloc),
@@ -49,7 +50,7 @@ impl<'a> Writing<'a> {
             entries,
             ..
         } = self;
-        let mut stmts = settle(alloc, goals, procedures)?;
+        let mut stmts = settle(alloc, goals, procedures, data_words.len().saturating_add(1))?;
         stmts.append(&mut data_words)?;
         stmts.push(Stmt::Globals {
             entries: GlobalList::new(entries),

@@ -58,16 +58,18 @@ fn settled(goals: &[Goal], draft: Unresolved) -> Stmt
     }
 }
 
-/// The statements of drafts, where declarations went to these places.
+/// The statements of drafts, where declarations went to these places, with memory for so many more.
 pub fn settle(
     alloc: Global,
     goals: &[Goal],
     drafts: Vec<Unresolved>,
+    more: usize,
 ) -> Result<Vec<Stmt>, AllocError>
     ensures { IfOk result (λ stmts. stmts.items ≡ map (Settled goals.now) drafts.items) }
 {
-    drafts
-        .into_iter()
-        .map(|draft| settled(goals, draft))
-        .collect(alloc)
+    let mut stmts = Vec::with_capacity(alloc, drafts.len().saturating_add(more))?;
+    for draft in drafts {
+        stmts.push(settled(goals, draft))?;
+    }
+    Ok(stmts)
 }

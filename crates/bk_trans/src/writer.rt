@@ -18,13 +18,15 @@ use std::marker::Model;
 use std::mem;
 
 /// How many statements a section and a procedure have room for at first.
-pub const FIRST_STMTS: usize = 32;
+pub const FIRST_STMTS: usize = 128;
 
 /// The drafts so far, what is by itself, what is left of the meanings and words, and the label that is next.
 #[derive(Drop)]
 pub struct Writing<'a> {
     pub alloc: Global,
     pub code: Vec<Unresolved>,
+    /// Memory for what is written by itself next. What it has does not count.
+    pub spare: Vec<Unresolved>,
     pub procedures: Vec<Unresolved>,
     pub data_words: Vec<Stmt>,
     pub entries: Vec<GlobalEntry>,
@@ -81,11 +83,13 @@ impl Choices {
 }
 
 impl<'a> Writing<'a> {
-    /// Drafts more.
+    /// Drafts more. Their list is kept for what is written by itself next.
     pub fn put_all(&mut self, mut code: Vec<Unresolved>) -> Result<(), AllocError>
         ensures { OnOk result (self.new ≡ puts_drafts code.items self.old) }
     {
-        self.code.append(&mut code)
+        self.code.append(&mut code)?;
+        self.spare = code;
+        Ok(())
     }
 
     /// One draft more.
@@ -196,7 +200,7 @@ impl<'a> Writing<'a> {
         self.left.constant()
     }
 
-    /// What was written is set aside; what follows is written by itself. Where nothing was written, the room for it stays.
+    /// What was written is set aside; what follows is written by itself. Where nothing was written, the memory for it stays.
     pub fn aside(&mut self) -> Vec<Unresolved>
         ensures code { result.items ≡ self.old.code }
         ensures aside { self.new ≡ with_code [] self.old }
@@ -204,7 +208,9 @@ impl<'a> Writing<'a> {
         if self.code.is_empty() {
             return Vec::new(self.alloc);
         }
-        mem::replace(&mut self.code, Vec::new(self.alloc))
+        let mut own = mem::replace(&mut self.spare, Vec::new(self.alloc));
+        own.clear();
+        mem::replace(&mut self.code, own)
     }
 
     /// One goes on after what was set aside; what was written by itself.

@@ -1,5 +1,4 @@
-use Rattle.std.proofs.Common.{drop}
-use Rattle.bk_trans.specs.Fitting.{CasesFit}
+use Rattle.bk_trans.proofs.Terms.{drop, CasesFit}
 use Rattle.bk_trans.proofs.fitting.cases_fit.Given as goal
 
 abbrev pub invariant-loop-case : goal.invariant-loop-case

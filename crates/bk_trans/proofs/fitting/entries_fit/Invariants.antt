@@ -1,5 +1,4 @@
-use Rattle.std.proofs.Common.{drop}
-use Rattle.bk_trans.specs.Fitting.{EntriesFit}
+use Rattle.bk_trans.proofs.Terms.{drop, EntriesFit}
 use Rattle.bk_trans.proofs.fitting.entries_fit.Given as goal
 
 abbrev pub invariant-loop-entry : goal.invariant-loop-entry

@@ -1,5 +1,4 @@
-use Rattle.std.proofs.Common.{drop}
-use Rattle.bk_trans.specs.Fitting.{AllFit}
+use Rattle.bk_trans.proofs.Terms.{drop, AllFit}
 use Rattle.bk_trans.proofs.fitting.stmts_fit.Given as goal
 
 abbrev pub invariant-loop-stmt : goal.invariant-loop-stmt

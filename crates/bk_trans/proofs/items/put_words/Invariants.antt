@@ -1,8 +1,4 @@
-use Rattle.std.proofs.Common.{◌≡◌, ◌++◌, map, drop}
-use Rattle.bk_base.specs.Word.{signed}
-use Rattle.bk_tree.specs.Tree.{expressions_in}
-use Rattle.bk_ocode.specs.declared.stmt.Stmt.TheVariants.{DataNumber}
-use Rattle.bk_trans.specs.Filling.{constants_of}
+use Rattle.bk_trans.proofs.Terms.{◌≡◌, ◌++◌, map, drop, signed, expressions_in, DataNumber, constants_of}
 use Rattle.bk_trans.proofs.items.put_words.Given as goal
 
 abbrev pub invariant-loop-expr : goal.invariant-loop-expr

@@ -1,4 +1,4 @@
-use Rattle.bk_trans.proofs.Once.{labels_are_set_once}
+use Rattle.bk_trans.proofs.Counted.{labels_are_set_once}
 use Rattle.bk_trans.proofs.laws.labels_are_set_once.Goals as goal
 
 pub returns : goal.returns

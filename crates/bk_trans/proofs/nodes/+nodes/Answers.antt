@@ -1,15 +1,8 @@
-use Rattle.std.proofs.Common.{rules, arith, ◌≡◌, ◌+◌, ◌<◌, true, [], map, ap, ◌∙◌, sym}
+use Rattle.bk_trans.proofs.Terms.{rules, arith, ◌≡◌, ◌+◌, ◌<◌, true, [], map, ap, ◌∙◌, sym, size, Sort as sort, Stack, Store, CallFunction, Aim as aim, step_of, looping, Reached, reached, after, puts, puts_drafts, puts_all, with_code, takes_labels, past_step, before_body, ends_for, aimed, written, each_written, act_written, each_act_written, acted_apart, declared, defined, any_variables}
 use Rattle.std.proofs.lemmas.Grind.{common_steps}
 use Rattle.std.specs.Vec.{vec_len}
-use Rattle.bk_tree.specs.Parts.{size}
-use Rattle.bk_tree.specs.declared.tree.Sort.TheVariants as sort
 use Rattle.bk_tree.specs.Tree.{expression, expressions_in, action, actions_in, declaration, declarations_in, items_in, definition, definitions_in, starts_in, step_in, mention, table, assign, call, constants, definitions, variables}
 use Rattle.bk_tree.proofs.Lemmas.{Constants_is, Let_is, Variables_is, Apply_is, Table_is, Assign_is, Call_is, Block_is, For_is, expressions_count, is_zero, is_more}
-use Rattle.bk_ocode.specs.declared.stmt.Stmt.TheVariants.{Stack, Store, CallFunction}
-use Rattle.bk_trans.specs.declared.aim.Aim.TheVariants as aim
-use Rattle.bk_trans.specs.Filling.{step_of}
-use Rattle.bk_trans.specs.Scheme.{looping}
-use Rattle.bk_trans.specs.Writing.{Reached, reached, after, puts, puts_drafts, puts_all, with_code, takes_labels, past_step, before_body, ends_for, aimed, written, each_written, act_written, each_act_written, acted_apart, declared, defined, any_variables}
 use Rattle.bk_trans.proofs.Blocks.{without_declarations, with_declarations, block_in, with_variables, apply_written, for_written}
 use Rattle.bk_trans.proofs.nodes.+nodes.Goals as goal
 

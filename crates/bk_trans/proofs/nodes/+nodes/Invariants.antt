@@ -1,6 +1,4 @@
-use Rattle.std.proofs.Common.{◌≡◌, drop}
-use Rattle.bk_tree.specs.Tree.{expressions_in, actions_in, declarations_in, definitions_in, starts_in}
-use Rattle.bk_trans.specs.Writing.{reached, each_written, stores_written, values_written, each_act_written, declared, defined, started}
+use Rattle.bk_trans.proofs.Terms.{◌≡◌, drop, expressions_in, actions_in, declarations_in, definitions_in, starts_in, reached, each_written, stores_written, values_written, each_act_written, declared, defined, started}
 use Rattle.bk_trans.proofs.nodes.+nodes.Given as goal
 
 abbrev pub invariant-each_value-loop-expr : goal.invariant-each_value-loop-expr

@@ -1,6 +1,4 @@
-use Rattle.std.proofs.Common.{◌≡◌, drop}
-use Rattle.bk_tree.specs.Tree.{definitions_in}
-use Rattle.bk_trans.specs.Writing.{any_variables}
+use Rattle.bk_trans.proofs.Terms.{◌≡◌, drop, definitions_in, any_variables}
 use Rattle.bk_trans.proofs.nodes.has_variables.Given as goal
 
 abbrev pub invariant-loop-def : goal.invariant-loop-def

@@ -1,5 +1,4 @@
-use Rattle.std.proofs.Common.{◌≡◌, ℕ, ◌-◌, length}
-use Rattle.bk_trans.specs.Writing.{place_of}
+use Rattle.bk_trans.proofs.Terms.{◌≡◌, ℕ, ◌-◌, length, place_of}
 use Rattle.bk_trans.proofs.places.extend.Given as goal
 
 abbrev pub invariant-loop-goals : goal.invariant-loop-goals

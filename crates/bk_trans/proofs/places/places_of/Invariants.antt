@@ -1,6 +1,4 @@
-use Rattle.std.proofs.Common.{◌≡◌, ℕ, ◌≤◌, length, drop}
-use Rattle.bk_trans.specs.Scheme.{goal_of}
-use Rattle.bk_trans.specs.Writing.{place_of}
+use Rattle.bk_trans.proofs.Terms.{◌≡◌, ℕ, ◌≤◌, length, drop, goal_of, place_of}
 use Rattle.bk_trans.proofs.places.places_of.Given as goal
 
 abbrev pub invariant-loop-left : goal.invariant-loop-left

@@ -1,6 +1,4 @@
-use Rattle.std.proofs.Common.{◌≡◌, drop}
-use Rattle.bk_tree.specs.Tree.{items_in}
-use Rattle.bk_trans.specs.Writing.{past_items}
+use Rattle.bk_trans.proofs.Terms.{◌≡◌, drop, items_in, past_items}
 use Rattle.bk_trans.proofs.writer.Writing.pass_items.Given as goal
 
 abbrev pub invariant-loop-item : goal.invariant-loop-item

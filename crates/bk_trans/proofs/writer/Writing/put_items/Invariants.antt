@@ -1,6 +1,4 @@
-use Rattle.std.proofs.Common.{◌≡◌, drop}
-use Rattle.bk_tree.specs.Tree.{items_in}
-use Rattle.bk_trans.specs.Writing.{puts_items}
+use Rattle.bk_trans.proofs.Terms.{◌≡◌, drop, items_in, puts_items}
 use Rattle.bk_trans.proofs.writer.Writing.put_items.Given as goal
 
 abbrev pub invariant-loop-item : goal.invariant-loop-item
