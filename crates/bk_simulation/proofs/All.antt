@@ -1,30 +1,9 @@
 -- All forms: what holds of the meanings of the nodes inside holds of each node.
-use Rattle.bk_simulation.proofs.Words.{◌≡◌, ℕ, suc, ◌+◌, ◌-◌, ◌*◌, ◌≤◌, Bool, true, false, List, ◌∷◌, ◌++◌, Some, refl, sym, ◌∙◌, subst, arith, zero, State, from_label, Stmt, Monadic, JumpIf, Stack, CallRoutine, FRAME_WORDS, infix_code, Operator, Expression, Expressions, Action, Actions, option_map, infix_word, divides_by_zero, Value, number, sum, on_numbers, operate_prefix, Environment, constant_in, past, past_each, labelled, Sought, the_label, the_case, the_default, Mode, forwards, seeking, World, ends, divide_by_zero, done, given, with, turn, Exit, going, history, After, Throughout, Meanings, at, fetch, in_order, scope_of, landing, alone, value_of, truth_of, address_in, combined, judged, assigned, act_of, applied, rounds_of, means_with, turn_for, means, no_turns, no_turn_for, Adds, adds, stays, given_after, with_after, each_way_after, either_after}
-use Rattle.bk_ocode.specs.declared.stmt.Monadic.TheVariants as w
-use Rattle.bk_tree.specs.declared.tree.Operator.TheVariants as o
-use Rattle.bk_tree.specs.declared.tree.Prefix.TheVariants as q
-use Rattle.bk_tree.specs.declared.tree.Simple.TheVariants as k
+use Rattle.bk_simulation.proofs.Words.{word_negation, word_not, ◌≡◌, ℕ, suc, ◌+◌, ◌-◌, ◌*◌, ◌≤◌, Bool, true, false, List, ◌∷◌, ◌++◌, Some, refl, sym, ◌∙◌, subst, arith, zero, State, from_label, Stmt, Monadic, JumpIf, Stack, CallRoutine, FRAME_WORDS, infix_code, Operator, Expression, Expressions, Action, Actions, option_map, infix_word, divides_by_zero, Value, number, sum, on_numbers, operate_prefix, Environment, constant_in, past, past_each, labelled, Sought, the_label, the_case, the_default, Mode, forwards, seeking, World, ends, divide_by_zero, done, given, with, turn, Exit, going, history, After, Throughout, Meanings, at, fetch, in_order, scope_of, landing, alone, value_of, truth_of, address_in, combined, judged, assigned, act_of, applied, rounds_of, means_with, turn_for, means, no_turns, no_turn_for, Adds, adds, stays, given_after, with_after, each_way_after, either_after, Prefix, only_grows, goto, break, loop, endcase, return}
+use Rattle.bk_simulation.proofs.Forms.{negates, inverts, not_true, turns_of, turns_among, turns_in, turns_through, Setting, Stretch, ByTurns, AreFrom, AreStores, AreValues, AreActs, CallAt, count, IsValue, IsJump, IsAddress, IsStore, IsAct, IsLoop, Entered, EnteredAny, EnteredBody, Configuration, start, Ready, Account, here, Ran, went, with_ran, turn_behind, CompletedAt, Has, Out, stay, completed_more, ran_first, ran_more, Simulates, for_value, for_truth, for_act, for_rounds, HasTruth, HasAddress, Destined, word, through, byte, Did, RanDid, for_scope, for_counts, contents_run, sign_run, plus_run, combined_run, for_two, one_run, two_run, RanValue, name_runs, number_runs, truth_runs, query_runs, text_runs, table_runs, denied_run, straight_run, over_run, choice_run, tested, order_adds, order_run, landing_adds, scope_runs, valof_run, while_rounds, repeat_rounds, repeat_while_rounds, while_run, while_sought, repeat_run, repeat_while_run, switch_run, switch_sought, when_run, when_sought, test_run, test_sought, left_here, finish_runs, resultis_runs, place_run, assigned_run, RanAddress, RanStore, address_runs, word_runs, contents_address, contents_store, subscript_address, subscript_store, byte_store, for_run, for_rounds_run, rounds_adds, AloneRuns, Procedures, KnowsLibrary, AloneAdds, apply_runs}
+use Rattle.bk_simulation.proofs.Terms.{Monadic as w, Operator as o, Prefix as q, Simple as k, Program, Target, byte_at, target_of}
 use Rattle.bk_tree.specs.Tree as t
-use Rattle.bk_tree.specs.declared.tree.Prefix.{Prefix}
-use Rattle.bk_meaning.specs.Lasting.{Program}
-use Rattle.bk_meaning.specs.Parts.{Target, byte_at}
-use Rattle.bk_meaning.specs.Expressions.{target_of}
-use Rattle.bk_simulation.proofs.Weights.{turns_of, turns_among, turns_in, turns_through}
-use Rattle.bk_simulation.proofs.Laid.{Setting, Stretch, ByTurns, AreFrom, AreStores, AreValues, AreActs, CallAt, count, IsValue, IsJump, IsAddress, IsStore, IsAct, IsLoop, Entered, EnteredAny, EnteredBody}
-use Rattle.bk_simulation.proofs.Frame.{Configuration, start, Ready, Account, here, Ran, went, with_ran, turn_behind, CompletedAt, Has, Out}
-use Rattle.bk_simulation.proofs.Compose.{stay, completed_more, ran_first, ran_more}
-use Rattle.bk_simulation.proofs.Simulates.{Simulates, for_value, for_truth, for_act, for_rounds, HasTruth, HasAddress, Destined, word, through, byte, Did, RanDid, for_scope, for_counts}
-use Rattle.bk_simulation.proofs.Operators.{contents_run, minus_run, not_run, plus_run, combined_run, for_two, one_run, two_run, RanValue, name_runs, number_runs, truth_runs, query_runs, text_runs, table_runs, denied_run, straight_run, over_run, choice_run}
-use Rattle.bk_simulation.proofs.ControlSteps.{tested}
-use Rattle.bk_simulation.proofs.Orders.{not_true, order_adds, order_run}
-use Rattle.bk_simulation.proofs.Loops.{landing_adds, scope_runs, valof_run, while_rounds, repeat_rounds, repeat_while_rounds, while_run, while_sought, repeat_run, repeat_while_run, switch_run, switch_sought}
-use Rattle.bk_simulation.proofs.Branches.{when_run, when_sought, test_run, test_sought, goto_runs, break_runs, loop_runs, endcase_runs, return_runs, finish_runs, resultis_runs, place_run}
-use Rattle.bk_simulation.proofs.Assignments.{assigned_run, RanAddress, RanStore, address_runs, word_runs, contents_address, contents_store, subscript_address, subscript_store, byte_store}
-use Rattle.bk_simulation.proofs.ForLoops.{for_run, for_rounds_run, rounds_adds}
-use Rattle.bk_simulation.proofs.Calls.{AloneRuns, Procedures}
-use Rattle.bk_simulation.proofs.Applied.{KnowsLibrary, AloneAdds, apply_runs}
 use Rattle.bk_simulation.proofs.Blocks.{block_runs}
-use Rattle.bk_meaning.proofs.Lemmas.{only_grows}
 
 -- what scopes add
 pub scope_after : (setting : Setting) (inner : Meanings) → Simulates setting inner → (cs : Actions) (mode : Mode) (env : Environment) (v : World) → After (history v) (scope_of inner cs mode env v)
@@ -68,25 +47,17 @@ ready_ticked : (setting : Setting) (z : Configuration) (v : World) (n : ℕ) →
 ready_ticked setting z v n r =
     record { named = r.named; fits = r.fits; low = r.low; high = r.high; deep = r.deep; frames = r.frames; room = r.room; lasts = r.lasts; words = r.words; in_hand = r.in_hand }
 
--- places within larger accounts
-larger_address : (setting : Setting) (s : State) (A B : Account) (z : Configuration) (rest : List Stmt) (v : World) (u : Target) (w1 : World) → A.most ≤ B.most → B.least ≤ A.least → HasAddress setting s A z rest v u w1 → HasAddress setting s B z rest v u w1
-larger_address setting s A B z rest v (at a) w1 le ll y = record { arr = completed_more le ll y.arr; stands = y.stands }
-larger_address setting s A B z rest v (byte_at a i) w1 le ll y = tt
+-- places within larger accounts, and where a turn less was left
+larger_address : (setting : Setting) (s : State) (A B : Account) (z : Configuration) (rest : List Stmt) (v : World) (n : ℕ) (u : Target) (w1 : World) → A.most ≤ B.most → B.least ≤ A.least → HasAddress setting s A z rest (record v { turns = n }) u w1
+    → HasAddress setting s B z rest v u w1
+larger_address setting s A B z rest v n (at a) w1 le ll y = record { arr = completed_more le ll y.arr; stands = y.stands }
+larger_address setting s A B z rest v n (byte_at a i) w1 le ll y = tt
 
-larger_store : (setting : Setting) (s : State) (A B : Account) (z : Configuration) (rest : List Stmt) (v : World) (u : Target) (w1 : World) → A.most ≤ B.most → B.least ≤ A.least → Destined setting s A z rest v u w1 → Destined setting s B z rest v u w1
-larger_store setting s A B z rest v _ _ le ll (word x ob i b w1 a eb ep) = word x ob i b w1 (completed_more le ll a) eb ep
-larger_store setting s A B z rest v _ _ le ll (through a w1 y) = through a w1 (record { arr = completed_more le ll y.arr; stands = y.stands })
-larger_store setting s A B z rest v _ _ le ll (byte a i w1 y sa si) = byte a i w1 (completed_more le ll y) sa si
-
--- and where a turn less was left
-ticked_address : (setting : Setting) (s : State) (B : Account) (z : Configuration) (rest : List Stmt) (v : World) (n : ℕ) (u : Target) (w1 : World) → HasAddress setting s B z rest (record v { turns = n }) u w1 → HasAddress setting s B z rest v u w1
-ticked_address setting s B z rest v n (at a) w1 y = record { arr = y.arr; stands = y.stands }
-ticked_address setting s B z rest v n (byte_at a i) w1 y = tt
-
-ticked_store : (setting : Setting) (s : State) (B : Account) (z : Configuration) (rest : List Stmt) (v : World) (n : ℕ) (u : Target) (w1 : World) → Destined setting s B z rest (record v { turns = n }) u w1 → Destined setting s B z rest v u w1
-ticked_store setting s B z rest v n _ _ (word x ob i b w1 a eb ep) = word x ob i b w1 a eb ep
-ticked_store setting s B z rest v n _ _ (through a w1 y) = through a w1 (record { arr = y.arr; stands = y.stands })
-ticked_store setting s B z rest v n _ _ (byte a i w1 y sa si) = byte a i w1 y sa si
+larger_store : (setting : Setting) (s : State) (A B : Account) (z : Configuration) (rest : List Stmt) (v : World) (n : ℕ) (u : Target) (w1 : World) → A.most ≤ B.most → B.least ≤ A.least → Destined setting s A z rest (record v { turns = n }) u w1
+    → Destined setting s B z rest v u w1
+larger_store setting s A B z rest v n _ _ le ll (word x ob i b w1 a eb ep) = word x ob i b w1 (completed_more le ll a) eb ep
+larger_store setting s A B z rest v n _ _ le ll (through a w1 y) = through a w1 (record { arr = completed_more le ll y.arr; stands = y.stands })
+larger_store setting s A B z rest v n _ _ le ll (byte a i w1 y sa si) = byte a i w1 (completed_more le ll y) sa si
 
 module _ (setting : Setting) (p : Program) (inner : Meanings) (procs : Procedures setting p) (known : KnowsLibrary setting) (simulated : Simulates setting inner) where
   -- ---- values
@@ -116,9 +87,11 @@ module _ (setting : Setting) (p : Program) (inner : Meanings) (procs : Procedure
   value_of_runs B (t.unary l q.Plus e) z c rest v le ll a r =
       one_run setting inner simulated B e z c rest v _ _ (λ u. prefix_adds q.Plus u) (omega arith) (omega arith) a r (λ u w1 y pos. plus_run setting (start z c v) (for_value e v) B z rest v w1 u (omega arith) (omega arith) y)
   value_of_runs B (t.unary l q.Minus e) z c rest v le ll a r =
-      one_run setting inner simulated B e z c (Monadic w.Negate ∷ rest) v _ _ (λ u. prefix_adds q.Minus u) (omega arith) (omega arith) a r (λ u w1 y pos. minus_run setting (start z c v) (for_value e v) B z rest v w1 u (omega arith) (omega arith) r.deep y)
+      one_run setting inner simulated B e z c (Monadic w.Negate ∷ rest) v _ _ (λ u. prefix_adds q.Minus u) (omega arith) (omega arith) a r (λ u w1 y pos. sign_run setting (start z c v) (for_value e v) B z w.Negate word_negation rest v w1 u (operate_prefix q.Minus u w1) (λ t k. refl) (omega arith) (omega arith) r.deep y
+      (negates setting.codes y.arr.bases1 y.arr.cells1 (z.frame + z.depth) w1 y.arr.fits u _ y.stands))
   value_of_runs B (t.unary l q.Not e) z c rest v le ll a r =
-      one_run setting inner simulated B e z c (Monadic w.Not ∷ rest) v _ _ (λ u. prefix_adds q.Not u) (omega arith) (omega arith) a r (λ u w1 y pos. not_run setting (start z c v) (for_value e v) B z rest v w1 u (omega arith) (omega arith) r.deep y)
+      one_run setting inner simulated B e z c (Monadic w.Not ∷ rest) v _ _ (λ u. prefix_adds q.Not u) (omega arith) (omega arith) a r (λ u w1 y pos. sign_run setting (start z c v) (for_value e v) B z w.Not word_not rest v w1 u (operate_prefix q.Not u w1) (λ t k. refl) (omega arith) (omega arith) r.deep y
+      (inverts setting.codes y.arr.bases1 y.arr.cells1 (z.frame + z.depth) w1 y.arr.fits u _ y.stands))
   value_of_runs B (t.binary l f i x y) z c rest v le ll a r =
       two_run setting inner simulated B x y z c a.0 (infix_code f ++ rest) v _ _ (λ u1 u2. combined_adds f u1 u2) (omega arith) (omega arith) a.1 a.2 r (λ u1 u2 w2 d pos. combined_run setting (start z c v) (for_two x y v) B z f rest v w2 u1 u2 (omega arith) (omega arith) r.deep d)
   value_of_runs B (t.choice l i e x y) z c rest v le ll a r = choice_run setting inner simulated B e x y z a.0 a.1 c a.2 a.3 rest v le (omega arith) a.4 a.5 a.6 a.7 a.8 r
@@ -158,7 +131,7 @@ module _ (setting : Setting) (p : Program) (inner : Meanings) (procs : Procedure
       → RanAddress setting (start z c v) B z rest v (target_of inner e z.env v)
   address_of_runs B (t.name l x) z c rest v le ll a r = address_runs setting B z c x rest v (omega arith) (omega arith) a r
   address_of_runs B (t.parens l e) z c rest v le ll a r =
-      ran_first (omega arith) (omega arith) (λ u w1 y. larger_address setting (start z c v) (for_value e v) B z rest v u w1 (omega arith) (omega arith) y)
+      ran_first (omega arith) (omega arith) (λ u w1 y. larger_address setting (start z c v) (for_value e v) B z rest v v.turns u w1 (omega arith) (omega arith) y)
       (simulated.address e z c rest v a r)
   address_of_runs B (t.unary l q.Contents e) z c rest v le ll a r = contents_address setting inner simulated B e z c rest v (omega arith) (omega arith) a r
   address_of_runs B (t.binary l o.Subscript i x y) z c rest v le ll a r = subscript_address setting inner simulated B x y z c a.0 rest v (omega arith) (omega arith) a.1 a.2 r
@@ -169,7 +142,7 @@ module _ (setting : Setting) (p : Program) (inner : Meanings) (procs : Procedure
       → RanStore setting (start z c v) B z rest v (target_of inner e z.env v)
   store_of_runs B (t.name l x) z c rest v le ll a r = word_runs setting B z c x rest v (omega arith) (omega arith) a r
   store_of_runs B (t.parens l e) z c rest v le ll a r =
-      ran_first (omega arith) (omega arith) (λ u w1 y. larger_store setting (start z c v) (for_value e v) B z rest v u w1 (omega arith) (omega arith) y)
+      ran_first (omega arith) (omega arith) (λ u w1 y. larger_store setting (start z c v) (for_value e v) B z rest v v.turns u w1 (omega arith) (omega arith) y)
       (simulated.destination e z c rest v a r)
   store_of_runs B (t.unary l q.Contents e) z c rest v le ll a r = contents_store setting inner simulated B e z c rest v (omega arith) (omega arith) a r
   store_of_runs B (t.binary l o.Subscript i x y) z c rest v le ll a r = subscript_store setting inner simulated B x y z c a.0 rest v (omega arith) (omega arith) a.1 a.2 r
@@ -205,7 +178,7 @@ module _ (setting : Setting) (p : Program) (inner : Meanings) (procs : Procedure
       (went (subst (λ y. CompletedAt setting (start z c v) B z y z.depth v v) a (stay setting B z c v (omega arith) lb r)))
   act_of_runs B (t.assign l xs es) forwards z there c rest e v le ll lb a en r = subst (λ code. RanDid setting (start z code v) B z rest v (act_of p inner (t.assign l xs es) forwards z.env v)) (sym en) (assigned_more B xs es z c rest v le ll a r)
   act_of_runs B (t.call l f es) forwards z there c rest e v le ll lb a en r = subst (λ code. RanDid setting (start z code v) B z rest v (act_of p inner (t.call l f es) forwards z.env v)) (sym en) (call_more B f es z c rest v le ll a r)
-  act_of_runs B (t.goto l x) forwards z there c rest e v le ll lb a en r = subst (λ code. RanDid setting (start z code v) B z rest v (act_of p inner (t.goto l x) forwards z.env v)) (sym en) (goto_runs setting B z x.letters c rest v (omega arith) (omega arith) a.0 a.1 r)
+  act_of_runs B (t.goto l x) forwards z there c rest e v le ll lb a en r = subst (λ code. RanDid setting (start z code v) B z rest v (act_of p inner (t.goto l x) forwards z.env v)) (sym en) (left_here setting B z (goto x.letters) c v (omega arith) (omega arith) r tt ((Stack z.depth ∷ rest, a.0), a.1))
   act_of_runs B (t.label l x y) forwards z there c rest e v le ll lb a en r = place_run setting inner simulated B (the_label x) y forwards z there c rest e v (omega arith) (omega arith) a en r
   act_of_runs B (t.label l x y) (seeking s) z there c rest e v le ll lb a en r = place_run setting inner simulated B (the_label x) y (seeking s) z there c rest e v (omega arith) (omega arith) a en r
   act_of_runs B (t.case_of l i y) forwards z there c rest e v le ll lb a en r = place_run setting inner simulated B (the_case (constant_in z.env i)) y forwards z there c rest e v (omega arith) (omega arith) a en r
@@ -222,10 +195,10 @@ module _ (setting : Setting) (p : Program) (inner : Meanings) (procs : Procedure
   act_of_runs B (t.switch l i y) forwards z there c rest e v le ll lb a en r = subst (λ code. RanDid setting (start z code v) B z rest v (act_of p inner (t.switch l i y) forwards z.env v)) (sym en) (switch_run setting inner simulated B l i y z there c rest v (omega arith) (omega arith) a r)
   act_of_runs B (t.switch l i y) (seeking s) z there c rest e v le ll lb a en r = switch_sought setting inner simulated B l i y s z there c rest e v (omega arith) (omega arith) a en r
   act_of_runs B (t.result l i) forwards z there c rest e v le ll lb a en r = subst (λ code. RanDid setting (start z code v) B z rest v (act_of p inner (t.result l i) forwards z.env v)) (sym en) (resultis_runs setting inner simulated B i z a.0 c rest v (omega arith) (omega arith) a.1 a.2 r)
-  act_of_runs B (t.simple l k.Break) forwards z there c rest e v le ll lb a en r = subst (λ code. RanDid setting (start z code v) B z rest v (act_of p inner (t.simple l k.Break) forwards z.env v)) (sym en) (break_runs setting B z c rest v (omega arith) (omega arith) a.0 a.1 r)
-  act_of_runs B (t.simple l k.Loop) forwards z there c rest e v le ll lb a en r = subst (λ code. RanDid setting (start z code v) B z rest v (act_of p inner (t.simple l k.Loop) forwards z.env v)) (sym en) (loop_runs setting B z c rest v (omega arith) (omega arith) a.0 a.1 r)
-  act_of_runs B (t.simple l k.EndCase) forwards z there c rest e v le ll lb a en r = subst (λ code. RanDid setting (start z code v) B z rest v (act_of p inner (t.simple l k.EndCase) forwards z.env v)) (sym en) (endcase_runs setting B z c rest v (omega arith) (omega arith) a.0 a.1 r)
-  act_of_runs B (t.simple l k.Return) forwards z there c rest e v le ll lb a en r = subst (λ code. RanDid setting (start z code v) B z rest v (act_of p inner (t.simple l k.Return) forwards z.env v)) (sym en) (return_runs setting B z c rest v (omega arith) (omega arith) a r)
+  act_of_runs B (t.simple l k.Break) forwards z there c rest e v le ll lb a en r = subst (λ code. RanDid setting (start z code v) B z rest v (act_of p inner (t.simple l k.Break) forwards z.env v)) (sym en) (left_here setting B z break c v (omega arith) (omega arith) r tt ((Stack z.depth ∷ rest, a.0), a.1))
+  act_of_runs B (t.simple l k.Loop) forwards z there c rest e v le ll lb a en r = subst (λ code. RanDid setting (start z code v) B z rest v (act_of p inner (t.simple l k.Loop) forwards z.env v)) (sym en) (left_here setting B z loop c v (omega arith) (omega arith) r tt ((Stack z.depth ∷ rest, a.0), a.1))
+  act_of_runs B (t.simple l k.EndCase) forwards z there c rest e v le ll lb a en r = subst (λ code. RanDid setting (start z code v) B z rest v (act_of p inner (t.simple l k.EndCase) forwards z.env v)) (sym en) (left_here setting B z endcase c v (omega arith) (omega arith) r tt ((Stack z.depth ∷ rest, a.0), a.1))
+  act_of_runs B (t.simple l k.Return) forwards z there c rest e v le ll lb a en r = subst (λ code. RanDid setting (start z code v) B z rest v (act_of p inner (t.simple l k.Return) forwards z.env v)) (sym en) (left_here setting B z return c v (omega arith) (omega arith) r tt (rest, a))
   act_of_runs B (t.simple l k.Finish) forwards z there c rest e v le ll lb a en r = subst (λ code. RanDid setting (start z code v) B z rest v (act_of p inner (t.simple l k.Finish) forwards z.env v)) (sym en) (finish_runs setting B z c rest v (omega arith) a)
   act_of_runs B (t.block l t.no_declarations cs) forwards z there c rest e v le ll lb a en r = order_more B cs forwards z there c rest e v le (omega arith) a en r
   act_of_runs B (t.block l t.no_declarations cs) (seeking s) z there c rest e v le ll lb a en r = order_more B cs (seeking s) z there c rest e v le (omega arith) a en r
@@ -258,7 +231,7 @@ module _ (setting : Setting) (p : Program) (inner : Meanings) (procs : Procedure
       let v1 : World = record v { turns = n } in
       let B : Account = for_value e v in
       ran_first (omega arith) (omega arith)
-      (λ u w1 y. ticked_address setting (start z c v) B z rest v n u w1 y) (address_of_runs B e z c rest v1 (omega arith) (omega arith) a (ready_ticked setting z v n r)))
+      (λ u w1 y. larger_address setting (start z c v) B B z rest v n u w1 (omega arith) (omega arith) y) (address_of_runs B e z c rest v1 (omega arith) (omega arith) a (ready_ticked setting z v n r)))
 
   store_turn : (e : Expression) (z : Configuration) (c rest : List Stmt) (v : World) → IsStore setting z.scene z.depth z.env e c rest → Ready setting z v
       → Ran setting (start z c v) (for_value e v) (λ u w1. Destined setting (start z c v) (for_value e v) z rest v u w1) (Out setting (start z c v) (for_value e v) z v) (turn v (λ w. target_of inner e z.env w))
@@ -267,7 +240,7 @@ module _ (setting : Setting) (p : Program) (inner : Meanings) (procs : Procedure
       let v1 : World = record v { turns = n } in
       let B : Account = for_value e v in
       ran_first (omega arith) (omega arith)
-      (λ u w1 y. ticked_store setting (start z c v) B z rest v n u w1 y) (store_of_runs B e z c rest v1 (omega arith) (omega arith) a (ready_ticked setting z v n r)))
+      (λ u w1 y. larger_store setting (start z c v) B B z rest v n u w1 (omega arith) (omega arith) y) (store_of_runs B e z c rest v1 (omega arith) (omega arith) a (ready_ticked setting z v n r)))
 
   act_turn : (x : Action) (mode : Mode) (z : Configuration) (there : Sought → List Stmt) (c rest e : List Stmt) (v : World) → 1 ≤ turns_in false x → IsAct setting z.scene z.depth z.env x there c rest → Entered mode z.env x there c e → Ready setting z v
       → RanDid setting (start z e v) (for_act x v) z rest v (turn v (λ w. act_of p inner x mode z.env w))

@@ -1,24 +1,11 @@
 -- Calls, for a value or not: the arguments, then the procedure, then its frame or a routine of the library.
-use Rattle.bk_simulation.proofs.Words.{◌≡◌, ℕ, suc, ◌+◌, ◌-◌, ◌*◌, ◌<◌, ◌≤◌, ◌^◌, max, nat_lt, Bool, true, false, List, ◌∷◌, length, Option, Some, None, refl, sym, ap, ◌∙◌, subst, arith, option_map_or, slice_get_within, FRAME_WORDS, Expression, Expressions, Action, Word, Cell, content_of, below, settle, Placed, Callables, Inside, State, slot, can_be_called, Stmt, Stack, Value, procedure, routine, World, Exit, Outcome, gives, undefined, each_way, calling, calls_back, Environment, past, Procedure, procedure_of, history, After, Throughout, forwards, scope_of, alone, Meanings, enter, call, applied, adds, stays, earlier, with_after, each_way_after, closing_after, calling_on}
+use Rattle.bk_simulation.proofs.Words.{◌≡◌, ℕ, suc, ◌+◌, ◌-◌, ◌*◌, ◌<◌, ◌≤◌, ◌^◌, max, nat_lt, Bool, true, false, List, ◌∷◌, length, Some, None, refl, sym, ap, ◌∙◌, subst, arith, option_map_or, slice_get_within, FRAME_WORDS, Expression, Expressions, Action, Word, Cell, content_of, below, settle, Placed, Callables, Inside, State, slot, can_be_called, Stmt, Stack, Value, procedure, routine, World, Exit, Outcome, gives, undefined, each_way, calling, calls_back, Environment, past, procedure_of, history, After, Throughout, forwards, scope_of, alone, Meanings, enter, call, applied, adds, stays, earlier, with_after, each_way_after, closing_after, calling_on, library, ties_add, library_ties}
+use Rattle.bk_simulation.proofs.Pieces.{by_option, Moves, call_step, at_routine, entering, does, call_stmt, frames_called, Like, like_on, Stands, moved_on, fits_above, moved_above, stands_grown, below_like, settle_like, moves_bytes, turns_of, turns_among, Setting, CallAt, IsValue, AreValues, count, Configuration, start, FewFrames, Ready, Account, one, comes_on, Ran, went, each_way_ran, with_ran, CompletedAt, there, Out, next, ready_next, stay, roomy, completed_step, completed_on, ran_on, Simulates, for_values, value_run, called_cells, called_like, called_argument, called_frame, called_back, called_links}
 use Rattle.bk_ocode.specs.OcodeState as ocode
 use Rattle.bk_meaning.specs.Values as value
 use Rattle.bk_meaning.specs.Lasting.{Program}
-use Rattle.bk_meaning.specs.Library.{library}
 use Rattle.bk_meaning.specs.Calls.{called}
-use Rattle.bk_meaning.proofs.Lemmas.{ties_add, library_ties}
-use Rattle.bk_simulation.proofs.Moves.{Moves, stack_moves, function_of_routine_moves, call_of_routine_moves, entering}
-use Rattle.bk_simulation.proofs.FramesKept.{frames_called}
-use Rattle.bk_simulation.proofs.Memory.{Like, like_on, Stands, moved_on, fits_above, moved_above, stands_grown}
-use Rattle.bk_simulation.proofs.WrittenCells.{below_like, settle_like}
-use Rattle.bk_simulation.proofs.BytesKept.{moves_bytes}
-use Rattle.bk_simulation.proofs.Weights.{turns_of, turns_among}
-use Rattle.bk_simulation.proofs.Laid.{Setting, CallAt, IsValue, AreValues, count}
-use Rattle.bk_simulation.proofs.Frame.{Configuration, start, FewFrames, Ready, Account, one, comes_on, Ran, went, each_way_ran, with_ran, CompletedAt, there, Out, next, ready_next, by_option}
-use Rattle.bk_simulation.proofs.Compose.{stay, roomy, completed_step, completed_on, ran_on}
-use Rattle.bk_simulation.proofs.Simulates.{Simulates, for_values}
-use Rattle.bk_simulation.proofs.Operators.{value_run}
-use Rattle.bk_simulation.proofs.NewFrames.{called_cells, called_like, called_argument, called_frame, called_back, called_links}
-use Rattle.bk_simulation.proofs.Calls.{Calling, AnyExit, AloneRuns, body_after, Procedures, call_stmt, Gave, Listed, values_run, call_run, entered_runs}
+use Rattle.bk_simulation.proofs.Calls.{Calling, AnyExit, AloneRuns, body_after, Procedures, Gave, Listed, values_run, call_run, entered_runs}
 use Rattle.bk_simulation.proofs.LibraryCalls.{named_there, library_runs}
 
 -- the history of the scope of one command
@@ -32,8 +19,7 @@ routine_callable c e r h = ap (λ y. option_map_or (λ _. true) y (c.is_entry e)
 
 routine_moves : (of : Bool) (setting : Setting) (s : State) (own : Placed) (rest : List Stmt) (d n e : ℕ) (r : ocode.Routine) → s.control ≡ Inside own (d + 1) (call_stmt of n ∷ rest) → slot s d ≡ Word e
     → setting.program.callables.routine e ≡ Some r → nat_lt (2 ^ 31 - 65536) (s.frame + n) ≡ false → Moves setting.program s (entering s own d n e rest)
-routine_moves true setting s own rest d n e r ec ew er el = function_of_routine_moves setting.program s own rest d n e r ec ew er (routine_callable setting.program.callables e r er) el
-routine_moves false setting s own rest d n e r ec ew er el = call_of_routine_moves setting.program s own rest d n e r ec ew er (routine_callable setting.program.callables e r er) el
+routine_moves of setting s own rest d n e r ec ew er el = (_, call_step setting.program s own rest of d n e ec ew (routine_callable setting.program.callables e r er) el, at_routine setting.program (entering s own d n e rest) e r refl er)
 
 library_after : (r : value.Routine) (vs : List Value) (w : World) → After (history w) (library r vs w)
 library_after r vs w = (ties_add (library r vs) (library r vs) (library_ties r vs)).at w
@@ -88,11 +74,8 @@ abbrev pub KnowsLibrary : Setting → Type 0
 KnowsLibrary setting = (r : value.Routine) → setting.program.callables.routine (setting.codes.routine r) ≡ Some (named_there r)
 
 called_after : (p : Program) (inner : Meanings) → Throughout (λ A w u. After (history w) u) inner → AloneAdds inner → (v : Value) (vs : List Value) (w : World) → After (history w) (called p inner v vs w)
-called_after p inner grows alone_after (procedure k) vs w = by_procedure (procedure_of p k)
-  where
-    by_procedure : (f : Option Procedure) → After (history w) (enter inner f vs w)
-    by_procedure None = tt
-    by_procedure (Some f) = closing_after _ (length w.memory) _ (body_after inner grows alone_after f.body _ _)
+called_after p inner grows alone_after (procedure k) vs w =
+    by_option (λ f. After (history w) (enter inner f vs w)) (procedure_of p k) (λ _. tt) (λ f _. closing_after _ (length w.memory) _ (body_after inner grows alone_after f.body _ _))
 called_after p inner grows alone_after (routine r) vs w = library_after r vs w
 called_after p inner grows alone_after _ vs w = tt
 
@@ -122,13 +105,17 @@ pub apply_runs : (of : Bool) (setting : Setting) (p : Program) (inner : Meanings
     → IsValue setting z.scene (z.depth + 2 + count es) z.env f c2 (call_stmt of z.depth ∷ rest) → CallAt setting z.scene (call_stmt of z.depth) rest → z.depth + 2 + count es + 1 ≤ FRAME_WORDS → Ready setting z w
     → Ran setting (start z c w) B (Gave of setting (start z c w) B z rest w) (Out setting (start z c w) B z w) (applied p inner f es z.env w)
 apply_runs of setting p inner procs known sim alone_runs alone_after B f es z c c1 c2 rest w leB leB' ec laid_es laid_f call room r =
+    let A0 : Account = record { most = 16 * w.turns; least = w.turns } in
+    let A : Account = record { most = 16 * w.turns + 1; least = w.turns } in
+    let D : Account = record { most = 16 * w.turns + 1; least = w.turns - turns_among false es } in
+    let C : Account = record { most = 16 * w.turns + 1; least = w.turns - (turns_among false es + turns_of false f) } in
     let s : State = start z c w in
     let top : ℕ = z.frame + z.depth in
     let cells0 : ℕ → Cell = below (z.frame + (z.depth + 2)) (settle (z.frame + z.depth) (z.frame + (z.depth + 2)) z.cells) in
     let like0 : (a : ℕ) → a < top → Like (cells0 a) (z.cells a) = λ a lt.
     like_on _ _ _ (below_like (z.frame + (z.depth + 2)) (settle (z.frame + z.depth) (z.frame + (z.depth + 2)) z.cells) a (let l : a < z.frame + z.depth = lt in omega arith)) (settle_like (z.frame + z.depth) (z.frame + (z.depth + 2)) z.cells a) in
     let dp = r.deep in
-    let a0 : CompletedAt setting s A z c1 (z.depth + 2) w w = completed_step (stay setting A0 z c w (omega arith) (omega arith) r) cells0 None z.written (omega arith) like0 (stack_moves setting.program s z.scene.own c1 z.depth (z.depth + 2) (ap (λ y. Inside z.scene.own z.depth y) ec)) in
+    let a0 : CompletedAt setting s A z c1 (z.depth + 2) w w = completed_step (stay setting A0 z c w (omega arith) (omega arith) r) cells0 None z.written (omega arith) like0 (does setting.program s z.scene.own c1 z.depth (Stack (z.depth + 2)) (ap (λ y. Inside z.scene.own z.depth y) ec) refl refl) in
     let z0 = next setting s A z c1 (z.depth + 2) w w (past f z.env) (z.depth + 2) a0 in
     with_ran {K = λ vs w1. Listed setting (start z0 c1 w) (for_values es w) z0 c2 es w vs w1}
     (λ vs. adds _ (λ w1. with_after _ _ _ (sim.grows.value f z.env w1) (λ v. adds _ (λ w2. call_after p inner sim.grows alone_after v vs w2))))
@@ -155,15 +142,3 @@ apply_runs of setting p inner procs known sim alone_runs alone_after B f es z c 
     (value_run setting inner sim f (next setting s D z c2 l.depth1 w w1 z.env l.depth1 a1) c2 (call_stmt of z.depth ∷ rest) w1 (subst (λ d. IsValue setting z.scene d z.env f c2 (call_stmt of z.depth ∷ rest)) (sym l.is_depth) laid_f)
     (ready_next z.env l.depth1 a1 refl (omega arith) r)))
     (λ v w2 ca. back_ran w2.calls (called_runs of setting p inner procs known sim (alone_runs) alone_after s C B z rest w w2 vs v (omega arith) (omega arith) (omega arith) r call ca)))
-  where
-    A0 : Account
-    A0 = record { most = 16 * w.turns; least = w.turns }
-
-    A : Account
-    A = record { most = 16 * w.turns + 1; least = w.turns }
-
-    D : Account
-    D = record { most = 16 * w.turns + 1; least = w.turns - turns_among false es }
-
-    C : Account
-    C = record { most = 16 * w.turns + 1; least = w.turns - (turns_among false es + turns_of false f) }

@@ -1,22 +1,9 @@
 -- Assignments: each value, its destination, and the word or byte that is stored.
 use Rattle.bk_simulation.proofs.Words.{false, ◌≡◌, ℕ, ◌+◌, ◌-◌, ◌*◌, ◌<◌, ◌≤◌, true, List, ◌∷◌, Option, Some, None, refl, sym, ap, ◌∙◌, subst, arith, ◌%◌, ◌^◌, word_sum, byte_distance, Content, Variable, Cell, Held, content_of, kind_of, write, below, Word, Placed, Inside, State, named_place, has_word, Local, Static, Stmt, Assign, AssignAt, AssignByte, Address, Dyadic, Expression, Expressions, Value, address, holds, Memory, write_byte, Environment, past, Sense, constant, cell, sense_of, World, changes, remembering, Outcome, gives, given, with, history, Meanings, at, store as put_value, address_named, assigned, Adds, adds, stays, with_after, changes_after, given_after, sum}
-use Rattle.bk_ocode.specs.declared.stmt.Variable.{Variable as Named}
+use Rattle.bk_simulation.proofs.Pieces.{by_option, Moves, assign_moves, assign_at_moves, assign_byte_moves, does, AreBytes, write_byte_at, BaseOf, Like, Stands, Store, Moved, Fits, moved_on, fits_above, fits_more, fits_less, moved_above, below_like, variable_found, put, write_here, write_at, turns_of, turns_among, Setting, Stretch, ByTurns, AreFrom, AreStores, IsStore, named_word, IsValue, Configuration, store, state, start, place_of, Ready, Account, further, went, with_ran, CompletedAt, store_at, there, Has, next, ready_next, NameAt, Ran, Out, stay, stepped, completed_more, completed_on, ran_on, comes_to, ran_more, above, Simulates, for_value, Destined, word, through, byte, RanDid, HasAddress, one_run, dyadic_topped, Two, for_two, two_run, pushes_item, named_at, ready_at, sum_applied}
+use Rattle.bk_simulation.proofs.Terms.{Variable as Named, Target, byte_at, Dyadic as two}
 use Rattle.bk_tree.specs.Tree as t
 use Rattle.bk_meaning.specs.Memory as memory
-use Rattle.bk_meaning.specs.Parts.{Target, byte_at}
-use Rattle.bk_simulation.proofs.Moves.{Moves, assign_moves, assign_at_moves, assign_byte_moves, address_moves}
-use Rattle.bk_simulation.proofs.CellBytes.{AreBytes, write_byte_at}
-use Rattle.bk_simulation.proofs.Memory.{BaseOf, Like, Stands, Store, Moved, Fits, moved_on, fits_above, fits_more, fits_less, moved_above}
-use Rattle.bk_simulation.proofs.WrittenCells.{below_like, variable_found, put, write_here, write_at}
-use Rattle.bk_simulation.proofs.Weights.{turns_of, turns_among}
-use Rattle.bk_simulation.proofs.Laid.{Setting, Stretch, ByTurns, AreFrom, AreStores, IsStore, named_word, IsValue}
-use Rattle.bk_simulation.proofs.Frame.{Configuration, store, state, start, place_of, Ready, Account, further, went, with_ran, CompletedAt, store_at, there, Has, next, ready_next, NameAt, Ran, Out, by_option}
-use Rattle.bk_simulation.proofs.Compose.{stay, stepped, completed_more, completed_on, ran_on, comes_to, ran_more, above}
-use Rattle.bk_simulation.proofs.Simulates.{Simulates, for_value, Destined, word, through, byte, RanDid, HasAddress}
-use Rattle.bk_simulation.proofs.Operators.{one_run, dyadic_topped, Two, for_two, two_run, pushes_item, named_at}
-use Rattle.bk_simulation.proofs.Orders.{ready_at}
-use Rattle.bk_ocode.specs.declared.stmt.Dyadic.TheVariants as two
-use Rattle.bk_simulation.proofs.OperatorWords.{sum_applied}
 
 -- ---- Addresses, for `@` and as destinations.
 
@@ -25,9 +12,6 @@ RanAddress setting s B z rest w o = Ran setting s B (HasAddress setting s B z re
 
 abbrev pub RanStore : Setting → State → Account → Configuration → List Stmt → World → Outcome Target → Type 0
 RanStore setting s B z rest w o = Ran setting s B (λ t w1. Destined setting s B z rest w t w1) (Out setting s B z w) o
-
-small_offset : (base i : ℕ) → base + i < 2 ^ 32 → i < 2 ^ 32
-small_offset base i lt = omega arith
 
 small_word : (base i : ℕ) → base + i < 2 ^ 32 → base + i ≡ (base + i) % 2 ^ 32
 small_word base i lt = omega arith
@@ -43,7 +27,7 @@ address_runs setting B z c x rest w le le' ec r = by_sense (sense_of x z.env) (r
         let v = named_word z.scene x in
         let s = start z (Address v ∷ rest) w in
         let is : named_place s z.scene.own v ≡ (h.0 + i) % 2 ^ 32 = named_at z (Address v ∷ rest) w v ∙ sym h.3 ∙ small_word h.0 i h.2 in
-        went (pushes_item setting B z c (Address v) rest w (address o i) (Word (named_place s z.scene.own v)) le le' ec r (h.0, h.1, small_offset h.0 i h.2, ap Word is) (address_moves setting.program s z.scene.own rest z.depth v refl))
+        went (pushes_item setting B z c (Address v) rest w (address o i) (Word (named_place s z.scene.own v)) le le' ec r (h.0, h.1, (let low = h.2 in omega (arith, low)), ap Word is) (does setting.program s z.scene.own rest z.depth (Address v) refl refl refl))
     by_sense _ h = went tt
 
 -- the word of a name as a destination

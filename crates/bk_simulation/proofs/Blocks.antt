@@ -1,19 +1,7 @@
 -- Blocks with declarations.
-use Rattle.bk_simulation.proofs.Words.{◌≡◌, ℕ, suc, ◌+◌, ◌-◌, ◌*◌, ◌<◌, ◌≤◌, Bool, true, false, cond, List, [], ◌∷◌, length, None, refl, sym, ap, ◌∙◌, subst, arith, FRAME_WORDS, Actions, Declaration, Declarations, Binding, Cell, content_of, below, settle, Inside, State, Stmt, Stack, Store as StoreStmt, World, with, closing, Environment, labelled, behind, within_let, objects_of_definitions, history, After, Throughout, Sought, the_label, forwards, stands_in_one, Meanings, scope_of, adds, stays, with_after}
+use Rattle.bk_simulation.proofs.Words.{◌≡◌, ℕ, suc, ◌+◌, ◌-◌, ◌*◌, ◌<◌, ◌≤◌, Bool, true, false, cond, List, [], ◌∷◌, length, None, refl, sym, ap, ◌∙◌, subst, arith, FRAME_WORDS, Actions, Declaration, Declarations, Binding, Cell, content_of, below, settle, Inside, State, Stmt, Stack, Store as Store_stmt, World, with, closing, Environment, labelled, behind, within_let, objects_of_definitions, history, After, Throughout, Sought, the_label, forwards, stands_in_one, Meanings, scope_of, adds, stays, with_after, Start, bind_variables, declare, declare_all}
+use Rattle.bk_simulation.proofs.Forms.{Moves, does, Codes, Like, like_on, Store, Grown, below_at, below_like, settle_like, settle_at, turns_one_declared, turns_declared, turns_through, Setting, Scene, NamedIn, Spot, defines_variables, KeepsLabels, IsAct, AreActs, AreDeclared, IsOneDeclared, owning, LeadsTo, some_objects, Configuration, store, state, start, Ready, Account, Ran, went, with_ran, OpenCompleted, store_at, named_grown, begun, accounted, completed_more, OpenExited, open_configuration, open_ready, open_step, open_on, ran_open, closed_ran, Since, since_refl, since_cells, closes, Simulates, RanDid, scope_runs, open_lift, Lets, defined_rise, no_spots, let_run, let_values_after, SpotsAt, RisingSpots, AreVariables, spots_carried, bind_run}
 use Rattle.bk_tree.specs.Tree as t
-use Rattle.bk_meaning.specs.Blocks.{Start, bind_variables, declare, declare_all}
-use Rattle.bk_simulation.proofs.Moves.{Moves, store_moves}
-use Rattle.bk_simulation.proofs.Memory.{Codes, Like, like_on, Store, Grown}
-use Rattle.bk_simulation.proofs.WrittenCells.{below_at, below_like, settle_like, settle_at}
-use Rattle.bk_simulation.proofs.Weights.{turns_one_declared, turns_declared, turns_through}
-use Rattle.bk_simulation.proofs.Laid.{Setting, Scene, NamedIn, Spot, defines_variables, KeepsLabels, IsAct, AreActs, AreDeclared, IsOneDeclared, owning, LeadsTo}
-use Rattle.bk_simulation.proofs.Frame.{some_objects, Configuration, store, state, start, Ready, Account, Ran, went, with_ran, OpenCompleted, store_at, named_grown}
-use Rattle.bk_simulation.proofs.Compose.{begun, accounted, completed_more, OpenExited, open_configuration, open_ready, open_step, open_on, ran_open, closed_ran}
-use Rattle.bk_simulation.proofs.MadeObjects.{Since, since_refl, since_cells}
-use Rattle.bk_simulation.proofs.ControlSteps.{closes}
-use Rattle.bk_simulation.proofs.Simulates.{Simulates, RanDid}
-use Rattle.bk_simulation.proofs.Loops.{scope_runs}
-use Rattle.bk_simulation.proofs.Lets.{open_lift, Lets, defined_rise, no_spots, let_run, let_values_after, SpotsAt, RisingSpots, AreVariables, spots_carried, bind_run}
 use Rattle.bk_simulation.proofs.Renamed.{keeps_both}
 
 -- what a declaration leaves, with what is laid behind it
@@ -58,7 +46,7 @@ pub record Stored (setting : Setting) (s : State) (C : Account) (z : Configurati
   pub vars : AreVariables arr.cells1 z.frame ps
   pub grown : Grown bases arr.bases1
 
-stored : (setting : Setting) (s : State) (C : Account) (z : Configuration) (w : World) (h : Store) (d : ℕ) (c1 c2 : List Stmt) (d1 : ℕ) (ps : List Spot) (vars : Bool) (ss : List Start) (w1 : World) → Ready setting z w → z.depth ≤ d → d ≤ d1 → RisingSpots d ps → c1 ≡ cond vars (StoreStmt ∷ c2) c2
+stored : (setting : Setting) (s : State) (C : Account) (z : Configuration) (w : World) (h : Store) (d : ℕ) (c1 c2 : List Stmt) (d1 : ℕ) (ps : List Spot) (vars : Bool) (ss : List Start) (w1 : World) → Ready setting z w → z.depth ≤ d → d ≤ d1 → RisingSpots d ps → c1 ≡ cond vars (Store_stmt ∷ c2) c2
     → (vars ≡ false → ps ≡ []) → Lets setting s C z w h d c1 d1 ps vars ss w1 → Stored setting s C z w c2 d1 ps h.bases ss w1
 stored setting s C z w h d c1 c2 d1 ps false ss w1 r le le1 rise ec none k =
     subst (λ y. Stored setting s C z w y d1 ps h.bases ss w1) ec
@@ -72,7 +60,7 @@ stored setting s C z w h d c1 c2 d1 ps true ss w1 r le le1 rise ec none k =
     let C1 : Account = record { most = C.most - 1; least = C.least } in
     let a1 : OpenCompleted setting s C1 z w c1 d1 (z.frame + d1) w1 = accounted w1.turns k.arr (omega arith) (omega arith) in
     let st : State = state z.scene.own d1 c1 k.arr.cells1 z.frame k.arr.hand1 k.arr.written1 w1 in
-    let mv : Moves setting.program st (state z.scene.own d1 c2 cells2 z.frame None k.arr.written1 w1) = store_moves setting.program st z.scene.own c2 d1 (ap (λ y. Inside z.scene.own d1 y) ec) in
+    let mv : Moves setting.program st (state z.scene.own d1 c2 cells2 z.frame None k.arr.written1 w1) = does setting.program st z.scene.own c2 d1 Store_stmt (ap (λ y. Inside z.scene.own d1 y) ec) refl refl in
     let h1 : Store = record { bases = k.arr.bases1; mem = w1.memory; cells = k.arr.cells1 } in
     record {
       arr = completed_more (omega arith) (omega arith) (open_step r (omega arith) a1 cells2 None k.arr.written1 like mv);

@@ -1,15 +1,6 @@
 -- IF, UNLESS and TEST.
-use Rattle.bk_simulation.proofs.Words.{◌≡◌, ℕ, ◌+◌, ◌-◌, ◌*◌, ◌≤◌, Bool, true, false, not, ◌||◌, cond, List, ◌∷◌, refl, sym, ap, ◌∙◌, subst, arith, ◌++◌, Option, Some, pos, State, Stmt, Label, Jump, Stack, GiveResult, Return, Finish, Expression, Action, Environment, past, past_action, Sought, Mode, forwards, seeking, stands_in, same_place, at_place, World, done, with, either, Exit, break, loop, endcase, goto, result, return, status, leaves, ends, history, Meanings, same_truth, where_truth, Adds, adds, stays, either_after, Status, bound_in, Content, content_of, from_label, go}
-use Rattle.bk_simulation.proofs.Weights.{turns_of, turns_in}
-use Rattle.bk_simulation.proofs.Sought.{same_stands}
-use Rattle.bk_simulation.proofs.Laid.{Setting, LabelAt, IsJump, IsAct, Entered, goal_named, IsLabelHere, IsValue, PlaceOf}
-use Rattle.bk_simulation.proofs.Frame.{Configuration, start, Ready, Account, went, with_ran, CompletedAt, next, ready_next, here, Stopped, Handed, Leads, still}
-use Rattle.bk_simulation.proofs.Compose.{stay, completed_on, ran_on, ran_more, completed_more, comes_to, ran_first}
-use Rattle.bk_simulation.proofs.Simulates.{Simulates, for_truth, where_to, Did, RanDid}
-use Rattle.bk_simulation.proofs.ControlSteps.{landed_on, jumped_on, result_on}
-use Rattle.bk_simulation.proofs.Orders.{by_test, or_second}
-use Rattle.bk_simulation.proofs.Moves.{finish_step}
-use Rattle.bk_simulation.proofs.Operators.{one_run}
+use Rattle.bk_simulation.proofs.Words.{◌≡◌, ℕ, ◌+◌, ◌-◌, ◌*◌, ◌≤◌, Bool, true, false, not, ◌||◌, cond, List, ◌∷◌, refl, sym, ap, ◌∙◌, subst, arith, Option, Some, pos, State, Stmt, Label, Jump, GiveResult, Finish, Expression, Action, Environment, past, past_action, Sought, Mode, forwards, seeking, stands_in, same_place, at_place, World, done, with, either, Exit, break, result, status, leaves, ends, history, Meanings, same_truth, where_truth, Adds, adds, stays, either_after, Status, Content, content_of, from_label}
+use Rattle.bk_simulation.proofs.Pieces.{by_test, turns_of, turns_in, same_stands, Setting, LabelAt, IsJump, IsAct, Entered, IsValue, PlaceOf, Configuration, start, Ready, Account, went, with_ran, CompletedAt, next, ready_next, here, Stopped, Handed, Leads, still, stay, completed_on, ran_on, ran_more, completed_more, comes_to, ran_first, Simulates, for_truth, where_to, Did, RanDid, landed_on, jumped_on, result_on, or_second, finish_step, one_run}
 
 -- ---- Commands without parts, and places that may be sought: GOTO, BREAK, LOOP, ENDCASE, RETURN, FINISH, RESULTIS; labels, CASE, DEFAULT.
 
@@ -30,25 +21,6 @@ pub left_here : {rest : List Stmt} (setting : Setting) (B : Account) (z : Config
     → Ready setting z w → no_result x → Leads z.scene x c → RanDid setting (start z c w) B z rest w (leaves x w)
 left_here setting B z x c w le le' r n l = let f = few_left x in
     went (record { control = c; depth1 = z.depth; leads = l; arr = stay setting B z c w (omega arith) le' r; later = omega arith; hands = nothing_handed setting z.bases x z.hand n })
-
-pub goto_runs : (setting : Setting) (B : Account) (z : Configuration) (y : List ℕ) (c rest : List Stmt) (w : World) → 16 * w.turns + 2 ≤ B.most → B.least ≤ w.turns → c ≡ go (goal_named z.scene y) z.depth ++ rest → IsLabelHere (bound_in z.scene.bindings y)
-    → Ready setting z w → RanDid setting (start z c w) B z rest w (leaves (goto y) w)
-goto_runs setting B z y c rest w le le' ec l r = left_here setting B z (goto y) c w le le' r tt ((Stack z.depth ∷ rest, ec), l)
-
-pub break_runs : (setting : Setting) (B : Account) (z : Configuration) (c rest : List Stmt) (w : World) → 16 * w.turns + 2 ≤ B.most → B.least ≤ w.turns → c ≡ go z.scene.around.leaves z.depth ++ rest → z.scene.exits.loop ≡ true → Ready setting z w
-    → RanDid setting (start z c w) B z rest w (leaves break w)
-break_runs setting B z c rest w le le' ec l r = left_here setting B z break c w le le' r tt ((Stack z.depth ∷ rest, ec), l)
-
-pub loop_runs : (setting : Setting) (B : Account) (z : Configuration) (c rest : List Stmt) (w : World) → 16 * w.turns + 2 ≤ B.most → B.least ≤ w.turns → c ≡ go z.scene.around.goes_on z.depth ++ rest → z.scene.exits.loop ≡ true → Ready setting z w
-    → RanDid setting (start z c w) B z rest w (leaves loop w)
-loop_runs setting B z c rest w le le' ec l r = left_here setting B z loop c w le le' r tt ((Stack z.depth ∷ rest, ec), l)
-
-pub endcase_runs : (setting : Setting) (B : Account) (z : Configuration) (c rest : List Stmt) (w : World) → 16 * w.turns + 2 ≤ B.most → B.least ≤ w.turns → c ≡ go z.scene.around.ends_case z.depth ++ rest → z.scene.exits.switch ≡ true → Ready setting z w
-    → RanDid setting (start z c w) B z rest w (leaves endcase w)
-endcase_runs setting B z c rest w le le' ec l r = left_here setting B z endcase c w le le' r tt ((Stack z.depth ∷ rest, ec), l)
-
-pub return_runs : (setting : Setting) (B : Account) (z : Configuration) (c rest : List Stmt) (w : World) → 16 * w.turns + 2 ≤ B.most → B.least ≤ w.turns → c ≡ Return ∷ rest → Ready setting z w → RanDid setting (start z c w) B z rest w (leaves return w)
-return_runs setting B z c rest w le le' ec r = left_here setting B z return c w le le' r tt (rest, ec)
 
 pub finish_runs : (setting : Setting) (B : Account) (z : Configuration) (c rest : List Stmt) (w : World) → 16 * w.turns + 1 ≤ B.most → c ≡ Finish ∷ rest → RanDid setting (start z c w) B z rest w (ends (status 0) w)
 finish_runs setting B z c rest w le ec =

@@ -1,9 +1,9 @@
 -- In a run of OCODE the bytes of words that are partly set are bytes.
-use Rattle.bk_simulation.proofs.Words.{◌≡◌, ℕ, ◌+◌, ◌-◌, ◌<◌, ◌^◌, ◌==◌, ◌%◌, nat_lt, Bool, true, false, List, [], ◌∷◌, ◌++◌, length, Option, Some, None, pos, refl, arith, subst, if◌then◌else◌, option_map, option_map_or, Status, word_sum, byte_distance, byte_place, Content, Unset, Word, Variable, Temporary, Link, Cell, Free, Held, content_of, kind_of, byte_in, with_byte, write, below, settle, Placed, Callables, Routine, Stop, Rdch, Wrch, Newline, Writes, Writen, Writed, Getbyte, Putbyte, Writef, Control, Inside, Behind, At, State, Next, Goes, Ends, Wild, on, slot, on_number, operated, named_place, has_word, from_label, jump, jump_with, case_label, can_be_called, tells, dyadic_word, routine_step, step_by, step_in, step_from, step, Rest, in_hand, resumed, resumed_by, resumed_in, find_rest, label_rest, rests_of, Program, program_step, program_step_from, kept, variable_in, variable_at, byte_at, word_with_byte_at, string_at, Stmt, Load, Monadic, Dyadic, LoadByte, Assign, AssignAt, AssignByte, Jump, JumpIf, Label, GiveResult, TakeResult, Stack, Store, Entry, Save, CallFunction, CallRoutine, ReturnItem, Return, EndProcedure, Switch, Finish, DataLabel, DataNumber, DataAddress, Globals, on_number-holds, on_some-holds, if-holds}
+use Rattle.bk_simulation.proofs.Lists.{either_way, by_option}
+use Rattle.bk_simulation.proofs.Words.{◌≡◌, ℕ, ◌+◌, ◌-◌, ◌<◌, ◌^◌, ◌==◌, ◌%◌, nat_lt, Bool, true, false, List, [], ◌∷◌, ◌++◌, length, Option, Some, None, subst, if◌then◌else◌, option_map, option_map_or, word_sum, byte_distance, byte_place, Content, Unset, Word, Variable, Temporary, Link, Cell, Free, Held, content_of, kind_of, byte_in, with_byte, write, below, settle, Placed, Callables, Routine, Stop, Rdch, Wrch, Newline, Writes, Writen, Writed, Getbyte, Putbyte, Writef, Control, Inside, Behind, At, State, Next, Goes, Wild, on, slot, on_number, operated, named_place, has_word, from_label, jump, jump_with, case_label, can_be_called, tells, dyadic_word, routine_step, step_by, step_in, step_from, Rest, in_hand, resumed, resumed_by, Program, program_step, kept, variable_in, variable_at, byte_at, word_with_byte_at, string_at, Stmt, Load, Monadic, Dyadic, LoadByte, Assign, AssignAt, AssignByte, Jump, JumpIf, Label, GiveResult, TakeResult, Stack, Store, Entry, Save, CallFunction, CallRoutine, ReturnItem, Return, EndProcedure, Switch, Finish, DataLabel, DataNumber, DataAddress, Globals, on_number-holds, on_some-holds, if-holds, Contents, Negate, Not}
 use Rattle.bk_ocode.specs.OcodeStep.{push, call, return, read_byte}
-use Rattle.bk_ocode.specs.declared.stmt.Monadic.TheVariants.{Contents, Negate, Not}
-use Rattle.bk_simulation.proofs.CellBytes.{IsByte, AreBytes, byte_is, four_are_bytes}
-use Rattle.bk_simulation.proofs.Moves.{Moves, settled, settled_from}
+use Rattle.bk_simulation.proofs.CellBytes.{IsByte, AreBytes, byte_is, four_are_bytes, byte_low}
+use Rattle.bk_simulation.proofs.Moves.{Moves, settled, going}
 
 abbrev pub InHand : Option Content → Type 0
 InHand None = Unit {0}
@@ -22,59 +22,33 @@ abbrev pub AllBytes : (ℕ → Cell) → Type 0
 AllBytes cells = (a : ℕ) → AreBytes (content_of (cells a))
 
 below_bytes : (top : ℕ) (cells : ℕ → Cell) → AllBytes cells → AllBytes (below top cells)
-below_bytes top cells all a = by_test (nat_lt a top)
-  where
-    by_test : (b : Bool) → AreBytes (content_of (if b then cells a else Free))
-    by_test true = all a
-    by_test false = tt
+below_bytes top cells all a = either_way (λ c. AreBytes (content_of c)) (nat_lt a top) (cells a) Free (all a) tt
 
 write_bytes : (cells : ℕ → Cell) (at : ℕ) (c : Cell) → AllBytes cells → AreBytes (content_of c) → AllBytes (write cells at c)
-write_bytes cells at c all are a = by_test (a == at)
-  where
-    by_test : (b : Bool) → AreBytes (content_of (if b then c else cells a))
-    by_test true = are
-    by_test false = all a
+write_bytes cells at c all are a = either_way (λ c. AreBytes (content_of c)) (a == at) c (cells a) are (all a)
 
 settle_bytes : (from top : ℕ) (cells : ℕ → Cell) → AllBytes cells → AllBytes (settle from top cells)
-settle_bytes from top cells all a = by_test (nat_lt a from) (nat_lt a top)
-  where
-    by_test : (b c : Bool) → AreBytes (content_of (if b then cells a else if c then Held Variable (content_of (cells a)) else cells a))
-    by_test true c = all a
-    by_test false true = all a
-    by_test false false = all a
+settle_bytes from top cells all a =
+    either_way (λ c. AreBytes (content_of c)) (nat_lt a from) (cells a) _ (all a) (either_way (λ c. AreBytes (content_of c)) (nat_lt a top) (Held Variable (content_of (cells a))) (cells a) (all a) (all a))
 
 in_variable : (c : Cell) (x : Content) → AreBytes (content_of c) → variable_in c ≡ Some x → AreBytes x
 in_variable (Held Variable y) x are e = subst AreBytes (let z : y ≡ x = cc in z) are
 in_variable _ x are e = absurd (cc)
 
 variable_bytes : (top a : ℕ) (cells : ℕ → Cell) (x : Content) → AllBytes cells → variable_at top cells a ≡ Some x → AreBytes x
-variable_bytes top a cells x all e = by_test (nat_lt a top) e
-  where
-    by_test : (b : Bool) → (if b then variable_in (cells a) else None) ≡ Some x → AreBytes x
-    by_test true e = in_variable (cells a) x (all a) e
-    by_test false e = absurd (cc)
+variable_bytes top a cells x all e = either_way (λ o. o ≡ Some x → AreBytes x) (nat_lt a top) (variable_in (cells a)) None (in_variable (cells a) x (all a)) (λ e. absurd (let z : None ≡ Some x = e in cc)) e
 
 set_byte : (b i k : ℕ) (x : Content) → b < 2 ^ 8 → AreBytes x → IsByte (if i == k then Some b else byte_in x k)
-set_byte b i k x small are = by_test (i == k)
-  where
-    by_test : (t : Bool) → IsByte (if t then Some b else byte_in x k)
-    by_test true = small
-    by_test false = byte_is x k are
+set_byte b i k x small are = either_way IsByte (i == k) (Some b) (byte_in x k) small (byte_is x k are)
 
 with_byte_bytes : (x : Content) (i b : ℕ) → b < 2 ^ 8 → AreBytes x → AreBytes (with_byte x i b)
 with_byte_bytes x i b small are = four_are_bytes _ _ _ _ (set_byte b i 0 x small are) (set_byte b i 1 x small are) (set_byte b i 2 x small are) (set_byte b i 3 x small are)
 
-byte_small : (b : ℕ) → b % 256 < 2 ^ 8
-byte_small b = omega arith
-
 word_with_bytes : (top : ℕ) (cells : ℕ → Cell) (a i b : ℕ) (x : Content) → AllBytes cells → word_with_byte_at top cells a i b ≡ Some x → AreBytes x
-word_with_bytes top cells a i b x all e = by_variable (variable_at top cells (word_sum a (byte_distance i))) refl e
-  where
-    by_variable : (o : Option Content) → variable_at top cells (word_sum a (byte_distance i)) ≡ o → option_map (λ content. with_byte content (byte_place i) (b % 256)) o ≡ Some x → AreBytes x
-    by_variable None eo e = absurd (cc)
-    by_variable (Some y) eo e =
-        subst AreBytes (let z : with_byte y (byte_place i) (b % 256) ≡ x = cc in z)
-        (with_byte_bytes y (byte_place i) (b % 256) (byte_small b) (variable_bytes top (word_sum a (byte_distance i)) cells y all eo))
+word_with_bytes top cells a i b x all e =
+    by_option (λ o. option_map (λ content. with_byte content (byte_place i) (b % 256)) o ≡ Some x → AreBytes x) (variable_at top cells (word_sum a (byte_distance i))) (λ _ e. absurd (cc)) (λ y eo e.
+    subst AreBytes (let z : with_byte y (byte_place i) (b % 256) ≡ x = cc in z)
+    (with_byte_bytes y (byte_place i) (b % 256) (byte_low b) (variable_bytes top (word_sum a (byte_distance i)) cells y all eo))) e
 
 in_hand_bytes : (h : Option Content) → InHand h → AreBytes (option_map_or (λ x. x) h Unset)
 in_hand_bytes None h = tt
@@ -213,70 +187,16 @@ module _ (s : State) (has : HasBytes s) where
   resumed_bytes own r = by_takes r.takes
     where
       by_takes : (b : Bool) → HasBytes (resumed_by b own r s)
-      by_takes true = record { words = write_bytes s.cells (s.frame + r.depth) (Held Temporary (in_hand s.hand)) has.words (by_hand s.hand has.hand); hand = tt }
-        where
-          by_hand : (h : Option Content) → InHand h → AreBytes (in_hand h)
-          by_hand None h = tt
-          by_hand (Some x) h = h
+      by_takes true = record { words = write_bytes s.cells (s.frame + r.depth) (Held Temporary (in_hand s.hand)) has.words (by_option (λ h. InHand h → AreBytes (in_hand h)) s.hand (λ _ h. tt) (λ _ _ h. h) has.hand); hand = tt }
       by_takes false = record { words = has.words; hand = kept_hand r.keeps }
-
-  found_bytes : (sections : List Placed) (n : ℕ) (t : State) → resumed_in sections n s ≡ Some t → HasBytes t
-  found_bytes [] n t e = absurd (cc)
-  found_bytes (own ∷ others) n t e = by_rest (find_rest (rests_of own) n) (λ h. found_bytes others n t h) e
-    where
-      by_rest : (r : Option Rest) → (resumed_in others n s ≡ Some t → HasBytes t) → option_map_or (λ r. Some (resumed own r s)) r (resumed_in others n s) ≡ Some t → HasBytes t
-      by_rest None go e = go e
-      by_rest (Some r) go e = subst HasBytes (let z : resumed own r s ≡ t = cc in z) (resumed_bytes own r)
-
-  pub settled_bytes : (program : Program) → HasBytes (settled program s)
-  settled_bytes program = by_control s.control
-    where
-      by_rest : (own : Placed) (r : Option Rest) → HasBytes (option_map_or (λ r. resumed own r s) r s)
-      by_rest own None = has
-      by_rest own (Some r) = resumed_bytes own r
-
-      by_found : (n : ℕ) (t : Option State) → resumed_in program.sections n s ≡ t → HasBytes (option_map_or (λ t. t) t s)
-      by_found n None e = has
-      by_found n (Some t) e = found_bytes program.sections n t e
-
-      by_routine : (n : ℕ) (r : Option Routine) → HasBytes (option_map_or (λ _. s) r (option_map_or (λ t. t) (resumed_in program.sections n s) s))
-      by_routine n (Some r) = has
-      by_routine n None = by_found n (resumed_in program.sections n s) refl
-
-      by_home : (n : ℕ) (b : Bool) → HasBytes (if b then s else option_map_or (λ _. s) (program.callables.routine n) (option_map_or (λ t. t) (resumed_in program.sections n s) s))
-      by_home n true = has
-      by_home n false = by_routine n (program.callables.routine n)
-
-      by_control : (c : Control) → HasBytes (settled_from program s c)
-      by_control (Inside own k rest) = has
-      by_control (Behind own l) = by_rest own (label_rest own.places 0 own.stmts l)
-      by_control (At n) = by_home n (n == program.home)
 
 -- ---- a step of a program, and a move
 
+pub settled_bytes : (program : Program) (s : State) → HasBytes s → HasBytes (settled program s)
+settled_bytes program s has = going program s (λ t x. HasBytes t) has has has (λ own r h. resumed_bytes s has own r)
+
 program_with : (program : Program) (s : State) → HasBytes s → WithBytes (program_step program s)
-program_with program s has = by_control s.control
-  where
-    by_rest : (own : Placed) (r : Option Rest) → WithBytes (option_map_or (λ r. step program.callables (resumed own r s)) r Wild)
-    by_rest own None = tt
-    by_rest own (Some r) = step_with (resumed own r s) (resumed_bytes s has own r) program.callables (resumed own r s).control
-
-    by_found : (n : ℕ) (t : Option State) → resumed_in program.sections n s ≡ t → WithBytes (option_map_or (λ t. step program.callables t) t Wild)
-    by_found n None e = tt
-    by_found n (Some t) e = step_with t (found_bytes s has program.sections n t e) program.callables t.control
-
-    by_routine : (n : ℕ) (r : Option Routine) → WithBytes (option_map_or (λ _. step program.callables s) r (option_map_or (λ t. step program.callables t) (resumed_in program.sections n s) Wild))
-    by_routine n (Some r) = step_with s has program.callables s.control
-    by_routine n None = by_found n (resumed_in program.sections n s) refl
-
-    by_home : (n : ℕ) (b : Bool) → WithBytes (if b then Ends (Status (pos 0)) s else option_map_or (λ _. step program.callables s) (program.callables.routine n) (option_map_or (λ t. step program.callables t) (resumed_in program.sections n s) Wild))
-    by_home n true = tt
-    by_home n false = by_routine n (program.callables.routine n)
-
-    by_control : (c : Control) → WithBytes (program_step_from program s c)
-    by_control (Inside own k rest) = step_with s has program.callables s.control
-    by_control (Behind own l) = by_rest own (label_rest own.places 0 own.stmts l)
-    by_control (At n) = by_home n (n == program.home)
+program_with program s has = going program s (λ t x. WithBytes x) tt tt (step_with s has program.callables s.control) (λ own r h. step_with (resumed own r s) (resumed_bytes s has own r) program.callables (resumed own r s).control)
 
 pub moves_bytes : (program : Program) (s u : State) → Moves program s u → HasBytes s → HasBytes u
-moves_bytes program s u m has = subst HasBytes m.2 (settled_bytes m.0 (subst WithBytes m.1 (program_with program s has)) program)
+moves_bytes program s u m has = subst HasBytes m.2 (settled_bytes program m.0 (subst WithBytes m.1 (program_with program s has)))

@@ -1,29 +1,11 @@
 -- Calls of procedures: their frame, their body, and back. A procedure is called: into its frame, through its body, and back.
-use Rattle.bk_simulation.proofs.Words.{◌≡◌, ℕ, ◌+◌, ◌-◌, ◌*◌, ◌≤◌, Bool, List, ◌∷◌, length, Option, Some, None, refl, ap, arith, slice_get, suc, ◌<◌, ◌^◌, ◌≢◌, true, false, sym, ◌∙◌, subst, zero, Action, Expression, Expressions, Content, Word, content_of, Temporary, Link, Cell, Held, write, below, Inside, State, Goes, At, in_hand, program_step, Stmt, ReturnItem, Return, Entry, Save, CallFunction, CallRoutine, Value, unset, World, Exit, return, Outcome, gives, each_way, closing, forgetting, Done, calls_back, Environment, past, Body, command, expression, Procedure, procedure_of, history, After, Throughout, forwards, scope_of, alone, Meanings, return_exit, run_body, bind_formals, values, adds, stays, each_way_after, with_after, FRAME_WORDS, max, nat_lt, [], ◌++◌, ⊎_elim, inl, inr, append-nil, option_map_or, nat_tests, slice_get_within, Placed, Routine, Callables, slot, can_be_called, procedure, holds, making, calling, formal_cells, enter, closing_after}
+use Rattle.bk_simulation.proofs.Words.{◌≡◌, ℕ, ◌+◌, ◌-◌, ◌*◌, ◌≤◌, Bool, List, ◌∷◌, length, Option, Some, None, refl, ap, arith, slice_get, suc, ◌<◌, ◌^◌, ◌≢◌, true, false, sym, ◌∙◌, subst, zero, Action, Expression, Expressions, Content, Word, content_of, Temporary, Link, Cell, Held, write, below, Inside, State, Goes, At, in_hand, program_step, Stmt, ReturnItem, Return, Entry, Save, Value, unset, World, Exit, return, Outcome, gives, each_way, closing, forgetting, Done, calls_back, Environment, past, Body, command, expression, Procedure, procedure_of, history, After, Throughout, forwards, scope_of, alone, Meanings, return_exit, run_body, bind_formals, values, adds, stays, each_way_after, with_after, FRAME_WORDS, max, nat_lt, [], ◌++◌, ⊎_elim, inl, inr, append-nil, option_map_or, slice_get_within, Placed, Callables, slot, can_be_called, procedure, holds, making, calling, formal_cells, enter, closing_after, ltb-false, ltb-true, IsCallAt, drop, Cell_of}
+use Rattle.bk_simulation.proofs.Pieces.{by_test, by_option, Stands, BaseOf, Grown, Like, like_refl, Moved, Fits, moved_on, fits_above, moved_above, Alive, StandsCell, Store, fits_more, turns_of, turns_through, Setting, Scene, IsAlone, IsValue, CallAt, AreValues, count, Configuration, start, Ready, Account, Ran, went, each_way_ran, so, CompletedAt, there, Has, Out, store, state, FewFrames, Comes, comes_on, one, with_ran, next, ready_next, here, go_on, falls_on, ran_from, completed_more, roomy, links_below, stay, completed_on, ran_on, ran_more, above, Simulates, for_scope, RanDid, for_value, for_values, value_run, Moves, returning, return_item_step, return_step, entering, does, call_stmt, call_step, call_settled, entry_settled, LinksFrom, links_kept, frames_called, untouched, below_at, below_like, HasBytes, moves_bytes, make, grown_made, lying, Since, since_on, since_made, since_moved, closed_moved, closed_fits, make_fits, IsFree, get_new, called_cells, saved_cells, called_argument, called_frame, called_back, called_links, saved_links, saved_same, saved_like, saved_formal, formals_long, formal_is, NamedIn}
 use Rattle.bk_meaning.specs.Lasting.{Program}
-use Rattle.bk_simulation.proofs.Memory.{Stands, BaseOf, Grown, Like, like_refl, Moved, Fits, moved_on, fits_above, moved_above, Alive, StandsCell, Store, fits_more}
-use Rattle.bk_simulation.proofs.Weights.{turns_of, turns_through}
-use Rattle.bk_simulation.proofs.Laid.{Setting, Scene, IsAlone, IsValue, CallAt, AreValues, count}
-use Rattle.bk_simulation.proofs.Frame.{Configuration, start, Ready, Account, Ran, went, each_way_ran, so, CompletedAt, there, Has, Out, NamedIn, store, state, FewFrames, Comes, comes_on, one, with_ran, next, ready_next, here, go_on, falls_on, ran_from}
-use Rattle.bk_simulation.proofs.Compose.{completed_more, roomy, links_below, stay, completed_on, ran_on, ran_more, above}
-use Rattle.bk_simulation.proofs.Simulates.{Simulates, for_scope, RanDid, for_value, for_values}
-use Rattle.bk_simulation.proofs.Operators.{value_run}
-use Rattle.std.specs.Prelude.{drop}
-use Rattle.bk_simulation.proofs.Moves.{Moves, back_in_function, back_in_routine, returning, return_item_step, return_step, function_moves, routine_moves, entry_moves, save_moves, entering}
-use Rattle.bk_simulation.proofs.FramesKept.{LinksFrom, links_kept, frames_called}
-use Rattle.bk_simulation.proofs.WrittenCells.{written, untouched, below_at, below_like}
-use Rattle.bk_simulation.proofs.BytesKept.{HasBytes, moves_bytes}
-use Rattle.bk_meaning.specs.Values.{Cell as Cell_of}
-use Rattle.bk_simulation.specs.Simulation.{IsCallAt}
-use Rattle.bk_simulation.proofs.MadeObjects.{make, grown_made, lying, Since, since_on, since_made, since_moved, closed_moved, closed_fits, make_fits, IsFree, get_new}
-use Rattle.bk_simulation.proofs.NewFrames.{called_cells, saved_cells, called_argument, called_frame, called_back, called_links, saved_links, saved_same, saved_like, saved_formal, formals_long, formal_is}
-use Rattle.bk_simulation.proofs.Orders.{by_test}
+use Rattle.bk_simulation.proofs.WrittenCells.{written}
 use Rattle.bk_tree.specs.Tree as t
 
 -- ---- The arguments of a call, from left to right.
-
-abbrev Grow : Meanings → Type 0
-Grow m = Throughout (λ A w u. After (history w) u) m
 
 -- what several values leave only adds to the history
 pub values_after : (inner : Meanings) → Throughout (λ A w u. After (history w) u) inner → (es : Expressions) (env : Environment) (w : World) → After (history w) (values inner es env w)
@@ -85,11 +67,6 @@ values_run setting inner sim (t.more e es) z c rest w laid r =
     (λ vs w2 l. went l))
 
 -- ---- Calls and returns: the frame of a call, and back behind it.
-
--- FNAP calls for a value, RTAP does not
-abbrev pub call_stmt : Bool → ℕ → Stmt
-call_stmt true n = CallFunction n
-call_stmt false n = CallRoutine n
 
 -- what a call comes to
 abbrev pub Gave : Bool → Setting → State → Account → Configuration → List Stmt → World → Value → World → Type 0
@@ -165,7 +142,7 @@ returned_in true setting s A B z rest w w3 n v result le le' en r call q st =
     let t : State = record { control = At (z.scene.own.places.call (length rest)); cells = below top q.cells1; frame = z.frame; hand = result; input = w3.input; output = w3.output; written = q.written1 } in
     let m : Moves setting.program q.from (state z.scene.own (z.depth + 1) rest new z.frame None (top ∷ q.written1) w3) =
     subst (λ c. Moves setting.program q.from (state z.scene.own (z.depth + 1) c new z.frame None (top ∷ q.written1) w3)) call.behind
-    (back_in_function setting.program q.from z.scene.own rest setting.first FRAME_WORDS setting.well z.scene.section z.scene.own call.is_own t call.place z.depth call.at (ap (λ c. At (z.scene.own.places.call (length c))) (sym call.behind)) q.returns) in
+    (t, q.returns, call_settled setting.program setting.first FRAME_WORDS setting.well z.scene.section z.scene.own call.is_own true t call.place z.depth call.at (ap (λ c. At (z.scene.own.places.call (length c))) (sym call.behind))) in
     record {
       arr = came_back n le le' en r q new (top ∷ q.written1) (λ a lt. item_like top q.cells1 (Held Temporary (in_hand result)) a lt) m;
       stands = subst (λ y. Stands setting.codes q.bases1 v (content_of y)) (sym (written (below top q.cells1) top (Held Temporary (in_hand result)))) st;
@@ -175,7 +152,7 @@ returned_in false setting s A B z rest w w3 n v result le le' en r call q st =
     let t : State = record { control = At (z.scene.own.places.call (length rest)); cells = below top q.cells1; frame = z.frame; hand = result; input = w3.input; output = w3.output; written = q.written1 } in
     came_back n le le' en r q (below top q.cells1) q.written1 (λ a lt. below_like top q.cells1 a lt)
     (subst (λ c. Moves setting.program q.from (state z.scene.own z.depth c (below top q.cells1) z.frame None q.written1 w3)) call.behind
-    (back_in_routine setting.program q.from z.scene.own rest setting.first FRAME_WORDS setting.well z.scene.section z.scene.own call.is_own t call.place z.depth call.at (ap (λ c. At (z.scene.own.places.call (length c))) (sym call.behind)) q.returns))
+    (t, q.returns, call_settled setting.program setting.first FRAME_WORDS setting.well z.scene.section z.scene.own call.is_own false t call.place z.depth call.at (ap (λ c. At (z.scene.own.places.call (length c))) (sym call.behind))))
 
 -- ---- Where the procedures of a program are laid.
 
@@ -305,27 +282,18 @@ pub call_too_high : (n : ℕ) (of : Bool) (rest : List Stmt) → IsCallAt n (cal
 call_too_high n true rest = refl
 call_too_high n false rest = refl
 
-pub is_above : (i k : ℕ) → nat_lt i k ≡ true → i < k
-is_above i k h = grind (arith, nat_tests)
-
-pub is_at_most : (i k : ℕ) → nat_lt k i ≡ false → i ≤ k
-is_at_most i k h = grind (arith, nat_tests)
-
 callable : (c : Callables) (e : ℕ) → c.is_entry e ≡ true → can_be_called c e ≡ true
-callable c e h = by_routine (c.routine e)
-  where
-    by_routine : (r : Option Routine) → option_map_or (λ _. true) r (c.is_entry e) ≡ true
-    by_routine (Some r) = refl
-    by_routine None = h
+callable c e h = by_option (λ r. option_map_or (λ _. true) r (c.is_entry e) ≡ true) (c.routine e) (λ _. h) (λ _ _. refl)
 
 -- the step into a procedure, for a value or not
 call_moves : (of : Bool) (setting : Setting) (s : State) (own : Placed) (rest : List Stmt) (section : ℕ) (other : Placed) → slice_get setting.program.sections section ≡ Some other → (d n i l : ℕ) (name : List ℕ)
     → s.control ≡ Inside own (d + 1) (call_stmt of n ∷ rest) → slot s d ≡ Word (other.places.label l) → slice_get other.stmts i ≡ Some (Entry l name) → nat_lt (2 ^ 31 - 65536) (s.frame + n) ≡ false
     → Moves setting.program s (record (entering s own d n (other.places.label l) rest) { control = Inside other 2 (Entry l name ∷ drop (suc i) other.stmts); hand = None })
-call_moves true setting s own rest section other is_own d n i l name ec ew at el =
-    function_moves setting.program s own rest setting.first FRAME_WORDS setting.well section other is_own d n i l name ec ew at (callable setting.program.callables (other.places.label l) (setting.well.entries section i l other name is_own at).0) el
-call_moves false setting s own rest section other is_own d n i l name ec ew at el =
-    routine_moves setting.program s own rest setting.first FRAME_WORDS setting.well section other is_own d n i l name ec ew at (callable setting.program.callables (other.places.label l) (setting.well.entries section i l other name is_own at).0) el
+call_moves of setting s own rest section other is_own d n i l name ec ew at el = (
+  _,
+  call_step setting.program s own rest of d n (other.places.label l) ec ew (callable setting.program.callables (other.places.label l) (setting.well.entries section i l other name is_own at).0) el,
+  entry_settled setting.program setting.first FRAME_WORDS setting.well section other is_own (entering s own d n (other.places.label l) rest) i l name at refl,
+)
 
 -- the situation in a procedure
 abbrev pub in_body : Scene → Environment → ℕ → List ℕ → (ℕ → Cell) → List ℕ → ℕ → Configuration
@@ -350,20 +318,31 @@ call_run {of} {setting} {s} {A} {B} {z} {rest} {w} {w1} {o = o} led ca after ins
         steps = ca.arr.steps;
         paid = ca.arr.paid;
         comes = ca.arr.comes;
-        too_high = record { own = z.scene.own; depth = ca.depth1 + 1; left = call_stmt of z.depth ∷ rest; control = refl; slot = z.depth; within = led; is_call = call_too_high z.depth of rest; past = is_above _ _ h };
+        too_high = record { own = z.scene.own; depth = ca.depth1 + 1; left = call_stmt of z.depth ∷ rest; control = refl; slot = z.depth; within = led; is_call = call_too_high z.depth of rest; past = ltb-true _ _ h };
         rest = [];
         begins = sym (append-nil w1.output);
       })) after);
     })
     (λ (h : nat_lt (2 ^ 31 - 65536) (z.frame + z.depth) ≡ false). by_test (nat_lt setting.cap (max w1.most_calls (w1.calls + 1)))
-    (λ (hc : nat_lt setting.cap (max w1.most_calls (w1.calls + 1)) ≡ true). record { is = inr (falls_on setting s (calling w1) o (inr (is_above _ _ hc)) after) })
-    (λ (hc : nat_lt setting.cap (max w1.most_calls (w1.calls + 1)) ≡ false). inside h (is_at_most _ _ hc)))
+    (λ (hc : nat_lt setting.cap (max w1.most_calls (w1.calls + 1)) ≡ true). record { is = inr (falls_on setting s (calling w1) o (inr (ltb-true _ _ hc)) after) })
+    (λ (hc : nat_lt setting.cap (max w1.most_calls (w1.calls + 1)) ≡ false). inside h (ltb-false _ _ hc)))
 
 pub entered_runs : (of : Bool) (setting : Setting) (inner : Meanings) → Simulates setting inner → AloneRuns setting inner → ((x : Action) (env : Environment) (w : World) → After (history w) (scope_of inner (alone x) forwards env w))
     → (k : ℕ) (f : Procedure) → IsProcedure setting k f → (s : State) (A B : Account) (z : Configuration) (rest : List Stmt) (w w1 : World) (vs : List Value) → A.most + 4 ≤ B.most → B.least ≤ A.least → z.depth ≤ FRAME_WORDS
     → Ready setting z w → CallAt setting z.scene (call_stmt of z.depth) rest → Calling of setting s A z rest w vs (procedure k) w1
     → Ran setting s B (λ v w3. Gave of setting s B z rest w v (calls_back w1.calls w3)) AnyExit (enter inner (Some f) vs (calling w1))
 entered_runs of setting inner sim alone_runs alone_after k f ip s A B z rest w w1 vs leB leB' led r call ca =
+    let top : ℕ = z.frame + z.depth in
+    let size : ℕ = length f.formals + 2 in
+    let o : ℕ = length w1.memory in
+    let own : Placed = ip.scene.own in
+    let back : ℕ = z.scene.own.places.call (length rest) in
+    let items : ℕ = z.frame + ca.depth1 in
+    let c2 : ℕ → Cell = called_cells ca.arr.cells1 z.frame top items back in
+    let c3 : ℕ → Cell = saved_cells c2 top size in
+    let cells : List Cell_of = formal_cells f.formals vs in
+    let h1 : Store = record { bases = ca.arr.bases1; mem = w1.memory; cells = c3 } in
+    let env : Environment = bind_formals o 0 f.formals f.env in
     let at_call : State = there setting s A z (call_stmt of z.depth ∷ rest) (ca.depth1 + 1) w w1 ca.arr in
     let wr : List ℕ = (top + 1) ∷ (top ∷ ca.arr.written1) in
     let b : ℕ = top + 2 in
@@ -385,7 +364,7 @@ entered_runs of setting inner sim alone_runs alone_after k f ip s A B z rest w w
     let id = ca.is_depth in
     let low : top + 2 ≤ items = omega arith in
     let some : 2 ≤ size = omega arith in
-    let le : top ≤ 2 ^ 31 - 65536 = is_at_most _ _ h in
+    let le : top ≤ 2 ^ 31 - 65536 = ltb-false _ _ h in
     let rm : w1.calls + 1 ≤ setting.cap = omega arith in
     let fw : size ≤ FRAME_WORDS = ip.few in
     let long = ca.arr.fits.long in
@@ -405,8 +384,8 @@ entered_runs of setting inner sim alone_runs alone_after k f ip s A B z rest w w
     let s2 : State = state own 2 (drop (suc ip.place) own.stmts) c2 top None wr w1 in
     let s3 : State = state own size ip.body c3 top None wr w1 in
     let m1 : Moves setting.program at_call s1 = call_moves of setting at_call z.scene.own rest ip.scene.section own ip.is_own ca.depth1 z.depth ip.place ip.label ip.name refl (ca.word ∙ ap Word ip.word) ip.at h in
-    let m2 : Moves setting.program s1 s2 = entry_moves setting.program s1 own (drop (suc ip.place) own.stmts) 2 ip.label ip.name refl in
-    let m3 : Moves setting.program s2 s3 = save_moves setting.program s2 own ip.body 2 size (ap (λ y. Inside own 2 y) ip.behind) in
+    let m2 : Moves setting.program s1 s2 = does setting.program s1 own (drop (suc ip.place) own.stmts) 2 (Entry ip.label ip.name) refl refl refl in
+    let m3 : Moves setting.program s2 s3 = does setting.program s2 own ip.body 2 (Save size) (ap (λ y. Inside own 2 y) ip.behind) refl refl in
     let to_body : Comes setting 3 (setting.pay + (setting.pay + (setting.pay + 0))) at_call s3 = go_on 2 _ at_call s1 s3 m1 cap2 (go_on 1 _ s1 s2 s3 m2 cap2 (go_on 0 0 s2 s3 s3 m3 cap3 (here s3))) in
     let has3 : HasBytes s3 = moves_bytes setting.program s2 s3 m3 (moves_bytes setting.program s1 s2 m2 (moves_bytes setting.program at_call s1 m1 ca.arr.bytes)) in
     let high : 16 ≤ z.frame = r.high in
@@ -461,36 +440,3 @@ entered_runs of setting inner sim alone_runs alone_after k f ip s A B z rest w w
     (ran_from (comes_on setting _ _ _ _ _ _ _ ca.arr.comes to_body) (omega arith) (omega arith) (λ v w3 q. q) (λ x w3 q. q)
     (body_runs setting inner sim alone_runs f.body z1 ip.body w2 (ip.laid o some_made) r1)) in
     call_run led ca after_it inside
-  where
-    top : ℕ
-    top = z.frame + z.depth
-
-    size : ℕ
-    size = length f.formals + 2
-
-    o : ℕ
-    o = length w1.memory
-
-    own : Placed
-    own = ip.scene.own
-
-    back : ℕ
-    back = z.scene.own.places.call (length rest)
-
-    items : ℕ
-    items = z.frame + ca.depth1
-
-    c2 : ℕ → Cell
-    c2 = called_cells ca.arr.cells1 z.frame top items back
-
-    c3 : ℕ → Cell
-    c3 = saved_cells c2 top size
-
-    cells : List Cell_of
-    cells = formal_cells f.formals vs
-
-    h1 : Store
-    h1 = record { bases = ca.arr.bases1; mem = w1.memory; cells = c3 }
-
-    env : Environment
-    env = bind_formals o 0 f.formals f.env

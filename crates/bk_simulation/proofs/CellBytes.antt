@@ -1,8 +1,7 @@
 -- Bytes of cells of the meaning, and of contents of OCODE.
-use Rattle.bk_simulation.proofs.Words.{◌≡◌, ℕ, zero, suc, ◌+◌, ◌<◌, ◌%◌, ◌^◌, ◌==◌, Bool, true, false, cond, List, Option, Some, None, refl, sym, ap, ◌∙◌, subst, if◌then◌else◌, arith, option_and_then, option_map, word_sum, word_byte, word_with_byte, byte_distance, byte_place, Value, number, address, unset, holds, places, filled, set_among, Memory, cell_at, with_cell, cell_of_byte, read_byte, write_byte, Content, Unset, Partly, Word, Variable, Held, byte_in, four_bytes, with_byte, variable_at, byte_at, word_with_byte_at}
-use Rattle.bk_base.specs.WordLaws.{word_byte-small, word_byte-packed_0, word_byte-packed_1, word_byte-packed_2, word_byte-packed_3}
+use Rattle.bk_simulation.proofs.Lists.{either_way, by_option}
+use Rattle.bk_simulation.proofs.Words.{◌≡◌, ℕ, zero, suc, ◌+◌, ◌<◌, ◌%◌, ◌^◌, ◌==◌, Bool, true, false, cond, List, Option, Some, None, refl, sym, ap, ◌∙◌, subst, if◌then◌else◌, arith, option_and_then, option_map, word_sum, word_byte, word_with_byte, byte_distance, byte_place, Value, number, address, unset, holds, places, filled, set_among, Memory, cell_at, with_cell, cell_of_byte, read_byte, write_byte, Content, Unset, Partly, Word, Variable, Held, byte_in, four_bytes, with_byte, variable_at, byte_at, word_with_byte_at, word_byte-small, word_byte-packed_0, word_byte-packed_1, word_byte-packed_2, word_byte-packed_3, Cell_of}
 use Rattle.bk_meaning.specs.Values as value
-use Rattle.bk_meaning.specs.Values.{Cell as Cell_of}
 use Rattle.bk_simulation.proofs.Memory.{Store, HoldsByte, Codes, Stands, StandsCell, Moved, Fits}
 use Rattle.bk_simulation.proofs.WrittenCells.{FoundAt, found_at, write_at, put, variable_found}
 
@@ -19,13 +18,7 @@ AreBytes _ = Unit {0}
 pub byte_is : (x : Content) (i : ℕ) → AreBytes x → IsByte (byte_in x i)
 byte_is Unset i are = tt
 byte_is (Word w) i are = word_byte-small w i
-byte_is (Partly b0 b1 b2 b3) i are = by_test (i == 0) (i == 1) (i == 2)
-  where
-    by_test : (s t u : Bool) → IsByte (if s then b0 else if t then b1 else if u then b2 else b3)
-    by_test true t u = are.0
-    by_test false true u = are.1
-    by_test false false true = are.2
-    by_test false false false = are.3
+byte_is (Partly b0 b1 b2 b3) i are = either_way IsByte (i == 0) b0 _ are.0 (either_way IsByte (i == 1) b1 _ are.1 (either_way IsByte (i == 2) b2 b3 are.2 are.3))
 
 -- ---- four bytes
 
@@ -60,28 +53,16 @@ module _ (codes : Codes) (bases : List ℕ) where
 
   -- ---- reading a byte
 
+  filled_there : (p : Option ℕ) (b : ℕ) (f : Option ℕ) → HoldsByte p f → p ≡ Some b → f ≡ Some b
+  filled_there (Some a) b f h e = h ∙ e
+  filled_there None b f h e = absurd (cc)
+
   pub byte_same : (c : Cell_of) (x : Content) (i b : ℕ) → StandsCell codes bases c x → i < 4 → value.byte_in c i ≡ Some b → byte_in x i ≡ Some b
   byte_same (holds (number n)) x i b s lt e = ap (λ y. byte_in y i) s ∙ e
-  byte_same (places p q r t) x zero b s lt e = there p b (byte_in x 0) s.0 e
-    where
-      there : (p : Option ℕ) (b : ℕ) (f : Option ℕ) → HoldsByte p f → p ≡ Some b → f ≡ Some b
-      there (Some a) b f h e = h ∙ e
-      there None b f h e = absurd (cc)
-  byte_same (places p q r t) x (suc zero) b s lt e = there q b (byte_in x 1) s.1 e
-    where
-      there : (p : Option ℕ) (b : ℕ) (f : Option ℕ) → HoldsByte p f → p ≡ Some b → f ≡ Some b
-      there (Some a) b f h e = h ∙ e
-      there None b f h e = absurd (cc)
-  byte_same (places p q r t) x (suc (suc zero)) b s lt e = there r b (byte_in x 2) s.2 e
-    where
-      there : (p : Option ℕ) (b : ℕ) (f : Option ℕ) → HoldsByte p f → p ≡ Some b → f ≡ Some b
-      there (Some a) b f h e = h ∙ e
-      there None b f h e = absurd (cc)
-  byte_same (places p q r t) x (suc (suc (suc zero))) b s lt e = there t b (byte_in x 3) s.3 e
-    where
-      there : (p : Option ℕ) (b : ℕ) (f : Option ℕ) → HoldsByte p f → p ≡ Some b → f ≡ Some b
-      there (Some a) b f h e = h ∙ e
-      there None b f h e = absurd (cc)
+  byte_same (places p q r t) x zero b s lt e = filled_there p b (byte_in x 0) s.0 e
+  byte_same (places p q r t) x (suc zero) b s lt e = filled_there q b (byte_in x 1) s.1 e
+  byte_same (places p q r t) x (suc (suc zero)) b s lt e = filled_there r b (byte_in x 2) s.2 e
+  byte_same (places p q r t) x (suc (suc (suc zero))) b s lt e = filled_there t b (byte_in x 3) s.3 e
   byte_same (places p q r t) x (suc (suc (suc (suc i)))) b s lt e = absurd (omega arith)
   byte_same _ x i b s lt e = absurd (cc)
 
@@ -187,20 +168,17 @@ pub record ByteRead (top : ℕ) (h : Store) (x y : Content) (b : ℕ) : Type 0 w
 
 pub read_byte_at : (codes : Codes) (h : Store) (top : ℕ) (a v : Value) (x y : Content) (b : ℕ) → Fits codes h top → Stands codes h.bases a x → Stands codes h.bases v y
     → read_byte h.mem a v ≡ Some b → ByteRead top h x y b
-read_byte_at codes h top a (number i) x y b f st sv e = by_cell (cell_at h.mem (cell_of_byte a i)) refl e
-  where
-    by_cell : (d : Option Cell_of) → cell_at h.mem (cell_of_byte a i) ≡ d → option_and_then (λ c. value.byte_in c (byte_place i)) d ≡ Some b → ByteRead top h x y b
-    by_cell None ed e = absurd (cc)
-    by_cell (Some c) ed e =
-        let g = byte_cell codes h top a i x c f st ed in
-        record {
-          word = g.word;
-          index = i;
-          is_word = g.is_word;
-          is_index = sv;
-          reads = ap (λ z. option_and_then (λ content. byte_in content (byte_place i)) z) (variable_there codes h top (word_sum g.word (byte_distance i)) (cell_of_byte a i) c g.there)
-              ∙ byte_same codes h.bases c g.there.cell.content (byte_place i) b g.there.cell.stands (place_low i) e;
-        }
+read_byte_at codes h top a (number i) x y b f st sv e =
+    by_option (λ d. option_and_then (λ c. value.byte_in c (byte_place i)) d ≡ Some b → ByteRead top h x y b) (cell_at h.mem (cell_of_byte a i)) (λ _ e. absurd (cc)) (λ c ed e.
+    let g = byte_cell codes h top a i x c f st ed in
+    record {
+      word = g.word;
+      index = i;
+      is_word = g.is_word;
+      is_index = sv;
+      reads = ap (λ z. option_and_then (λ content. byte_in content (byte_place i)) z) (variable_there codes h top (word_sum g.word (byte_distance i)) (cell_of_byte a i) c g.there)
+          ∙ byte_same codes h.bases c g.there.cell.content (byte_place i) b g.there.cell.stands (place_low i) e;
+    }) e
 read_byte_at codes h top a _ x y b f st sv e = absurd (let z : None ≡ Some b = e in cc)
 
 -- a byte that is set
@@ -218,7 +196,7 @@ pub record ByteSet (codes : Codes) (top : ℕ) (h : Store) (x y z : Content) (me
   pub fits : Fits codes (put h mem1 (word_sum word (byte_distance index)) content) top
   pub moved : (t : ℕ) → Moved t h (put h mem1 (word_sum word (byte_distance index)) content)
 
-byte_low : (b : ℕ) → b % 256 < 2 ^ 8
+pub byte_low : (b : ℕ) → b % 256 < 2 ^ 8
 byte_low b = omega arith
 
 pub write_byte_at : (codes : Codes) (h : Store) (top : ℕ) (a v u : Value) (x y z : Content) (mem1 : Memory) → ((p : ℕ) (k : Content) → h.cells p ≡ Held Variable k → AreBytes k)

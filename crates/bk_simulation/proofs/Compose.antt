@@ -1,13 +1,6 @@
 -- How runs compose: another account, a step more, a part behind another; and parts in which objects are made that die at their end.
 use Rattle.bk_simulation.proofs.Words.{◌≡◌, ℕ, suc, ◌+◌, ◌-◌, ◌*◌, ◌<◌, ◌≤◌, List, ◌∷◌, length, Option, None, refl, sym, ◌∙◌, subst, arith, FRAME_WORDS, Binding, Content, Temporary, Cell, Held, content_of, write, below, Placed, State, Stmt, Around, meant, goal_in, Value, Memory, Environment, World, Exit, goto, Outcome, turn, closing, forgetting, remembering, history, adds, stays}
-use Rattle.bk_simulation.proofs.Moves.{Moves}
-use Rattle.bk_simulation.proofs.FramesKept.{LinksFrom, links_kept}
-use Rattle.bk_simulation.proofs.BytesKept.{moves_bytes}
-use Rattle.bk_simulation.proofs.Memory.{Like, like_on, Stands, Store, Moved, Fits, moved_refl, moved_on, fits_above, fits_more, fits_less, moved_less, stands_grown}
-use Rattle.bk_simulation.proofs.MadeObjects.{Since, since_on, since_cells, since_moved, closed_moved, closed_fits}
-use Rattle.bk_simulation.proofs.WrittenCells.{pushed_like, pushed_at}
-use Rattle.bk_simulation.proofs.Laid.{Setting, Scene, Exits, IsLabelHere, KeepsLabels}
-use Rattle.bk_simulation.proofs.Frame.{Configuration, store, state, start, NamedIn, FewFrames, Ready, Account, further, paying, here, comes_on, one, Ran, went, each_way_ran, ran_from, so, turn_behind, Completed, CompletedAt, OpenCompleted, store_at, there, Has, GoesTo, Leads, Exited, Out, next}
+use Rattle.bk_simulation.proofs.Situations.{Moves, LinksFrom, links_kept, moves_bytes, Like, like_on, Stands, Store, Moved, Fits, moved_refl, moved_on, fits_above, fits_more, fits_less, moved_less, stands_grown, Since, since_on, since_cells, since_moved, closed_moved, closed_fits, pushed_like, pushed_at, Setting, Scene, Exits, IsLabelHere, KeepsLabels, Configuration, store, state, start, FewFrames, Ready, Account, further, paying, here, comes_on, one, Ran, went, each_way_ran, ran_from, so, turn_behind, Completed, CompletedAt, OpenCompleted, store_at, there, Has, GoesTo, Leads, Exited, Out, next, NamedIn}
 
 -- ---- one arrival
 

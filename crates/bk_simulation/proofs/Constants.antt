@@ -1,15 +1,8 @@
 -- Constants of a regular tree are words where those of MANIFEST are.
-use Rattle.bk_simulation.proofs.Words.{◌≡◌, ℕ, zero, suc, ◌+◌, ◌-◌, ◌*◌, ◌<◌, ◌^◌, ◌%◌, ◌/◌, ◌==◌, nat_lt, ltb, ltb-false, ℤ, pos, negsuc, neg_ℤ, nat_abs, int_div, int_rem, Bool, true, false, not, List, Option, Some, None, cond, refl, ap, ◌∙◌, subst, arith, if◌then◌else◌, bit_xor, truth, signed, word_of, word_not, Operator, Expression, Bound, Binding, bound_in, named_word, prefix_word, infix_word, constant_word}
-use Rattle.std.specs.Option.{option_and_then}
-use Rattle.std.proofs.lemmas.Nat.{or_lt, xor_lt, mod_below, and_le_l}
-use Rattle.std.proofs.Math.Nat.{div-le_self, mod-le}
-use Rattle.bk_tree.specs.declared.tree.Operator.TheVariants as o
-use Rattle.bk_tree.specs.declared.tree.Prefix.{Prefix}
-use Rattle.bk_tree.specs.declared.tree.Prefix.TheVariants as q
-use Rattle.bk_tree.specs.Tree as t
-use Rattle.bk_scope.specs.declared.bound.Bound.TheVariants as b
-use Rattle.bk_simulation.specs.Regular.{Regular}
+use Rattle.bk_simulation.proofs.Words.{◌≡◌, ℕ, zero, suc, ◌+◌, ◌-◌, ◌*◌, ◌<◌, ◌^◌, ◌%◌, ◌/◌, ◌==◌, nat_lt, ltb, ltb-false, ℤ, pos, negsuc, neg_ℤ, nat_abs, int_div, int_rem, Bool, true, false, not, List, Option, Some, None, cond, refl, ap, ◌∙◌, subst, arith, if◌then◌else◌, bit_xor, truth, signed, word_of, word_not, Operator, Expression, Bound, Binding, bound_in, named_word, prefix_word, infix_word, constant_word, or_lt, xor_lt, mod_below, and_le_l, div-le_self, mod-le, Prefix, Regular, option_and_then, bytes_eq, GLOBAL_NUMBER, Items, Definitions, bind, is_global, within, procedure_in_scope, procedures_in_scope, manifests_in_scope, statics_in_scope, globals_in_scope, RegularItems}
 use Rattle.bk_simulation.proofs.LaidExpressions.{HasWords}
+use Rattle.bk_simulation.proofs.Terms.{Operator as o, Prefix as q, Bound as b}
+use Rattle.bk_tree.specs.Tree as t
 
 some_is : (x y : ℕ) → Some x ≡ Some y → x ≡ y
 some_is x y e = cc
@@ -99,3 +92,42 @@ constant_small bs h (t.parens l x) r v e = constant_small bs h x r v e
 constant_small bs h (t.unary l f x) r v e = then_prefix f (constant_word bs x) v (λ y k. constant_small bs h x r y k) e
 constant_small bs h (t.binary l f m x y) r v e = then_infix f (constant_word bs x) (constant_word bs y) v (λ z k. constant_small bs h x r.0 z k) (λ z k. constant_small bs h y r.1 z k) e
 constant_small bs h _ r v e = absurd (cc)
+
+-- ---- constants are words
+
+pub words_bound : (x : List ℕ) (y : Bound) (bs : List Binding) → ((v : ℕ) → Some y ≡ Some (b.Constant (Some v)) → v < 2 ^ 32) → HasWords bs → HasWords (bind x y bs)
+words_bound x y bs f h z v e = picked (bytes_eq x z) e
+  where
+    picked : (q : Bool) → cond q (Some y) (bound_in bs z) ≡ Some (b.Constant (Some v)) → v < 2 ^ 32
+    picked true e = f v e
+    picked false e = h z v e
+
+some_constant : (u v : Option ℕ) → Some (b.Constant u) ≡ Some (b.Constant v) → u ≡ v
+some_constant u v e = cc
+
+pub words_constant : (x : List ℕ) (e : Expression) (bs : List Binding) → HasWords bs → Regular e → HasWords (bind x (b.Constant (constant_word bs e)) bs)
+words_constant x e bs h r = words_bound x (b.Constant (constant_word bs e)) bs (λ v q. constant_small bs h e r v (some_constant (constant_word bs e) (Some v) q)) h
+
+pub words_manifests : (bs : List Binding) (is : Items) → HasWords bs → RegularItems is → HasWords (manifests_in_scope bs is)
+words_manifests bs t.no_items h r = h
+words_manifests bs (t.item l x e is) h r = words_manifests (bind x (b.Constant (constant_word bs e)) bs) is (words_constant x e bs h r.0) r.1
+
+pub words_statics : (n : ℕ) (is : Items) (bs : List Binding) → HasWords bs → HasWords (statics_in_scope n is bs)
+words_statics n t.no_items bs h = h
+words_statics n (t.item l x e is) bs h = words_statics (n + 1) is (bind x (b.Static n) bs) (words_bound x (b.Static n) bs (λ v q. absurd (cc)) h)
+
+pub words_globals : (os : List Binding) (is : Items) (bs : List Binding) → HasWords bs → HasWords (globals_in_scope os is bs)
+words_globals os t.no_items bs h = h
+words_globals os (t.item l x e is) bs h =
+    let y : Bound = b.Global (within GLOBAL_NUMBER (constant_word os e)) in
+    words_globals os is (bind x y bs) (words_bound x y bs (λ v q. absurd (cc)) h)
+
+words_procedure : (n : ℕ) (x : List ℕ) (bs : List Binding) (q : Bool) → HasWords bs → HasWords (cond q bs (bind x (b.Static n) bs))
+words_procedure n x bs true h = h
+words_procedure n x bs false h = words_bound x (b.Static n) bs (λ v q. absurd (cc)) h
+
+pub words_procedures : (n : ℕ) (ds : Definitions) (bs : List Binding) → HasWords bs → HasWords (procedures_in_scope n ds bs)
+words_procedures n t.no_definitions bs h = h
+words_procedures n (t.define (t.routine l x fs c) ds) bs h = words_procedures (n + 1) ds (procedure_in_scope n x bs) (words_procedure n x bs (is_global (bound_in bs x)) h)
+words_procedures n (t.define (t.function l x fs e) ds) bs h = words_procedures (n + 1) ds (procedure_in_scope n x bs) (words_procedure n x bs (is_global (bound_in bs x)) h)
+words_procedures n (t.define (t.variables l xs is) ds) bs h = words_procedures n ds bs h

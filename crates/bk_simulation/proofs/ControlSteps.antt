@@ -1,12 +1,6 @@
 -- Steps that move control from where a run has come to: LAB, jumps, tests, results.
-use Rattle.bk_simulation.proofs.Words.{◌≡◌, ℕ, suc, ◌+◌, ◌-◌, ◌<◌, ◌≤◌, ◌==◌, Bool, true, false, not, List, ◌∷◌, length, Option, Some, None, refl, ap, ◌∙◌, subst, arith, option_map_or, Content, Unset, Word, Cell, content_of, below, settle, Placed, Inside, State, Goal, from_label, Stmt, Jump, JumpIf, Label, GiveResult, TakeResult, Stack, Value, truth_of_value, World, Exit, given, forgetting, judged}
-use Rattle.std.specs.Prelude.{drop}
-use Rattle.bk_simulation.proofs.Moves.{Moves, label_moves, jump_moves, taken_moves, passed_moves, give_result_moves, take_result_moves, stack_moves}
-use Rattle.bk_simulation.proofs.Memory.{Like, like_on, Stands, Store, Moved}
-use Rattle.bk_simulation.proofs.WrittenCells.{below_like, settle_like}
-use Rattle.bk_simulation.proofs.OperatorWords.{judged_word}
-use Rattle.bk_simulation.proofs.Laid.{Setting, Scene, LabelAt}
-use Rattle.bk_simulation.proofs.Frame.{Configuration, state, Ready, Account, paying, Ran, went, Completed, CompletedAt, OpenCompleted, there, Has, GoesTo, Exited, Out, still, by_option}
+use Rattle.bk_simulation.proofs.Words.{◌≡◌, ℕ, suc, ◌+◌, ◌-◌, ◌<◌, ◌≤◌, ◌==◌, Bool, true, false, not, List, ◌∷◌, length, Option, Some, None, refl, ap, ◌∙◌, subst, arith, option_map_or, Content, Unset, Word, Cell, content_of, below, settle, Placed, Inside, State, Goal, from_label, Stmt, Jump, JumpIf, Label, GiveResult, TakeResult, Stack, Value, truth_of_value, World, Exit, given, forgetting, judged, drop}
+use Rattle.bk_simulation.proofs.Situations.{by_option, Moves, label_moves, jump_moves, taken_moves, passed_moves, give_result_moves, does, Like, like_on, Stands, Store, Moved, below_like, settle_like, judged_word, Setting, Scene, LabelAt, Configuration, state, Ready, Account, paying, Ran, went, Completed, CompletedAt, OpenCompleted, there, Has, GoesTo, Exited, Out, still}
 use Rattle.bk_simulation.proofs.Compose.{accounted, stepped, links_below, completed_more, completed_paid, topped, closed_arrival}
 use Rattle.bk_simulation.proofs.Simulates.{where_to, HasTruth}
 
@@ -58,7 +52,7 @@ abbrev pub stack_on : {setting : Setting} {s : State} {B : Account} {own : Place
     → Completed setting s B own frame calls top (Moved top h) c k w1 → Completed setting s (paying setting B) own frame calls top (Moved top h) rest n w1
 stack_on {setting} {own = own} {frame = frame} {top = top} {k = k} {n = n} {c = c} {rest = rest} {w1 = w1} lt le e a =
     completed_paid a (below (frame + n) (settle (frame + k) (frame + n) a.cells1)) None a.written1 lt (stacked_like frame k n top a.cells1 le)
-    (stack_moves setting.program (state own k c a.cells1 frame a.hand1 a.written1 w1) own rest k n (ap (λ y. Inside own k y) e))
+    (does setting.program (state own k c a.cells1 frame a.hand1 a.written1 w1) own rest k (Stack n) (ap (λ y. Inside own k y) e) refl refl)
 
 -- what was made dies, and the frame is as deep as before
 pub closes : {setting : Setting} {s : State} {D E : Account} {z : Configuration} {w : World} {rest : List Stmt} {d2 more : ℕ} {w2 : World} → D.most + 1 ≤ E.most
@@ -118,4 +112,4 @@ pub taken_on : {setting : Setting} {s : State} {A B : Account} {z : Configuratio
     (z.depth + 1) w v w1
 taken_on {setting} {s} {A} {z = z} {rest = rest} {k = k} {w = w} {w1 = w1} le le' r a st =
     topped (option_map_or (λ x. x) a.hand1 Unset) le le' r.deep a st
-    (take_result_moves setting.program (there setting s A z (TakeResult z.depth ∷ rest) k w w1 a) z.scene.own rest k z.depth refl)
+    (does setting.program (there setting s A z (TakeResult z.depth ∷ rest) k w w1 a) z.scene.own rest k (TakeResult z.depth) refl refl refl)

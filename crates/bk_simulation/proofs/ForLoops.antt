@@ -1,28 +1,10 @@
 -- FOR as a command.
-use Rattle.bk_simulation.proofs.Words.{◌≡◌, ◌≢◌, ℕ, zero, suc, ◌+◌, ◌-◌, ◌*◌, ◌<◌, ◌≤◌, ◌^◌, Bool, true, false, cond, List, [], ◌∷◌, ◌++◌, length, Some, None, refl, sym, ap, ◌∙◌, subst, arith, ⊎_elim, not, nat_lt, pos, int_lt, bytes_eq, bytes_eq-Decides, FRAME_WORDS, Bound, Binding, bound_in, bind as bind_bound, Content, Cell, Variable, Held, content_of, below, settle, Word, State, Local, Stmt, Label, Load, JumpIf, Jump, Store as Store_stmt, Stack, Number, Dyadic, Assign, variable, test_of_step, goal, meant, Mention, Expression, Expressions, Action, Value, holds, number, address, Environment, cell, past, World, Outcome, Done, done, given, with, either, making, Exit, break, loop, turn, history, Meanings, fetch, store as put_value, at, Sought, forwards, step_of, for_test, for_rounds_of, for_loop, round_exit, for_step, relation, Adds, adds, with_after, given_after, closing_after, stays, each_way_after, turn_after, changes_after, either_after, scope_of, alone, nat_tests, ints, signed, word_of, from_label, read, operate, judged}
-use Rattle.std.specs.Prelude.{slice_get}
-use Rattle.bk_scope.specs.declared.bound.Bound.TheVariants as b
+use Rattle.bk_simulation.proofs.Words.{◌≡◌, ◌≢◌, ℕ, zero, suc, ◌+◌, ◌-◌, ◌*◌, ◌<◌, ◌≤◌, ◌^◌, Bool, true, false, cond, List, [], ◌∷◌, ◌++◌, length, Some, None, refl, sym, ap, ◌∙◌, subst, arith, ⊎_elim, not, nat_lt, pos, int_lt, bytes_eq, bytes_eq-Decides, FRAME_WORDS, Bound, Binding, bound_in, bind as bind_bound, Content, Cell, Variable, Held, content_of, below, settle, Word, State, Local, Stmt, Label, Load, JumpIf, Jump, Store as Store_stmt, Stack, Number, Dyadic, Assign, variable, test_of_step, goal, meant, Mention, Expression, Expressions, Action, Value, holds, number, address, Environment, cell, past, World, Outcome, Done, done, given, with, either, making, Exit, break, loop, turn, history, Meanings, fetch, store as put_value, at, Sought, forwards, step_of, for_test, for_rounds_of, for_loop, round_exit, for_step, relation, Adds, adds, with_after, given_after, closing_after, stays, each_way_after, turn_after, changes_after, either_after, scope_of, alone, nat_tests, ints, signed, word_of, from_label, read, operate, judged, slice_get, Cell_of}
+use Rattle.bk_simulation.proofs.Pieces.{by_option, by_test, jump_moves, does, BaseOf, Alive, Like, like_on, Stands, StandsCell, Store, Moved, moved_on, fits_above, fits_more, stands_grown, below_at, below_like, settle_like, settle_at, read_here, make, make_fits, Since, since_refl, since_on, since_cells, since_made, grown_made, lying, since_moved, get_new, turns_of, turns_in, turns_through, Setting, Scene, in_loop, IsWord, IsAlone, KeepsLabels, IsLabelHere, LabelAt, IsAct, IsForLoop, behind_body, some_objects, Configuration, store, state, start, named_grown, Ready, Account, further, went, ran_from, CompletedAt, OpenCompleted, there, next, ready_next, each_way_ran, with_ran, so, Out, Has, begun, stay, links_like, with_objects, stepped, behind, completed_more, comes_to, open_configuration, open_ready, open_step, open_on, ran_open, closed_ran, completed_turn, turn_there, ran_more, outside, completed_on, topped, above, Simulates, Limit, where_to, RanDid, for_scope, for_counts, label_on, landed_on, closes, caught_at, tested, bound_named, operates, dyadic_run, for_two, two_run, Two, RanValue, pushes_item, same_number, place_of, NameAt}
+use Rattle.bk_simulation.proofs.Terms.{Bound as b, bind, Operator as op, Dyadic as two}
 use Rattle.bk_tree.specs.Tree as t
-use Rattle.bk_meaning.specs.Values.{Cell as Cell_of}
-use Rattle.bk_meaning.specs.Environment.{bind}
-use Rattle.bk_simulation.proofs.Moves.{store_moves, jump_moves, number_moves, load_moves}
-use Rattle.bk_simulation.proofs.Memory.{BaseOf, Alive, Like, like_on, Stands, StandsCell, Store, Moved, moved_on, fits_above, fits_more, stands_grown}
-use Rattle.bk_simulation.proofs.WrittenCells.{below_at, below_like, settle_like, settle_at, read_here}
-use Rattle.bk_simulation.proofs.MadeObjects.{make, make_fits, Since, since_refl, since_on, since_cells, since_made, grown_made, lying, since_moved, get_new}
-use Rattle.bk_simulation.proofs.Weights.{turns_of, turns_in, turns_through}
-use Rattle.bk_simulation.proofs.Laid.{Setting, Scene, in_loop, place_of, IsWord, IsAlone, KeepsLabels, IsLabelHere, LabelAt, IsAct, IsForLoop, behind_body, NameAt}
-use Rattle.bk_simulation.proofs.Frame.{some_objects, Configuration, store, state, start, named_grown, Ready, Account, further, went, ran_from, CompletedAt, OpenCompleted, there, next, ready_next, each_way_ran, with_ran, so, Out, Has, by_option}
-use Rattle.bk_simulation.proofs.Compose.{begun, stay, links_like, with_objects, stepped, behind, completed_more, comes_to, open_configuration, open_ready, open_step, open_on, ran_open, closed_ran, completed_turn, turn_there, ran_more, outside, completed_on, topped, above}
-use Rattle.bk_simulation.proofs.Simulates.{Simulates, Limit, where_to, RanDid, for_scope, for_counts}
-use Rattle.bk_simulation.proofs.ControlSteps.{label_on, landed_on, closes, caught_at, tested}
-use Rattle.bk_simulation.proofs.Orders.{by_test}
-use Rattle.bk_simulation.proofs.NamesBound.{bound_named}
-use Rattle.bk_simulation.proofs.Loops.{scope_runs, around_ready, looping}
-use Rattle.bk_tree.specs.declared.tree.Operator.TheVariants as op
-use Rattle.bk_ocode.specs.declared.stmt.Dyadic.TheVariants as two
+use Rattle.bk_simulation.proofs.Loops.{scope_runs, around_ready, looping, round_exit_adds}
 use Rattle.bk_meaning.specs.Memory as memory
-use Rattle.bk_simulation.proofs.OperatorWords.{operates}
-use Rattle.bk_simulation.proofs.Operators.{dyadic_run, for_two, two_run, Two, RanValue, pushes_item, same_number}
 use Rattle.bk_simulation.proofs.Assignments.{word_stored}
 
 -- ---- The rounds of a FOR.
@@ -39,7 +21,7 @@ limit_here setting s A z c k w w1 d o u ed l a =
 slot_run : (setting : Setting) (s : State) (A B : Account) (z : Configuration) (q : ℕ) (rest : List Stmt) (w w1 : World) (v : Value) → A.most + 1 ≤ B.most → B.least ≤ A.least → 2 ≤ z.depth → (a : CompletedAt setting s A z (Load (Local q) ∷ rest) z.depth w w1)
     → Stands setting.codes a.bases1 v (content_of (a.cells1 (z.frame + q))) → Has setting s B z rest (z.depth + 1) w v w1
 slot_run setting s A B z q rest w w1 v le le' dp a st =
-    topped _ le le' dp a st (load_moves setting.program (there setting s A z (Load (Local q) ∷ rest) z.depth w w1 a) z.scene.own rest z.depth (Local q) refl)
+    topped _ le le' dp a st (does setting.program (there setting s A z (Load (Local q) ∷ rest) z.depth w w1 a) z.scene.own rest z.depth (Load (Local q)) refl refl refl)
 
 variable_run : (setting : Setting) (s : State) (A B : Account) (z : Configuration) (d o : ℕ) (rest : List Stmt) (w w1 : World) → A.most + 1 ≤ B.most → B.least ≤ A.least → 2 ≤ z.depth → BaseOf z.bases o (z.frame + d) → CompletedAt setting s A z (Load (Local d) ∷ rest) z.depth w w1
     → RanValue setting s B z rest w (fetch (address o 0) w1)
@@ -67,7 +49,7 @@ step_pushed setting s A B z k rest w w1 u le le' lk r a =
     let r1 = ready_next z.env (z.depth + 1) a.arr refl (omega arith) r in
     second_item setting s A B z (Number (signed k)) rest w w1 u (number k) le le' r a
     (pushes_item setting (record { most = 16 * w1.turns + 1; least = w1.turns }) z1 (Number (signed k) ∷ rest) (Number (signed k)) rest w1 (number k) (Word (word_of (signed k))) (omega arith) (omega arith) refl r1 (ap Word (same_number k lk))
-    (number_moves setting.program (start z1 (Number (signed k) ∷ rest) w1) z.scene.own rest (z.depth + 1) (signed k) refl))
+    (does setting.program (start z1 (Number (signed k) ∷ rest) w1) z.scene.own rest (z.depth + 1) (Number (signed k)) refl refl refl))
 
 -- the limit is pushed
 limit_pushed : (setting : Setting) (s : State) (A B : Account) (z : Configuration) (d o : ℕ) (v : Value) (rest : List Stmt) (w w1 : World) (u : Value) → A.most + 1 ≤ B.most → B.least ≤ A.least → z.depth ≡ d + 2 → Limit setting z w d o v → Ready setting z w
@@ -78,7 +60,7 @@ limit_pushed setting s A B z d o v rest w w1 u le le' ed l r a =
     second_item setting s A B z (Load (Local (d + 1))) rest w w1 u v le le' r a
     (pushes_item setting (record { most = 16 * w1.turns + 1; least = w1.turns }) z1 (Load (Local (d + 1)) ∷ rest) (Load (Local (d + 1))) rest w1 v (content_of (a.arr.cells1 (z.frame + (d + 1)))) (omega arith) (omega arith) refl r1
     (limit_here setting s A z (Load (Local (d + 1)) ∷ rest) (z.depth + 1) w w1 d o v ed l a.arr)
-    (load_moves setting.program (start z1 (Load (Local (d + 1)) ∷ rest) w1) z.scene.own rest (z.depth + 1) (Local (d + 1)) refl))
+    (does setting.program (start z1 (Load (Local (d + 1)) ∷ rest) w1) z.scene.own rest (z.depth + 1) (Load (Local (d + 1))) refl refl refl))
 
 -- ---- the step is added to the variable
 sum_adds : (u v : Value) → Adds (operate op.Add u v)
@@ -189,24 +171,24 @@ further_count setting inner sim s A B x o u k d z n1 body rest w w1 le0 le1 le l
     comes_to (omega arith) (omega arith) r (omega arith) ar
     (sim.for_rounds x o u k d (next setting s D z body z.depth w w2 z.env z.depth ar) body rest w2 ed lf (limit_next setting s D z body w w2 d o u ed r lim ar) (ready_next z.env z.depth ar refl (omega arith) r)))
 
+-- what a further round adds, and what the step and the test before it do
+turn_adds : (setting : Setting) (inner : Meanings) → Simulates setting inner → (x : Action) (o : ℕ) (u : Value) (k : ℕ) (env : Environment) → Adds (λ w. turn w (λ w. inner.for_rounds x o u k env w))
+turn_adds setting inner sim x o u k env = adds _ (λ w. turn_after _ (adds _ (λ w1. sim.grows.for_rounds x o u k env w1)) w)
+
+next_adds : (setting : Setting) (inner : Meanings) → Simulates setting inner → (x : Action) (o : ℕ) (u : Value) (k : ℕ) (env : Environment)
+    → Adds (λ w. with (for_step o k w) (λ _ w. for_test o u k (λ w. turn w (λ w. inner.for_rounds x o u k env w)) w))
+next_adds setting inner sim x o u k env =
+    adds _ (λ w. with_after (history w) (for_step o k w) (λ _ w. for_test o u k (λ w. turn w (λ w. inner.for_rounds x o u k env w)) w) ((step_adds o k).at w)
+    (λ _. test_adds o k u (λ w. turn w (λ w. inner.for_rounds x o u k env w)) (turn_adds setting inner sim x o u k env)))
+
 pub for_rounds_run : (setting : Setting) (inner : Meanings) → Simulates setting inner → (x : Action) (o : ℕ) (u : Value) (k d : ℕ) (z : Configuration) (body rest : List Stmt) (w : World) → z.depth ≡ d + 2 → IsForLoop setting z.scene z.depth d k z.env x body rest → Limit setting z w d o u
     → Ready setting z w → RanDid setting (start z body w) (for_counts x w) z rest w (for_rounds_of inner x o u k z.env w)
 for_rounds_run setting inner sim x o u k d z body rest w ed lf lim r =
-    each_way_ran (λ _. next_adds) exit_adds
+    each_way_ran (λ _. next_adds setting inner sim x o u k z.env) (round_exit_adds _ (next_adds setting inner sim x o u k z.env))
     (so (omega arith) (omega arith) (λ _ w1 q. q) (λ y w1 q. q)
     (scope_runs setting inner sim (alone x) forwards (looping lf.2 lf.3 z) lf.4 lf.6.0 body (Label lf.2 ∷ behind_body d k lf.0 lf.5) body w (lf.6.1, lf.6.2, lf.6.3) refl (around_ready setting (in_loop lf.2 lf.3 z.depth z.scene).around (in_loop lf.2 lf.3 z.depth z.scene).exits z w r)))
     (λ _ w1 q. go (for_scope (alone x) w) w1 (omega arith) (omega arith) q) out
   where
-    turn_adds : Adds (λ w. turn w (λ w. inner.for_rounds x o u k z.env w))
-    turn_adds = adds _ (λ w. turn_after _ (adds _ (λ w1. sim.grows.for_rounds x o u k z.env w1)) w)
-
-    next_adds : Adds (λ w. with (for_step o k w) (λ _ w. for_test o u k (λ w. turn w (λ w. inner.for_rounds x o u k z.env w)) w))
-    next_adds = adds _ (λ w. with_after (history w) (for_step o k w) (λ _ w. for_test o u k (λ w. turn w (λ w. inner.for_rounds x o u k z.env w)) w) ((step_adds o k).at w) (λ _. test_adds o k u (λ w. turn w (λ w. inner.for_rounds x o u k z.env w)) turn_adds))
-
-    exit_adds : (y : Exit) → Adds (round_exit (λ w. with (for_step o k w) (λ _ w. for_test o u k (λ w. turn w (λ w. inner.for_rounds x o u k z.env w)) w)) y)
-    exit_adds loop = next_adds
-    exit_adds _ = adds _ (λ w1. stays (history w1))
-
     go : (A : Account) (w1 : World) → A.most ≤ 16 * w.turns → w.turns ≤ A.least + turns_in false x → CompletedAt setting (start z body w) A z (Label lf.2 ∷ behind_body d k lf.0 lf.5) z.depth w w1
         → RanDid setting (start z body w) (for_counts x w) z rest w (with (for_step o k w1) (λ _ w. for_test o u k (λ w. turn w (λ w. inner.for_rounds x o u k z.env w)) w))
     go A w1 lm ll a =
@@ -215,10 +197,10 @@ for_rounds_run setting inner sim x o u k d z body rest w ed lf lim r =
         let A1 : Account = record { most = A.most + 1; least = A.least } in
         let A5 : Account = record { most = A.most + 5; least = A.least } in
         let A6 : Account = record { most = A.most + 6; least = A.least } in
-        with_ran (λ _. test_adds o k u (λ w. turn w (λ w. inner.for_rounds x o u k z.env w)) turn_adds)
+        with_ran (λ _. test_adds o k u (λ w. turn w (λ w. inner.for_rounds x o u k z.env w)) (turn_adds setting inner sim x o u k z.env))
         (ran_more (omega arith) (omega arith) (step_run setting s A1 A5 z d o k (Label lf.0 ∷ lf.5) w w1 (omega arith) (omega arith) lf.13 lim.base r (landed_on (omega arith) (omega arith) lf.10 a)))
         (λ _ w2 b.
-        test_run setting s A6 B z d o k lf.1 u (Label lf.1 ∷ body) (Label lf.3 ∷ rest) rest w w2 (λ w. turn w (λ w. inner.for_rounds x o u k z.env w)) turn_adds (omega arith) (omega arith) lf.13 ed lim lf.9.found r
+        test_run setting s A6 B z d o k lf.1 u (Label lf.1 ∷ body) (Label lf.3 ∷ rest) rest w w2 (λ w. turn w (λ w. inner.for_rounds x o u k z.env w)) (turn_adds setting inner sim x o u k z.env) (omega arith) (omega arith) lf.13 ed lim lf.9.found r
         (subst (λ y. CompletedAt setting s A6 z y z.depth w w2) lf.7 (landed_on (omega arith) (omega arith) lf.8 b)) (fin A lm ll))
       where
         fin : (A : Account) → A.most ≤ 16 * w.turns → w.turns ≤ A.least + turns_in false x → (t : Bool) (w3 : World)
@@ -241,15 +223,7 @@ for_rounds_run setting inner sim x o u k d z body rest w ed lf lim r =
 -- what rounds add
 pub rounds_adds : (setting : Setting) (inner : Meanings) → Simulates setting inner → (x : Action) (o : ℕ) (u : Value) (k : ℕ) (env : Environment) → Adds (λ w. scope_of inner (alone x) forwards env w) → Adds (λ w. for_rounds_of inner x o u k env w)
 rounds_adds setting inner sim x o u k env au =
-    adds _ (λ w. each_way_after (history w) (scope_of inner (alone x) forwards env w) (λ _ w. with (for_step o k w) (λ _ w. for_test o u k (λ w. turn w (λ w. inner.for_rounds x o u k env w)) w)) (round_exit (λ w. with (for_step o k w) (λ _ w. for_test o u k (λ w. turn w (λ w. inner.for_rounds x o u k env w)) w))) (au.at w) (λ _. next_adds) exit_adds)
-  where
-    next_adds : Adds (λ w. with (for_step o k w) (λ _ w. for_test o u k (λ w. turn w (λ w. inner.for_rounds x o u k env w)) w))
-    next_adds = adds _ (λ w. with_after (history w) (for_step o k w) (λ _ w. for_test o u k (λ w. turn w (λ w. inner.for_rounds x o u k env w)) w) ((step_adds o k).at w) (λ _. test_adds o k u (λ w. turn w (λ w. inner.for_rounds x o u k env w))
-        (adds _ (λ w. turn_after _ (adds _ (λ w1. sim.grows.for_rounds x o u k env w1)) w))))
-
-    exit_adds : (y : Exit) → Adds (round_exit (λ w. with (for_step o k w) (λ _ w. for_test o u k (λ w. turn w (λ w. inner.for_rounds x o u k env w)) w)) y)
-    exit_adds loop = next_adds
-    exit_adds _ = adds _ (λ w1. stays (history w1))
+    adds _ (λ w. each_way_after (history w) (scope_of inner (alone x) forwards env w) (λ _ w. with (for_step o k w) (λ _ w. for_test o u k (λ w. turn w (λ w. inner.for_rounds x o u k env w)) w)) (round_exit (λ w. with (for_step o k w) (λ _ w. for_test o u k (λ w. turn w (λ w. inner.for_rounds x o u k env w)) w))) (au.at w) (λ _. next_adds setting inner sim x o u k env) (round_exit_adds _ (next_adds setting inner sim x o u k env)))
 
 -- ---- what follows an arrival in a situation of its own that has not all its items
 abbrev joined : {setting : Setting} {s : State} {A N B : Account} {z : Configuration} {c c2 : List Stmt} {k d2 : ℕ} {w w1 w2 : World} → A.most + N.most ≤ B.most + 16 * w1.turns
@@ -269,12 +243,11 @@ bound_first : (x : List ℕ) (k : Bound) (bs : List Binding) → bound_in (bind_
 bound_first x k bs = ap (λ (q : Bool). cond q (Some k) (bound_in bs x)) ((bytes_eq-Decides x x).1 refl)
 
 variable_keeps : (x : List ℕ) (p d : ℕ) (bs : List Binding) → KeepsLabels bs (bind_bound x (b.Variable p d) bs)
-variable_keeps x p d bs y h = by_test (bytes_eq x y)
+variable_keeps x p d bs y h =
+    let no_label : bound_in (bind_bound x (b.Variable p d) bs) y ≡ Some (b.Variable p d) → IsLabelHere (bound_in (bind_bound x (b.Variable p d) bs) y) → ⊥ = λ e h. subst (λ u. IsLabelHere u) e h in
+    by_test (bytes_eq x y)
     (λ (e : bytes_eq x y ≡ true). absurd (no_label (ap (λ (q : Bool). cond q (Some (b.Variable p d)) (bound_in bs y)) e) h))
     (λ (e : bytes_eq x y ≡ false). ap (λ (q : Bool). cond q (Some (b.Variable p d)) (bound_in bs y)) e)
-  where
-    no_label : bound_in (bind_bound x (b.Variable p d) bs) y ≡ Some (b.Variable p d) → IsLabelHere (bound_in (bind_bound x (b.Variable p d) bs) y) → ⊥
-    no_label e h = subst (λ u. IsLabelHere u) e h
 
 -- a LAB is the same where other names are in scope
 same_label : (setting : Setting) (sc : Scene) (bs : List Binding) (d n : ℕ) (rest : List Stmt) → LabelAt setting sc d n rest → LabelAt setting (record sc { bindings = bs }) d n rest
@@ -331,7 +304,7 @@ variable_made setting z w c u r room st =
     let here_is = stored_at z.frame k top z.cells (omega arith) (omega arith) in
     completed_more (omega arith) (omega arith) (with_objects (z.bases ++ top ∷ []) (making (holds u ∷ []) w).memory (z.frame + (z.depth + 2)) R
     (stepped w.memory top R c k (begun (record { most = 16 * w.turns; least = w.turns }) R k (Store_stmt ∷ c) (omega arith) (omega arith) r (since_refl (store z w))) cs None z.written (links_like z.frame top z.cells cs (omega arith) like) f1
-    (since_cells (store z w) like) (store_moves setting.program (state z.scene.own k (Store_stmt ∷ c) z.cells z.frame z.hand z.written w) z.scene.own c k refl))
+    (since_cells (store z w) like) (does setting.program (state z.scene.own k (Store_stmt ∷ c) z.cells z.frame z.hand z.written w) z.scene.own c k Store_stmt refl refl refl))
     (fits_more setting.codes (make h1 top (holds u ∷ [])) (top + 1) (z.frame + (z.depth + 2)) (omega arith)
     (make_fits setting.codes h1 top top (holds u ∷ []) f1 (omega arith) (omega arith) (omega arith) (λ i cl e. first_cell i cl e here_is) (λ i li. first_variable i li here_is)))
     (since_on {top1 = top} (omega arith) (since_cells (store z w) like) (since_made top (holds u ∷ []) h1 f1.long (omega arith))))

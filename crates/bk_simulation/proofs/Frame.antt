@@ -1,8 +1,6 @@
 -- The frame of the simulation: where code runs and what it finds, counted runs, arrivals, exits and falls, and how parts compose.
-use Rattle.bk_simulation.proofs.Words.{◌≡◌, ℕ, zero, suc, ◌+◌, ◌-◌, ◌*◌, ◌<◌, ◌≤◌, ◌^◌, Bool, true, false, List, ◌∷◌, ◌++◌, length, Option, None, Some, refl, sym, ap, ◌∙◌, subst, append_assoc, arith, ◌⊎◌, ⊎_elim, inl, inr, slice_get_within, FRAME_WORDS, bound_in, Content, Cell, content_of, Placed, Inside, State, Ends, from_label, program_step, Stmt, Jump, Stack, Return, Goal, Value, Environment, Sense, constant, cell, sense_in, sense_of, World, Exit, break, loop, endcase, goto, result, return, Outcome, gives, leaves, ends, undefined, going, each_way, with, turn, turn_of, history, Grows, After, Adds, adds, stays}
-use Rattle.bk_base.specs.declared.run_end.End.{End}
+use Rattle.bk_simulation.proofs.Words.{◌≡◌, ℕ, zero, suc, ◌+◌, ◌-◌, ◌*◌, ◌<◌, ◌≤◌, ◌^◌, true, List, ◌∷◌, ◌++◌, length, Option, Some, refl, sym, ap, ◌∙◌, subst, append_assoc, arith, ◌⊎◌, ⊎_elim, inl, inr, slice_get_within, FRAME_WORDS, bound_in, Content, Cell, content_of, Placed, Inside, State, Ends, from_label, program_step, Stmt, Jump, Stack, Return, Goal, Value, Environment, Sense, constant, cell, sense_in, sense_of, World, Exit, break, loop, endcase, goto, result, return, Outcome, gives, leaves, ends, undefined, going, each_way, with, turn, turn_of, history, Grows, After, Adds, adds, stays, End, IsTooHigh, end_of}
 use Rattle.bk_meaning.specs.World as world
-use Rattle.bk_simulation.specs.Simulation.{IsTooHigh, end_of}
 use Rattle.bk_simulation.proofs.Moves.{Moves}
 use Rattle.bk_simulation.proofs.FramesKept.{AtMostFrames}
 use Rattle.bk_simulation.proofs.BytesKept.{AllBytes, InHand, HasBytes}
@@ -10,15 +8,6 @@ use Rattle.bk_simulation.proofs.Memory.{Stands, Store, Grown, Moved, Fits, fits_
 use Rattle.bk_simulation.proofs.MadeObjects.{Since}
 pub use Rattle.bk_simulation.proofs.Laid.{place_of, IsWord, NameAt, NamedIn}
 use Rattle.bk_simulation.proofs.Laid.{Setting, Scene, goal_named, IsLabelHere}
-
--- a value that may be there, with what it is the value of
-pub by_option : {A : Type 0} (P : Option A → Type 0) (y : Option A) → (y ≡ None → P None) → ((a : A) → y ≡ Some a → P (Some a)) → P y
-by_option P None f h = f refl
-by_option P (Some a) f h = h a refl
-
-pub by_truth : (P : Bool → Type 0) (b : Bool) → (b ≡ true → P true) → (b ≡ false → P false) → P b
-by_truth P true h f = h refl
-by_truth P false h f = f refl
 
 -- where a tree's code runs, and what it finds
 pub record Configuration : Type 0 where

@@ -1,15 +1,8 @@
 -- The words of strings and tables are data of the program.
-use Rattle.bk_simulation.proofs.Words.{◌≡◌, ℕ, zero, suc, ◌+◌, ◌<◌, ◌≤◌, ◌^◌, List, [], ◌∷◌, ◌++◌, length, map, Option, Some, None, slice_get, drop, refl, sym, ap, ap₂, ◌∙◌, subst, arith, unwrap_or, signed, Expressions, Binding, constant_word, HaveWords, Placement, Placed, Program, Datum, item_words, datum_of, data_of, all_data, Stmt, DataNumber, worth, words_named, Named, constant_words, FRAME_WORDS, IsWellPlaced}
+use Rattle.bk_simulation.proofs.Words.{◌≡◌, ℕ, zero, suc, ◌+◌, ◌<◌, ◌≤◌, ◌^◌, List, [], ◌∷◌, ◌++◌, length, map, Option, Some, None, slice_get, drop, refl, sym, ap, ap₂, ◌∙◌, subst, arith, unwrap_or, signed, Expressions, Binding, constant_word, HaveWords, Placement, Placed, Program, Datum, item_words, datum_of, data_of, all_data, Stmt, DataNumber, worth, words_named, Named, constant_words, FRAME_WORDS, IsWellPlaced, ◌==◌, Bool, true, false, cond, eqb-true, is_in, DataLabel, DataAddress, word_code, Bound, words, option_map_or, RegularEach}
+use Rattle.bk_simulation.proofs.Forms.{same_number, get_first, with_names, InData, Agree, StandsAt, data_below, data_within, with_base, HasWords, constants_agree, constant_small, in_datum}
 use Rattle.bk_tree.specs.Tree as t
-use Rattle.bk_simulation.specs.Regular.{RegularEach}
-use Rattle.bk_simulation.proofs.Operators.{same_number}
-use Rattle.bk_simulation.proofs.MadeObjects.{get_first}
-use Rattle.bk_simulation.proofs.Sought.{with_names}
-use Rattle.bk_simulation.proofs.Held.{InData}
-use Rattle.bk_simulation.proofs.NamesAgree.{Agree}
-use Rattle.bk_simulation.proofs.Standing.{StandsAt, data_below}
-use Rattle.bk_simulation.proofs.LaidExpressions.{HasWords, constants_agree}
-use Rattle.bk_simulation.proofs.Constants.{constant_small}
+use Rattle.bk_scope.specs.declared.bound.Bound.TheVariants as b
 
 -- a place of a list behind others
 pub get_behind : {A : Type 0} (xs ys : List A) (i : ℕ) → slice_get (xs ++ ys) (length xs + i) ≡ slice_get ys i
@@ -71,3 +64,50 @@ worth_is (Some w) = refl
 pub words_agree : (ns : List Named) (bs : List Binding) (i : ℕ) (es : Expressions) → Agree ns bs → constant_words (with_names ns i) es ≡ words_named bs es
 words_agree ns bs i t.none a = refl
 words_agree ns bs i (t.more e es) a = ap₂ (λ x xs. x ∷ xs) (ap (λ y. unwrap_or y 0) (constants_agree ns bs i a.0 e) ∙ worth_is (constant_word bs e)) (words_agree ns bs i es a)
+
+-- ---- what is held, counted by its place
+
+-- a datum that has words has its place
+pub place_in : (d : Datum) (a : ℕ) → 0 < length d.words → cond (d.place == a) 1 0 ≤ cond (is_in a d) 1 0
+place_in d a some = by_test (d.place == a) refl
+  where
+    by_test : (q : Bool) → (d.place == a) ≡ q → cond q 1 0 ≤ cond (is_in a d) 1 0
+    by_test true e =
+        let one : ℕ = 1 in
+        let here : d.place + 0 ≡ a = let same = eqb-true d.place a e in omega (arith, same) in
+        let h : cond (is_in a d) one 0 ≡ one = ap (λ (z : Bool). cond z one 0) (subst (λ p. is_in p d ≡ true) here (in_datum d 0 some)) in
+        omega (arith, h)
+    by_test false e = omega arith
+
+-- words that are a datum
+pub datum_paid : (place : ℕ) (ws : List ℕ) (a : ℕ) → with_base a (words ws ∷ []) (place ∷ []) ≤ cond (is_in a (record { place = place; words = ws })) 1 0
+datum_paid place [] a = omega arith
+datum_paid place (w ∷ ws) a = let h = place_in (record { place = place; words = w ∷ ws }) a (omega arith) in omega (arith, h)
+
+-- words behind a label, and the word of a procedure
+pub words_paid : (own : Placed) (a n : ℕ) (ws us : List ℕ) (rest : List Stmt) → us ≡ ws → with_base a (words us ∷ []) (own.places.label n ∷ []) ≤ data_within own a (DataLabel n ∷ map (λ w. DataNumber (signed w)) ws) rest
+words_paid own a n ws [] rest e = omega arith
+words_paid own a n [] (u ∷ us) rest e = absurd (cc)
+words_paid own a n (w ∷ ws) (u ∷ us) rest e =
+    let h = place_in (record { place = own.places.label n; words = item_words own.places (map (λ v. DataNumber (signed v)) (w ∷ ws) ++ rest) }) a (omega arith) in omega (arith, h)
+
+-- the global of a procedure by what its name means
+abbrev pub bound_global : Bound → Option ℕ
+bound_global (b.Global g) = g
+bound_global _ = None
+
+abbrev pub IsCalled : Bound → Type 0
+IsCalled (b.Static m) = Unit {0}
+IsCalled (b.Global (Some g)) = Unit {0}
+IsCalled _ = ⊥
+
+-- the base of a procedure's object: its word, or its entry where it sets a global
+abbrev pub word_base : Placed → ℕ → Bound → ℕ
+word_base own n (b.Static m) = own.places.label (n + 1)
+word_base own n _ = own.places.label n
+
+pub word_paid : (own : Placed) (a n : ℕ) (y : Bound) (g : Option ℕ) (rest : List Stmt) → g ≡ bound_global y → IsCalled y → option_map_or (λ _. 0) g (cond (word_base own n y == a) 1 0) ≤ data_within own a (word_code n y) rest
+word_paid own a n (b.Static m) None rest e c = let h = place_in (record { place = own.places.label (n + 1); words = item_words own.places (DataAddress n ∷ rest) }) a (omega arith) in omega (arith, h)
+word_paid own a n (b.Global (Some k)) None rest e c = absurd (cc)
+word_paid own a n _ None rest e c = elim c [ ]
+word_paid own a n y (Some g) rest e c = omega arith

@@ -1,15 +1,8 @@
 -- Where the code of each form is laid: of this expression or command, with these names in scope, from these statements on before
 -- those. A jump has its LAB, a string and a table their object, a call its place.
-use Rattle.bk_simulation.proofs.Words.{◌≡◌, ℕ, suc, ◌+◌, ◌-◌, ◌<◌, ◌≤◌, ◌^◌, Bool, true, false, not, List, [], ◌∷◌, ◌++◌, length, Option, Some, cond, FRAME_WORDS, first_bytes, signed, Operator, Expression, Expressions, Action, Actions, Declaration, Declarations, Definitions, Starts, Bound, Binding, bound_in, bind, labels_of_each, labels_in_scope, depth_behind, Placed, global_place, from_label, case_label, Program, Local, Global, Static, Case, Stmt, Number, Query, Load, Address, Text, Monadic, Dyadic, Assign, AssignAt, AssignByte, Jump, JumpIf, Label, GiveResult, TakeResult, Stack, Store, CallFunction, CallRoutine, Return, Switch, Finish, Goal, Around, Target, meant, goal_in, variable, push, infix_code, truth_value, go, test_of_step, valued, looping, switching, Environment, Sense, constant, cell, sense_of, constant_in, behind, past, past_each, past_action, past_definition, labelled, within_let, constants_declared, letters, objects_of_definitions, step_of, Sought, the_label, the_case, the_default, Mode, forwards, seeking, same_place, stands_in, stands_in_one, alone, IsWellPlaced}
-use Rattle.std.specs.Prelude.{slice_get, take, drop}
-use Rattle.bk_tree.specs.declared.tree.Operator.TheVariants as o
-use Rattle.bk_tree.specs.declared.tree.Prefix.TheVariants as q
-use Rattle.bk_tree.specs.declared.tree.Simple.TheVariants as k
+use Rattle.bk_simulation.proofs.Words.{◌≡◌, ℕ, suc, ◌+◌, ◌-◌, ◌<◌, ◌≤◌, ◌^◌, Bool, true, false, not, List, [], ◌∷◌, ◌++◌, length, Option, Some, cond, FRAME_WORDS, first_bytes, signed, Operator, Expression, Expressions, Action, Actions, Declaration, Declarations, Definitions, Starts, Bound, Binding, bound_in, bind, labels_of_each, labels_in_scope, depth_behind, Placed, global_place, from_label, case_label, Program, Local, Global, Static, Case, Stmt, Number, Query, Load, Address, Text, Monadic, Dyadic, Assign, AssignAt, AssignByte, Jump, JumpIf, Label, GiveResult, TakeResult, Stack, Store, CallFunction, CallRoutine, Return, Switch, Finish, Goal, Around, Target, meant, goal_in, variable, push, infix_code, truth_value, go, test_of_step, valued, looping, switching, Environment, Sense, constant, cell, sense_of, constant_in, behind, past, past_each, past_action, past_definition, labelled, within_let, constants_declared, letters, objects_of_definitions, step_of, Sought, the_label, the_case, the_default, Mode, forwards, seeking, same_place, stands_in, stands_in_one, alone, IsWellPlaced, slice_get, take, drop}
+use Rattle.bk_simulation.proofs.Terms.{Operator as o, Prefix as q, Simple as k, Bound as b, Variable, Variable as Named, Dyadic as two, Monadic as w}
 use Rattle.bk_tree.specs.Tree as t
-use Rattle.bk_scope.specs.declared.bound.Bound.TheVariants as b
-use Rattle.bk_ocode.specs.declared.stmt.Variable.{Variable, Variable as Named}
-use Rattle.bk_ocode.specs.declared.stmt.Dyadic.TheVariants as two
-use Rattle.bk_ocode.specs.declared.stmt.Monadic.TheVariants as w
 use Rattle.bk_meaning.specs.Environment as m
 use Rattle.bk_simulation.proofs.Memory.{Codes, BaseOf, Grown}
 use Rattle.bk_simulation.proofs.Weights.{turns_of, turns_in, turns_through}

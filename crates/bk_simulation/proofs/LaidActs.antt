@@ -1,25 +1,19 @@
 -- A FOR is laid where the scheme puts it, where its body is. Each command of an accepted section is laid where the scheme puts it. That VALOFs and blocks
 -- with declarations are is taken here as an argument.
-use Rattle.bk_simulation.proofs.Words.{Placed, Environment, Goal, go, ◌≡◌, ℕ, ◌+◌, ◌<◌, ◌≤◌, ◌^◌, Bool, true, false, List, [], ◌∷◌, ◌++◌, length, Some, cond, refl, sym, ap, ap₂, ◌∙◌, subst, arith, int_lt, pos, signed, Expression, Expressions, Action, Actions, Declaration, Declarations, Enclosing, Binding, bind, labels_of, deeper, labels_in_scope, SoundDone, HaveWords, Spot, next_depth, Local, Stmt, Number, Load, Dyadic, Assign, Jump, JumpIf, Label, Stack, Store, labels, term_named, command_named, worth, step_named, parts, parts_in, value_code, command_code, test_of_step, Named, objects, objects_of_action, cell, foreign, step_of, of_action, in_scope, Mention, Command, not, suc, false≢true, bytes_eq, size, bound_in, constant_word, SoundDoneEach, Sound, from_label, GiveResult, CallRoutine, Switch, Return, Finish, TakeResult, labels_if, labels_onto, labels_in, meant, condition_named, lvalues_named, commands_named, parts_if, parts_onto, parts_through, goal_in, jump_code, through_code, cases, default_in, label_or, valued, objects_of_each, objects_of_actions, constant_in, the_label, the_case, the_default, same_place, stands_in, of_actions, of_expression}
-use Rattle.bk_simulation.specs.Regular.{RegularEach, RegularAction, RegularActions, Regular}
-use Rattle.bk_simulation.proofs.Weights.{turns_in, in_light, turns_through, of_light, turns_of}
-use Rattle.bk_simulation.proofs.Sought.{with_names}
-use Rattle.bk_simulation.proofs.Laid.{IsAct, Setting, Scene, in_loop, pushes, IsAlone, in_switch, jumps, count, IsLabelHere, AreActs, in_valof, Aim, ending, IsCode}
-use Rattle.bk_simulation.proofs.NamesBound.{bound_named}
-use Rattle.bk_simulation.proofs.NamesAgree.{Agree, own_cell, agree_bound}
-use Rattle.bk_simulation.proofs.LastingKinds.{kinds_in, kinds_through}
-use Rattle.bk_simulation.proofs.Standing.{there_in, bases_inside, StandsAt, passed, label_at, home, three_bases, bases_so, Lies, written, call_at, label_found, Bases, no_bases, both_bases, lies_so}
-use Rattle.bk_simulation.proofs.Constants.{constant_small}
-use Rattle.bk_simulation.proofs.LaidAssigned.{Doing, finds_nothing, Done, words_labels, words_variable, alone_lies, doing_loop, doing_switch, Leads, finds_case, finds_both, switch_chosen, switch_default, switch_none, DoneEach, leads_label, either_leads, same_letters, label_ahead, turns_lie, laid_froms, laid_stores}
-use Rattle.bk_simulation.proofs.LaidExpressions.{HasWords, FoundParts, found_front, found_back, around_deeper, constants_agree, InNames, joined_choice, known, known_agree, names_of, stands_agree, joined_two, joined_three, coded, own_parts, own_kinds, plain_lies, role, level, Around, plain_code, plain_parts, lies_ended, call_lies}
-use Rattle.bk_simulation.proofs.LaidValues.{ValofsLie, laid_code, laid_each}
-use Rattle.bk_tree.specs.declared.tree.Simple.{Simple}
+use Rattle.bk_simulation.proofs.LaidProcedures.{all_passed}
+use Rattle.bk_simulation.proofs.Words.{◌-◌, Placed, Environment, Goal, go, ◌≡◌, ℕ, ◌+◌, ◌<◌, ◌≤◌, ◌^◌, Bool, true, false, List, [], ◌∷◌, ◌++◌, length, Some, cond, refl, sym, ap, ap₂, ◌∙◌, subst, arith, int_lt, pos, signed, Expressions, Action, Actions, Declaration, Declarations, Enclosing, Binding, bind, labels_of, deeper, labels_in_scope, SoundDone, HaveWords, Spot, next_depth, Local, Stmt, Number, Load, Dyadic, Assign, Jump, JumpIf, Label, Stack, Store, labels, term_named, command_named, worth, step_named, parts, parts_in, value_code, command_code, test_of_step, Named, objects, objects_of_action, cell, foreign, step_of, of_action, in_scope, not, suc, false≢true, bytes_eq, size, bound_in, constant_word, SoundDoneEach, Sound, from_label, GiveResult, CallRoutine, Switch, Return, Finish, TakeResult, labels_if, labels_onto, labels_in, meant, condition_named, lvalues_named, commands_named, parts_if, parts_onto, parts_through, goal_in, jump_code, through_code, cases, default_in, label_or, valued, objects_of_each, objects_of_actions, constant_in, the_label, the_case, the_default, same_place, stands_in, of_actions, Sought, RegularEach, RegularAction, RegularActions, Regular, Simple}
+use Rattle.bk_simulation.proofs.Forms.{at_depth, turns_in, in_light, turns_through, of_light, turns_of, with_names, IsAct, Setting, Scene, in_loop, pushes, IsAlone, in_switch, jumps, count, IsLabelHere, AreActs, in_valof, Aim, ending, bound_named, Agree, own_cell, agree_bound, there_in, bases_under, StandsAt, passed, label_at, home, three_bases, bases_so, Lies, written, call_at, label_found, Bases, no_bases, both_bases, lies_so, lie, lies_within, data_at, FoundParts, found_front, found_back, lies_after, constant_small, HasWords, around_deeper, constants_agree, InNames, joined_choice, known, known_agree, names_of, stands_agree, joined_two, joined_three, role, Around, call_lies, plain_laid}
+use Rattle.bk_simulation.proofs.LaidAssigned.{Doing, finds_nothing, Done, words_labels, words_variable, alone_lies, doing_loop, doing_switch, Leads, finds_case, finds_both, switch_chosen, switch_default, switch_none, DoneEach, leads_label, either_leads, same_letters, label_ahead, turns_lie, laid_froms, laid_stores, FindsEach}
+use Rattle.bk_simulation.proofs.LaidValues.{ValofsLie, laid_code, laid_each, CodeLies}
 use Rattle.bk_tree.specs.Tree as t
-use Rattle.bk_scope.specs.declared.bound.Bound.TheVariants as b
+use Rattle.bk_simulation.proofs.Terms.{Bound as b, Dyadic as two, Simple as simple}
 use Rattle.bk_scope.specs.Places as place
 use Rattle.bk_scope.specs.Spots as spot
-use Rattle.bk_ocode.specs.declared.stmt.Dyadic.TheVariants as two
-use Rattle.bk_tree.specs.declared.tree.Simple.TheVariants as simple
+
+-- the code of a command is laid from statements on before those
+abbrev pub ActLies : ℕ → Scene → Enclosing → Spot → ℕ → Action → ℕ → ℕ → List Stmt → List Stmt → Type 0
+ActLies pay sc p s i x d n c rest = (f : FoundParts sc.own sc.targets (parts_in d n (command_named sc.bindings p s x))) → c ≡ command_code sc.targets sc.around d n (command_named sc.bindings p s x) ++ rest → StandsAt sc.own d c
+    → Done pay sc i x d n (command_named sc.bindings p s x) c rest f
 
 -- the step of a FOR
 step_is : (ns : List Named) (bs : List Binding) (i : ℕ) → Agree ns bs → (h : Expressions) → HaveWords bs h → step_of (with_names ns i) h ≡ Some (step_named bs h)
@@ -34,130 +28,6 @@ test_in : (d : ℕ) (q : Bool) → next_depth (d + 1 + 1) (cond q (Dyadic two.At
 test_in d true = omega arith
 test_in d false = omega arith
 
-test_depth : (d k : ℕ) → next_depth (d + 1 + 1) (test_of_step k) ≡ d + 1
-test_depth d k = test_in d (int_lt (signed k) (pos 0))
-
--- where the body of a FOR is laid: what stands around it, and its first label
-pub record ForBody : Type 0 where
-  pub scene : Scene
-  pub place : Enclosing
-  pub spot : Spot
-  pub first : ℕ
-
-abbrev pub body_of : Scene → Enclosing → Spot → ℕ → ℕ → Mention → Expression → Expression → Expressions → Action → ForBody
-body_of sc p s d n x a b0 h c =
-    let sb : Spot = spot.behind a s in
-    let u : Spot = spot.onward (spot.symbols_each h) 0 (spot.behind b0 sb) in
-    let inside : Scene = record (in_loop (n + 2) (n + 3) (d + 2) sc) { bindings = bind x.letters (b.Variable p.procedure p.depth) sc.bindings } in
-    record {
-      scene = record inside { bindings = labels_in_scope p.procedure (u.number + 1) (labels_of c) inside.bindings };
-      place = place.labelled u.number (place.looping (deeper 2 p));
-      spot = spot.numbered (1 + length (labels_of c)) u;
-      first = n + 4 + labels (term_named sc.bindings p s a) + labels (term_named sc.bindings (deeper 1 p) sb b0);
-    }
-
-abbrev pub body_named : ForBody → Action → Command
-body_named q c = command_named q.scene.bindings q.place q.spot c
-
-pub for_lies : (pay : ℕ) (valofs : ValofsLie pay) (sc : Scene) (p : Enclosing) (s : Spot) (i l : ℕ) (x : Mention) (a1 b1 : Expression) (h1 : Expressions) (a0 : Action) (d n : ℕ) (c rest : List Stmt) → Doing sc p d
-    → SoundDone sc.bindings p s (t.for_loop l x a1 b1 h1 a0) → RegularAction (t.for_loop l x a1 b1 h1 a0) → turns_in true (t.for_loop l x a1 b1 h1 a0) ≤ pay
-    → FoundParts sc.own sc.targets (parts_in d n (command_named sc.bindings p s (t.for_loop l x a1 b1 h1 a0)))
-    → c ≡ command_code sc.targets sc.around d n (command_named sc.bindings p s (t.for_loop l x a1 b1 h1 a0)) ++ rest → StandsAt sc.own d c
-    → ((c0 r0 : List Stmt) → Doing (body_of sc p s d n x a1 b1 h1 a0).scene (body_of sc p s d n x a1 b1 h1 a0).place (d + 2)
-    → FoundParts sc.own sc.targets (parts_in (d + 2) (body_of sc p s d n x a1 b1 h1 a0).first (body_named (body_of sc p s d n x a1 b1 h1 a0) a0))
-    → c0 ≡ command_code sc.targets (body_of sc p s d n x a1 b1 h1 a0).scene.around (d + 2) (body_of sc p s d n x a1 b1 h1 a0).first (body_named (body_of sc p s d n x a1 b1 h1 a0) a0) ++ r0 → StandsAt sc.own (d + 2) c0
-    → Done pay (body_of sc p s d n x a1 b1 h1 a0).scene (i + objects a1 + objects b1) a0 (d + 2) (body_of sc p s d n x a1 b1 h1 a0).first (body_named (body_of sc p s d n x a1 b1 h1 a0) a0) c0 r0)
-    → Done pay sc i (t.for_loop l x a1 b1 h1 a0) d n (command_named sc.bindings p s (t.for_loop l x a1 b1 h1 a0)) c rest
-for_lies pay valofs sc p s i l x a1 b1 h1 a0 d n c rest a h r m f k st laid =
-    let sb : Spot = spot.behind a1 s in
-    let u0 : Spot = spot.onward (spot.symbols_each h1) 0 (spot.behind b1 sb) in
-    let pb : Enclosing = deeper 1 p in
-    let p1 : Enclosing = place.labelled u0.number (place.looping (deeper 2 p)) in
-    let s1 : Spot = spot.numbered (1 + length (labels_of a0)) u0 in
-    let step : ℕ = step_named sc.bindings h1 in
-    let ta = term_named sc.bindings p s a1 in
-    let tb = term_named sc.bindings pb sb b1 in
-    let na = n + 4 in
-    let nb = n + 4 + labels ta in
-    let nc = n + 4 + labels ta + labels tb in
-    let inside : Scene = record (in_loop (n + 2) (n + 3) (d + 2) sc) { bindings = bind x.letters (b.Variable p.procedure p.depth) sc.bindings } in
-    let within : Scene = record inside { bindings = labels_in_scope p.procedure (u0.number + 1) (labels_of a0) inside.bindings } in
-    let kc = command_named within.bindings p1 s1 a0 in
-    let va = value_code sc.targets d na ta in
-    let vb = value_code sc.targets (d + 1) nb tb in
-    let code = command_code sc.targets inside.around (d + 2) nc kc in
-    let test = Load (Local d) ∷ Load (Local (d + 1)) ∷ test_of_step step ∷ JumpIf true (n + 1) ∷ Label (n + 3) ∷ Stack d ∷ rest in
-    let next = Load (Local d) ∷ Number (signed step) ∷ Dyadic two.Add ∷ Assign (Local d) ∷ Label n ∷ test in
-    let body = code ++ (Label (n + 2) ∷ next) in
-    let c2 = Store ∷ Jump n ∷ Label (n + 1) ∷ body in
-    let c1 = vb ++ c2 in
-    let k1 = joined_choice va vb (Store ∷ Jump n ∷ Label (n + 1) ∷ [])
-    (Label (n + 2) ∷ Load (Local d) ∷ Number (signed step) ∷ Dyadic two.Add ∷ Assign (Local d) ∷ Label n ∷ Load (Local d) ∷ Load (Local (d + 1)) ∷ test_of_step step ∷ JumpIf true (n + 1) ∷ Label (n + 3) ∷ Stack d ∷ [])
-    code rest c k in
-    let fab = found_front sc.own sc.targets (parts d na ta ++ parts (d + 1) nb tb) _ f in
-    let la = laid_code pay valofs sc p s i pushes a1 d na c c1 a.around h.0 r.0 (omega arith) (found_front sc.own sc.targets (parts d na ta) _ fab) k1 st in
-    let lb = laid_code pay valofs sc pb sb (i + objects a1) pushes b1 (d + 1) nb c1 c2 (around_deeper sc p d 1 (d + 1) refl la.on.shallow a.around) h.1 r.1 (omega arith) (found_back sc.own sc.targets (parts d na ta) _ fab) refl la.on in
-    let on1 = passed sc.own (d + 1 + 1) (d + 2) Store (Jump n ∷ Label (n + 1) ∷ body) lb.on (omega arith) in
-    let on2 = passed sc.own (d + 2) (d + 2) (Jump n) (Label (n + 1) ∷ body) on1 refl in
-    let on3 = passed sc.own (d + 2) (d + 2) (Label (n + 1)) body on2 refl in
-    let deep = around_deeper sc p d 2 (d + 2) refl on3.shallow a.around in
-    let doing : Doing within p1 (d + 2) = record {
-      around = record { same = deep.same; at = deep.at; words = words_labels p.procedure (u0.number + 1) (labels_of a0) inside.bindings (words_variable p.procedure p.depth x.letters sc.bindings a.around.words) };
-      loop = λ e. refl;
-      switch = a.switch;
-      valof = a.valof;
-    } in
-    let done = laid body (Label (n + 2) ∷ next) doing (found_back sc.own sc.targets (parts d na ta ++ parts (d + 1) nb tb) _ f) refl on3 in
-    let lc = alone_lies pay inside (i + objects a1 + objects b1) a0 (d + 2) nc kc body (Label (n + 2) ∷ next) (u0.number + 1) p.procedure a.around.same (let tx = in_light a0 in omega (arith, tx, m)) done in
-    let mine : b.Variable p.procedure p.depth ≡ b.Variable sc.procedure d = ap₂ b.Variable a.around.same a.around.at in
-    let i1 = i + objects a1 + objects b1 in
-    let lv = subst (λ z. Lies (record (home sc pay) { bindings = bind x.letters z sc.bindings }) i1 (objects_of_action a0) (d + 2) (Label (n + 2) ∷ next) (kinds_in nc kc) (λ ns. of_action (in_scope a0 (with_names ns i1)) a0)
-    (InNames (bind x.letters z sc.bindings) i1 (λ g env. IsAlone g (record (in_loop (n + 2) (n + 3) (d + 2) sc) { bindings = bind x.letters z sc.bindings }) (d + 2) env a0 (u0.number + 1) body (Label (n + 2) ∷ next)))) mine lc in
-    let foreign_first : List Named → List Named = λ ns. record { name = x.letters; sense = foreign } ∷ ns in
-    let bv = bases_inside (home sc pay) (bind x.letters (b.Variable sc.procedure d) sc.bindings) i1 (objects_of_action a0) _ foreign_first
-    (λ g ns e w0. (agree_bound x.letters foreign (b.Variable sc.procedure d) ns sc.bindings refl refl e, (λ q bases frame grown. bound_named (there_in (home sc pay) q) (with_names ns 0) bases frame x.letters (b.Variable sc.procedure d) foreign tt (w0 q bases frame grown)))) lv.objects_are in
-    let on4 = passed sc.own (d + 2) (d + 2) (Label (n + 2)) next lv.on refl in
-    let on5 = passed sc.own (d + 2) (d + 2 + 1) (Load (Local d)) (Number (signed step) ∷ Dyadic two.Add ∷ Assign (Local d) ∷ Label n ∷ test) on4 refl in
-    let on6 = passed sc.own (d + 2 + 1) (d + 2 + 1 + 1) (Number (signed step)) (Dyadic two.Add ∷ Assign (Local d) ∷ Label n ∷ test) on5 refl in
-    let on7 = passed sc.own (d + 2 + 1 + 1) (d + 2 + 1) (Dyadic two.Add) (Assign (Local d) ∷ Label n ∷ test) on6 (omega arith) in
-    let on8 = passed sc.own (d + 2 + 1) (d + 2) (Assign (Local d)) (Label n ∷ test) on7 (omega arith) in
-    let on9 = passed sc.own (d + 2) (d + 2) (Label n) test on8 refl in
-    let on10 = passed sc.own (d + 2) (d + 2 + 1) (Load (Local d)) (Load (Local (d + 1)) ∷ test_of_step step ∷ JumpIf true (n + 1) ∷ Label (n + 3) ∷ Stack d ∷ rest) on9 refl in
-    let on11 = passed sc.own (d + 2 + 1) (d + 2 + 1 + 1) (Load (Local (d + 1))) (test_of_step step ∷ JumpIf true (n + 1) ∷ Label (n + 3) ∷ Stack d ∷ rest) on10 refl in
-    let on12 = passed sc.own (d + 2 + 1 + 1) (d + 2 + 1) (test_of_step step) (JumpIf true (n + 1) ∷ Label (n + 3) ∷ Stack d ∷ rest) on11 (test_depth (d + 2) step) in
-    let on13 = passed sc.own (d + 2 + 1) (d + 2) (JumpIf true (n + 1)) (Label (n + 3) ∷ Stack d ∷ rest) on12 (omega arith) in
-    let on14 = passed sc.own (d + 2) (d + 2) (Label (n + 3)) (Stack d ∷ rest) on13 refl in
-    record {
-      at = λ y. rest;
-      lies = record {
-        on = passed sc.own (d + 2) d (Stack d) rest on14 refl;
-        objects_are = bases_so (home sc pay) i _ _ _ (λ g z v ns u. let pays = z.pays in (
-          n,
-          n + 1,
-          n + 2,
-          n + 3,
-          step,
-          u0.number + 1,
-          c1,
-          body,
-          test,
-          v.0.0 ns u,
-          v.0.1 ns u,
-          (λ object above. v.1 (record { name = x.letters; sense = cell object 0 } ∷ ns) (agree_bound x.letters (cell object 0) (b.Variable sc.procedure d) ns sc.bindings refl (own_cell object 0 above) u)),
-          refl,
-          step_is ns sc.bindings i u h1 h.2,
-          label_at g sc (d + 2) n test z.own on8,
-          label_at g sc (d + 2) (n + 1) body z.own on2,
-          label_at g sc (d + 2) (n + 2) next z.own lv.on,
-          label_at g sc (d + 2) (n + 3) (Stack d ∷ rest) z.own on13,
-          on1.shallow,
-          (let tc = in_light a0 in omega (arith, pays, m, tc)),
-          step_small sc.bindings a.around.words h1 r.2 h.2,
-        )) (three_bases (home sc pay) i (objects a1) (objects b1) (objects_of_action a0) _ _ _ la.objects_are lb.objects_are bv);
-      };
-      finds = finds_nothing sc.own sc.targets sc.bindings d _;
-    }
-
 -- ---- Commands of one word are laid where the scheme puts them.
 
 -- a jump to another depth
@@ -167,41 +37,38 @@ gone own d to c rest k st =
     passed own to.depth d (Stack d) rest (passed own to.depth to.depth (Jump to.label) (Stack d ∷ rest) s1 refl) refl
 
 -- a command of one word
-one_word : (pay : ℕ) (sc : Scene) (p : Enclosing) (s : Spot) (i l : ℕ) (x : Simple) (d n : ℕ) (c rest : List Stmt) → StandsAt sc.own d rest
-    → ((setting : Setting) (env : Environment) → IsAct setting sc d env (t.simple l x) (λ y. rest) c rest) → Done pay sc i (t.simple l x) d n (command_named sc.bindings p s (t.simple l x)) c rest
-one_word pay sc p s i l x d n c rest on f = record {
+one_word : (pay : ℕ) (sc : Scene) (p : Enclosing) (s : Spot) (i l : ℕ) (x : Simple) (d n : ℕ) (c rest : List Stmt) {f : FoundParts sc.own sc.targets (parts_in d n (command_named sc.bindings p s (t.simple l x)))} → StandsAt sc.own d rest
+    → ((q : ℕ) → data_at sc.own q rest ≤ data_at sc.own q c)
+    → ((setting : Setting) (env : Environment) → IsAct setting sc d env (t.simple l x) (λ y. rest) c rest) → Done pay sc i (t.simple l x) d n (command_named sc.bindings p s (t.simple l x)) c rest f
+one_word pay sc p s i l x d n c rest on less laid = record {
   at = λ y. rest;
-  lies = record { on = on; objects_are = no_bases (home sc pay) i _ (λ setting y ns u. f setting (with_names ns i)) };
+  lies = lie on (no_bases (home sc pay) i _ (λ setting y ns u. laid setting (with_names ns i))) (λ q. let l = less q in omega (arith, l));
   finds = finds_nothing sc.own sc.targets sc.bindings d _;
 }
 
-pub simple_lies : (pay : ℕ) (sc : Scene) (p : Enclosing) (s : Spot) (i l : ℕ) (x : Simple) (d n : ℕ) (c rest : List Stmt) → Doing sc p d → SoundDone sc.bindings p s (t.simple l x)
-    → c ≡ command_code sc.targets sc.around d n (command_named sc.bindings p s (t.simple l x)) ++ rest → StandsAt sc.own d c → Done pay sc i (t.simple l x) d n (command_named sc.bindings p s (t.simple l x)) c rest
-simple_lies pay sc p s i l simple.Break d n c rest a h k st =
-    one_word pay sc p s i l simple.Break d n c rest (gone sc.own d sc.around.leaves c rest k st) (λ g env. (k, a.loop h))
-simple_lies pay sc p s i l simple.Loop d n c rest a h k st =
-    one_word pay sc p s i l simple.Loop d n c rest (gone sc.own d sc.around.goes_on c rest k st) (λ g env. (k, a.loop h))
-simple_lies pay sc p s i l simple.EndCase d n c rest a h k st =
-    one_word pay sc p s i l simple.EndCase d n c rest (gone sc.own d sc.around.ends_case c rest k st) (λ g env. (k, a.switch h))
-simple_lies pay sc p s i l simple.Return d n c rest a h k st =
-    one_word pay sc p s i l simple.Return d n c rest (passed sc.own d d Return rest (written sc.own d c (Return ∷ rest) k st) refl) (λ g env. k)
-simple_lies pay sc p s i l simple.Finish d n c rest a h k st =
-    one_word pay sc p s i l simple.Finish d n c rest (passed sc.own d d Finish rest (written sc.own d c (Finish ∷ rest) k st) refl) (λ g env. k)
+pub simple_lies : (pay : ℕ) (sc : Scene) (p : Enclosing) (s : Spot) (i l : ℕ) (x : Simple) (d n : ℕ) (c rest : List Stmt) → Doing sc p d → SoundDone sc.bindings p s (t.simple l x) → ActLies pay sc p s i (t.simple l x) d n c rest
+simple_lies pay sc p s i l simple.Break d n c rest a h f k st =
+    one_word pay sc p s i l simple.Break d n c rest (gone sc.own d sc.around.leaves c rest k st) (λ q. let e = ap (data_at sc.own q) k in omega (arith, e)) (λ g env. (k, a.loop h))
+simple_lies pay sc p s i l simple.Loop d n c rest a h f k st =
+    one_word pay sc p s i l simple.Loop d n c rest (gone sc.own d sc.around.goes_on c rest k st) (λ q. let e = ap (data_at sc.own q) k in omega (arith, e)) (λ g env. (k, a.loop h))
+simple_lies pay sc p s i l simple.EndCase d n c rest a h f k st =
+    one_word pay sc p s i l simple.EndCase d n c rest (gone sc.own d sc.around.ends_case c rest k st) (λ q. let e = ap (data_at sc.own q) k in omega (arith, e)) (λ g env. (k, a.switch h))
+simple_lies pay sc p s i l simple.Return d n c rest a h f k st =
+    one_word pay sc p s i l simple.Return d n c rest (passed sc.own d d Return rest (written sc.own d c (Return ∷ rest) k st) refl) (λ q. let e = ap (data_at sc.own q) k in omega (arith, e)) (λ g env. k)
+simple_lies pay sc p s i l simple.Finish d n c rest a h f k st =
+    one_word pay sc p s i l simple.Finish d n c rest (passed sc.own d d Finish rest (written sc.own d c (Finish ∷ rest) k st) refl) (λ q. let e = ap (data_at sc.own q) k in omega (arith, e)) (λ g env. k)
 
 -- blocks with declarations are laid
 abbrev pub BlocksLie : ℕ → Type 0
 BlocksLie pay = (sc : Scene) (p : Enclosing) (s : Spot) (i l : ℕ) (x : Declaration) (xs : Declarations) (cs : Actions) (d n : ℕ) (c rest : List Stmt) → Doing sc p d → SoundDone sc.bindings p s (t.block l (t.declare x xs) cs)
-    → RegularAction (t.block l (t.declare x xs) cs) → turns_in true (t.block l (t.declare x xs) cs) ≤ pay → FoundParts sc.own sc.targets (parts_in d n (command_named sc.bindings p s (t.block l (t.declare x xs) cs)))
-    → c ≡ command_code sc.targets sc.around d n (command_named sc.bindings p s (t.block l (t.declare x xs) cs)) ++ rest → StandsAt sc.own d c
-    → Done pay sc i (t.block l (t.declare x xs) cs) d n (command_named sc.bindings p s (t.block l (t.declare x xs) cs)) c rest
+    → RegularAction (t.block l (t.declare x xs) cs) → turns_in true (t.block l (t.declare x xs) cs) ≤ pay → ActLies pay sc p s i (t.block l (t.declare x xs) cs) d n c rest
 
 mutual
   pub laid_act : (pay : ℕ) (valofs : ValofsLie pay) (blocks : BlocksLie pay) (sc : Scene) (p : Enclosing) (s : Spot) (i : ℕ) (x : Action) (d n : ℕ) (c rest : List Stmt) → Doing sc p d → SoundDone sc.bindings p s x → RegularAction x → turns_in true x ≤ pay
-      → FoundParts sc.own sc.targets (parts_in d n (command_named sc.bindings p s x)) → c ≡ command_code sc.targets sc.around d n (command_named sc.bindings p s x) ++ rest → StandsAt sc.own d c
-      → Done pay sc i x d n (command_named sc.bindings p s x) c rest
+      → ActLies pay sc p s i x d n c rest
   laid_act pay valofs blocks sc p s i t.empty d n c rest a h r m f k st = record {
     at = λ y. rest;
-    lies = record { on = written sc.own d c rest k st; objects_are = no_bases (home sc pay) i _ (λ g y ns u. k) };
+    lies = lie (written sc.own d c rest k st) (no_bases (home sc pay) i _ (λ g y ns u. k)) (λ q. let e0 = ap (data_at sc.own q) k in omega (arith, e0));
     finds = finds_nothing sc.own sc.targets sc.bindings d _;
   }
   laid_act pay valofs blocks sc p s i (t.assign l xs es) d n c rest a h r m f k st =
@@ -210,10 +77,10 @@ mutual
       let u = spot.behind_each xs s in
       let stores = laid_stores pay valofs sc p s i xs d n a.around h.0 r.1 (omega arith) (found_front sc.own sc.targets (parts_onto (d + 1) n lx) _ f) in
       let froms = laid_froms pay valofs sc p u j es d (n + labels_onto lx) st.shallow a.around h.1 r.2 (omega arith) (found_back sc.own sc.targets (parts_onto (d + 1) n lx) _ f) in
-      let x = turns_lie pay sc p p s u i j xs es d n (n + labels_onto lx) c rest r.0 stores froms k st in
+      let x = turns_lie pay sc p p s u i j xs es d n (n + labels_onto lx) c rest (found_front sc.own sc.targets (parts_onto (d + 1) n lx) _ f) (found_back sc.own sc.targets (parts_onto (d + 1) n lx) _ f) r.0 stores froms k st in
       record {
         at = λ y. rest;
-        lies = record { on = x.on; objects_are = bases_so (home sc pay) i _ _ _ (λ g y v ns u. (x.vs, x.ss, v.1 ns u, v.0 ns u, x.turns)) (both_bases (home sc pay) i (objects_of_each xs) (objects_of_each es) _ _ x.stores x.from) };
+        lies = lie x.on (bases_so (home sc pay) _ (λ g y v ns u. (x.vs, x.ss, v.1 ns u, v.0 ns u, x.turns)) (both_bases (home sc pay) i (objects_of_each xs) (objects_of_each es) (parts_onto (d + 1) n lx) f _ _ x.stores x.from)) (λ q. let v = x.paid q in omega (arith, v));
         finds = finds_nothing sc.own sc.targets sc.bindings d _;
       }
   laid_act pay valofs blocks sc p s i (t.call l e es) d n c rest a h r m f k st =
@@ -224,18 +91,13 @@ mutual
       (λ c2 b0 f0 k0 st0. laid_code pay valofs sc z s i pushes e (d + 2 + count es) n c2 (CallRoutine d ∷ rest) b0 h.0 r.0 (omega arith) f0 k0 st0) in
       record {
         at = λ y. rest;
-        lies = record {
-          on = passed sc.own (d + 2 + count es + 1) d (CallRoutine d) rest g1.on refl;
-          objects_are = bases_so (home sc pay) i _ _ _ (λ g z0 v ns u. let x = v ns u in (x.0, x.1, x.2, x.3, x.4, call_at g sc _ (CallRoutine d) rest z0.own g1.on, g1.on.shallow)) g1.objects_are;
-        };
+        lies = lie (passed sc.own (d + 2 + count es + 1) d (CallRoutine d) rest g1.on refl)
+            (bases_so (home sc pay) _ (λ g z0 v ns u. let x = v ns u in (x.0, x.1, x.2, x.3, x.4, call_at g sc _ (CallRoutine d) rest z0.own g1.on, g1.on.shallow)) g1.objects_are) (λ q. let u = g1.paid q in omega (arith, u));
         finds = finds_nothing sc.own sc.targets sc.bindings d _;
       }
   laid_act pay valofs blocks sc p s i (t.goto l x) d n c rest a h r m f k st = record {
     at = λ y. rest;
-    lies = record {
-      on = gone sc.own d (goal_in sc.targets (meant (bound_in sc.bindings x.letters))) c rest k st;
-      objects_are = no_bases (home sc pay) i _ (λ g y ns u. (k, subst IsLabelHere (sym h.1) tt));
-    };
+    lies = lie (gone sc.own d (goal_in sc.targets (meant (bound_in sc.bindings x.letters))) c rest k st) (no_bases (home sc pay) i _ (λ g y ns u. (k, subst IsLabelHere (sym h.1) tt))) (λ q. let e0 = ap (data_at sc.own q) k in omega (arith, e0));
     finds = finds_nothing sc.own sc.targets sc.bindings d _;
   }
   laid_act pay valofs blocks sc p s i (t.label l x a0) d n c rest a h r m f k st =
@@ -248,7 +110,7 @@ mutual
       let own_leads : Leads sc.own sc.targets sc.bindings d x c = leads_label sc.own sc.targets sc.bindings p.procedure d n x c h.0 f.0.0 found in
       record {
         at = λ y. cond (same_place y (the_label x)) c (done.at y);
-        lies = lies_so (home sc pay) i _ d rest _ _ (λ g z v ns u. (n, c1, done.at, k, v ns u, label_at g sc d n c1 z.own st0, (λ y. refl))) done.lies;
+        lies = lies_after _ refl (lies_within (λ q. let e0 = ap (data_at sc.own q) k in omega (arith, e0)) (lies_so (home sc pay) _ (λ g z v ns u. (n, c1, done.at, k, v ns u, label_at g sc d n c1 z.own st0, (λ y. refl))) done.lies));
         finds = record {
           labels = λ y e. either_leads sc.own sc.targets sc.bindings d y (bytes_eq y x) (stands_in (the_label y) (known sc.bindings) a0) c (done.at (the_label y))
               (λ same. subst (λ z. Leads sc.own sc.targets sc.bindings d z c) (sym (same_letters y x same)) own_leads) (fd.labels y) e;
@@ -267,8 +129,8 @@ mutual
       let found : from_label sc.own.stmts n ≡ Some c = label_found sc.own d n c1 st0 ∙ ap Some (sym k) in
       record {
         at = λ y. cond (same_place y (the_case (constant_word sc.bindings e))) c (done.at y);
-        lies = lies_so (home sc pay) i _ d rest _ _
-            (λ g z v ns u. (n, c1, done.at, k, v ns u, label_at g sc d n c1 z.own st0, (λ y. ap (λ x. cond (same_place y (the_case x)) c (done.at y)) (sym (constants_agree ns sc.bindings i u.0 e))))) done.lies;
+        lies = lies_within (λ q. let e0 = ap (data_at sc.own q) k in omega (arith, e0)) (lies_so (home sc pay) _
+            (λ g z v ns u. (n, c1, done.at, k, v ns u, label_at g sc d n c1 z.own st0, (λ y. ap (λ x. cond (same_place y (the_case x)) c (done.at y)) (sym (constants_agree ns sc.bindings i u.0 e))))) done.lies);
         finds = finds_case sc.own sc.targets sc.bindings d n (h.1.0) (constant_in (known sc.bindings) e) (constant_word sc.bindings e) _ _ _ c done.at (constants_agree (names_of sc.bindings) sc.bindings 0 (known_agree sc.bindings) e) h.1.1 (constant_small sc.bindings a.around.words e r.0 h.1.0 h.1.1) found done.finds;
       }
   laid_act pay valofs blocks sc p s i (t.default l a0) d n c rest a h r m f k st =
@@ -280,7 +142,7 @@ mutual
       let fd = done.finds in
       record {
         at = λ y. cond (same_place y the_default) c (done.at y);
-        lies = lies_so (home sc pay) i _ d rest _ _ (λ g z v ns u. (n, c1, done.at, k, v ns u, label_at g sc d n c1 z.own st0, (λ y. refl))) done.lies;
+        lies = lies_within (λ q. let e0 = ap (data_at sc.own q) k in omega (arith, e0)) (lies_so (home sc pay) _ (λ g z v ns u. (n, c1, done.at, k, v ns u, label_at g sc d n c1 z.own st0, (λ y. refl))) done.lies);
         finds = record { labels = fd.labels; chosen = fd.chosen; others = fd.others; default = λ e0. (n, refl, label_found sc.own d n c1 st0 ∙ ap Some (sym k)); no_default = λ e0. absurd (false≢true (sym e0)) };
       }
   laid_act pay valofs blocks sc p s i (t.when l v e a0) d n c rest a h r m f k st =
@@ -295,10 +157,9 @@ mutual
       let fd = done.finds in
       record {
         at = done.at;
-        lies = record {
-          on = passed sc.own d d (Label n) rest done.lies.on refl;
-          objects_are = bases_so (home sc pay) i _ _ _ (λ g z x ns u. (n, c1, x.0 ns u, x.1 ns u, label_at g sc d n rest z.own done.lies.on)) (both_bases (home sc pay) i (objects e) (objects_of_action a0) _ _ le.objects_are done.lies.objects_are);
-        };
+        lies = lie (passed sc.own d d (Label n) rest done.lies.on refl)
+            (bases_so (home sc pay) _ (λ g z x ns u. (n, c1, x.0 ns u, x.1 ns u, label_at g sc d n rest z.own done.lies.on)) (both_bases (home sc pay) i (objects e) (objects_of_action a0) (parts_if d (n + 1) ce) f _ _ le.objects_are done.lies.objects_are))
+            (λ q. let u = le.paid q in let w = done.lies.paid q in omega (arith, u, w));
         finds = record { labels = fd.labels; chosen = fd.chosen; others = fd.others; default = fd.default; no_default = fd.no_default };
       }
   laid_act pay valofs blocks sc p s i (t.test l e x y) d n c rest a h r m f k st =
@@ -322,23 +183,22 @@ mutual
       (passed sc.own d d (Label n) c2 sn refl) in
       record {
         at = λ z. cond (stands_in z (known sc.bindings) x) (dx.at z) (dy.at z);
-        lies = record {
-          on = passed sc.own d d (Label (n + 1)) rest dy.lies.on refl;
-          objects_are = bases_so (home sc pay) i _ _ _ (λ g z v ns u. (
-            n,
-            n + 1,
-            c1,
-            c2,
-            dx.at,
-            dy.at,
-            v.0.0 ns u,
-            v.0.1 ns u,
-            v.1 ns u,
-            label_at g sc d n c2 z.own sn,
-            label_at g sc d (n + 1) rest z.own dy.lies.on,
-            (λ w0. ap (λ q0. cond q0 (dx.at w0) (dy.at w0)) (sym (stands_agree w0 ns sc.bindings i u x))),
-          )) (three_bases (home sc pay) i (objects e) (objects_of_action x) (objects_of_action y) _ _ _ le.objects_are dx.lies.objects_are dy.lies.objects_are);
-        };
+        lies = lie (passed sc.own d d (Label (n + 1)) rest dy.lies.on refl)
+            (bases_so (home sc pay) _ (λ g z v ns u. (
+              n,
+              n + 1,
+              c1,
+              c2,
+              dx.at,
+              dy.at,
+              v.0.0 ns u,
+              v.0.1 ns u,
+              v.1 ns u,
+              label_at g sc d n c2 z.own sn,
+              label_at g sc d (n + 1) rest z.own dy.lies.on,
+              (λ w0. ap (λ q0. cond q0 (dx.at w0) (dy.at w0)) (sym (stands_agree w0 ns sc.bindings i u x))),
+            )) (three_bases (home sc pay) i (objects e) (objects_of_action x) (objects_of_action y) (parts_if d (n + 2) ce) (parts_in d nx kx) f _ _ _ le.objects_are dx.lies.objects_are dy.lies.objects_are))
+            (λ q. let u = le.paid q in let w = dx.lies.paid q in let o = dy.lies.paid q in omega (arith, u, w, o));
         finds = finds_both sc.own sc.targets sc.bindings d _ _ _ _ _ _ dx.at dy.at dx.finds dy.finds;
       }
   laid_act pay valofs blocks sc p s i (t.while l v e a0) d n c rest a h r m f k st =
@@ -361,29 +221,106 @@ mutual
       let fd = done.finds in
       record {
         at = done.at;
-        lies = record {
-          on = passed sc.own d d (Label (n + 2)) rest le.on refl;
-          objects_are = bases_so (home sc pay) i _ _ _ (λ g z x ns u. let pays = z.pays in (
-            n,
-            n + 1,
-            n + 2,
-            body,
-            test,
-            k1,
-            x.1 ns u,
-            x.0 ns u,
-            label_at g sc d n test z.own done.lies.on,
-            label_at g sc d (n + 1) body z.own s0,
-            label_at g sc d (n + 2) rest z.own le.on,
-            (let te = of_light e in let ta = in_light a0 in omega (arith, pays, m, te, ta)),
-          )) (both_bases (home sc pay) i (objects e) (objects_of_action a0) _ _ le.objects_are done.lies.objects_are);
-        };
+        lies = lie (passed sc.own d d (Label (n + 2)) rest le.on refl)
+            (bases_so (home sc pay) _ (λ g z x ns u. let pays = z.pays in (
+              n,
+              n + 1,
+              n + 2,
+              body,
+              test,
+              k1,
+              x.1 ns u,
+              x.0 ns u,
+              label_at g sc d n test z.own done.lies.on,
+              label_at g sc d (n + 1) body z.own s0,
+              label_at g sc d (n + 2) rest z.own le.on,
+              (let te = of_light e in let ta = in_light a0 in omega (arith, pays, m, te, ta)),
+            )) (both_bases (home sc pay) i (objects e) (objects_of_action a0) (parts_if d (n + 3) ce) f _ _ le.objects_are done.lies.objects_are))
+            (λ q. let u = le.paid q in let w = done.lies.paid q in let e0 = ap (data_at sc.own q) k1 in omega (arith, u, w, e0));
         finds = record { labels = fd.labels; chosen = fd.chosen; others = fd.others; default = fd.default; no_default = fd.no_default };
       }
   laid_act pay valofs blocks sc p s i (t.for_loop l x a1 b1 h1 a0) d n c rest a h r m f k st =
-      let b : ForBody = body_of sc p s d n x a1 b1 h1 a0 in
-      for_lies pay valofs sc p s i l x a1 b1 h1 a0 d n c rest a h r m f k st
-      (λ c0 r0 doing f0 k0 st0. laid_act pay valofs blocks b.scene b.place b.spot (i + objects a1 + objects b1) a0 (d + 2) b.first c0 r0 doing h.3 r.3 (omega arith) f0 k0 st0)
+      let sb : Spot = spot.behind a1 s in
+      let u0 : Spot = spot.onward (spot.symbols_each h1) 0 (spot.behind b1 sb) in
+      let pb : Enclosing = deeper 1 p in
+      let p1 : Enclosing = place.labelled u0.number (place.looping (deeper 2 p)) in
+      let s1 : Spot = spot.numbered (1 + length (labels_of a0)) u0 in
+      let step : ℕ = step_named sc.bindings h1 in
+      let ta = term_named sc.bindings p s a1 in
+      let tb = term_named sc.bindings pb sb b1 in
+      let na = n + 4 in
+      let nb = n + 4 + labels ta in
+      let nc = n + 4 + labels ta + labels tb in
+      let inside : Scene = record (in_loop (n + 2) (n + 3) (d + 2) sc) { bindings = bind x.letters (b.Variable p.procedure p.depth) sc.bindings } in
+      let within : Scene = record inside { bindings = labels_in_scope p.procedure (u0.number + 1) (labels_of a0) inside.bindings } in
+      let kc = command_named within.bindings p1 s1 a0 in
+      let va = value_code sc.targets d na ta in
+      let vb = value_code sc.targets (d + 1) nb tb in
+      let code = command_code sc.targets inside.around (d + 2) nc kc in
+      let test = Load (Local d) ∷ Load (Local (d + 1)) ∷ test_of_step step ∷ JumpIf true (n + 1) ∷ Label (n + 3) ∷ Stack d ∷ rest in
+      let next = Load (Local d) ∷ Number (signed step) ∷ Dyadic two.Add ∷ Assign (Local d) ∷ Label n ∷ test in
+      let body = code ++ (Label (n + 2) ∷ next) in
+      let c2 = Store ∷ Jump n ∷ Label (n + 1) ∷ body in
+      let c1 = vb ++ c2 in
+      let k1 = joined_choice va vb (Store ∷ Jump n ∷ Label (n + 1) ∷ [])
+      (Label (n + 2) ∷ Load (Local d) ∷ Number (signed step) ∷ Dyadic two.Add ∷ Assign (Local d) ∷ Label n ∷ Load (Local d) ∷ Load (Local (d + 1)) ∷ test_of_step step ∷ JumpIf true (n + 1) ∷ Label (n + 3) ∷ Stack d ∷ [])
+      code rest c k in
+      let fab = found_front sc.own sc.targets (parts d na ta ++ parts (d + 1) nb tb) _ f in
+      let la = laid_code pay valofs sc p s i pushes a1 d na c c1 a.around h.0 r.0 (omega arith) (found_front sc.own sc.targets (parts d na ta) _ fab) k1 st in
+      let lb = laid_code pay valofs sc pb sb (i + objects a1) pushes b1 (d + 1) nb c1 c2 (around_deeper sc p d 1 (d + 1) refl la.on.shallow a.around) h.1 r.1 (omega arith) (found_back sc.own sc.targets (parts d na ta) _ fab) refl la.on in
+      let on1 = passed sc.own (d + 1 + 1) (d + 2) Store (Jump n ∷ Label (n + 1) ∷ body) lb.on (omega arith) in
+      let on2 = passed sc.own (d + 2) (d + 2) (Jump n) (Label (n + 1) ∷ body) on1 refl in
+      let on3 = passed sc.own (d + 2) (d + 2) (Label (n + 1)) body on2 refl in
+      let deep = around_deeper sc p d 2 (d + 2) refl on3.shallow a.around in
+      let doing : Doing within p1 (d + 2) = record {
+        around = record { same = deep.same; at = deep.at; words = words_labels p.procedure (u0.number + 1) (labels_of a0) inside.bindings (words_variable p.procedure p.depth x.letters sc.bindings a.around.words) };
+        loop = λ e. refl;
+        switch = a.switch;
+        valof = a.valof;
+      } in
+      let fb = found_back sc.own sc.targets (parts d na ta ++ parts (d + 1) nb tb) _ f in
+      let done = laid_act pay valofs blocks within p1 s1 (i + objects a1 + objects b1) a0 (d + 2) nc body (Label (n + 2) ∷ next) doing h.3 r.3 (omega (arith, m)) fb refl on3 in
+      let lc = alone_lies pay inside (i + objects a1 + objects b1) a0 (d + 2) nc kc body (Label (n + 2) ∷ next) (u0.number + 1) p.procedure a.around.same (let tx = in_light a0 in omega (arith, tx, m)) done in
+      let mine : b.Variable p.procedure p.depth ≡ b.Variable sc.procedure d = ap₂ b.Variable a.around.same a.around.at in
+      let i1 = i + objects a1 + objects b1 in
+      let lv = subst (λ z. Lies (record (home sc pay) { bindings = bind x.letters z sc.bindings }) i1 (objects_of_action a0) (d + 2) body (Label (n + 2) ∷ next) (parts_in (d + 2) nc kc) fb (λ ns. of_action (in_scope a0 (with_names ns i1)) a0)
+      (InNames (bind x.letters z sc.bindings) i1 (λ g env. IsAlone g (record (in_loop (n + 2) (n + 3) (d + 2) sc) { bindings = bind x.letters z sc.bindings }) (d + 2) env a0 (u0.number + 1) body (Label (n + 2) ∷ next)))) mine lc in
+      let foreign_first : List Named → List Named = λ ns. record { name = x.letters; sense = foreign } ∷ ns in
+      let bv = bases_under (home sc pay) (bind x.letters (b.Variable sc.procedure d) sc.bindings) foreign_first
+      (λ g some o ns e w0. (agree_bound x.letters foreign (b.Variable sc.procedure d) ns sc.bindings refl refl e, (λ q bases frame grown. bound_named (there_in (home sc pay) q) (with_names ns 0) bases frame x.letters (b.Variable sc.procedure d) foreign tt (w0 q bases frame grown)))) lv.objects_are in
+      let on8 = at_depth sc.own _ (d + 2) (Label n ∷ test) (omega arith) (all_passed sc.own (d + 2) (Label (n + 2) ∷ Load (Local d) ∷ Number (signed step) ∷ Dyadic two.Add ∷ Assign (Local d) ∷ []) (Label n ∷ test) lv.on) in
+      let on13 = at_depth sc.own _ (d + 2) (Label (n + 3) ∷ Stack d ∷ rest) (ap (λ k. next_depth k (JumpIf true (n + 1))) (test_in (d + 2) (int_lt (signed step) (pos 0))) ∙ (let q : d + 2 + 1 - 1 ≡ d + 2 = omega arith in q))
+      (all_passed sc.own (d + 2) (Label n ∷ Load (Local d) ∷ Load (Local (d + 1)) ∷ test_of_step step ∷ JumpIf true (n + 1) ∷ []) (Label (n + 3) ∷ Stack d ∷ rest) on8) in
+      let on14 = passed sc.own (d + 2) (d + 2) (Label (n + 3)) (Stack d ∷ rest) on13 refl in
+      record {
+        at = λ y. rest;
+        lies = lie (passed sc.own (d + 2) d (Stack d) rest on14 refl)
+            (bases_so (home sc pay) _ (λ g z v ns u. let pays = z.pays in (
+              n,
+              n + 1,
+              n + 2,
+              n + 3,
+              step,
+              u0.number + 1,
+              c1,
+              body,
+              test,
+              v.0.0 ns u,
+              v.0.1 ns u,
+              (λ object above. v.1 (record { name = x.letters; sense = cell object 0 } ∷ ns) (agree_bound x.letters (cell object 0) (b.Variable sc.procedure d) ns sc.bindings refl (own_cell object 0 above) u)),
+              refl,
+              step_is ns sc.bindings i u h1 h.2,
+              label_at g sc (d + 2) n test z.own on8,
+              label_at g sc (d + 2) (n + 1) body z.own on2,
+              label_at g sc (d + 2) (n + 2) next z.own lv.on,
+              label_at g sc (d + 2) (n + 3) (Stack d ∷ rest) z.own on13,
+              on1.shallow,
+              (let tc = in_light a0 in omega (arith, pays, m, tc)),
+              step_small sc.bindings a.around.words h1 r.2 h.2,
+            )) (three_bases (home sc pay) i (objects a1) (objects b1) (objects_of_action a0) (parts d na ta) (parts (d + 1) nb tb) f _ _ _ la.objects_are lb.objects_are bv))
+            (λ q. let u = la.paid q in let v = lb.paid q in let o = lv.paid q in let e0 = ap (data_at sc.own q) k1 in omega (arith, u, v, o, e0));
+        finds = finds_nothing sc.own sc.targets sc.bindings d _;
+      }
   laid_act pay valofs blocks sc p s i (t.switch l e a0) d n c rest a h r m f k st =
       let s1 : Spot = spot.behind e s in
       let p1 : Enclosing = place.switching s1.number p in
@@ -402,23 +339,22 @@ mutual
       (passed sc.own (d + 1) d (Switch other cs) c1 le.on (omega arith)) in
       record {
         at = done.at;
-        lies = record {
-          on = passed sc.own d d (Label n) rest done.lies.on refl;
-          objects_are = bases_so (home sc pay) i _ _ _ (λ g z x ns u. (
-            n,
-            other,
-            cs,
-            c1,
-            x.0 ns u,
-            x.1 ns u,
-            label_at g sc d n rest z.own done.lies.on,
-            (λ v e0. switch_chosen sc.own sc.targets sc.bindings d other _ _ _ done.at v done.finds (sym (stands_agree (the_case (Some v)) ns sc.bindings (i + objects e) u a0) ∙ e0)),
-            (λ v e0 e1. switch_default sc.own sc.targets sc.bindings d n _ _ _ done.at v done.finds (sym (stands_agree (the_case (Some v)) ns sc.bindings (i + objects e) u a0) ∙ e0)
-                (sym (stands_agree the_default ns sc.bindings (i + objects e) u a0) ∙ e1)),
-            (λ v e0 e1. switch_none sc.own sc.targets sc.bindings d n _ _ _ done.at v done.finds (sym (stands_agree (the_case (Some v)) ns sc.bindings (i + objects e) u a0) ∙ e0)
-                (sym (stands_agree the_default ns sc.bindings (i + objects e) u a0) ∙ e1)),
-          )) (both_bases (home sc pay) i (objects e) (objects_of_action a0) _ _ le.objects_are done.lies.objects_are);
-        };
+        lies = lie (passed sc.own d d (Label n) rest done.lies.on refl)
+            (bases_so (home sc pay) _ (λ g z x ns u. (
+              n,
+              other,
+              cs,
+              c1,
+              x.0 ns u,
+              x.1 ns u,
+              label_at g sc d n rest z.own done.lies.on,
+              (λ v e0. switch_chosen sc.own sc.targets sc.bindings d other _ _ _ done.at v done.finds (sym (stands_agree (the_case (Some v)) ns sc.bindings (i + objects e) u a0) ∙ e0)),
+              (λ v e0 e1. switch_default sc.own sc.targets sc.bindings d n _ _ _ done.at v done.finds (sym (stands_agree (the_case (Some v)) ns sc.bindings (i + objects e) u a0) ∙ e0)
+                  (sym (stands_agree the_default ns sc.bindings (i + objects e) u a0) ∙ e1)),
+              (λ v e0 e1. switch_none sc.own sc.targets sc.bindings d n _ _ _ done.at v done.finds (sym (stands_agree (the_case (Some v)) ns sc.bindings (i + objects e) u a0) ∙ e0)
+                  (sym (stands_agree the_default ns sc.bindings (i + objects e) u a0) ∙ e1)),
+            )) (both_bases (home sc pay) i (objects e) (objects_of_action a0) (parts d (n + 1) te) f _ _ le.objects_are done.lies.objects_are))
+            (λ q. let u = le.paid q in let w = done.lies.paid q in omega (arith, u, w));
         finds = record { labels = done.finds.labels; chosen = λ v more z e0. absurd (false≢true e0); others = λ v more z e0. refl; default = λ e0. absurd (false≢true e0); no_default = λ e0. refl };
       }
   laid_act pay valofs blocks sc p s i (t.result l e) d n c rest a h r m f k st =
@@ -427,18 +363,22 @@ mutual
       let to = a.valof h.0 in
       record {
         at = λ y. rest;
-        lies = record { on = passed sc.own (d + 1) d (GiveResult sc.around.valof) rest le.on (omega arith); objects_are = bases_so (home sc pay) i _ _ _ (λ g z v ns u. (to.0, v ns u, to.1)) le.objects_are };
+        lies = lie (passed sc.own (d + 1) d (GiveResult sc.around.valof) rest le.on (omega arith)) (bases_so (home sc pay) _ (λ g z v ns u. (to.0, v ns u, to.1)) le.objects_are) (λ q. let u = le.paid q in omega (arith, u));
         finds = finds_nothing sc.own sc.targets sc.bindings d _;
       }
-  laid_act pay valofs blocks sc p s i (t.simple l x) d n c rest a h r m f k st = simple_lies pay sc p s i l x d n c rest a h k st
+  laid_act pay valofs blocks sc p s i (t.simple l x) d n c rest a h r m f k st = simple_lies pay sc p s i l x d n c rest a h f k st
   laid_act pay valofs blocks sc p s i (t.block l t.no_declarations cs) d n c rest a h r m f k st =
       let none : n + 0 ≡ n = omega arith in
       let same_number : objects_of_actions cs ≡ 0 + objects_of_actions cs = omega arith in
-      let all = laid_acts pay valofs blocks sc p s i cs d n c rest a h r.1 (omega arith) (subst (λ x. FoundParts sc.own sc.targets (parts_through d x (commands_named sc.bindings p s cs))) none f) k st in
-      let fd = all.finds in
+      let ks = commands_named sc.bindings p s cs in
+      let all = subst (λ x. (g : FoundParts sc.own sc.targets (parts_through d x ks)) → (at1 : Sought → List Stmt) × Lies (home sc pay) i (objects_of_actions cs) d c rest (parts_through d x ks) g (λ ns. of_actions (with_names ns i) cs)
+      (InNames sc.bindings i (λ setting env. AreActs setting sc d env cs at1 c rest)) × FindsEach sc.own sc.targets sc.bindings d cs n ks at1) (sym none)
+      (λ g. let o = laid_acts pay valofs blocks sc p s i cs d n c rest a h r.1 (omega arith) g k st in (o.at, o.lies, o.finds)) f in
+      let fd = all.2 in
       record {
-        at = all.at;
-        lies = record { on = all.lies.on; objects_are = subst (λ y. Bases (home sc pay) i y (kinds_through n (commands_named sc.bindings p s cs)) (λ ns. of_actions (with_names ns i) cs) (InNames sc.bindings i (λ g env. AreActs g sc d env cs all.at c rest))) same_number all.lies.objects_are };
+        at = all.0;
+        lies = lie all.1.on (subst (λ y. Bases (home sc pay) i y (parts_through d (n + 0) ks) f (λ ns. of_actions (with_names ns i) cs) all.1.credit (InNames sc.bindings i (λ g env. AreActs g sc d env cs all.0 c rest))) same_number all.1.objects_are)
+            (λ q. let u = all.1.paid q in omega (arith, u));
         finds = record { labels = fd.labels; chosen = fd.chosen; others = fd.others; default = fd.default; no_default = fd.no_default };
       }
   laid_act pay valofs blocks sc p s i (t.block l (t.declare x xs) cs) d n c rest a h r m f k st = blocks sc p s i l x xs cs d n c rest a h r m f k st
@@ -455,10 +395,9 @@ mutual
       let fd = done.finds in
       record {
         at = done.at;
-        lies = record {
-          on = passed sc.own d d (Label (n + 1)) rest s3 refl;
-          objects_are = bases_so (home sc pay) i _ _ _ (λ g z x ns u. let pays = z.pays in (n, n + 1, body, k1, x ns u, label_at g sc d n body z.own s0, label_at g sc d (n + 1) rest z.own s3, (let ta = in_light a0 in omega (arith, pays, m, ta)))) done.lies.objects_are;
-        };
+        lies = lie (passed sc.own d d (Label (n + 1)) rest s3 refl)
+            (bases_so (home sc pay) _ (λ g z x ns u. let pays = z.pays in (n, n + 1, body, k1, x ns u, label_at g sc d n body z.own s0, label_at g sc d (n + 1) rest z.own s3, (let ta = in_light a0 in omega (arith, pays, m, ta)))) done.lies.objects_are)
+            (λ q. let w = done.lies.paid q in let e0 = ap (data_at sc.own q) k1 in omega (arith, w, e0));
         finds = record { labels = fd.labels; chosen = fd.chosen; others = fd.others; default = fd.default; no_default = fd.no_default };
       }
   laid_act pay valofs blocks sc p s i (t.repeat_while l v a0 e) d n c rest a h r m f k st =
@@ -481,32 +420,31 @@ mutual
       let fd = done.finds in
       record {
         at = done.at;
-        lies = record {
-          on = passed sc.own d d (Label (n + 2)) rest le.on refl;
-          objects_are = bases_so (home sc pay) i _ _ _ (λ g z x ns u. let pays = z.pays in (
-            n,
-            n + 1,
-            n + 2,
-            body,
-            test,
-            k1,
-            x.0 ns u,
-            x.1 ns u,
-            label_at g sc d n body z.own s0,
-            label_at g sc d (n + 1) test z.own done.lies.on,
-            label_at g sc d (n + 2) rest z.own le.on,
-            (let te = of_light e in let ta = in_light a0 in omega (arith, pays, m, te, ta)),
-          )) (both_bases (home sc pay) i (objects_of_action a0) (objects e) _ _ done.lies.objects_are le.objects_are);
-        };
+        lies = lie (passed sc.own d d (Label (n + 2)) rest le.on refl)
+            (bases_so (home sc pay) _ (λ g z x ns u. let pays = z.pays in (
+              n,
+              n + 1,
+              n + 2,
+              body,
+              test,
+              k1,
+              x.0 ns u,
+              x.1 ns u,
+              label_at g sc d n body z.own s0,
+              label_at g sc d (n + 1) test z.own done.lies.on,
+              label_at g sc d (n + 2) rest z.own le.on,
+              (let te = of_light e in let ta = in_light a0 in omega (arith, pays, m, te, ta)),
+            )) (both_bases (home sc pay) i (objects_of_action a0) (objects e) (parts_in d (n + 3) k0) f _ _ done.lies.objects_are le.objects_are))
+            (λ q. let u = le.paid q in let w = done.lies.paid q in let e0 = ap (data_at sc.own q) k1 in omega (arith, u, w, e0));
         finds = record { labels = fd.labels; chosen = fd.chosen; others = fd.others; default = fd.default; no_default = fd.no_default };
       }
 
   pub laid_acts : (pay : ℕ) (valofs : ValofsLie pay) (blocks : BlocksLie pay) (sc : Scene) (p : Enclosing) (s : Spot) (i : ℕ) (cs : Actions) (d n : ℕ) (c rest : List Stmt) → Doing sc p d → SoundDoneEach sc.bindings p s cs → RegularActions cs → turns_through true cs ≤ pay
-      → FoundParts sc.own sc.targets (parts_through d n (commands_named sc.bindings p s cs)) → c ≡ through_code sc.targets sc.around d n (commands_named sc.bindings p s cs) ++ rest → StandsAt sc.own d c
-      → DoneEach pay sc i cs d n (commands_named sc.bindings p s cs) c rest
+      → (f : FoundParts sc.own sc.targets (parts_through d n (commands_named sc.bindings p s cs))) → c ≡ through_code sc.targets sc.around d n (commands_named sc.bindings p s cs) ++ rest → StandsAt sc.own d c
+      → DoneEach pay sc i cs d n (commands_named sc.bindings p s cs) c rest f
   laid_acts pay valofs blocks sc p s i t.no_actions d n c rest a h r m f k st = record {
     at = λ y. rest;
-    lies = record { on = written sc.own d c rest k st; objects_are = no_bases (home sc pay) i _ (λ g y ns u. k) };
+    lies = lie (written sc.own d c rest k st) (no_bases (home sc pay) i _ (λ g y ns u. k)) (λ q. let e0 = ap (data_at sc.own q) k in omega (arith, e0));
     finds = record { labels = λ x e0. absurd (false≢true e0); chosen = λ v more z e0. absurd (false≢true e0); others = λ v more z e0. refl; default = λ e0. absurd (false≢true e0); no_default = λ e0. refl };
   }
   laid_acts pay valofs blocks sc p s i (t.also x cs) d n c rest a h r m f k st =
@@ -520,11 +458,10 @@ mutual
       let ds = laid_acts pay valofs blocks sc p s1 (i + objects_of_action x) cs d (n + labels_in k0) c1 rest a h.1 r.1 (omega arith) (found_back sc.own sc.targets (parts_in d n k0) _ f) refl dx.lies.on in
       record {
         at = λ z. cond (stands_in z (known sc.bindings) x) (dx.at z) (ds.at z);
-        lies = record {
-          on = ds.lies.on;
-          objects_are = bases_so (home sc pay) i _ _ _ (λ g z v ns u. (c1, dx.at, ds.at, v.0 ns u, v.1 ns u, (λ w0. ap (λ q0. cond q0 (dx.at w0) (ds.at w0)) (sym (stands_agree w0 ns sc.bindings i u x)))))
-              (both_bases (home sc pay) i (objects_of_action x) (objects_of_actions cs) _ _ dx.lies.objects_are ds.lies.objects_are);
-        };
+        lies = lie ds.lies.on
+            (bases_so (home sc pay) _ (λ g z v ns u. (c1, dx.at, ds.at, v.0 ns u, v.1 ns u, (λ w0. ap (λ q0. cond q0 (dx.at w0) (ds.at w0)) (sym (stands_agree w0 ns sc.bindings i u x)))))
+            (both_bases (home sc pay) i (objects_of_action x) (objects_of_actions cs) (parts_in d n k0) f _ _ dx.lies.objects_are ds.lies.objects_are))
+            (λ q. let u = dx.lies.paid q in let w = ds.lies.paid q in omega (arith, u, w));
         finds = finds_both sc.own sc.targets sc.bindings d _ _ _ _ _ _ dx.at ds.at dx.finds ds.finds;
       }
 
@@ -532,13 +469,10 @@ mutual
 
 -- a VALOF, whose body weighs less
 pub valof_lies : (pay : ℕ) (valofs : ValofsLie pay) (blocks : BlocksLie pay) (sc : Scene) (p : Enclosing) (s : Spot) (i : ℕ) (aim : Aim) (l : ℕ) (x : Action) (d n : ℕ) (c rest : List Stmt) → Around sc p d
-    → Sound (role aim) sc.bindings p s (t.valof l x) → Regular (t.valof l x) → turns_of true (t.valof l x) ≤ suc pay → FoundParts sc.own sc.targets (own_parts sc p s d n aim (t.valof l x))
-    → c ≡ coded sc p s d n aim (t.valof l x) ++ rest → StandsAt sc.own d c
-    → Lies (home sc pay) i (objects_of_action x) (level aim d) rest (own_kinds sc p s n aim (t.valof l x)) (λ ns. of_expression (with_names ns i) (t.valof l x))
-    (InNames sc.bindings i (λ g env. IsCode g sc d env aim (t.valof l x) c rest))
+    → Sound (role aim) sc.bindings p s (t.valof l x) → Regular (t.valof l x) → turns_of true (t.valof l x) ≤ suc pay
+    → CodeLies pay sc p s i aim (t.valof l x) d n c rest
 valof_lies pay valofs blocks sc p s i aim l x d n c rest a h r m f k st =
-    let k1 = plain_code sc p s d n aim (t.valof l x) c rest refl k in
-    let f1 = plain_parts sc p s d n aim (t.valof l x) refl f in
+    plain_laid pay sc p s i d n aim (t.valof l x) (objects_of_action x) c rest _ refl (λ f1 k1.
     let s1 : Spot = spot.onward 1 (1 + length (labels_of x)) s in
     let p1 : Enclosing = place.labelled s.number (place.valued p) in
     let inside : Scene = in_valof n sc in
@@ -556,7 +490,5 @@ valof_lies pay valofs blocks sc p s i aim l x d n c rest a h r m f k st =
     } in
     let done = laid_act pay valofs blocks body p1 s1 i x d (n + 1) c (Label n ∷ tail) doing h r (omega (arith, m)) f1 k2 st in
     let lx = alone_lies pay inside i x d (n + 1) kx c (Label n ∷ tail) (s.number + 1) p.procedure a.same (let tx = in_light x in omega (arith, tx, m)) done in
-    plain_lies pay sc p s i d n aim (t.valof l x) (objects_of_action x) rest _ refl (lies_ended (home sc pay) i _ d aim rest _ (record {
-      on = passed sc.own d (d + 1) (TakeResult d) (ending aim rest) (passed sc.own d d (Label n) tail lx.on refl) refl;
-      objects_are = bases_so (home sc pay) i _ _ _ (λ g z v ns u. (n, s.number + 1, v ns u, label_at g sc d n tail z.own lx.on)) lx.objects_are;
-    }))
+    lie (passed sc.own d (d + 1) (TakeResult d) (ending aim rest) (passed sc.own d d (Label n) tail lx.on refl) refl)
+    (bases_so (home sc pay) _ (λ g z v ns u. (n, s.number + 1, v ns u, label_at g sc d n tail z.own lx.on)) lx.objects_are) (λ q. let u = lx.paid q in omega (arith, u))) f k

@@ -1,16 +1,7 @@
 -- What the static side of commands needs: which exits there are, where labels, CASEs and DEFAULTs are found, and scopes. An assignment is laid where the
 -- scheme puts it: its values, and where they are stored, by turns.
-use Rattle.bk_simulation.proofs.Words.{◌≡◌, ℕ, suc, ◌+◌, ◌<◌, ◌≤◌, ◌^◌, ◌==◌, Bool, true, false, ◌||◌, List, [], ◌∷◌, ◌++◌, length, Option, Some, None, cond, refl, sym, ap, ◌∙◌, subst, arith, append_assoc, append-nil, drop, if◌then◌else◌, eqb-true, eq-eqb, ne_eqb, false≢true, bytes_eq-Decides, bytes_eq, signed, Expressions, Action, Actions, Enclosing, Binding, bound_in, bind, labels_of, labels_of_each, labels_in_scope, GoesTo, Placed, from_label, case_label, Case, Stmt, Label, label_has_one_place, Goal, Target, Command, Commands, meant, worth, target_of_label, goal_in, cases, cases_through, default_in, default_through, first_of, label_or, Named, Sense, label, bind_each, labelled, objects_of_each, objects_of_action, objects_of_actions, Sought, the_label, the_case, the_default, same_place, stands_in, stands_in_one, alone, AllFound, of_each, of_action, of_actions, in_scope, FRAME_WORDS, line_of, size, Destination, deeper, SoundEach, SoundDestinations, Spot, labels, labels_at, term_named, terms_named, lvalue_named, lvalues_named, parts, parts_at, parts_onto, parts_from, value_code, store_code, value_codes, store_codes, by_turns, objects, of_expression}
-use Rattle.bk_simulation.proofs.Weights.{turns_in, turns_among}
-use Rattle.bk_simulation.proofs.Operators.{same_number}
-use Rattle.bk_simulation.proofs.Sought.{with_names, label_stands}
-use Rattle.bk_simulation.proofs.Laid.{Scene, in_loop, in_switch, owning, Stretch, ByTurns, AreFrom, AreStores, AreActs, IsAct, IsAlone, pushes, IsCode, IsStore}
-use Rattle.bk_simulation.proofs.NamesBound.{labels_named}
-use Rattle.bk_simulation.proofs.NamesAgree.{Agree, agree_bound}
-use Rattle.bk_simulation.proofs.LastingKinds.{Kind, kinds_in, kinds_through, kinds, kinds_each, kinds_at, kinds_onto}
-use Rattle.bk_simulation.proofs.Standing.{there_in, bases_inside, bases_of, StandsAt, first_of as first_at, home, Bases, bases_so, Lies, written, no_bases, both_bases}
-use Rattle.bk_simulation.proofs.LaidExpressions.{HasWords, Around, known, InNames, FoundParts, found_front, found_back, around_deeper, joined_three}
-use Rattle.bk_simulation.specs.Regular.{RegularEach}
+use Rattle.bk_simulation.proofs.Words.{◌≡◌, ℕ, suc, ◌+◌, ◌<◌, ◌≤◌, ◌^◌, ◌==◌, Bool, true, false, ◌||◌, List, [], ◌∷◌, ◌++◌, length, Option, Some, None, cond, refl, sym, ap, ◌∙◌, subst, arith, append_assoc, append-nil, drop, if◌then◌else◌, eqb-true, eq-eqb, ne_eqb, false≢true, bytes_eq-Decides, bytes_eq, signed, Expressions, Action, Actions, Enclosing, Binding, bound_in, bind, labels_of, labels_of_each, labels_in_scope, GoesTo, Placed, from_label, case_label, Case, Stmt, Label, label_has_one_place, Goal, Target, Command, Commands, meant, worth, target_of_label, goal_in, cases, cases_through, default_in, default_through, first_of, label_or, Named, Sense, label, bind_each, labelled, objects_of_each, objects_of_action, objects_of_actions, Sought, the_label, the_case, the_default, same_place, stands_in, stands_in_one, alone, AllFound, of_each, of_action, of_actions, in_scope, FRAME_WORDS, line_of, size, Destination, deeper, SoundEach, SoundDestinations, Spot, labels, labels_at, term_named, terms_named, lvalue_named, lvalues_named, parts, parts_at, parts_onto, parts_from, value_code, store_code, value_codes, store_codes, by_turns, objects, of_expression, Part, parts_in, parts_through, or_parts, RegularEach}
+use Rattle.bk_simulation.proofs.Forms.{words_bound, turns_in, turns_among, same_number, with_names, label_stands, Scene, in_loop, in_switch, owning, Stretch, ByTurns, AreFrom, AreStores, AreActs, IsAct, IsAlone, pushes, IsCode, IsStore, labels_named, Agree, agree_bound, there_in, bases_under, bases_of, StandsAt, first_of as first_at, home, Bases, bases_so, Lies, written, no_bases, both_bases, lie, data_at, FoundParts, found_front, found_back, HasWords, Around, known, InNames, around_deeper, joined_three}
 use Rattle.bk_simulation.proofs.LaidValues.{ValofsLie, laid_code, laid_store}
 use Rattle.bk_scope.specs.declared.bound.Bound.TheVariants as b
 use Rattle.bk_scope.specs.Places as place
@@ -52,24 +43,27 @@ finds_nothing own ts bs d at = record {
 }
 
 -- A command that is laid, and its places.
-pub record Done (pay : ℕ) (sc : Scene) (i : ℕ) (a : Action) (d n : ℕ) (k : Command) (c rest : List Stmt) : Type 0 where
+pub record Done (pay : ℕ) (sc : Scene) (i : ℕ) (a : Action) (d n : ℕ) (k : Command) (c rest : List Stmt) (f : FoundParts sc.own sc.targets (parts_in d n k)) : Type 0 where
   pub at : Sought → List Stmt
-  pub lies : Lies (home sc pay) i (objects_of_action a) d rest (kinds_in n k) (λ ns. of_action (with_names ns i) a) (InNames sc.bindings i (λ g env. IsAct g sc d env a at c rest))
+  pub lies : Lies (home sc pay) i (objects_of_action a) d c rest (parts_in d n k) f (λ ns. of_action (with_names ns i) a) (InNames sc.bindings i (λ g env. IsAct g sc d env a at c rest))
   pub finds : Finds sc.own sc.targets sc.bindings d a n k at
 
 -- commands in order
-pub record DoneEach (pay : ℕ) (sc : Scene) (i : ℕ) (a : Actions) (d n : ℕ) (k : Commands) (c rest : List Stmt) : Type 0 where
+pub record DoneEach (pay : ℕ) (sc : Scene) (i : ℕ) (a : Actions) (d n : ℕ) (k : Commands) (c rest : List Stmt) (f : FoundParts sc.own sc.targets (parts_through d n k)) : Type 0 where
   pub at : Sought → List Stmt
-  pub lies : Lies (home sc pay) i (objects_of_actions a) d rest (kinds_through n k) (λ ns. of_actions (with_names ns i) a) (InNames sc.bindings i (λ g env. AreActs g sc d env a at c rest))
+  pub lies : Lies (home sc pay) i (objects_of_actions a) d c rest (parts_through d n k) f (λ ns. of_actions (with_names ns i) a) (InNames sc.bindings i (λ g env. AreActs g sc d env a at c rest))
   pub finds : FindsEach sc.own sc.targets sc.bindings d a n k at
 
 -- values and where they are stored, by turns
-pub record Turns (pay : ℕ) (sc : Scene) (i j : ℕ) (xs es : Expressions) (d : ℕ) (c rest : List Stmt) (stored given : List Kind) : Type 0 where
+pub record Turns (pay : ℕ) (sc : Scene) (i j : ℕ) (xs es : Expressions) (d : ℕ) (c rest : List Stmt) (stored given : List Part) (fx : FoundParts sc.own sc.targets stored) (fe : FoundParts sc.own sc.targets given) : Type 0 where
   pub vs : List Stretch
   pub ss : List Stretch
+  pub credit : ℕ → ℕ
+  pub credit_stored : ℕ → ℕ
   pub on : StandsAt sc.own d rest
-  pub from : Bases (home sc pay) j (objects_of_each es) given (λ ns. of_each (with_names ns j) es) (InNames sc.bindings j (λ g env. AreFrom g sc d env es vs))
-  pub stores : Bases (home sc pay) i (objects_of_each xs) stored (λ ns. of_each (with_names ns i) xs) (InNames sc.bindings i (λ g env. AreStores g sc (d + 1) env xs ss))
+  pub from : Bases (home sc pay) j (objects_of_each es) given fe (λ ns. of_each (with_names ns j) es) credit (InNames sc.bindings j (λ g env. AreFrom g sc d env es vs))
+  pub stores : Bases (home sc pay) i (objects_of_each xs) stored fx (λ ns. of_each (with_names ns i) xs) credit_stored (InNames sc.bindings i (λ g env. AreStores g sc (d + 1) env xs ss))
+  pub paid : (a : ℕ) → credit_stored a + credit a + data_at sc.own a rest ≤ data_at sc.own a c
   pub turns : ByTurns xs es vs ss c rest
 
 pub doing_loop : (sc : Scene) (p : Enclosing) (d n m e : ℕ) → Doing sc p d → Doing (in_loop n m e sc) (place.looping p) d
@@ -123,20 +117,16 @@ first_case v w l other more e low = ap (λ y. if y == w then l else case_label m
 pub later_case : (v w l other : ℕ) (more : List Case) → (w == v) ≡ false → v < 2 ^ 32 → case_label (record { value = signed v; label = l } ∷ more) other w ≡ case_label more other w
 later_case v w l other more e low = ap (λ y. if y == w then l else case_label more other w) (same_number v low) ∙ ap (λ y. if y then l else case_label more other w) (apart_evaluation v w e)
 
-both_false : (q r : Bool) → (q || r) ≡ false → (q ≡ false) × (r ≡ false)
-both_false true r e = absurd (false≢true (sym e))
-both_false false r e = (refl, e)
-
 -- the places of one part and then those of another
 pub finds_both : (own : Placed) (ts : List Target) (bs : List Binding) (d : ℕ) (u1 u2 : Sought → Bool) (cs1 cs2 : List Case) (o1 o2 : Option ℕ) (at1 at2 : Sought → List Stmt) → Findable own ts bs d u1 cs1 o1 at1
     → Findable own ts bs d u2 cs2 o2 at2 → Findable own ts bs d (λ s. u1 s || u2 s) (cs1 ++ cs2) (first_of o1 o2) (λ s. cond (u1 s) (at1 s) (at2 s))
 finds_both own ts bs d u1 u2 cs1 cs2 o1 o2 at1 at2 a b0 = record {
   labels = λ x e. either_leads own ts bs d x (u1 (the_label x)) (u2 (the_label x)) (at1 (the_label x)) (at2 (the_label x)) (a.labels x) (b0.labels x) e;
   chosen = λ v more l e. chosen_in v more l (u1 (the_case (Some v))) refl e;
-  others = λ v more l e. let h = both_false (u1 (the_case (Some v))) (u2 (the_case (Some v))) e in
+  others = λ v more l e. let h = or_parts (u1 (the_case (Some v))) (u2 (the_case (Some v))) e in
       ap (λ y. case_label y l v) (append_assoc cs1 cs2 more) ∙ a.others v (cs2 ++ more) l h.0 ∙ b0.others v more l h.1;
   default = λ e. default_in_one (u1 the_default) refl e;
-  no_default = λ e. let h = both_false (u1 the_default) (u2 the_default) e in ap (λ y. first_of y o2) (a.no_default h.0) ∙ b0.no_default h.1;
+  no_default = λ e. let h = or_parts (u1 the_default) (u2 the_default) e in ap (λ y. first_of y o2) (a.no_default h.0) ∙ b0.no_default h.1;
 }
   where
     chosen_in : (v : ℕ) (more : List Case) (l : ℕ) (q : Bool) → u1 (the_case (Some v)) ≡ q → (q || u2 (the_case (Some v))) ≡ true
@@ -155,7 +145,7 @@ case_of_word : (own : Placed) (ts : List Target) (bs : List Binding) (d n v : �
 case_of_word own ts bs d n v u cs o c at low found a = record {
   labels = λ x e. a.labels x e;
   chosen = λ w more l e. chosen_in w more l (w == v) refl e;
-  others = λ w more l e. let h = both_false (w == v) (u (the_case (Some w))) e in later_case v w n l (cs ++ more) h.0 low ∙ a.others w more l h.1;
+  others = λ w more l e. let h = or_parts (w == v) (u (the_case (Some w))) e in later_case v w n l (cs ++ more) h.0 low ∙ a.others w more l h.1;
   default = λ e. a.default e;
   no_default = λ e. a.no_default e;
 }
@@ -196,18 +186,10 @@ switch_none own ts bs d n u cs o at v a e h = not_chosen own ts bs d (label_or n
 
 pub words_labels : (k n : ℕ) (xs : List (List ℕ)) (bs : List Binding) → HasWords bs → HasWords (labels_in_scope k n xs bs)
 words_labels k n [] bs h = h
-words_labels k n (x ∷ xs) bs h = words_labels k (n + 1) xs (bind x (b.Label k n) bs) (λ y v e. picked (bytes_eq x y) y v e)
-  where
-    picked : (q : Bool) (y : List ℕ) (v : ℕ) → cond q (Some (b.Label k n)) (bound_in bs y) ≡ Some (b.Constant (Some v)) → v < 2 ^ 32
-    picked true y v e = absurd (cc)
-    picked false y v e = h y v e
+words_labels k n (x ∷ xs) bs h = words_labels k (n + 1) xs (bind x (b.Label k n) bs) (words_bound x (b.Label k n) bs (λ v e. absurd (cc)) h)
 
 pub words_variable : (j d : ℕ) (x : List ℕ) (bs : List Binding) → HasWords bs → HasWords (bind x (b.Variable j d) bs)
-words_variable j d x bs h y v e = picked (bytes_eq x y) e
-  where
-    picked : (q : Bool) → cond q (Some (b.Variable j d)) (bound_in bs y) ≡ Some (b.Constant (Some v)) → v < 2 ^ 32
-    picked true e = absurd (cc)
-    picked false e = h y v e
+words_variable j d x bs h = words_bound x (b.Variable j d) bs (λ v e. absurd (cc)) h
 
 -- labels hide constants in the same way here and there
 pub agree_labels : (k n : ℕ) (xs : List (List ℕ)) (ns : List Named) (bs : List Binding) (i : ℕ) → Agree ns bs
@@ -229,55 +211,58 @@ names_bound [] m ns i = refl
 names_bound (x ∷ xs) m ns i = names_bound xs m (record { name = x; sense = m } ∷ ns) i
 
 -- one command as a scope of its own
-pub alone_lies : (pay : ℕ) (sc : Scene) (i : ℕ) (a : Action) (d n : ℕ) (k : Command) (c rest : List Stmt) (j q : ℕ) → q ≡ sc.procedure → turns_in false a ≤ pay
-    → Done pay (record sc { bindings = labels_in_scope q j (labels_of a) sc.bindings }) i a d n k c rest
-    → Lies (home sc pay) i (objects_of_action a) d rest (kinds_in n k) (λ ns. of_action (in_scope a (with_names ns i)) a) (InNames sc.bindings i (λ g env. IsAlone g sc d env a j c rest))
-alone_lies pay sc i a d n k c rest j q same size done =
-    let done1 = subst (λ x. Done pay (record sc { bindings = labels_in_scope x j (labels_of a) sc.bindings }) i a d n k c rest) same done in
-    let done2 = subst (λ x. Done pay (record sc { bindings = labels_in_scope sc.procedure j x sc.bindings }) i a d n k c rest) (sym (append-nil (labels_of a))) done1 in
+pub alone_lies : (pay : ℕ) (sc : Scene) (i : ℕ) (a : Action) (d n : ℕ) (k : Command) (c rest : List Stmt) (j q : ℕ) {f : FoundParts sc.own sc.targets (parts_in d n k)} → q ≡ sc.procedure → turns_in false a ≤ pay
+    → Done pay (record sc { bindings = labels_in_scope q j (labels_of a) sc.bindings }) i a d n k c rest f
+    → Lies (home sc pay) i (objects_of_action a) d c rest (parts_in d n k) f (λ ns. of_action (in_scope a (with_names ns i)) a) (InNames sc.bindings i (λ g env. IsAlone g sc d env a j c rest))
+alone_lies pay sc i a d n k c rest j q {f} same size done =
+    let done1 = subst (λ x. Done pay (record sc { bindings = labels_in_scope x j (labels_of a) sc.bindings }) i a d n k c rest f) same done in
+    let done2 = subst (λ x. Done pay (record sc { bindings = labels_in_scope sc.procedure j x sc.bindings }) i a d n k c rest f) (sym (append-nil (labels_of a))) done1 in
     let xs = labels_of_each (alone a) in
     let within = owning j (alone a) sc in
     let h = home sc pay in
-    let inside = bases_inside h within.bindings i (objects_of_action a) _ (λ ns. (bind_each xs label (with_names ns 0)).names)
-    (λ g ns u v. ((agree_labels sc.procedure j xs ns sc.bindings 0 u).0, (λ k bases frame grown. record { each = (labels_named xs (there_in h sc.procedure) (with_names ns 0) bases frame j (v sc.procedure bases frame grown)).each }))) done2.lies.objects_are in
-    let said = bases_of h i (objects_of_action a) _ (λ ns. of_action (in_scope a (with_names ns i)) a) _ (λ ns. ap (λ e. of_action e a) (sym (names_bound xs label ns i))) inside in
-    record {
-      on = done2.lies.on;
-      objects_are = bases_so h i (objects_of_action a) (InNames within.bindings i (λ g env. IsAct g within d env a done2.at c rest)) _ (λ g fit v ns u.
-          let env = with_names ns i in
-          let inner = labelled (alone a) env in
-          let agrees = agree_labels sc.procedure j xs ns sc.bindings i u in
-          let pays = fit.pays in (
-            done2.at,
-            (rest, done2.at, done2.at, subst (λ y. IsAct g within d (with_names inner.names y) a done2.at c rest) (sym agrees.1) (v inner.names agrees.0), refl, (λ s. cond_same (stands_in s inner a) (done2.at s))),
-            omega (arith, pays, size),
-            (λ x e. done2.finds.labels x (label_stands x (known within.bindings) env a ∙ or_none (stands_in (the_label x) env a) e)),
-          )) said;
-    }
+    let inside = bases_under h within.bindings (λ ns. (bind_each xs label (with_names ns 0)).names)
+    (λ g some z ns u v. ((agree_labels sc.procedure j xs ns sc.bindings 0 u).0, (λ k bases frame grown. record { each = (labels_named xs (there_in h sc.procedure) (with_names ns 0) bases frame j (v sc.procedure bases frame grown)).each }))) done2.lies.objects_are in
+    let said = bases_of h _ (λ ns. of_action (in_scope a (with_names ns i)) a) (λ ns. ap (λ e. of_action e a) (sym (names_bound xs label ns i))) inside in
+    lie done2.lies.on
+    (bases_so h _ (λ g fit v ns u.
+    let env = with_names ns i in
+    let inner = labelled (alone a) env in
+    let agrees = agree_labels sc.procedure j xs ns sc.bindings i u in
+    let pays = fit.pays in (
+      done2.at,
+      (rest, done2.at, done2.at, subst (λ y. IsAct g within d (with_names inner.names y) a done2.at c rest) (sym agrees.1) (v inner.names agrees.0), refl, (λ s. cond_same (stands_in s inner a) (done2.at s))),
+      omega (arith, pays, size),
+      (λ x e. done2.finds.labels x (label_stands x (known within.bindings) env a ∙ or_none (stands_in (the_label x) env a) e)),
+    )) said)
+    (λ v. done2.lies.paid v)
 
 -- the values of an assignment, each where it may stand; and where they are stored
-abbrev LaidFroms : ℕ → Scene → Enclosing → Spot → ℕ → Expressions → ℕ → ℕ → Type 0
-LaidFroms pay sc v u j t.none d k = Unit {0}
-LaidFroms pay sc v u j (t.more e es) d k =
-    ((c c1 : List Stmt) → c ≡ value_code sc.targets d k (term_named sc.bindings v u e) ++ c1 → StandsAt sc.own d c → Lies (home sc pay) j (objects e) (d + 1) c1 (kinds k (term_named sc.bindings v u e)) (λ ns. of_expression (with_names ns j) e) (InNames sc.bindings j (λ g env. IsCode g sc d env pushes e c c1)))
-    × LaidFroms pay sc (deeper 0 v) (spot.behind e u) (j + objects e) es d (k + labels (term_named sc.bindings v u e))
+abbrev LaidFroms : (pay : ℕ) (sc : Scene) (v : Enclosing) (u : Spot) (j : ℕ) (es : Expressions) (d k : ℕ) → FoundParts sc.own sc.targets (parts_from d k (terms_named 0 sc.bindings v u es)) → Type 0
+LaidFroms pay sc v u j t.none d k f = Unit {0}
+LaidFroms pay sc v u j (t.more e es) d k f =
+    ((c c1 : List Stmt) → c ≡ value_code sc.targets d k (term_named sc.bindings v u e) ++ c1 → StandsAt sc.own d c → Lies (home sc pay) j (objects e) (d + 1) c c1 (parts d k (term_named sc.bindings v u e)) (found_front sc.own sc.targets (parts d k (term_named sc.bindings v u e)) _ f) (λ ns. of_expression (with_names ns j) e)
+    (InNames sc.bindings j (λ g env. IsCode g sc d env pushes e c c1)))
+    × LaidFroms pay sc (deeper 0 v) (spot.behind e u) (j + objects e) es d (k + labels (term_named sc.bindings v u e)) (found_back sc.own sc.targets (parts d k (term_named sc.bindings v u e)) _ f)
 
-abbrev LaidStores : ℕ → Scene → Enclosing → Spot → ℕ → Expressions → ℕ → ℕ → Type 0
-LaidStores pay sc p s i t.none d n = Unit {0}
-LaidStores pay sc p s i (t.more x xs) d n =
+abbrev LaidStores : (pay : ℕ) (sc : Scene) (p : Enclosing) (s : Spot) (i : ℕ) (xs : Expressions) (d n : ℕ) → FoundParts sc.own sc.targets (parts_onto (d + 1) n (lvalues_named sc.bindings (deeper 1 p) s xs)) → Type 0
+LaidStores pay sc p s i t.none d n f = Unit {0}
+LaidStores pay sc p s i (t.more x xs) d n f =
     ((c c1 : List Stmt) → d + 1 ≤ FRAME_WORDS → c ≡ store_code sc.targets (d + 1) n (lvalue_named sc.bindings (deeper 1 p) s x) ++ c1 → StandsAt sc.own (d + 1) c
-    → Lies (home sc pay) i (objects x) d c1 (kinds_at n (lvalue_named sc.bindings (deeper 1 p) s x)) (λ ns. of_expression (with_names ns i) x) (InNames sc.bindings i (λ g env. IsStore g sc (d + 1) env x c c1)))
-    × LaidStores pay sc p (spot.behind x s) (i + objects x) xs d (n + labels_at (lvalue_named sc.bindings (deeper 1 p) s x))
+    → Lies (home sc pay) i (objects x) d c c1 (parts_at (d + 1) n (lvalue_named sc.bindings (deeper 1 p) s x)) (found_front sc.own sc.targets (parts_at (d + 1) n (lvalue_named sc.bindings (deeper 1 p) s x)) _ f) (λ ns. of_expression (with_names ns i) x)
+    (InNames sc.bindings i (λ g env. IsStore g sc (d + 1) env x c c1)))
+    × LaidStores pay sc p (spot.behind x s) (i + objects x) xs d (n + labels_at (lvalue_named sc.bindings (deeper 1 p) s x)) (found_back sc.own sc.targets (parts_at (d + 1) n (lvalue_named sc.bindings (deeper 1 p) s x)) _ f)
 
 -- an assignment: values and where they are stored, by turns
-pub turns_lie : (pay : ℕ) (sc : Scene) (p v : Enclosing) (s u : Spot) (i j : ℕ) (xs es : Expressions) (d n k : ℕ) (c rest : List Stmt) → size xs ≡ size es → LaidStores pay sc p s i xs d n → LaidFroms pay sc v u j es d k
+pub turns_lie : (pay : ℕ) (sc : Scene) (p v : Enclosing) (s u : Spot) (i j : ℕ) (xs es : Expressions) (d n k : ℕ) (c rest : List Stmt)
+    (fx : FoundParts sc.own sc.targets (parts_onto (d + 1) n (lvalues_named sc.bindings (deeper 1 p) s xs))) (fe : FoundParts sc.own sc.targets (parts_from d k (terms_named 0 sc.bindings v u es)))
+    → size xs ≡ size es → LaidStores pay sc p s i xs d n fx → LaidFroms pay sc v u j es d k fe
     → c ≡ by_turns (value_codes sc.targets d k (terms_named 0 sc.bindings v u es)) (store_codes sc.targets (d + 1) n (lvalues_named sc.bindings (deeper 1 p) s xs)) ++ rest → StandsAt sc.own d c
-    → Turns pay sc i j xs es d c rest (kinds_onto n (lvalues_named sc.bindings (deeper 1 p) s xs)) (kinds_each k (terms_named 0 sc.bindings v u es))
-turns_lie pay sc p v s u i j t.none t.none d n k c rest same hx he e st =
-    record { vs = []; ss = []; on = written sc.own d c rest e st; from = no_bases (home sc pay) j _ (λ g y ns z. tt); stores = no_bases (home sc pay) i _ (λ g y ns z. tt); turns = e }
-turns_lie pay sc p v s u i j t.none (t.more e0 es) d n k c rest same hx he e st = absurd (omega (arith, same))
-turns_lie pay sc p v s u i j (t.more x xs) t.none d n k c rest same hx he e st = absurd (omega (arith, same))
-turns_lie pay sc p v s u i j (t.more x xs) (t.more e0 es) d n k c rest same hx he e st =
+    → Turns pay sc i j xs es d c rest (parts_onto (d + 1) n (lvalues_named sc.bindings (deeper 1 p) s xs)) (parts_from d k (terms_named 0 sc.bindings v u es)) fx fe
+turns_lie pay sc p v s u i j t.none t.none d n k c rest fx fe same hx he e st =
+    record { vs = []; ss = []; credit = λ a. 0; credit_stored = λ a. 0; paid = λ a. let w = ap (data_at sc.own a) e in omega (arith, w); on = written sc.own d c rest e st; from = no_bases (home sc pay) j _ (λ g y ns z. tt); stores = no_bases (home sc pay) i _ (λ g y ns z. tt); turns = e }
+turns_lie pay sc p v s u i j t.none (t.more e0 es) d n k c rest fx fe same hx he e st = absurd (omega (arith, same))
+turns_lie pay sc p v s u i j (t.more x xs) t.none d n k c rest fx fe same hx he e st = absurd (omega (arith, same))
+turns_lie pay sc p v s u i j (t.more x xs) (t.more e0 es) d n k c rest fx fe same hx he e st =
     let lx = lvalue_named sc.bindings (deeper 1 p) s x in
     let te = term_named sc.bindings v u e0 in
     let ve = value_code sc.targets d k te in
@@ -288,19 +273,23 @@ turns_lie pay sc p v s u i j (t.more x xs) (t.more e0 es) d n k c rest same hx h
     let c1 = vx ++ c2 in
     let one = he.0 c c1 (joined_three ve vx others rest c e) st in
     let to = hx.0 c1 c2 one.on.shallow refl one.on in
-    let more = turns_lie pay sc p (deeper 0 v) (spot.behind x s) (spot.behind e0 u) (i + objects x) (j + objects e0) xs es d (n + labels_at lx) (k + labels te) c2 rest (omega (arith, same)) hx.1 he.1 refl to.on in
+    let more = turns_lie pay sc p (deeper 0 v) (spot.behind x s) (spot.behind e0 u) (i + objects x) (j + objects e0) xs es d (n + labels_at lx) (k + labels te) c2 rest (found_back sc.own sc.targets (parts_at (d + 1) n lx) _ fx) (found_back sc.own sc.targets (parts d k te) _ fe) (omega (arith, same)) hx.1 he.1 refl to.on in
     record {
       vs = record { from = c; to = c1 } ∷ more.vs;
       ss = record { from = c1; to = c2 } ∷ more.ss;
+      credit = λ a. one.credit a + more.credit a;
+      credit_stored = λ a. to.credit a + more.credit_stored a;
+      paid = λ a.
+          let o = one.paid a in let w = to.paid a in let r = more.paid a in omega (arith, o, w, r);
       on = more.on;
-      from = bases_so (home sc pay) j _ _ _ (λ g y z ns w0. (z.0 ns w0, z.1 ns w0)) (both_bases (home sc pay) j (objects e0) (objects_of_each es) _ _ one.objects_are more.from);
-      stores = bases_so (home sc pay) i _ _ _ (λ g y z ns w0. (z.0 ns w0, z.1 ns w0)) (both_bases (home sc pay) i (objects x) (objects_of_each xs) _ _ to.objects_are more.stores);
+      from = bases_so (home sc pay) _ (λ g y z ns w0. (z.0 ns w0, z.1 ns w0)) (both_bases (home sc pay) j (objects e0) (objects_of_each es) (parts d k te) fe _ _ one.objects_are more.from);
+      stores = bases_so (home sc pay) _ (λ g y z ns w0. (z.0 ns w0, z.1 ns w0)) (both_bases (home sc pay) i (objects x) (objects_of_each xs) (parts_at (d + 1) n lx) fx _ _ to.objects_are more.stores);
       turns = (refl, refl, more.turns);
     }
 
 -- the values of an assignment, and where they are stored, each where it may stand
 pub laid_froms : (pay : ℕ) (valofs : ValofsLie pay) (sc : Scene) (v : Enclosing) (u : Spot) (j : ℕ) (es : Expressions) (d k : ℕ) → d ≤ FRAME_WORDS → Around sc v d → SoundEach 0 sc.bindings v u es → RegularEach es → turns_among true es ≤ pay
-    → FoundParts sc.own sc.targets (parts_from d k (terms_named 0 sc.bindings v u es)) → LaidFroms pay sc v u j es d k
+    → (f : FoundParts sc.own sc.targets (parts_from d k (terms_named 0 sc.bindings v u es))) → LaidFroms pay sc v u j es d k f
 laid_froms pay valofs sc v u j t.none d k low a h r m f = tt
 laid_froms pay valofs sc v u j (t.more e es) d k low a h r m f =
     let te = term_named sc.bindings v u e in (
@@ -309,7 +298,7 @@ laid_froms pay valofs sc v u j (t.more e es) d k low a h r m f =
     )
 
 pub laid_stores : (pay : ℕ) (valofs : ValofsLie pay) (sc : Scene) (p : Enclosing) (s : Spot) (i : ℕ) (xs : Expressions) (d n : ℕ) → Around sc p d → SoundDestinations sc.bindings (deeper 1 p) s xs → RegularEach xs → turns_among true xs ≤ pay
-    → FoundParts sc.own sc.targets (parts_onto (d + 1) n (lvalues_named sc.bindings (deeper 1 p) s xs)) → LaidStores pay sc p s i xs d n
+    → (f : FoundParts sc.own sc.targets (parts_onto (d + 1) n (lvalues_named sc.bindings (deeper 1 p) s xs))) → LaidStores pay sc p s i xs d n f
 laid_stores pay valofs sc p s i t.none d n a h r m f = tt
 laid_stores pay valofs sc p s i (t.more x xs) d n a h r m f =
     let lx = lvalue_named sc.bindings (deeper 1 p) s x in (

@@ -1,18 +1,10 @@
 -- What the static side of each form needs: codes for a value or a jump, what stands around code, and how parts are laid together. A call is laid where the
 -- scheme puts it, where its arguments and what it calls are.
-use Rattle.bk_simulation.proofs.Words.{◌≡◌, ℕ, ◌+◌, ◌<◌, ◌≤◌, ◌^◌, Bool, true, false, ◌||◌, List, [], ◌∷◌, ◌++◌, Option, Some, None, cond, refl, sym, ap, ◌∙◌, subst, arith, append_assoc, bytes_eq, FRAME_WORDS, Operator, Expression, Expressions, Action, Actions, Bound, Enclosing, Role, Truth, Binding, bound_in, named_word, prefix_word, infix_word, constant_word, deeper, Spot, next_depth, Placed, item_words, Stmt, JumpIf, Monadic, Dyadic, LoadByte, Target, term_named, condition_named, Part, target_of, parts, parts_if, push, infix_code, truth_value, value_code, jump_code, procedure_code, data_code, AllFound, Named, Sense, constant, label, Environment, sense_in, word_named, constant_in, Sought, the_label, the_case, the_default, same_place, is_label, stands_in, stands_in_one, Lasting, size, Stack, labels, terms_named, parts_each, each_code, objects, objects_of_each, of_expression, of_each}
-use Rattle.std.specs.Option.{option_and_then}
-use Rattle.bk_scope.specs.declared.role.Role.TheVariants.{Value}
-use Rattle.bk_simulation.proofs.Sought.{with_names}
-use Rattle.bk_simulation.proofs.Laid.{Setting, Scene, Aim, pushes, jumps, ending, count, IsCode, AreValues}
-use Rattle.bk_simulation.proofs.NamesAgree.{Agree, AgreeWords}
-use Rattle.bk_simulation.proofs.Standing.{StandsAt, passed, Home, home, Fitting, no_bases, Lies, written, both_bases, bases_so}
-use Rattle.bk_simulation.proofs.LastingKinds.{Kind, kinds, kinds_if, kinds_each}
-use Rattle.bk_tree.specs.declared.tree.Operator.TheVariants as o
+use Rattle.bk_simulation.proofs.Words.{◌≡◌, ℕ, ◌+◌, ◌<◌, ◌≤◌, ◌^◌, Bool, true, false, List, [], ◌∷◌, ◌++◌, Option, Some, None, cond, refl, sym, ap, ◌∙◌, subst, arith, append_assoc, bytes_eq, FRAME_WORDS, Operator, Expression, Expressions, Action, Bound, Enclosing, Role, Truth, Binding, bound_in, named_word, prefix_word, infix_word, constant_word, deeper, Spot, next_depth, Placed, Stmt, JumpIf, Monadic, Dyadic, LoadByte, Target, term_named, condition_named, Part, parts, parts_if, push, infix_code, truth_value, value_code, jump_code, Named, Sense, constant, label, Environment, sense_in, word_named, constant_in, Sought, the_case, same_place, stands_in, Lasting, size, Stack, labels, terms_named, parts_each, each_code, objects, objects_of_each, of_expression, of_each, option_and_then}
+use Rattle.bk_simulation.proofs.Pieces.{with_names, Setting, Scene, Aim, pushes, jumps, ending, count, IsCode, AreValues, Agree, AgreeWords, stands_by}
+use Rattle.bk_simulation.proofs.Terms.{Value, Operator as o, Bound as b, Dyadic as two, Monadic as w}
+use Rattle.bk_simulation.proofs.Standing.{StandsAt, passed, Home, home, Fitting, no_bases, Lies, written, both_bases, bases_so, lie, lies_behind, data_at, FoundParts, found_front, found_back}
 use Rattle.bk_tree.specs.Tree as t
-use Rattle.bk_scope.specs.declared.bound.Bound.TheVariants as b
-use Rattle.bk_ocode.specs.declared.stmt.Dyadic.TheVariants as two
-use Rattle.bk_ocode.specs.declared.stmt.Monadic.TheVariants as w
 use Rattle.bk_trans.specs.Program as term
 use Rattle.bk_scope.specs.Spots as spot
 use Rattle.bk_trans.specs.Depths as depths
@@ -26,10 +18,6 @@ abbrev pub own_parts : Scene → Enclosing → Spot → ℕ → ℕ → Aim → 
 own_parts sc p s d n pushes e = parts d n (term_named sc.bindings p s e)
 own_parts sc p s d n (jumps u l) e = parts_if d n (condition_named sc.bindings p s e)
 
-abbrev pub own_kinds : Scene → Enclosing → Spot → ℕ → Aim → Expression → List Kind
-own_kinds sc p s n pushes e = kinds n (term_named sc.bindings p s e)
-own_kinds sc p s n (jumps u l) e = kinds_if n (condition_named sc.bindings p s e)
-
 abbrev pub role : Aim → Role
 role pushes = Value
 role (jumps u l) = Truth
@@ -37,35 +25,6 @@ role (jumps u l) = Truth
 abbrev pub level : Aim → ℕ → ℕ
 level pushes d = d + 1
 level (jumps u l) d = d
-
--- code that stands somewhere in a section, whatever the depth before it
-pub record StandsIn (own : Placed) (code : List Stmt) : Type 0 where
-  pub depth : ℕ
-  pub rest : List Stmt
-  pub stands : StandsAt own depth (code ++ rest)
-
--- data that stand so, with no item behind them
-pub record DataIn (own : Placed) (code : List Stmt) : Type 0 where
-  pub depth : ℕ
-  pub rest : List Stmt
-  pub stands : StandsAt own depth (code ++ rest)
-  pub ends : item_words own.places rest ≡ []
-
--- a part whose targets are found, and whose code and data stand in the section
-abbrev pub PartFound : Placed → List Target → Part → Type 0
-PartFound own ts x = AllFound ts (target_of x) × StandsIn own (procedure_code ts x) × DataIn own (data_code x)
-
-abbrev pub FoundParts : Placed → List Target → List Part → Type 0
-FoundParts own ts [] = Unit {0}
-FoundParts own ts (x ∷ xs) = PartFound own ts x × FoundParts own ts xs
-
-pub found_front : (own : Placed) (ts : List Target) (xs ys : List Part) → FoundParts own ts (xs ++ ys) → FoundParts own ts xs
-found_front own ts [] ys h = tt
-found_front own ts (x ∷ xs) ys h = (h.0, found_front own ts xs ys h.1)
-
-pub found_back : (own : Placed) (ts : List Target) (xs ys : List Part) → FoundParts own ts (xs ++ ys) → FoundParts own ts ys
-found_back own ts [] ys h = h
-found_back own ts (x ∷ xs) ys h = found_back own ts xs ys h.1
 
 -- names in scope whose constants are words
 abbrev pub HasWords : List Binding → Type 0
@@ -122,67 +81,31 @@ abbrev pub InNames : List Binding → ℕ → (Setting → Environment → Type 
 InNames bs next P setting = (ns : List Named) → Agree ns bs → P setting (with_names ns next)
 
 -- seeking finds the same where constants are the same
-mutual
-  pub stands_by : (s : Sought) (u v : Environment) → ((e : Expression) → constant_in u e ≡ constant_in v e) → (c : Action) → stands_in s u c ≡ stands_in s v c
-  stands_by s u v f (t.label l x c) = ap (λ y. same_place s (the_label x) || y) (stands_by s u v f c)
-  stands_by s u v f (t.case_of l e c) =
-      ap (λ y. same_place s (the_case y) || stands_in s u c) (f e) ∙ ap (λ y. same_place s (the_case (constant_in v e)) || y) (stands_by s u v f c)
-  stands_by s u v f (t.default l c) = ap (λ y. same_place s the_default || y) (stands_by s u v f c)
-  stands_by s u v f (t.when l b e c) = stands_by s u v f c
-  stands_by s u v f (t.test l e a b) = ap (λ y. y || stands_in s u b) (stands_by s u v f a) ∙ ap (λ y. stands_in s v a || y) (stands_by s u v f b)
-  stands_by s u v f (t.while l b e c) = stands_by s u v f c
-  stands_by s u v f (t.switch l e c) = ap (λ y. cond (is_label s) y false) (stands_by s u v f c)
-  stands_by s u v f (t.block l t.no_declarations cs) = stands_one_by s u v f cs
-  stands_by s u v f (t.repeat l c) = stands_by s u v f c
-  stands_by s u v f (t.repeat_while l b c e) = stands_by s u v f c
-  stands_by s u v f _ = refl
-
-  pub stands_one_by : (s : Sought) (u v : Environment) → ((e : Expression) → constant_in u e ≡ constant_in v e) → (cs : Actions) → stands_in_one s u cs ≡ stands_in_one s v cs
-  stands_one_by s u v f t.no_actions = refl
-  stands_one_by s u v f (t.also c cs) = ap (λ y. y || stands_in_one s u cs) (stands_by s u v f c) ∙ ap (λ y. stands_in s v c || y) (stands_one_by s u v f cs)
-
 pub stands_agree : (s : Sought) (ns : List Named) (bs : List Binding) (i : ℕ) → Agree ns bs → (c : Action) → stands_in s (with_names ns i) c ≡ stands_in s (known bs) c
-stands_agree s ns bs i a c = stands_by s (with_names ns i) (known bs) (λ e. constants_agree ns bs i a.0 e ∙ sym (constants_agree (names_of bs) bs 0 (known_agree bs) e)) c
+stands_agree s ns bs i a c = stands_by s (with_names ns i) (known bs) (λ e. ap (λ y. same_place s (the_case y)) (constants_agree ns bs i a.0 e ∙ sym (constants_agree (names_of bs) bs 0 (known_agree bs) e))) c
 
 -- ---- expressions that have no jumps of their own
 
-pub plain_code : (sc : Scene) (p : Enclosing) (s : Spot) (d n : ℕ) (aim : Aim) (e : Expression) (c rest : List Stmt) → condition_named sc.bindings p s e ≡ term.holds (term_named sc.bindings p s e)
-    → c ≡ coded sc p s d n aim e ++ rest → c ≡ value_code sc.targets d n (term_named sc.bindings p s e) ++ ending aim rest
-plain_code sc p s d n pushes e c rest h k = k
-plain_code sc p s d n (jumps u l) e c rest h k =
-    k ∙ ap (λ x. jump_code sc.targets d n x u l ++ rest) h ∙ append_assoc (value_code sc.targets d n (term_named sc.bindings p s e)) (JumpIf u l ∷ []) rest
-
-pub plain_parts : (sc : Scene) (p : Enclosing) (s : Spot) (d n : ℕ) (aim : Aim) (e : Expression) → condition_named sc.bindings p s e ≡ term.holds (term_named sc.bindings p s e)
-    → FoundParts sc.own sc.targets (own_parts sc p s d n aim e) → FoundParts sc.own sc.targets (parts d n (term_named sc.bindings p s e))
-plain_parts sc p s d n pushes e h f = f
-plain_parts sc p s d n (jumps u l) e h f = subst (λ x. FoundParts sc.own sc.targets (parts_if d n x)) h f
-
-pub plain_kinds : (sc : Scene) (p : Enclosing) (s : Spot) (n : ℕ) (aim : Aim) (e : Expression) → condition_named sc.bindings p s e ≡ term.holds (term_named sc.bindings p s e)
-    → kinds n (term_named sc.bindings p s e) ≡ own_kinds sc p s n aim e
-plain_kinds sc p s n pushes e h = refl
-plain_kinds sc p s n (jumps u l) e h = sym (ap (λ x. kinds_if n x) h)
-
--- behind the value, and the jump if it is one
-pub ended : (own : Placed) (d : ℕ) (aim : Aim) (rest : List Stmt) → StandsAt own (d + 1) (ending aim rest) → StandsAt own (level aim d) rest
-ended own d pushes rest h = h
-ended own d (jumps u l) rest h = passed own (d + 1) d (JumpIf u l) rest h (omega arith)
-
-pub lies_ended : (h : Home) (next many d : ℕ) (aim : Aim) (rest : List Stmt) {ks : List Kind} {L : List Named → List Lasting} (P : Setting → Type 0) → Lies h next many (d + 1) (ending aim rest) ks L P
-    → Lies h next many (level aim d) rest ks L P
-lies_ended h next many d aim rest P a = record { on = ended h.own d aim rest a.on; objects_are = a.objects_are }
-
-pub plain_lies : (pay : ℕ) (sc : Scene) (p : Enclosing) (s : Spot) (i d n : ℕ) (aim : Aim) (e : Expression) (many : ℕ) (rest : List Stmt) {L : List Named → List Lasting} (P : Setting → Type 0)
-    → condition_named sc.bindings p s e ≡ term.holds (term_named sc.bindings p s e) → Lies (home sc pay) i many (level aim d) rest (kinds n (term_named sc.bindings p s e)) L P
-    → Lies (home sc pay) i many (level aim d) rest (own_kinds sc p s n aim e) L P
-plain_lies pay sc p s i d n aim e many rest {L} P h a = subst (λ ks. Lies (home sc pay) i many (level aim d) rest ks L P) (plain_kinds sc p s n aim e h) a
+-- such an expression is laid for a jump where it is laid for a value, before the jump
+pub plain_laid : (pay : ℕ) (sc : Scene) (p : Enclosing) (s : Spot) (i d n : ℕ) (aim : Aim) (e : Expression) (many : ℕ) (c rest : List Stmt) {L : List Named → List Lasting} (P : Setting → Type 0)
+    → condition_named sc.bindings p s e ≡ term.holds (term_named sc.bindings p s e)
+    → ((f : FoundParts sc.own sc.targets (parts d n (term_named sc.bindings p s e))) → c ≡ value_code sc.targets d n (term_named sc.bindings p s e) ++ ending aim rest
+    → Lies (home sc pay) i many (d + 1) c (ending aim rest) (parts d n (term_named sc.bindings p s e)) f L P)
+    → (f : FoundParts sc.own sc.targets (own_parts sc p s d n aim e)) → c ≡ coded sc p s d n aim e ++ rest
+    → Lies (home sc pay) i many (level aim d) c rest (own_parts sc p s d n aim e) f L P
+plain_laid pay sc p s i d n pushes e many c rest P h laid f k = laid f k
+plain_laid pay sc p s i d n (jumps u l) e many c rest {L} P h laid f k =
+    subst (λ x. (f : FoundParts sc.own sc.targets (parts_if d n x)) → c ≡ jump_code sc.targets d n x u l ++ rest → Lies (home sc pay) i many d c rest (parts_if d n x) f L P) (sym h)
+    (λ g e1. lies_behind (home sc pay) (d + 1) d (JumpIf u l) rest (omega arith)
+    (laid g (e1 ∙ append_assoc (value_code sc.targets d n (term_named sc.bindings p s e)) (JumpIf u l ∷ []) rest))) f k
 
 -- one statement that pushes
-pub leaf_on : (own : Placed) (d : ℕ) (aim : Aim) (c rest : List Stmt) (x : Stmt) → c ≡ x ∷ ending aim rest → next_depth d x ≡ d + 1 → StandsAt own d c → StandsAt own (level aim d) rest
-leaf_on own d aim c rest x e m st = ended own d aim rest (passed own d (d + 1) x (ending aim rest) (subst (λ y. StandsAt own d y) e st) m)
+pub leaf_on : (own : Placed) (d : ℕ) (c rest : List Stmt) (x : Stmt) → c ≡ x ∷ rest → next_depth d x ≡ d + 1 → StandsAt own d c → StandsAt own (d + 1) rest
+leaf_on own d c rest x e m st = passed own d (d + 1) x rest (subst (λ y. StandsAt own d y) e st) m
 
-pub leaf_lies : (h : Home) (next d : ℕ) (aim : Aim) (c rest : List Stmt) (x : Stmt) (P : Setting → Type 0) → c ≡ x ∷ ending aim rest → next_depth d x ≡ d + 1 → StandsAt h.own d c
-    → ((setting : Setting) → Fitting h setting → P setting) → Lies h next 0 (level aim d) rest [] (λ ns. []) P
-leaf_lies h next d aim c rest x P e m st f = record { on = leaf_on h.own d aim c rest x e m st; objects_are = no_bases h next P f }
+pub leaf_lies : (h : Home) (next d : ℕ) (c rest : List Stmt) (x : Stmt) {f : FoundParts h.own h.targets []} (P : Setting → Type 0) → c ≡ x ∷ rest → next_depth d x ≡ d + 1 → StandsAt h.own d c
+    → ((setting : Setting) → Fitting h setting → P setting) → Lies h next 0 (d + 1) c rest [] f (λ ns. []) P
+leaf_lies h next d c rest x P e m st g = lie (leaf_on h.own d c rest x e m st) (no_bases h next P g) (λ a. let k = ap (data_at h.own a) e in omega (arith, k))
 
 pub pushed_depth : (ts : List Target) (k : ℕ) (x : Bound) → next_depth k (push ts x) ≡ k + 1
 pushed_depth ts k (b.Constant None) = refl
@@ -219,17 +142,20 @@ count_named n bs p s (t.more e es) = ap (λ k. k + 1) (count_named n bs (deeper 
 
 -- a call: its arguments and what is called
 pub call_lies : (pay : ℕ) (sc : Scene) (p : Enclosing) (s s1 : Spot) (i : ℕ) (call : Stmt) (e : Expression) (es : Expressions) (d n : ℕ) (c rest : List Stmt) → Around sc p d
-    → FoundParts sc.own sc.targets (parts (d + 2 + depths.count (terms_named 1 sc.bindings (deeper 2 p) s1 es)) n (term_named sc.bindings (deeper (size es + 2) p) s e)
-    ++ parts_each (d + 2) (n + labels (term_named sc.bindings (deeper (size es + 2) p) s e)) (terms_named 1 sc.bindings (deeper 2 p) s1 es))
+    → (f : FoundParts sc.own sc.targets (parts (d + 2 + depths.count (terms_named 1 sc.bindings (deeper 2 p) s1 es)) n (term_named sc.bindings (deeper (size es + 2) p) s e)
+    ++ parts_each (d + 2) (n + labels (term_named sc.bindings (deeper (size es + 2) p) s e)) (terms_named 1 sc.bindings (deeper 2 p) s1 es)))
     → c ≡ ((Stack (d + 2) ∷ each_code sc.targets (d + 2) (n + labels (term_named sc.bindings (deeper (size es + 2) p) s e)) (terms_named 1 sc.bindings (deeper 2 p) s1 es))
     ++ value_code sc.targets (d + 2 + depths.count (terms_named 1 sc.bindings (deeper 2 p) s1 es)) n (term_named sc.bindings (deeper (size es + 2) p) s e) ++ (call ∷ [])) ++ rest → StandsAt sc.own d c
-    → ((c1 c2 : List Stmt) → Around sc (deeper 2 p) (d + 2) → FoundParts sc.own sc.targets (parts_each (d + 2) (n + labels (term_named sc.bindings (deeper (size es + 2) p) s e)) (terms_named 1 sc.bindings (deeper 2 p) s1 es))
+    → ((c1 c2 : List Stmt) → Around sc (deeper 2 p) (d + 2) → (g : FoundParts sc.own sc.targets (parts_each (d + 2) (n + labels (term_named sc.bindings (deeper (size es + 2) p) s e)) (terms_named 1 sc.bindings (deeper 2 p) s1 es)))
     → c1 ≡ each_code sc.targets (d + 2) (n + labels (term_named sc.bindings (deeper (size es + 2) p) s e)) (terms_named 1 sc.bindings (deeper 2 p) s1 es) ++ c2 → StandsAt sc.own (d + 2) c1
-    → Lies (home sc pay) (i + objects e) (objects_of_each es) (d + 2 + count es) c2 (kinds_each (n + labels (term_named sc.bindings (deeper (size es + 2) p) s e)) (terms_named 1 sc.bindings (deeper 2 p) s1 es)) (λ ns. of_each (with_names ns (i + objects e)) es) (InNames sc.bindings (i + objects e) (λ g env. AreValues g sc (d + 2) env es c1 c2)))
-    → ((c2 : List Stmt) → Around sc (deeper (size es + 2) p) (d + 2 + count es) → FoundParts sc.own sc.targets (parts (d + 2 + count es) n (term_named sc.bindings (deeper (size es + 2) p) s e))
+    → Lies (home sc pay) (i + objects e) (objects_of_each es) (d + 2 + count es) c1 c2 (parts_each (d + 2) (n + labels (term_named sc.bindings (deeper (size es + 2) p) s e)) (terms_named 1 sc.bindings (deeper 2 p) s1 es)) g (λ ns. of_each (with_names ns (i + objects e)) es) (InNames sc.bindings (i + objects e) (λ g env. AreValues g sc (d + 2) env es c1 c2)))
+    → ((c2 : List Stmt) → Around sc (deeper (size es + 2) p) (d + 2 + count es) → (g : FoundParts sc.own sc.targets (parts (d + 2 + count es) n (term_named sc.bindings (deeper (size es + 2) p) s e)))
     → c2 ≡ value_code sc.targets (d + 2 + count es) n (term_named sc.bindings (deeper (size es + 2) p) s e) ++ (call ∷ rest) → StandsAt sc.own (d + 2 + count es) c2
-    → Lies (home sc pay) i (objects e) (d + 2 + count es + 1) (call ∷ rest) (kinds n (term_named sc.bindings (deeper (size es + 2) p) s e)) (λ ns. of_expression (with_names ns i) e) (InNames sc.bindings i (λ g env. IsCode g sc (d + 2 + count es) env pushes e c2 (call ∷ rest))))
-    → Lies (home sc pay) i (objects e + objects_of_each es) (d + 2 + count es + 1) (call ∷ rest) (kinds n (term_named sc.bindings (deeper (size es + 2) p) s e) ++ kinds_each (n + labels (term_named sc.bindings (deeper (size es + 2) p) s e)) (terms_named 1 sc.bindings (deeper 2 p) s1 es)) (λ ns. of_expression (with_names ns i) e ++ of_each (with_names ns (i + objects e)) es) (InNames sc.bindings i (λ g env. (c1 c2 : List Stmt) × (c ≡ Stack (d + 2) ∷ c1)
+    → Lies (home sc pay) i (objects e) (d + 2 + count es + 1) c2 (call ∷ rest) (parts (d + 2 + count es) n (term_named sc.bindings (deeper (size es + 2) p) s e)) g (λ ns. of_expression (with_names ns i) e)
+    (InNames sc.bindings i (λ g env. IsCode g sc (d + 2 + count es) env pushes e c2 (call ∷ rest))))
+    → Lies (home sc pay) i (objects e + objects_of_each es) (d + 2 + count es + 1) c (call ∷ rest) (parts (d + 2 + depths.count (terms_named 1 sc.bindings (deeper 2 p) s1 es)) n (term_named sc.bindings (deeper (size es + 2) p) s e)
+    ++ parts_each (d + 2) (n + labels (term_named sc.bindings (deeper (size es + 2) p) s e)) (terms_named 1 sc.bindings (deeper 2 p) s1 es)) f (λ ns. of_expression (with_names ns i) e ++ of_each (with_names ns (i + objects e)) es)
+    (InNames sc.bindings i (λ g env. (c1 c2 : List Stmt) × (c ≡ Stack (d + 2) ∷ c1)
     × AreValues g sc (d + 2) (with_names env.names (i + objects e)) es c1 c2 × IsCode g sc (d + 2 + count es) env pushes e c2 (call ∷ rest)))
 call_lies pay sc p s s1 i call e es d n c rest a f k st each one =
     let z : Enclosing = deeper (size es + 2) p in
@@ -243,11 +169,11 @@ call_lies pay sc p s s1 i call e es d n c rest a f k st each one =
     let c1 = ves ++ c2 in
     let k1 : c ≡ Stack (d + 2) ∷ c1 = joined_three (Stack (d + 2) ∷ ves) ve (call ∷ []) rest c k in
     let s0 = passed sc.own d (d + 2) (Stack (d + 2)) c1 (written sc.own d c (Stack (d + 2) ∷ c1) k1 st) refl in
-    let les = each c1 c2 (around_deeper sc p d 2 (d + 2) refl s0.shallow a) (found_back sc.own sc.targets (parts (d + 2 + depths.count tes) n te) _ f) refl s0 in
-    let fe = subst (λ x. FoundParts sc.own sc.targets (parts (d + 2 + x) n te)) same (found_front sc.own sc.targets (parts (d + 2 + depths.count tes) n te) _ f) in
-    let ke : c2 ≡ value_code sc.targets (d + 2 + count es) n te ++ (call ∷ rest) = ap (λ x. value_code sc.targets (d + 2 + x) n te ++ (call ∷ rest)) same in
-    let le = one c2 (around_deeper sc p d (size es + 2) (d + 2 + count es) (omega (arith, many)) les.on.shallow a) fe ke les.on in
-    record {
-      on = le.on;
-      objects_are = bases_so (home sc pay) i _ _ _ (λ g y v ns u. (c1, c2, k1, v.1 ns u, v.0 ns u)) (both_bases (home sc pay) i (objects e) (objects_of_each es) _ _ le.objects_are les.objects_are);
-    }
+    let pe = parts (d + 2 + depths.count tes) n te in
+    let les = each c1 c2 (around_deeper sc p d 2 (d + 2) refl s0.shallow a) (found_back sc.own sc.targets pe _ f) refl s0 in
+    let le = subst (λ x. (g : FoundParts sc.own sc.targets (parts (d + 2 + x) n te)) → c2 ≡ value_code sc.targets (d + 2 + x) n te ++ (call ∷ rest)
+    → Lies (home sc pay) i (objects e) (d + 2 + count es + 1) c2 (call ∷ rest) (parts (d + 2 + x) n te) g (λ ns. of_expression (with_names ns i) e)
+    (InNames sc.bindings i (λ g env. IsCode g sc (d + 2 + count es) env pushes e c2 (call ∷ rest)))) (sym same)
+    (λ g e1. one c2 (around_deeper sc p d (size es + 2) (d + 2 + count es) (omega (arith, many)) les.on.shallow a) g e1 les.on) (found_front sc.own sc.targets pe _ f) refl in
+    lie le.on (bases_so (home sc pay) _ (λ g y v ns u. (c1, c2, k1, v.1 ns u, v.0 ns u)) (both_bases (home sc pay) i (objects e) (objects_of_each es) pe f _ _ le.objects_are les.objects_are))
+    (λ q. let x = le.paid q in let y = les.paid q in let v = ap (data_at sc.own q) k1 in omega (arith, x, y, v))

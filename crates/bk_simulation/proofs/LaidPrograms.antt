@@ -1,17 +1,8 @@
 -- A program whose procedures are laid, and that holds what lasts, does what its sections mean.
-use Rattle.bk_simulation.proofs.Words.{◌≡◌, ℕ, ◌<◌, ◌^◌, List, Some, refl, ap, ◌∙◌, ⊎_elim, FRAME_WORDS, Declarations, option_map, number_in, Program, first_state, procedure, stop, program_of, means, meaning, IsWellPlaced}
-use Rattle.bk_ocode.specs.Library.{library_routine}
+use Rattle.bk_simulation.proofs.Words.{◌≡◌, ℕ, ◌<◌, ◌^◌, List, Some, refl, ap, ◌∙◌, ⊎_elim, FRAME_WORDS, Declarations, option_map, number_in, Program, first_state, procedure, stop, program_of, means, meaning, IsWellPlaced, library_routine, DoesFrom, StartsSo, with_start, without_start}
+use Rattle.bk_simulation.proofs.Forms.{Codes, BaseOf, Setting, Simulates, Procedures, named_there, KnowsLibrary, calls_of, NoStart, HasStart, called_at, does_from, first_store, start_there, library_word, HoldsLasting}
 use Rattle.bk_meaning.specs.Values as value
-use Rattle.bk_simulation.specs.Simulation.{DoesFrom, StartsSo, with_start, without_start}
-use Rattle.bk_simulation.proofs.Memory.{Codes, BaseOf}
-use Rattle.bk_simulation.proofs.Laid.{Setting}
-use Rattle.bk_simulation.proofs.Simulates.{Simulates}
-use Rattle.bk_simulation.proofs.Calls.{Procedures}
-use Rattle.bk_simulation.proofs.LibraryCalls.{named_there}
-use Rattle.bk_simulation.proofs.Applied.{KnowsLibrary}
 use Rattle.bk_simulation.proofs.All.{alone_runs, alone_adds, simulates}
-use Rattle.bk_simulation.proofs.ProgramEnds.{calls_of, NoStart, HasStart, called_at, does_from}
-use Rattle.bk_simulation.proofs.LastingFits.{first_store, start_there, library_word, HoldsLasting}
 
 -- where the sections are laid, with what a step pays and so many frames
 abbrev pub setting : (program : Program) (first : ℕ) → IsWellPlaced program first FRAME_WORDS → (codes : Codes) (pay cap : ℕ) (lasting : List ℕ) → ((o base : ℕ) → BaseOf lasting o base → base < 2 ^ 32) → BaseOf lasting 0 16 → Setting

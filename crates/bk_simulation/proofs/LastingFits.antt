@@ -1,17 +1,11 @@
 -- The store before START is called fits what lasts.
-use Rattle.bk_simulation.proofs.Words.{◌≡◌, ◌≢◌, ℕ, zero, suc, ◌+◌, ◌-◌, ◌<◌, ◌≤◌, ◌==◌, nat_le, nat_lt, Bool, true, false, ◌&&◌, List, [], ◌∷◌, ◌++◌, length, map, fold, replicate, Option, Some, None, refl, sym, ap, ◌∙◌, subst, if◌then◌else◌, arith, ◌⊎◌, ⊎_elim, inl, inr, slice_get, eq-eqb, ne_eqb, length-append, slice_set, option_and_then, option_map_or, nat_tests, length-map, slice_get_within, FRAME_WORDS, GLOBAL_NUMBER, Unset, Word, Variable, Link, Cell, Free, Held, content_of, Content, global_place, Placed, Placement, Program, Datum, is_in, datum_word, GlobalSetting, entry_setting, stmt_globals, globals_of, all_data, all_globals, unset_cells, with_global, first_cells, chosen-true, chosen-false, number, address, procedure, routine, unset, holds, places, value_in, stop, rdch, wrch, newline, writes, writen, writed, getbyte, putbyte, writef, Object, living, cells_at, Procedure, Lasting, global_vector, words, code, library_cells, set_global, procedures_set, global_cells, entry_cells, object_of, objects_from, first_memory, IsWellPlaced, AreFaultless, GlobalEntry, Stmt, Globals}
-use Rattle.bk_ocode.specs.Library.{library_globals}
+use Rattle.bk_simulation.proofs.Words.{◌≡◌, ◌≢◌, ℕ, zero, suc, ◌+◌, ◌-◌, ◌<◌, ◌≤◌, ◌==◌, nat_le, nat_lt, Bool, true, false, List, [], ◌∷◌, ◌++◌, length, map, fold, replicate, Option, Some, None, refl, sym, ap, ◌∙◌, subst, if◌then◌else◌, arith, ◌⊎◌, ⊎_elim, inl, inr, slice_get, eq-eqb, ne_eqb, length-append, slice_set, option_and_then, option_map_or, length-map, slice_get_within, FRAME_WORDS, GLOBAL_NUMBER, Unset, Word, Variable, Link, Cell, Free, Held, content_of, Content, global_place, Placed, Placement, Program, Datum, is_in, datum_word, GlobalSetting, entry_setting, stmt_globals, globals_of, all_data, all_globals, unset_cells, with_global, first_cells, chosen-true, chosen-false, number, address, procedure, routine, unset, holds, places, value_in, stop, rdch, wrch, newline, writes, writen, writed, getbyte, putbyte, writef, Object, living, cells_at, Procedure, Lasting, global_vector, words, code, library_cells, set_global, procedures_set, global_cells, entry_cells, object_of, objects_from, first_memory, IsWellPlaced, AreFaultless, GlobalEntry, Stmt, Globals, and_from, and_right, le-leb, length-replicate, length-set, lt-leb, lt-ltb, library_globals, InRange}
+use Rattle.bk_simulation.proofs.Pieces.{either_way, by_option, Codes, BaseOf, Alive, IsCell, Fits, get_at, StandsCell, alive_is, cell_in, object_there, get_set, get_replicate, AreBytes, AllBytes, Setting, untouched}
 use Rattle.bk_ocode.specs.ProgramStart.{is_global}
 use Rattle.bk_meaning.specs.Values as value
-use Rattle.bk_simulation.proofs.Memory.{Codes, BaseOf, Alive, IsCell, Fits, get_at, StandsCell}
-use Rattle.bk_simulation.proofs.MadeObjects.{alive_is, cell_in, object_there, get_set, set_length}
-use Rattle.bk_simulation.proofs.CellBytes.{AreBytes}
-use Rattle.bk_simulation.proofs.BytesKept.{AllBytes}
-use Rattle.bk_simulation.proofs.Laid.{Setting}
 use Rattle.bk_simulation.proofs.StartRuns.{FirstStore}
 use Rattle.bk_simulation.proofs.ProgramEnds.{NoStart, HasStart}
-use Rattle.bk_simulation.proofs.WrittenCells.{is_less, written, untouched}
-use Rattle.bk_ocode.specs.StmtRange.{InRange}
+use Rattle.bk_simulation.proofs.WrittenCells.{written}
 
 -- ---- The store before START is called has what lasts.
 
@@ -113,6 +107,13 @@ fold_append cells (x ∷ a) b = fold_append (with_global cells x) a b
 
 -- ---- what a cell of the meaning is, where the run begins
 
+-- what holds of the globals holds where procedures are set among them
+procedures_keep : (P : List value.Cell → Type 0) → ((n g : ℕ) (vs : List value.Cell) → P vs → P (slice_set vs g (holds (procedure n)))) → (n : ℕ) (xs : List Lasting) (vs : List value.Cell) → P vs → P (procedures_set n xs vs)
+procedures_keep P set n [] vs h = h
+procedures_keep P set n (global_vector ∷ rest) vs h = procedures_keep P set (suc n) rest vs h
+procedures_keep P set n (words ws ∷ rest) vs h = procedures_keep P set (suc n) rest vs h
+procedures_keep P set n (code f ∷ rest) vs h = procedures_keep P set (suc n) rest (set_global f.global n vs) (by_option (λ o. P (set_global o n vs)) f.global (λ _. h) (λ g _. set n g vs h))
+
 module _ (codes : Codes) where
   abbrev pub CellIs : value.Cell → Cell → Type 0
   CellIs (holds (number w)) x = x ≡ Held Variable (Word w)
@@ -153,30 +154,9 @@ module _ (codes : Codes) where
   all_set n [] vs cells h = h
   all_set n (global_vector ∷ rest) vs cells h = all_set (suc n) rest vs cells h
   all_set n (words ws ∷ rest) vs cells h = all_set (suc n) rest vs cells h
-  all_set n (code f ∷ rest) vs cells h = by_global f.global (λ vs cells h. all_set (suc n) rest vs cells h)
-    where
-      by_global : (o : Option ℕ) → ((vs : List value.Cell) (cells : ℕ → Cell) → Holding vs cells → Holding (procedures_set (suc n) rest vs) (fold with_global cells (settings codes (suc n) rest))) → Holding (procedures_set (suc n) rest (set_global o n vs)) (fold with_global cells (setting_of codes n o ++ settings codes (suc n) rest))
-      by_global None go = go vs cells h
-      by_global (Some g) go = go (slice_set vs g (holds (procedure n))) (with_global cells (record { global = g; value = codes.procedure n })) (one_set n g vs cells h)
-
-  set_all_length : (n : ℕ) (xs : List Lasting) (vs : List value.Cell) → length (procedures_set n xs vs) ≡ length vs
-  set_all_length n [] vs = refl
-  set_all_length n (global_vector ∷ rest) vs = set_all_length (suc n) rest vs
-  set_all_length n (words ws ∷ rest) vs = set_all_length (suc n) rest vs
-  set_all_length n (code f ∷ rest) vs = by_global f.global (λ vs. set_all_length (suc n) rest vs)
-    where
-      by_global : (o : Option ℕ) → ((vs : List value.Cell) → length (procedures_set (suc n) rest vs) ≡ length vs) → length (procedures_set (suc n) rest (set_global o n vs)) ≡ length vs
-      by_global None go = go vs
-      by_global (Some g) go = go (slice_set vs g (holds (procedure n))) ∙ set_length vs g (holds (procedure n))
-
-  replicate_is : (n i : ℕ) (x c : value.Cell) → slice_get (replicate n x) i ≡ Some c → (c ≡ x) × (i < n)
-  replicate_is zero i x c h = absurd (let z : None ≡ Some c = h in cc)
-  replicate_is (suc n) zero x c h = ((let z : Some x ≡ Some c = h in cc), omega arith)
-  replicate_is (suc n) (suc i) x c h = let q = replicate_is n i x c h in let lt = q.1 in (q.0, omega arith)
-
-  replicate_length : (n : ℕ) (x : value.Cell) → length (replicate n x) ≡ n
-  replicate_length zero x = refl
-  replicate_length (suc n) x = ap (λ k. suc k) (replicate_length n x)
+  all_set n (code f ∷ rest) vs cells h = by_option (λ o. Holding (procedures_set (suc n) rest (set_global o n vs)) (fold with_global cells (setting_of codes n o ++ settings codes (suc n) rest))) f.global
+      (λ _. all_set (suc n) rest vs cells h)
+      (λ g _. all_set (suc n) rest (slice_set vs g (holds (procedure n))) (with_global cells (record { global = g; value = codes.procedure n })) (one_set n g vs cells h))
 
   routine_here : (r : value.Routine) (c : value.Cell) (x : Cell) → codes.routine r ≡ library_word r → Some (holds (routine r)) ≡ Some c → x ≡ Held Variable (Word (library_word r)) → CellIs c x
   routine_here r c x known e h = subst (λ y. CellIs y x) (let z : holds (routine r) ≡ c = cc in z) (h ∙ ap (λ w. Held Variable (Word w)) (sym known))
@@ -185,9 +165,6 @@ module _ (codes : Codes) where
   unset_here c x e h = subst (λ y. CellIs y x) (sym e) h
 
   module _ (known : (r : value.Routine) → codes.routine r ≡ library_word r) (base : ℕ → Cell) (low : (i : ℕ) → i < 1000 → base (16 + i) ≡ Held Variable Unset) where
-    lib : ℕ → Cell
-    lib = fold with_global base library_globals
-
     unset_first : (c : value.Cell) → Some (holds unset) ≡ Some c → c ≡ holds unset
     unset_first c e = cc
 
@@ -205,7 +182,7 @@ module _ (codes : Codes) where
     lib_cell (suc (suc (suc (suc (suc (suc (suc (suc (suc (suc zero)))))))))) c h = routine_here putbyte c _ (known putbyte) h refl
     lib_cell (suc (suc (suc (suc (suc (suc (suc (suc (suc (suc (suc zero))))))))))) c h = routine_here writef c _ (known writef) h refl
     lib_cell (suc (suc (suc (suc (suc (suc (suc (suc (suc (suc (suc (suc i)))))))))))) c h =
-        let q = replicate_is 988 i (holds unset) c h in
+        let q = get_replicate 988 i (holds unset) c h in
         let lt : i < 988 = q.1 in
         let e : 12 + i ≡ suc (suc (suc (suc (suc (suc (suc (suc (suc (suc (suc (suc i))))))))))) = omega arith in
         subst (λ j. CellIs c (fold with_global base library_globals (16 + j))) e (unset_here c _ q.0 (fold_kept 11 base library_globals (16 + (12 + i)) (library_up_to 11 (omega arith)) (omega arith) ∙ low (12 + i) (omega arith)))
@@ -215,23 +192,9 @@ module _ (codes : Codes) where
 
   pub globals_long : (p : List Lasting) → length (global_cells p) ≡ 1000
   globals_long p =
-      set_all_length 0 p (library_cells ++ replicate 988 (holds unset)) ∙ length-append library_cells (replicate 988 (holds unset)) ∙ ap (λ n. 12 + n) (replicate_length 988 (holds unset))
+      procedures_keep (λ vs. length vs ≡ length (library_cells ++ replicate 988 (holds unset))) (λ n g vs h. length-set vs g (holds (procedure n)) ∙ h) 0 p (library_cells ++ replicate 988 (holds unset)) refl ∙ length-append library_cells (replicate 988 (holds unset)) ∙ ap (λ n. 12 + n) (length-replicate 988 (holds unset))
 
 -- ---- tests
-
-both_true : (a b : Bool) → a ≡ true → b ≡ true → (a && b) ≡ true
-both_true true b e h = h
-both_true false b e h = e
-
-second_false : (a b : Bool) → b ≡ false → (a && b) ≡ false
-second_false true b h = h
-second_false false b h = refl
-
-is_le : (a b : ℕ) → a ≤ b → nat_le a b ≡ true
-is_le a b h = grind (arith, nat_tests)
-
-not_le : (a b : ℕ) → b < a → nat_le a b ≡ false
-not_le a b h = grind (arith, nat_tests)
 
 -- ---- the words of data
 
@@ -251,8 +214,8 @@ datum_word_at (e ∷ ds) (suc j) d place h is only =
 
 pub in_datum : (d : Datum) (i : ℕ) → i < length d.words → is_in (d.place + i) d ≡ true
 in_datum d i lt =
-    both_true (nat_le d.place (d.place + i)) (nat_lt (d.place + i) (d.place + length d.words)) (is_le d.place (d.place + i) (omega arith))
-    (is_less (d.place + i) (d.place + length d.words) (omega arith))
+    and_from (nat_le d.place (d.place + i)) (nat_lt (d.place + i) (d.place + length d.words)) (le-leb d.place (d.place + i) (omega arith))
+    (lt-ltb (d.place + i) (d.place + length d.words) (omega arith))
 
 module _ (program : Program) (first : ℕ) (well : IsWellPlaced program first FRAME_WORDS) where
   abbrev given : List Datum
@@ -261,11 +224,8 @@ module _ (program : Program) (first : ℕ) (well : IsWellPlaced program first FR
   abbrev base : ℕ → Cell
   base = unset_cells given first program.home
 
-  given_up_to : AreUpTo GLOBAL_NUMBER (library_globals ++ all_globals program.sections)
-  given_up_to = up_to_append GLOBAL_NUMBER library_globals (all_globals program.sections) (library_up_to GLOBAL_NUMBER (omega arith)) (all_up_to program.sections well.is_program.accepted)
-
   above_same : (place : ℕ) → global_place GLOBAL_NUMBER < place → first_cells program first place ≡ base place
-  above_same place lt = fold_kept GLOBAL_NUMBER base (library_globals ++ all_globals program.sections) place given_up_to lt
+  above_same place lt = fold_kept GLOBAL_NUMBER base (library_globals ++ all_globals program.sections) place (up_to_append GLOBAL_NUMBER library_globals (all_globals program.sections) (library_up_to GLOBAL_NUMBER (omega arith)) (all_up_to program.sections well.is_program.accepted)) lt
 
   pub link_first : first_cells program first first ≡ Held Link (Word first)
   link_first = let lt = well.is_program.above_globals in above_same first lt ∙ chosen-true (first == first) _ _ (eq-eqb first first refl)
@@ -286,7 +246,7 @@ module _ (program : Program) (first : ℕ) (well : IsWellPlaced program first FR
   global_unset i lt =
       let above : global_place GLOBAL_NUMBER < first = well.is_program.above_globals in
       base_low (16 + i) (omega arith)
-      ∙ chosen-true (is_global (16 + i)) _ _ (both_true (nat_le (global_place 0) (16 + i)) (nat_le (16 + i) (global_place GLOBAL_NUMBER)) (is_le (global_place 0) (16 + i) (omega arith)) (is_le (16 + i) (global_place GLOBAL_NUMBER) (omega arith)))
+      ∙ chosen-true (is_global (16 + i)) _ _ (and_from (nat_le (global_place 0) (16 + i)) (nat_le (16 + i) (global_place GLOBAL_NUMBER)) (le-leb (global_place 0) (16 + i) (omega arith)) (le-leb (16 + i) (global_place GLOBAL_NUMBER) (omega arith)))
 
   pub datum_cell : (j : ℕ) (d : Datum) (i w : ℕ) → slice_get given j ≡ Some d → slice_get d.words i ≡ Some w → first_cells program first (d.place + i) ≡ Held Variable (Word w)
   datum_cell j d i w at is =
@@ -298,29 +258,21 @@ module _ (program : Program) (first : ℕ) (well : IsWellPlaced program first FR
       let word : datum_word given (d.place + i) ≡ Some w =
       datum_word_at given j d (d.place + i) at here (λ k e ek ik. well.data_apart k j (d.place + i) e d ek at ik here) ∙ ap (λ y. slice_get d.words y) (let e : d.place + i - d.place ≡ i = omega arith in e) ∙ is in
       above_same (d.place + i) (omega arith) ∙ base_low (d.place + i) (omega arith)
-      ∙ chosen-false (is_global (d.place + i)) _ _ (second_false (nat_le (global_place 0) (d.place + i)) (nat_le (d.place + i) (global_place GLOBAL_NUMBER)) (not_le (d.place + i) (global_place GLOBAL_NUMBER) (omega arith)))
+      ∙ chosen-false (is_global (d.place + i)) _ _ (and_right (nat_le (global_place 0) (d.place + i)) (nat_le (d.place + i) (global_place GLOBAL_NUMBER)) (lt-leb (d.place + i) (global_place GLOBAL_NUMBER) (omega arith)))
       ∙ ap (λ o. option_map_or (λ w. Held Variable (Word w)) o Free) word
 
   -- ---- bytes
 
   set_bytes : (settings : List GlobalSetting) (cells : ℕ → Cell) → AllBytes cells → AllBytes (fold with_global cells settings)
   set_bytes [] cells all = all
-  set_bytes (x ∷ rest) cells all = set_bytes rest (with_global cells x) (λ a. by_test a (a == global_place x.global))
-    where
-      by_test : (a : ℕ) (b : Bool) → AreBytes (content_of (if b then Held Variable (Word x.value) else cells a))
-      by_test a true = tt
-      by_test a false = all a
+  set_bytes (x ∷ rest) cells all =
+      set_bytes rest (with_global cells x) (λ a. either_way (λ c. AreBytes (content_of c)) (a == global_place x.global) (Held Variable (Word x.value)) (cells a) tt (all a))
 
   pub first_bytes_are : AllBytes (first_cells program first)
-  first_bytes_are = set_bytes (library_globals ++ all_globals program.sections) base (λ a. by_tests (a == first) (a == suc first) (is_global a) (datum_word given a))
-    where
-      by_tests : (x y z : Bool) (o : Option ℕ)
-          → AreBytes (content_of (if x then Held Link (Word first) else if y then Held Link (Word program.home) else if z then Held Variable Unset else option_map_or (λ w. Held Variable (Word w)) o Free))
-      by_tests true y z o = tt
-      by_tests false true z o = tt
-      by_tests false false true o = tt
-      by_tests false false false (Some w) = tt
-      by_tests false false false None = tt
+  first_bytes_are = set_bytes (library_globals ++ all_globals program.sections) base (λ a.
+      let P : Cell → Type 0 = λ c. AreBytes (content_of c) in
+      either_way P (a == first) (Held Link (Word first)) _ tt (either_way P (a == suc first) (Held Link (Word program.home)) _ tt (either_way P (is_global a) (Held Variable Unset) _ tt
+      (by_option (λ o. P (option_map_or (λ w. Held Variable (Word w)) o Free)) (datum_word given a) (λ _. tt) (λ w _. tt)))))
 
 -- ---- the objects that last
 
@@ -472,16 +424,6 @@ one_starts n i vs h = record {
   each = λ c e. ⊎_elim (λ (x : (1 ≡ i) × (c ≡ holds (procedure n))). subst StartCell (sym x.1) tt) (λ (x : (1 ≢ i) × (slice_get vs 1 ≡ Some c)). h.each c x.1) (get_set vs i 1 (holds (procedure n)) c e);
 }
 
-all_start : (n : ℕ) (xs : List Lasting) (vs : List value.Cell) → StartsIn vs → StartsIn (procedures_set n xs vs)
-all_start n [] vs h = h
-all_start n (global_vector ∷ rest) vs h = all_start (suc n) rest vs h
-all_start n (words ws ∷ rest) vs h = all_start (suc n) rest vs h
-all_start n (code f ∷ rest) vs h = by_global f.global (λ vs h. all_start (suc n) rest vs h)
-  where
-    by_global : (o : Option ℕ) → ((vs : List value.Cell) → StartsIn vs → StartsIn (procedures_set (suc n) rest vs)) → StartsIn (procedures_set (suc n) rest (set_global o n vs))
-    by_global None go = go vs h
-    by_global (Some g) go = go (slice_set vs g (holds (procedure n))) (one_starts n g vs h)
-
 library_starts : StartsIn (library_cells ++ replicate 988 (holds unset))
 library_starts = record { each = λ c e. subst StartCell (let z : holds unset ≡ c = (let q : Some (holds unset) ≡ Some c = e in cc) in z) tt }
 
@@ -508,7 +450,7 @@ module _ (setting : Setting) (rest : List Lasting) (lasts : HoldsLasting setting
   start_there =
       let long = globals_long setting.codes p in
       let c = get_at (global_cells p) 1 (omega arith) in
-      by_cell c.0 c.1 ((all_start 0 p (library_cells ++ replicate 988 (holds unset)) library_starts).each c.0 c.1)
+      by_cell c.0 c.1 ((procedures_keep StartsIn one_starts 0 p (library_cells ++ replicate 988 (holds unset)) library_starts).each c.0 c.1)
       (cell_is setting.program setting.first setting.well setting.codes setting.lasting p lasts known 0 16 1 c.0 c.1 (vector_there setting.program setting.first setting.codes setting.lasting rest lasts))
     where
       by_cell : (c : value.Cell) → slice_get (global_cells p) 1 ≡ Some c → StartCell c → CellIs setting.codes c (first_cells setting.program setting.first (16 + 1)) → NoStart setting p ⊎ HasStart setting p

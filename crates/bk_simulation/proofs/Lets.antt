@@ -1,20 +1,9 @@
 -- The values of a LET's variables, definition by definition.
-use Rattle.bk_simulation.proofs.Words.{◌≡◌, ℕ, zero, suc, ◌+◌, ◌-◌, ◌*◌, ◌<◌, ◌≤◌, Bool, true, false, List, [], ◌∷◌, ◌++◌, Some, sym, ap, ◌∙◌, subst, arith, slice_get, ◌≢◌, length, refl, ⊎_elim, length-append, ◌%◌, ◌^◌, Option, None, FRAME_WORDS, Definitions, Starts, Binding, State, Placed, Inside, Stmt, World, Outcome, gives, making, Environment, past, past_definition, letters, cell, constant_in, history, After, Throughout, Meanings, adds, stays, with_after, turn_after, Content, Variable, Cell, Held, content_of, Word, Temporary, write, below, settle, Value, holds, address, unset, living, made, Local, Stack, Address}
+use Rattle.bk_simulation.proofs.Words.{length-replicate, ◌≡◌, ℕ, zero, suc, ◌+◌, ◌-◌, ◌*◌, ◌<◌, ◌≤◌, Bool, true, false, List, [], ◌∷◌, ◌++◌, Some, sym, ap, ◌∙◌, subst, arith, slice_get, ◌≢◌, length, refl, ⊎_elim, length-append, ◌%◌, ◌^◌, Option, None, FRAME_WORDS, Definitions, Starts, Binding, State, Placed, Inside, Stmt, World, Outcome, gives, making, Environment, past, past_definition, letters, cell, constant_in, history, After, Throughout, Meanings, adds, stays, with_after, turn_after, Content, Variable, Cell, Held, content_of, Word, Temporary, write, below, settle, Value, holds, address, unset, living, made, Local, Stack, Address, Start, paired, let_values, bind_variables, vec_cells, make_vec, Cell_of}
+use Rattle.bk_simulation.proofs.Pieces.{Store, BaseOf, Alive, limit, Codes, Stands, StandsCell, Grown, Fits, stands_grown, Like, like_refl, like_on, fits_more, turns_started, turns_defined, turns_of, Setting, Scene, NamedIn, Spot, spots_of, defines_variables, AreStarts, AreDefined, KeepsLabels, variables_bound, AreAt, Configuration, Ready, Account, Ran, went, so, with_ran, OpenCompleted, store_at, named_grown, state, further, ran_same, Completed, named_again, Simulates, completed_more, out_more, turn_there, OpenExited, open_ticked, with_objects, open_configuration, open_ready, open_wider, open_step, open_on, ran_open, Since, since_refl, since_on, IsFree, make, make_fits_in, grown_made, lying, since_cells, since_moved, since_made, make_fits, get_new, get_replicate, Moves, does, untouched, below_at, below_like, settle_like, settle_at, value_run}
 use Rattle.bk_tree.specs.Tree as t
-use Rattle.bk_meaning.specs.Environment.{bind}
-use Rattle.bk_meaning.specs.Blocks.{Start, paired, starts, let_values, bind_variables, vec_cells, make_vec}
-use Rattle.bk_simulation.proofs.Memory.{Store, BaseOf, Alive, limit, Codes, Stands, StandsCell, Grown, Fits, stands_grown, Like, like_refl, like_on, fits_more}
-use Rattle.bk_simulation.proofs.Weights.{turns_started, turns_defined, turns_of}
-use Rattle.bk_simulation.proofs.Laid.{Setting, Scene, NamedIn, Spot, spots_of, defines_variables, AreStarts, AreDefined, KeepsLabels, variables_bound, AreAt}
-use Rattle.bk_simulation.proofs.Frame.{Configuration, Ready, Account, Ran, went, so, with_ran, OpenCompleted, store_at, named_grown, state, further, ran_same, Completed, named_again}
-use Rattle.bk_simulation.proofs.Simulates.{Simulates}
-use Rattle.bk_simulation.proofs.Compose.{completed_more, out_more, turn_there, OpenExited, open_ticked, with_objects, open_configuration, open_ready, open_wider, open_step, open_on, ran_open}
-use Rattle.bk_simulation.proofs.MadeObjects.{Since, since_refl, since_on, IsFree, make, make_fits_in, grown_made, lying, since_cells, since_moved, since_made, make_fits, get_new}
-use Rattle.bk_meaning.specs.Values.{Cell as Cell_of}
-use Rattle.std.specs.Prelude.{replicate}
-use Rattle.bk_simulation.proofs.Moves.{Moves, stack_moves, address_moves}
-use Rattle.bk_simulation.proofs.WrittenCells.{written, untouched, below_at, below_like, settle_like, settle_at}
-use Rattle.bk_simulation.proofs.Operators.{value_run}
+use Rattle.bk_simulation.proofs.Terms.{bind, starts}
+use Rattle.bk_simulation.proofs.WrittenCells.{written}
 
 -- ---- Words that wait on the frame become the objects of variables.
 
@@ -60,21 +49,6 @@ open_make {top = top} {h = h} {w1 = w1} b cells more1 a low f =
     with_objects (a.bases1 ++ b ∷ []) (making cells w1).memory more1 (Since top h) a f
     (since_on (omega arith) a.moved (since_made b cells (store_at a) a.fits.long low))
 
-vec_long : (k : ℕ) → length (vec_cells k) ≡ k + 1
-vec_long k = long (k + 1)
-  where
-    long : (n : ℕ) → length (replicate n (holds unset)) ≡ n
-    long zero = refl
-    long (suc n) = ap (λ m. suc m) (long n)
-
-vec_unset : (k i : ℕ) (c : Cell_of) → slice_get (vec_cells k) i ≡ Some c → c ≡ holds unset
-vec_unset k i c e = at (k + 1) i e
-  where
-    at : (n i : ℕ) → slice_get (replicate n (holds unset)) i ≡ Some c → c ≡ holds unset
-    at zero i e = absurd (cc)
-    at (suc n) zero e = cc
-    at (suc n) (suc i) e = at n i e
-
 make_vec_after : (k : Option ℕ) (w : World) → After (history w) (make_vec k w)
 make_vec_after None w = tt
 make_vec_after (Some k) w = stays (history w)
@@ -97,6 +71,20 @@ pub record VecDone (setting : Setting) (s : State) (A : Account) (z : Configurat
 pub vec_done : (setting : Setting) (s : State) (A : Account) (z : Configuration) (w : World) (c rest : List Stmt) (d k : ℕ) (w1 : World) → Ready setting z w → z.depth ≤ d → d + k + 2 ≤ FRAME_WORDS → c ≡ Stack (d + k + 1) ∷ Address (Local d) ∷ rest
     → (a : OpenCompleted setting s A z w c d (z.frame + d) w1) → VecDone setting s A z w c rest d k w1 a
 vec_done setting s A z w c rest d k w1 r le fw ec a =
+    let b : ℕ = z.frame + d in
+    let own : Placed = z.scene.own in
+    let cells2 : ℕ → Cell = below (z.frame + (d + k + 1)) (settle (z.frame + d) (z.frame + (d + k + 1)) a.cells1) in
+    let cells3 : ℕ → Cell = below (z.frame + (d + k + 2)) (write cells2 (z.frame + (d + k + 1)) (Held Temporary (Word (z.frame + d)))) in
+    let h3 : Store = record { bases = a.bases1; mem = w1.memory; cells = cells3 } in
+    let small_word : z.frame + d ≡ (z.frame + d + 0) % 2 ^ 32 = let l : z.frame ≤ 2 ^ 31 - 65536 = r.low in let f : d + k + 2 ≤ FRAME_WORDS = fw in omega arith in
+    let same3 : (x : ℕ) → x < z.frame + (d + k + 1) → cells3 x ≡ cells2 x = λ x lt. let ne : x ≢ z.frame + (d + k + 1) = omega arith in
+    below_at (z.frame + (d + k + 2)) (write cells2 (z.frame + (d + k + 1)) (Held Temporary (Word (z.frame + d)))) x (omega arith) ∙ untouched cells2 (z.frame + (d + k + 1)) (Held Temporary (Word (z.frame + d))) x ne in
+    let vec_word : (i : ℕ) → i < k + 1 → (x : Content) × (cells3 (b + i) ≡ Held Variable x) = λ i lt. (
+      content_of (a.cells1 (b + i)),
+      same3 (b + i) (omega arith) ∙ below_at (z.frame + (d + k + 1)) (settle (z.frame + d) (z.frame + (d + k + 1)) a.cells1) (b + i) (omega arith)
+          ∙ settle_at (z.frame + d) (z.frame + (d + k + 1)) a.cells1 (b + i) (omega arith) (omega arith),
+    ) in
+    let A2 : Account = record { most = A.most + 2; least = A.least } in
     let h1 : Store = store_at a in
     let like2 : (x : ℕ) → x < z.frame + d → Like (cells2 x) (a.cells1 x) = λ x lt.
     like_on _ _ _ (below_like (z.frame + (d + k + 1)) (settle (z.frame + d) (z.frame + (d + k + 1)) a.cells1) x (omega arith)) (settle_like (z.frame + d) (z.frame + (d + k + 1)) a.cells1 x) in
@@ -106,20 +94,20 @@ vec_done setting s A z w c rest d k w1 r le fw ec a =
     ∙ written cells2 (z.frame + (d + k + 1)) (Held Temporary (Word (z.frame + d))) in
     let st1 : State = state own d c a.cells1 z.frame a.hand1 a.written1 w1 in
     let st2 : State = state own (d + k + 1) (Address (Local d) ∷ rest) cells2 z.frame None a.written1 w1 in
-    let m2 : Moves setting.program st1 st2 = stack_moves setting.program st1 own (Address (Local d) ∷ rest) d (d + k + 1) (ap (λ y. Inside own d y) ec) in
+    let m2 : Moves setting.program st1 st2 = does setting.program st1 own (Address (Local d) ∷ rest) d (Stack (d + k + 1)) (ap (λ y. Inside own d y) ec) refl refl in
     let m3 : Moves setting.program st2 (state own (d + k + 2) rest cells3 z.frame None ((z.frame + (d + k + 1)) ∷ a.written1) w1) =
     subst (λ y. Moves setting.program st2 (state own y rest (below (z.frame + y) (write cells2 (z.frame + (d + k + 1)) (Held Temporary (Word (z.frame + d))))) z.frame None ((z.frame + (d + k + 1)) ∷ a.written1) w1))
-    (let q : d + k + 1 + 1 ≡ d + k + 2 = omega arith in q) (address_moves setting.program st2 own rest (d + k + 1) (Local d) refl) in
+    (let q : d + k + 1 + 1 ≡ d + k + 2 = omega arith in q) (does setting.program st2 own rest (d + k + 1) (Address (Local d)) refl refl refl) in
     let a3 : OpenCompleted setting s A2 z w rest (d + k + 2) (z.frame + d) w1 =
     let a2 : OpenCompleted setting s (further 1 A) z w (Address (Local d) ∷ rest) (d + k + 1) (z.frame + d) w1 = open_step r (omega arith) a cells2 None a.written1 like2 m2 in
     completed_more (omega arith) (omega arith)
     (open_step r (omega arith) a2 cells3 None ((z.frame + (d + k + 1)) ∷ a.written1) (λ x lt. like_refl _ _ (same3 x (omega arith))) m3) in
     let f3 : Fits setting.codes h3 (z.frame + d) = a3.fits in
     let f4 : Fits setting.codes (make h3 b (vec_cells k)) (z.frame + (d + k + 2)) =
-    let v = vec_long k in
+    let v = length-replicate (k + 1) (holds unset) in
     fits_more setting.codes (make h3 b (vec_cells k)) (b + length (vec_cells k)) (z.frame + (d + k + 2)) (let l = r.low in omega arith)
     (make_fits setting.codes h3 (z.frame + d) b (vec_cells k) f3 (let q = r.high in omega arith) (omega arith) (let l : z.frame ≤ 2 ^ 31 - 65536 = r.low in let f : d + k + 2 ≤ FRAME_WORDS = fw in omega arith)
-    (λ i x e. subst (λ y. StandsCell setting.codes a.bases1 y (content_of (cells3 (b + i)))) (sym (vec_unset k i x e)) tt) (λ i lt. vec_word i (omega arith))) in
+    (λ i x e. subst (λ y. StandsCell setting.codes a.bases1 y (content_of (cells3 (b + i)))) (sym ((get_replicate (k + 1) i (holds unset) x e).0)) tt) (λ i lt. vec_word i (omega arith))) in
     let a4 : OpenCompleted setting s A2 z w rest (d + k + 2) (z.frame + (d + k + 2)) (making (vec_cells k) w1) =
     open_make b (vec_cells k) (z.frame + (d + k + 2)) a3 (omega arith) f4 in
     record {
@@ -128,41 +116,9 @@ vec_done setting s A z w c rest d k w1 r le fw ec a =
       stands = (b, subst (λ y. BaseOf (a.bases1 ++ b ∷ []) y b) a.fits.long (get_new a.bases1 b), (let q : 0 < 2 ^ 32 = omega arith in q), ap content_of item ∙ ap Word (let q : z.frame + d ≡ (z.frame + d + 0) % 2 ^ 32 = small_word in q));
       free = λ o n b1 i l e lt q. ⊎_elim
           (λ (x : (Alive h3.mem o n) × (BaseOf h3.bases o b1)). let u = f3.below o n b1 x.0 x.1 in absurd (omega arith))
-          (λ (x : (o ≡ length h3.mem) × (n ≡ length (vec_cells k)) × (b1 ≡ b)). let x1 = x.1 in let x2 = x.2 in let v = vec_long k in absurd (omega arith))
+          (λ (x : (o ≡ length h3.mem) × (n ≡ length (vec_cells k)) × (b1 ≡ b)). let x1 = x.1 in let x2 = x.2 in let v = length-replicate (k + 1) (holds unset) in absurd (omega arith))
           (lying h3 b (vec_cells k) o n b1 f3.long l e).lies;
     }
-  where
-    b : ℕ
-    b = z.frame + d
-
-    own : Placed
-    own = z.scene.own
-
-    cells2 : ℕ → Cell
-    cells2 = below (z.frame + (d + k + 1)) (settle (z.frame + d) (z.frame + (d + k + 1)) a.cells1)
-
-    cells3 : ℕ → Cell
-    cells3 = below (z.frame + (d + k + 2)) (write cells2 (z.frame + (d + k + 1)) (Held Temporary (Word (z.frame + d))))
-
-    h3 : Store
-    h3 = record { bases = a.bases1; mem = w1.memory; cells = cells3 }
-
-    small_word : z.frame + d ≡ (z.frame + d + 0) % 2 ^ 32
-    small_word = let l : z.frame ≤ 2 ^ 31 - 65536 = r.low in let f : d + k + 2 ≤ FRAME_WORDS = fw in omega arith
-
-    same3 : (x : ℕ) → x < z.frame + (d + k + 1) → cells3 x ≡ cells2 x
-    same3 x lt = let ne : x ≢ z.frame + (d + k + 1) = omega arith in
-        below_at (z.frame + (d + k + 2)) (write cells2 (z.frame + (d + k + 1)) (Held Temporary (Word (z.frame + d)))) x (omega arith) ∙ untouched cells2 (z.frame + (d + k + 1)) (Held Temporary (Word (z.frame + d))) x ne
-
-    vec_word : (i : ℕ) → i < k + 1 → (x : Content) × (cells3 (b + i) ≡ Held Variable x)
-    vec_word i lt = (
-      content_of (a.cells1 (b + i)),
-      same3 (b + i) (omega arith) ∙ below_at (z.frame + (d + k + 1)) (settle (z.frame + d) (z.frame + (d + k + 1)) a.cells1) (b + i) (omega arith)
-          ∙ settle_at (z.frame + d) (z.frame + (d + k + 1)) a.cells1 (b + i) (omega arith) (omega arith),
-    )
-
-    A2 : Account
-    A2 = record { most = A.most + 2; least = A.least }
 
 -- ---- all of them
 

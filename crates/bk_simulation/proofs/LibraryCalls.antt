@@ -1,22 +1,12 @@
 -- The routines of the library are called: each does its step, and goes back.
-use Rattle.bk_simulation.proofs.Words.{◌≡◌, ◌≢◌, ℕ, suc, ◌+◌, ◌-◌, ◌*◌, ◌<◌, ◌≤◌, ◌%◌, ◌^◌, ◌==◌, nat_lt, Bool, true, false, List, [], ◌∷◌, length, Option, Some, None, pos, refl, sym, ap, ◌∙◌, subst, if◌then◌else◌, arith, slice_get, zero, ◌++◌, option_and_then, option_map, option_map_or, nat_tests, Status, signed, word_sum, byte_distance, byte_place, Content, Word, Variable, Cell, Held, content_of, with_byte, write, number_in, variable_in, variable_at, byte_at, word_with_byte_at, string_at, bytes_from, At, State, Ends, Wild, slot, on_number, on_some, tells, routine_step, step, step_from, Program, resumed_in, in_hand, program_step, program_step_from, Stmt, Value, number, address, procedure, routine, unset, read_byte, write_byte, World, Outcome, gives, given, with, changes, writing, remembering, calls_back}
-use Rattle.std.proofs.lemmas.Bool.{eqb-true}
-use Rattle.bk_base.specs.Decimal.{spelling}
-use Rattle.bk_base.specs.Format.{aligned, parts, FormatPart}
-use Rattle.bk_ocode.specs.Telling.{format_bytes, in_front}
+use Rattle.bk_simulation.proofs.Words.{ltb-true, ◌≡◌, ◌≢◌, ℕ, suc, ◌+◌, ◌-◌, ◌*◌, ◌<◌, ◌≤◌, ◌%◌, ◌^◌, ◌==◌, nat_lt, Bool, false, List, [], ◌∷◌, length, Option, Some, None, pos, refl, sym, ap, ◌∙◌, subst, if◌then◌else◌, arith, slice_get, zero, ◌++◌, option_and_then, option_map, option_map_or, Status, signed, word_sum, byte_distance, byte_place, Content, Word, Variable, Cell, Held, content_of, with_byte, write, number_in, variable_in, variable_at, byte_at, word_with_byte_at, string_at, bytes_from, At, State, Ends, Wild, slot, on_number, on_some, tells, routine_step, step, step_from, Program, resumed_in, in_hand, program_step, program_step_from, Stmt, Value, number, address, procedure, routine, unset, read_byte, write_byte, World, Outcome, gives, given, with, changes, writing, remembering, calls_back, spelling, aligned, FormatPart, format_bytes, in_front, library, writes_text, takes_byte, eqb-true}
+use Rattle.bk_simulation.proofs.Pieces.{by_option, by_truth, return_goes, call_stmt, Stands, Store, Moved, Fits, moved_on, moved_refl, Codes, untouched, AreBytes, read_byte_at, write_byte_at, word_number, HasBytes, Setting, CallAt, Configuration, store, Ready, Account, Comes, Ran, went}
+use Rattle.bk_base.specs.Format.{parts}
 use Rattle.bk_ocode.specs.OcodeState as ocode
 use Rattle.bk_ocode.specs.OcodeStep.{return, read_byte as takes_input}
 use Rattle.bk_meaning.specs.Values as value
 use Rattle.bk_meaning.specs.Library as m
-use Rattle.bk_meaning.specs.Library.{library, writes_text, takes_byte}
-use Rattle.bk_simulation.proofs.Moves.{return_goes}
-use Rattle.bk_simulation.proofs.Memory.{Stands, Store, Moved, Fits, moved_on, moved_refl, Codes}
-use Rattle.bk_simulation.proofs.WrittenCells.{untouched}
-use Rattle.bk_simulation.proofs.CellBytes.{AreBytes, read_byte_at, write_byte_at, word_number}
-use Rattle.bk_simulation.proofs.BytesKept.{HasBytes}
-use Rattle.bk_simulation.proofs.Laid.{Setting, CallAt}
-use Rattle.bk_simulation.proofs.Frame.{Configuration, store, Ready, Account, Comes, Ran, went, by_option, by_truth}
-use Rattle.bk_simulation.proofs.Calls.{AnyExit, call_stmt, Gave, returned_in}
+use Rattle.bk_simulation.proofs.Calls.{AnyExit, Gave, returned_in}
 use Rattle.bk_base.specs.Format as f
 
 -- ---- What the routines of the library read of memory: strings, and what a format writes of its arguments.
@@ -46,11 +36,9 @@ module _ (codes : Codes) (h : Store) (top : ℕ) (fits : Fits codes h top) where
 
   -- a string
   pub string_read : (a : Value) (w : ℕ) (bs : List ℕ) → Stands codes h.bases a (Word w) → m.string_at h.mem a ≡ Some bs → string_at top h.cells w ≡ Some bs
-  string_read a w bs st e = by_length (read_byte h.mem a (number 0)) refl e
-    where
-      by_length : (o : Option ℕ) → read_byte h.mem a (number 0) ≡ o → option_and_then (λ n. m.bytes_from n h.mem a 1) o ≡ Some bs → string_at top h.cells w ≡ Some bs
-      by_length None eo e = absurd (cc)
-      by_length (Some n) eo e = ap (λ y. option_and_then (λ n. bytes_from n top h.cells w 1) y) (byte_read a w 0 n st eo) ∙ bytes_read n a w 1 bs st e
+  string_read a w bs st e =
+      by_option (λ o. option_and_then (λ n. m.bytes_from n h.mem a 1) o ≡ Some bs → string_at top h.cells w ≡ Some bs) (read_byte h.mem a (number 0)) (λ _ e. absurd (cc))
+      (λ n eo e. ap (λ y. option_and_then (λ n. bytes_from n top h.cells w 1) y) (byte_read a w 0 n st eo) ∙ bytes_read n a w 1 bs st e) e
 
   -- a string's address is a word
   pub string_word : (a : Value) (x : Content) (bs : List ℕ) → Stands codes h.bases a x → m.string_at h.mem a ≡ Some bs → (w : ℕ) × (x ≡ Word w)
@@ -101,12 +89,10 @@ module _ (codes : Codes) (h : Store) (top : ℕ) (fits : Fits codes h top) where
   taken_part : (slots : ℕ → Content) (p : FormatPart) (ps : List FormatPart) (k : ℕ) (v : Value) (vs : List Value) (text : List ℕ) → ArgumentsAt slots k (v ∷ vs) → FormatGoes slots ps (k + 1) vs
       → option_and_then (λ first. option_map (λ text. first ++ text) (m.written h.mem ps vs)) (m.argument_text h.mem p v) ≡ Some text
       → in_front (told_of slots k p) (format_bytes (λ a. number_in (slots a)) (string_at top h.cells) ps (k + 1)) ≡ Some text
-  taken_part slots p ps k v vs text args go e = by_text (m.argument_text h.mem p v) refl e
-    where
-      by_text : (o : Option (List ℕ)) → m.argument_text h.mem p v ≡ o → option_and_then (λ first. option_map (λ text. first ++ text) (m.written h.mem ps vs)) o ≡ Some text
-          → in_front (told_of slots k p) (format_bytes (λ a. number_in (slots a)) (string_at top h.cells) ps (k + 1)) ≡ Some text
-      by_text None eo e = absurd (cc)
-      by_text (Some first) eo e = in_front_is (told_of slots k p) _ first (m.written h.mem ps vs) text (part_told slots k p v first (first_argument slots k v vs args) eo) go e
+  taken_part slots p ps k v vs text args go e =
+      by_option (λ o. option_and_then (λ first. option_map (λ text. first ++ text) (m.written h.mem ps vs)) o ≡ Some text → in_front (told_of slots k p) (format_bytes (λ a. number_in (slots a)) (string_at top h.cells) ps (k + 1)) ≡ Some text)
+      (m.argument_text h.mem p v) (λ _ e. absurd (cc))
+      (λ first eo e. in_front_is (told_of slots k p) _ first (m.written h.mem ps vs) text (part_told slots k p v first (first_argument slots k v vs args) eo) go e) e
 
   pub format_told : (slots : ℕ → Content) (ps : List FormatPart) (k : ℕ) (vs : List Value) → ArgumentsAt slots k vs → FormatGoes slots ps k vs
   format_told slots [] k vs args text e = e
@@ -222,21 +208,12 @@ module _ (of : Bool) (setting : Setting) (s : State) (A B : Account) (z : Config
       (subst (λ y. Moved top held (record { bases = at.bases1; mem = y; cells = at.cells1 })) (sym em) (moved_refl top held))
 
 low_place : (top p : ℕ) (cells : ℕ → Cell) (k : Content) → variable_at top cells p ≡ Some k → p < top
-low_place top p cells k e = by_test (nat_lt p top) refl e
-  where
-    by_test : (b : Bool) → nat_lt p top ≡ b → (if b then variable_in (cells p) else None) ≡ Some k → p < top
-    by_test true h e = grind (arith, nat_tests)
-    by_test false h e = absurd (cc)
+low_place top p cells k e = by_truth (λ b. (if b then variable_in (cells p) else None) ≡ Some k → p < top) (nat_lt p top) (λ h e. ltb-true p top h) (λ h e. absurd (cc)) e
 
 low_byte : (top w i b : ℕ) (cells : ℕ → Cell) (k : Content) → word_with_byte_at top cells w i b ≡ Some k → word_sum w (byte_distance i) < top
-low_byte top w i b cells k e = by_variable (variable_at top cells (word_sum w (byte_distance i))) refl e
-  where
-    by_variable : (o : Option Content) → variable_at top cells (word_sum w (byte_distance i)) ≡ o → option_map (λ content. with_byte content (byte_place i) (b % 256)) o ≡ Some k → word_sum w (byte_distance i) < top
-    by_variable None eo e = absurd (cc)
-    by_variable (Some x) eo e = low_place top (word_sum w (byte_distance i)) cells x eo
-
-held_bytes : (cells : ℕ → Cell) → ((a : ℕ) → AreBytes (content_of (cells a))) → (p : ℕ) (k : Content) → cells p ≡ Held Variable k → AreBytes k
-held_bytes cells all p k e = subst (λ c. AreBytes (content_of c)) e (all p)
+low_byte top w i b cells k e =
+    by_option (λ o. option_map (λ content. with_byte content (byte_place i) (b % 256)) o ≡ Some k → word_sum w (byte_distance i) < top) (variable_at top cells (word_sum w (byte_distance i)))
+    (λ _ e. absurd (cc)) (λ x eo e. low_place top (word_sum w (byte_distance i)) cells x eo) e
 
 pub library_runs : (of : Bool) (setting : Setting) (s : State) (A B : Account) (z : Configuration) (rest : List Stmt) (w w1 : World) (vs : List Value) (r : value.Routine) (n : ℕ) → A.most + 1 ≤ B.most → B.least ≤ A.least → n ≡ w.calls → Ready setting z w
     → CallAt setting z.scene (call_stmt of z.depth) rest → setting.program.callables.routine (setting.codes.routine r) ≡ Some (named_there r) → AtRoutine setting s A z w vs (z.scene.own.places.call (length rest)) (setting.codes.routine r) w1
@@ -273,6 +250,7 @@ library_runs of setting s A B z rest w w1 (number k ∷ vs) value.wrch n le le' 
 library_runs of setting s A B z rest w w1 vs value.newline n le le' en ready call known at =
     back_same of setting s A B z rest w w1 vs value.newline n le le' en ready call known at unset None (writing (10 ∷ []) w1) refl refl tt refl
 library_runs of setting s A B z rest w w1 (a ∷ vs) value.writes n le le' en ready call known at =
+    let h : State = record { control = At (setting.codes.routine value.writes); cells = at.cells1; frame = z.frame + z.depth; hand = None; input = w1.input; output = w1.output; written = at.written1 } in
     by_option (λ o. Ran setting s B (λ v w3. Gave of setting s B z rest w v (calls_back n w3)) AnyExit (writes_text o w1))
     (m.string_at w1.memory a) (λ _. went tt) (λ text e.
     let hs : Store = record { bases = at.bases1; mem = w1.memory; cells = at.cells1 } in
@@ -281,9 +259,6 @@ library_runs of setting s A B z rest w w1 (a ∷ vs) value.writes n le le' en re
     back_same of setting s A B z rest w w1 (a ∷ vs) value.writes n le le' en ready call known at unset None (writing text w1) refl refl tt
     (ap (λ y. on_number y (λ a. on_some (string_at h.frame h.cells a) (λ bytes. tells h bytes))) x.1
     ∙ ap (λ y. on_some y (λ bytes. tells h bytes)) (string_read setting.codes hs (z.frame + z.depth) at.fits a x.0 text st e)))
-  where
-    h : State
-    h = record { control = At (setting.codes.routine value.writes); cells = at.cells1; frame = z.frame + z.depth; hand = None; input = w1.input; output = w1.output; written = at.written1 }
 library_runs of setting s A B z rest w w1 (number k ∷ vs) value.writen n le le' en ready call known at =
     let h = here of setting s A B z rest w w1 (number k ∷ vs) value.writen n le le' en ready call known at in
     back_same of setting s A B z rest w w1 (number k ∷ vs) value.writen n le le' en ready call known at unset None (writing (spelling (signed k)) w1) refl refl tt
@@ -294,6 +269,7 @@ library_runs of setting s A B z rest w w1 (number k ∷ number d ∷ vs) value.w
     (ap (λ y. on_number y (λ n. on_number (slot h 3) (λ w. tells h (aligned n w)))) (at.each 0 (number k) refl)
     ∙ ap (λ y. on_number y (λ w. tells h (aligned k w))) (at.each 1 (number d) refl))
 library_runs of setting s A B z rest w w1 (a ∷ i ∷ vs) value.getbyte n le le' en ready call known at =
+    let h : State = record { control = At (setting.codes.routine value.getbyte); cells = at.cells1; frame = z.frame + z.depth; hand = None; input = w1.input; output = w1.output; written = at.written1 } in
     by_option (λ o. Ran setting s B (λ v w3. Gave of setting s B z rest w v (calls_back n w3)) AnyExit (given (option_map number o) w1))
     (read_byte w1.memory a i) (λ _. went tt) (λ b e.
     let hs : Store = record { bases = at.bases1; mem = w1.memory; cells = at.cells1 } in
@@ -302,15 +278,13 @@ library_runs of setting s A B z rest w w1 (a ∷ i ∷ vs) value.getbyte n le le
     (ap (λ y. on_number y (λ a. on_number (slot h 3) (λ i. on_some (byte_at h.frame h.cells a i) (λ b. return h (Some (Word b)))))) x.is_word
     ∙ ap (λ y. on_number y (λ i. on_some (byte_at h.frame h.cells x.word i) (λ b. return h (Some (Word b))))) x.is_index
     ∙ ap (λ y. on_some y (λ b. return h (Some (Word b)))) x.reads))
-  where
-    h : State
-    h = record { control = At (setting.codes.routine value.getbyte); cells = at.cells1; frame = z.frame + z.depth; hand = None; input = w1.input; output = w1.output; written = at.written1 }
 library_runs of setting s A B z rest w w1 (a ∷ i ∷ u ∷ vs) value.putbyte n le le' en ready call known at =
+    let h : State = record { control = At (setting.codes.routine value.putbyte); cells = at.cells1; frame = z.frame + z.depth; hand = None; input = w1.input; output = w1.output; written = at.written1 } in
     let set_to : ℕ → Content → State = λ p x. record h { cells = write h.cells p (Held Variable x); written = p ∷ h.written } in
     by_option (λ o. Ran setting s B (λ v w3. Gave of setting s B z rest w v (calls_back n w3)) AnyExit (with (changes o w1) (λ _ w. gives unset w)))
     (write_byte w1.memory a i u) (λ _. went tt) (λ m1 e.
     let hs : Store = record { bases = at.bases1; mem = w1.memory; cells = at.cells1 } in
-    let x = write_byte_at setting.codes hs (z.frame + z.depth) a i u _ _ _ m1 (held_bytes at.cells1 at.has.words) at.fits (at.each 0 a refl) (at.each 1 i refl) (at.each 2 u refl) e in
+    let x = write_byte_at setting.codes hs (z.frame + z.depth) a i u _ _ _ m1 (λ p k e. subst (λ c. AreBytes (content_of c)) e (at.has.words p)) at.fits (at.each 0 a refl) (at.each 1 i refl) (at.each 2 u refl) e in
     let p = word_sum x.word (byte_distance x.index) in
     let low = low_byte (z.frame + z.depth) x.word x.index x.byte at.cells1 x.content x.sets in
     let n0 : z.frame + z.depth + 0 ≢ p = λ q. absurd (omega (arith, low, q)) in
@@ -323,27 +297,18 @@ library_runs of setting s A B z rest w w1 (a ∷ i ∷ u ∷ vs) value.putbyte n
     (ap content_of (untouched at.cells1 p (Held Variable x.content) (z.frame + z.depth + 0) n0) ∙ at.link0)
     (ap content_of (untouched at.cells1 p (Held Variable x.content) (z.frame + z.depth + 1) n1) ∙ at.link1)
     x.fits (x.moved (z.frame + z.depth)))
-  where
-    h : State
-    h = record { control = At (setting.codes.routine value.putbyte); cells = at.cells1; frame = z.frame + z.depth; hand = None; input = w1.input; output = w1.output; written = at.written1 }
 library_runs of setting s A B z rest w w1 (a ∷ vs) value.writef n le le' en ready call known at =
     by_option (λ o. Ran setting s B (λ v w3. Gave of setting s B z rest w v (calls_back n w3)) AnyExit (writes_text (option_and_then (λ bytes. m.written w1.memory (parts bytes) vs) o) w1))
-    (m.string_at w1.memory a) (λ _. went tt) (λ bytes e.
-    by_text bytes e (m.written w1.memory (parts bytes) vs) refl)
-  where
-    h : State
-    h = record { control = At (setting.codes.routine value.writef); cells = at.cells1; frame = z.frame + z.depth; hand = None; input = w1.input; output = w1.output; written = at.written1 }
-
-    by_text : (bytes : List ℕ) → m.string_at w1.memory a ≡ Some bytes → (o : Option (List ℕ)) → m.written w1.memory (parts bytes) vs ≡ o → Ran setting s B (λ v w3. Gave of setting s B z rest w v (calls_back n w3)) AnyExit (writes_text o w1)
-    by_text bytes eb None e = went tt
-    by_text bytes eb (Some text) e =
-        let hs : Store = record { bases = at.bases1; mem = w1.memory; cells = at.cells1 } in
-        let x = string_word setting.codes hs (z.frame + z.depth) at.fits a _ bytes (at.each 0 a refl) eb in
-        let st = subst (λ y. Stands setting.codes at.bases1 a y) x.1 (at.each 0 a refl) in
-        let told = format_told setting.codes hs (z.frame + z.depth) at.fits (slot h) (parts bytes) 3 vs
-        (λ i v ev. subst (λ k. Stands setting.codes at.bases1 v (content_of (at.cells1 (z.frame + z.depth + k)))) (let q : 2 + suc i ≡ 3 + i = omega arith in q) (at.each (suc i) v ev)) text e in
-        back_same of setting s A B z rest w w1 (a ∷ vs) value.writef n le le' en ready call known at unset None (writing text w1) refl refl tt
-        (ap (λ y. on_number y (λ f. on_some (string_at h.frame h.cells f) (λ format. on_some (format_bytes (λ a. number_in (slot h a)) (string_at h.frame h.cells) (parts format) 3) (λ bytes. tells h bytes)))) x.1
-        ∙ ap (λ y. on_some y (λ format. on_some (format_bytes (λ a. number_in (slot h a)) (string_at h.frame h.cells) (parts format) 3) (λ bytes. tells h bytes))) (string_read setting.codes hs (z.frame + z.depth) at.fits a x.0 bytes st eb)
-        ∙ ap (λ y. on_some y (λ bytes. tells h bytes)) told)
+    (m.string_at w1.memory a) (λ _. went tt) (λ bytes eb.
+    by_option (λ o. Ran setting s B (λ v w3. Gave of setting s B z rest w v (calls_back n w3)) AnyExit (writes_text o w1)) (m.written w1.memory (parts bytes) vs) (λ _. went tt) (λ text e.
+    let h = here of setting s A B z rest w w1 (a ∷ vs) value.writef n le le' en ready call known at in
+    let hs : Store = record { bases = at.bases1; mem = w1.memory; cells = at.cells1 } in
+    let x = string_word setting.codes hs (z.frame + z.depth) at.fits a _ bytes (at.each 0 a refl) eb in
+    let st = subst (λ y. Stands setting.codes at.bases1 a y) x.1 (at.each 0 a refl) in
+    let told = format_told setting.codes hs (z.frame + z.depth) at.fits (slot h) (parts bytes) 3 vs
+    (λ i v ev. subst (λ k. Stands setting.codes at.bases1 v (content_of (at.cells1 (z.frame + z.depth + k)))) (let q : 2 + suc i ≡ 3 + i = omega arith in q) (at.each (suc i) v ev)) text e in
+    back_same of setting s A B z rest w w1 (a ∷ vs) value.writef n le le' en ready call known at unset None (writing text w1) refl refl tt
+    (ap (λ y. on_number y (λ f. on_some (string_at h.frame h.cells f) (λ format. on_some (format_bytes (λ a. number_in (slot h a)) (string_at h.frame h.cells) (parts format) 3) (λ bytes. tells h bytes)))) x.1
+    ∙ ap (λ y. on_some y (λ format. on_some (format_bytes (λ a. number_in (slot h a)) (string_at h.frame h.cells) (parts format) 3) (λ bytes. tells h bytes))) (string_read setting.codes hs (z.frame + z.depth) at.fits a x.0 bytes st eb)
+    ∙ ap (λ y. on_some y (λ bytes. tells h bytes)) told)))
 library_runs of setting s A B z rest w w1 _ _ n le le' en ready call known at = went tt

@@ -1,28 +1,12 @@
 -- Scopes: commands that own their labels; and VALOF. WHILE, UNTIL, REPEAT, REPEATWHILE and REPEATUNTIL. SWITCHON.
-use Rattle.bk_simulation.proofs.Words.{◌≡◌, ℕ, ◌+◌, ◌≤◌, Bool, true, false, List, refl, sym, ◌∙◌, subst, arith, ◌-◌, ◌*◌, ◌∷◌, Option, Some, bound_in, State, Stmt, meant, goal_in, Actions, Action, Environment, labelled, Sought, the_label, Mode, seeking, stands_in_one, forwards, World, Exit, goto, leaves, either, break, result, return, history, Meanings, landing, scope_of, alone, Adds, adds, stays, either_after, Content, Unset, option_map_or, Label, TakeResult, Around, Value, result_exit, result_of, cond, suc, Jump, goal, Expression, past, past_action, stands_in, loop, Outcome, Done, done, turn, round_exit, again, same_truth, where_truth, rounds_of, with_after, turn_after, each_way_after, None, ap, below, from_label, case_label, Case, Switch, number, the_case, the_default, is_label, endcase, with, case_exit, ended_case, choose_case}
-use Rattle.bk_simulation.proofs.Weights.{turns_through, turns_in, turns_of}
-use Rattle.bk_simulation.proofs.Sought.{label_stands_one, same_stands}
-use Rattle.bk_simulation.proofs.Laid.{Setting, Scene, owning, goal_named, IsLabelHere, IsScopeAt, EnteredAny, Exits, in_valof, LabelAt, IsScope, in_loop, IsJump, IsAct, IsLoop, Entered, EnteredBody, in_switch}
-use Rattle.bk_simulation.proofs.Frame.{Configuration, start, Ready, Account, went, each_way_ran, CompletedAt, GoesTo, Leads, Out, next, ready_in, ready_next, Ran, so, Has, Handed, paying, with_ran, there}
-use Rattle.bk_simulation.proofs.Compose.{comes_to, outside, completed_turn, completed_on, turn_there, ran_on, stay, completed_more, ran_first, links_below, completed_paid}
-use Rattle.bk_simulation.proofs.Simulates.{Simulates, for_scope, RanDid, for_act, turns_in_round, for_rounds, HasTruth, for_value}
-use Rattle.bk_simulation.proofs.ControlSteps.{caught_at, label_on, taken_on, landed_on, jump_on, jumped_on}
-use Rattle.bk_simulation.proofs.Orders.{by_test, order_run, not_true, ready_at}
-use Rattle.bk_simulation.proofs.NamesBound.{scope_named, not_owned, around_named}
-use Rattle.bk_simulation.proofs.Memory.{Stands}
-use Rattle.bk_simulation.proofs.OperatorWords.{some_is}
+use Rattle.bk_simulation.proofs.Words.{◌≡◌, ℕ, ◌+◌, ◌≤◌, Bool, true, false, List, refl, sym, ◌∙◌, subst, arith, ◌-◌, ◌*◌, ◌∷◌, Some, bound_in, State, Stmt, meant, goal_in, Actions, Action, Environment, labelled, Sought, the_label, Mode, seeking, stands_in_one, forwards, World, Exit, goto, leaves, either, break, result, return, history, Meanings, landing, scope_of, alone, Adds, adds, stays, either_after, Unset, option_map_or, Label, TakeResult, Around, Value, result_exit, result_of, cond, suc, Jump, goal, Expression, past, past_action, stands_in, loop, Outcome, Done, done, turn, round_exit, again, same_truth, where_truth, rounds_of, with_after, turn_after, each_way_after, None, ap, below, from_label, case_label, Case, Switch, number, the_case, the_default, is_label, endcase, with, case_exit, ended_case, choose_case, labels_of_each}
+use Rattle.bk_simulation.proofs.Pieces.{by_test, not_true, turns_through, turns_in, turns_of, label_stands_one, same_stands, Setting, Scene, owning, goal_named, IsLabelHere, IsScopeAt, EnteredAny, Exits, in_valof, LabelAt, IsScope, in_loop, IsJump, IsAct, IsLoop, Entered, EnteredBody, in_switch, Configuration, start, Ready, Account, went, each_way_ran, CompletedAt, GoesTo, Leads, Out, next, ready_in, ready_next, Ran, so, Has, Handed, paying, with_ran, there, comes_to, outside, completed_turn, completed_on, turn_there, ran_on, stay, completed_more, ran_first, links_below, completed_paid, Simulates, for_scope, RanDid, for_act, turns_in_round, for_rounds, HasTruth, for_value, caught_at, label_on, taken_on, landed_on, jump_on, jumped_on, order_run, ready_at, not_owned, around_named, Stands, some_is, switch_moves, below_like, one_run, labels_named}
 use Rattle.bk_simulation.proofs.Branches.{jump_evaluation}
-use Rattle.bk_simulation.proofs.Moves.{switch_moves}
-use Rattle.bk_simulation.proofs.WrittenCells.{below_like}
-use Rattle.bk_simulation.proofs.Operators.{one_run}
 use Rattle.bk_tree.specs.Tree as t
 
 -- the situation in a scope
 abbrev in_scope : (j : ℕ) (cs : Actions) → Configuration → Configuration
 in_scope j cs z = record z { scene = owning j cs z.scene; env = labelled cs z.env }
-
-scope_ready : (setting : Setting) (j : ℕ) (cs : Actions) (z : Configuration) (w : World) → Ready setting z w → Ready setting (in_scope j cs z) w
-scope_ready setting j cs z w r = ready_in (owning j cs z.scene) (labelled cs z.env) (scope_named cs z.scene z.env z.bases z.frame j r.named) r
 
 -- an exit of the scope that goes on outwards
 leads_out : (sc : Scene) (j : ℕ) (cs : Actions) (x : Exit) (c : List Stmt) → ((y : List ℕ) → x ≡ goto y → bound_in (owning j cs sc).bindings y ≡ bound_in sc.bindings y) → Leads (owning j cs sc) x c → Leads sc x c
@@ -43,7 +27,7 @@ pub scope_runs : (setting : Setting) (inner : Meanings) → Simulates setting in
     → RanDid setting (start z e w) (for_scope cs w) z rest w (scope_of inner cs mode z.env w)
 scope_runs setting inner sim cs mode z j at c rest e w l en r =
     each_way_ran (λ _. adds _ (λ w1. stays (history w1))) (landing_adds setting inner sim cs z.env)
-    (order_run setting inner sim cs mode (in_scope j cs z) at c rest e w l.0 en (scope_ready setting j cs z w r)) (λ _ w1 q. went q) out
+    (order_run setting inner sim cs mode (in_scope j cs z) at c rest e w l.0 en (ready_in (owning j cs z.scene) (labelled cs z.env) (labels_named (labels_of_each cs) z.scene z.env z.bases z.frame j r.named) r)) (λ _ w1 q. went q) out
   where
     out : (x : Exit) (w1 : World) → Out setting (start z e w) (for_scope cs w) (in_scope j cs z) w x w1
         → RanDid setting (start z e w) (for_scope cs w) z rest w (landing cs z.env (λ x w. inner.scope cs (seeking (the_label x)) z.env w) x w1)
@@ -84,10 +68,6 @@ takes_up : {setting : Setting} {s : State} {A B : Account} {z : Configuration} {
     → (a : CompletedAt setting s A z (Label n ∷ TakeResult z.depth ∷ rest) k w w1) → Stands setting.codes a.bases1 v (option_map_or (λ y. y) a.hand1 Unset) → Has setting s B z rest (z.depth + 1) w v w1
 takes_up le le' r l a st = taken_on (omega arith) (omega arith) r (label_on l a) st
 
--- a result in hand stands
-held_result : (setting : Setting) (bases : List ℕ) (v : Value) (h : Option Content) (x : Content) → h ≡ Some x → Stands setting.codes bases v x → Stands setting.codes bases v (option_map_or (λ y. y) h Unset)
-held_result setting bases v h x e st = subst (λ y. Stands setting.codes bases v (option_map_or (λ y. y) y Unset)) (sym e) st
-
 pub valof_run : (setting : Setting) (inner : Meanings) → Simulates setting inner → (B : Account) (x : Action) (z : Configuration) (n j : ℕ) (c rest : List Stmt) (w : World) → 16 * w.turns + 12 ≤ B.most → B.least ≤ w.turns - turns_in false x
     → IsScope setting (in_valof n z.scene) z.depth z.env (alone x) j c (Label n ∷ TakeResult z.depth ∷ rest) → LabelAt setting z.scene z.depth n (TakeResult z.depth ∷ rest) → Ready setting z w
     → Ran setting (start z c w) B (Has setting (start z c w) B z rest (z.depth + 1) w) (Out setting (start z c w) B z w) (result_of (scope_of inner (alone x) forwards z.env w))
@@ -105,7 +85,7 @@ valof_run setting inner sim B x z n j c rest w le le' l ln r =
         λ control e a h.
         let b : (y : CompletedAt setting (start z c w) (for_scope (alone x) w) z (Label n ∷ TakeResult z.depth ∷ rest) o.depth1 w w1) × Handed setting y.bases1 (result v) y.hand1 =
         subst (λ k. (y : CompletedAt setting (start z c w) (for_scope (alone x) w) z k o.depth1 w w1) × Handed setting y.bases1 (result v) y.hand1) e (a, h) in
-        takes_up (omega arith) (omega arith) r ln b.0 (held_result setting b.0.bases1 v b.0.hand1 b.1.0 b.1.1 b.1.2) in
+        takes_up (omega arith) (omega arith) r ln b.0 (subst (λ y. Stands setting.codes b.0.bases1 v (option_map_or (λ y. y) y Unset)) (sym b.1.1) b.1.2) in
         let at_label : o.control ≡ Label n ∷ TakeResult z.depth ∷ rest = some_is o.control (Label n ∷ TakeResult z.depth ∷ rest) (sym o.leads ∙ ln.found) in
         went (at_result o.control at_label o.arr o.hands)
     out _ w1 o = not_true o.leads.1
@@ -264,7 +244,7 @@ rounds_from_label setting inner x run B z n at c body rest w le ll l en ln ec r 
     (landed_on (omega arith) (omega arith) ln (stay setting (record { most = 16 * w.turns; least = w.turns }) z (Label n ∷ body) w (omega arith) (omega arith) r)))
 
 -- ---- WHILE and UNTIL
-round_exit_adds : (next : World → Outcome Done) → Adds next → (x : Exit) → Adds (round_exit next x)
+pub round_exit_adds : (next : World → Outcome Done) → Adds next → (x : Exit) → Adds (round_exit next x)
 round_exit_adds next ad loop = ad
 round_exit_adds next ad _ = adds _ (λ w1. stays (history w1))
 

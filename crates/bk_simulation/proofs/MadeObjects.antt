@@ -1,6 +1,5 @@
 -- Objects that are made, what is done with them, and their death.
-use Rattle.bk_simulation.proofs.Words.{◌≡◌, ◌≢◌, ℕ, zero, suc, ◌+◌, ◌<◌, ◌≤◌, List, [], ◌∷◌, ◌++◌, length, Option, Some, None, refl, sym, ap, ◌∙◌, subst, arith, ◌⊎◌, ⊎_elim, inl, inr, slice_get, length-append, option_and_then, slice_set, slice_get_within, holds, places, Object, living, Memory, cells_of, cells_at, made, dead_from, Content, Variable, Cell, Held, content_of}
-use Rattle.bk_meaning.specs.Values.{Cell as Cell_of}
+use Rattle.bk_simulation.proofs.Words.{◌≡◌, ◌≢◌, ℕ, zero, suc, ◌+◌, ◌<◌, ◌≤◌, List, [], ◌∷◌, ◌++◌, length, Option, Some, None, refl, sym, ap, ◌∙◌, subst, arith, ◌⊎◌, ⊎_elim, inl, inr, slice_get, length-append, option_and_then, slice_set, slice_get_within, holds, places, Object, living, Memory, cells_of, cells_at, made, dead_from, Content, Variable, Cell, Held, content_of, replicate, Cell_of}
 use Rattle.bk_ocode.specs.Cells as ocode
 use Rattle.bk_simulation.proofs.Memory.{Like, like_refl, like_on, BaseOf, size_in, Alive, IsCell, Store, limit, Grown, Moved, get_at, alive_within, one_base, Codes, StandsCell, Fits, based, stands_grown, fits_more, fits_less}
 
@@ -13,6 +12,11 @@ get_first (y ∷ xs) ys zero x h = h
 get_first (y ∷ xs) ys (suc i) x h = get_first xs ys i x h
 
 -- the new one stands behind it,
+pub get_replicate : {A : Type 0} (n i : ℕ) (x c : A) → slice_get (replicate n x) i ≡ Some c → (c ≡ x) × (i < n)
+get_replicate zero i x c h = absurd (let z : None ≡ Some c = h in cc)
+get_replicate (suc n) zero x c h = ((let z : Some x ≡ Some c = h in cc), omega arith)
+get_replicate (suc n) (suc i) x c h = let q = get_replicate n i x c h in let lt = q.1 in (q.0, omega arith)
+
 pub get_new : {A : Type 0} (xs : List A) (y : A) → slice_get (xs ++ y ∷ []) (length xs) ≡ Some y
 get_new [] y = refl
 get_new (x ∷ xs) y = get_new xs y
@@ -32,10 +36,6 @@ get_set (z ∷ xs) zero zero x y h = inl (refl, cc)
 get_set (z ∷ xs) (suc i) (suc j) x y h =
     ⊎_elim (λ (e : (j ≡ i) × (y ≡ x)). inl (ap (λ n. suc n) e.0, e.1)) (λ (e : (j ≢ i) × (slice_get xs j ≡ Some y)). let ne : j ≢ i = e.0 in inr (omega arith, e.1)) (get_set xs i j x y h)
 get_set (z ∷ xs) _ _ x y h = inr (omega arith, h)
-
-pub set_length : {A : Type 0} (xs : List A) (i : ℕ) (x : A) → length (slice_set xs i x) ≡ length xs
-set_length (y ∷ xs) (suc i) x = ap (λ n. suc n) (set_length xs i x)
-set_length _ _ x = refl
 
 -- no living object has this word
 abbrev pub IsFree : Store → ℕ → Type 0

@@ -1,6 +1,6 @@
 -- The relation of memory: each object of the meaning has a base, and the words from a living object's base are its cells.
-use Rattle.bk_simulation.proofs.Words.{◌≡◌, ◌≢◌, ℕ, zero, suc, ◌+◌, ◌-◌, ◌<◌, ◌≤◌, ◌%◌, ◌^◌, List, [], ◌∷◌, length, Option, Some, None, refl, sym, ap, ◌∙◌, subst, arith, option_and_then, slice_get_within, Value, number, address, procedure, routine, unset, holds, places, Memory, Object, cells_of, cells_at, cell_at, Content, Word, Variable, Link, Cell, Held, content_of, byte_in}
-use Rattle.std.specs.Prelude.{slice_get}
+use Rattle.bk_simulation.proofs.Lists.{by_option}
+use Rattle.bk_simulation.proofs.Words.{◌≡◌, ◌≢◌, ℕ, zero, suc, ◌+◌, ◌-◌, ◌<◌, ◌≤◌, ◌%◌, ◌^◌, List, [], ◌∷◌, length, Option, Some, None, refl, sym, ap, ◌∙◌, subst, arith, option_and_then, slice_get_within, Value, number, address, procedure, routine, unset, holds, places, Memory, cells_of, cells_at, cell_at, Content, Word, Variable, Link, Cell, Held, content_of, byte_in, slice_get}
 use Rattle.bk_meaning.specs.Values as value
 
 -- the words of procedures, by their numbers, and of the routines of the library
@@ -102,19 +102,12 @@ get_at (x ∷ xs) (suc i) h = get_at xs i (omega arith)
 
 -- an object that lives is in memory
 pub alive_within : (mem : Memory) (o n : ℕ) → Alive mem o n → o < length mem
-alive_within mem o n h = by_object (slice_get mem o) refl h
-  where
-    by_object : (x : Option Object) → slice_get mem o ≡ x → size_in (cells_of x) ≡ Some n → o < length mem
-    by_object None e h = absurd (cc)
-    by_object (Some x) e h = slice_get_within mem o x e
+alive_within mem o n h = by_option (λ x. size_in (cells_of x) ≡ Some n → o < length mem) (slice_get mem o) (λ _ h. absurd (cc)) (λ x e h. slice_get_within mem o x e) h
 
 -- a cell is in a living object
 pub cell_alive : (mem : Memory) (o i : ℕ) (c : value.Cell) → IsCell mem o i c → (n : ℕ) × Alive mem o n × (i < n)
-cell_alive mem o i c h = by_cells (cells_at mem o) refl h
-  where
-    by_cells : (x : Option (List value.Cell)) → cells_at mem o ≡ x → option_and_then (λ cells. slice_get cells i) x ≡ Some c → (n : ℕ) × Alive mem o n × (i < n)
-    by_cells None e h = absurd (cc)
-    by_cells (Some cells) e h = (length cells, ap (λ y. size_in y) e, slice_get_within cells i c h)
+cell_alive mem o i c h =
+    by_option (λ x. option_and_then (λ cells. slice_get cells i) x ≡ Some c → (n : ℕ) × Alive mem o n × (i < n)) (cells_at mem o) (λ _ h. absurd (cc)) (λ cells e h. (length cells, ap (λ y. size_in y) e, slice_get_within cells i c h)) h
 
 -- a living object has a base, and one alone
 pub based : (codes : Codes) (h : Store) (top o n : ℕ) → Fits codes h top → Alive h.mem o n → (b : ℕ) × BaseOf h.bases o b

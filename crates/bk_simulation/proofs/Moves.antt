@@ -1,64 +1,62 @@
 -- Moves: a step, and the state as which the one that it comes to goes on. What each statement moves to.
-use Rattle.bk_simulation.proofs.Words.{◌≡◌, ℕ, suc, ◌+◌, ◌-◌, ◌==◌, nat_lt, ◌^◌, Bool, true, false, List, ◌∷◌, length, Some, None, take, drop, slice_get, if◌then◌else◌, refl, ap, ◌∙◌, zero, [], Option, ne_eqb, pos, sym, subst, ◌++◌, ℤ, not, arith, option_map_or, Unset, Word, Temporary, Held, write, below, Content, Variable, Link, Cell, content_of, kind_of, settle, depth_behind, next_depth, AreFaultless, Placed, Routine, Inside, Behind, At, State, Goes, Placement, Control, Ends, Wild, slot, can_be_called, step, on_number, on_some, named_place, has_word, dyadic_word, operated, jump, from_label, case_label, step_by, step_from, Program, in_hand, resumed_in, program_step, Rest, rest_of, or_rest, rests, rests_of, resumed, resumed_by, find_rest, label_rest, at_number, program_step_from, Stmt, Label, Entry, CallFunction, CallRoutine, ReturnItem, Return, Number, True, False, Query, Load, Address, Text, Monadic, Dyadic, LoadByte, Assign, AssignAt, AssignByte, Jump, JumpIf, GiveResult, TakeResult, Stack, Store, Save, Switch, Finish, IsWellPlaced, not_before, Status, DivideByZero, word_of, word_sum, word_negation, word_not, truth, byte_distance, variable_at, byte_at, word_with_byte_at, Case}
+use Rattle.bk_simulation.proofs.Words.{Next, Ends, ◌⊎◌, inl, inr, rest_of, step_by, CallFunction, CallRoutine, ◌≡◌, ℕ, suc, ◌+◌, ◌-◌, ◌==◌, nat_lt, ◌^◌, Bool, true, false, List, ◌∷◌, length, Some, None, take, drop, slice_get, if◌then◌else◌, refl, ap, ◌∙◌, zero, [], Option, ne_eqb, pos, sym, subst, ◌++◌, not, arith, option_map_or, Word, Temporary, Held, write, below, Content, Variable, Link, Cell, kind_of, depth_behind, next_depth, AreFaultless, Placed, Routine, Inside, Behind, At, State, Goes, Placement, Control, Ends, Wild, slot, can_be_called, step, on_number, on_some, named_place, has_word, dyadic_word, operated, jump, from_label, case_label, step_by, step_from, Program, resumed_in, program_step, Rest, rest_of, or_rest, rests, rests_of, resumed, resumed_by, find_rest, label_rest, program_step_from, Stmt, Label, Entry, CallFunction, CallRoutine, ReturnItem, Return, Monadic, Dyadic, LoadByte, Assign, AssignAt, AssignByte, Jump, JumpIf, GiveResult, Switch, Finish, IsWellPlaced, not_before, Status, DivideByZero, word_sum, byte_distance, variable_at, byte_at, word_with_byte_at, Case, label_rest-at, Contents}
 use Rattle.bk_ocode.specs.OcodeStep.{call, return}
-use Rattle.bk_ocode.proofs.Lemmas.{label_rest-at}
 pub use Rattle.bk_simulation.specs.GoingOn.{settled, settled_from}
-use Rattle.bk_ocode.specs.declared.stmt.Variable.{Variable as Named}
-use Rattle.bk_ocode.specs.declared.stmt.Monadic.TheVariants.{Contents, Negate, Not}
-use Rattle.bk_ocode.specs.declared.stmt.Dyadic.{Dyadic as DyadicOperator}
+use Rattle.bk_simulation.proofs.Terms.{Variable as Named, Dyadic as DyadicOperator}
 
 -- ---- How a program goes on from its rests: behind a LAB, at an entry and behind a call.
 
 -- ---- A state steps as the one as which it goes on; and counted runs of such states.
 
-abbrev IsInside : Control → Type 0
-IsInside (Inside own k rest) = Unit {0}
-IsInside _ = ⊥
+resumed_step : (program : Program) (own : Placed) (r : Rest) (s : State) (t : Bool) → step program.callables (resumed_by t own r s) ≡ program_step program (resumed_by t own r s)
+resumed_step program own r s true = refl
+resumed_step program own r s false = refl
 
-resumed_inside : (own : Placed) (r : Rest) (s : State) → IsInside (resumed own r s).control
-resumed_inside own r s = by_takes r.takes
+-- a rest behind a LAB, or one of a section of the program
+abbrev pub IsRest : Program → Placed → Rest → Type 0
+IsRest program own r = ((l : ℕ) × (label_rest own.places 0 own.stmts l ≡ Some r)) ⊎ ((i : ℕ) × (n : ℕ) × (slice_get program.sections i ≡ Some own) × (find_rest (rests_of own) n ≡ Some r))
+
+-- what is found at a number
+abbrev FoundAt : List Placed → ℕ → State → State → Type 0
+FoundAt sections n s t = (own : Placed) × (r : Rest) × (i : ℕ) × (slice_get sections i ≡ Some own) × (find_rest (rests_of own) n ≡ Some r) × (resumed own r s ≡ t)
+
+found_at : (sections : List Placed) (n : ℕ) (s t : State) → resumed_in sections n s ≡ Some t → FoundAt sections n s t
+found_at [] n s t e = absurd (let h : None ≡ Some t = e in cc)
+found_at (own ∷ others) n s t e = by_rest (find_rest (rests_of own) n) refl e (λ h. found_at others n s t h)
   where
-    by_takes : (t : Bool) → IsInside (resumed_by t own r s).control
-    by_takes true = tt
-    by_takes false = tt
+    by_rest : (o : Option Rest) → find_rest (rests_of own) n ≡ o → option_map_or (λ r. Some (resumed own r s)) o (resumed_in others n s) ≡ Some t → (resumed_in others n s ≡ Some t → FoundAt others n s t) → FoundAt (own ∷ others) n s t
+    by_rest None eo e go = let h = go e in (h.0, h.1, suc h.2, h.3, h.4, h.5)
+    by_rest (Some r) eo e go = (own, r, 0, refl, eo, (let h : Some (resumed own r s) ≡ Some t = e in cc))
 
-found_inside : (own : Placed) (s t : State) (r : Option Rest) (others : Option State) → (others ≡ Some t → IsInside t.control)
-    → option_map_or (λ r. Some (resumed own r s)) r others ≡ Some t → IsInside t.control
-found_inside own s t (Some r) others h e = let q : resumed own r s ≡ t = cc in subst (λ y. IsInside y.control) q (resumed_inside own r s)
-found_inside own s t None others h e = h e
+-- A state goes on as itself or as resumed from a rest, and its step is that of the state as which it goes on, or the end at START's link,
+-- or it is wild.
+pub going : (program : Program) (s : State) (P : State → Next → Type 0) → P s Wild → P s (Ends (Status (pos 0)) s) → P s (step program.callables s)
+    → ((own : Placed) (r : Rest) → IsRest program own r → P (resumed own r s) (step program.callables (resumed own r s))) → P (settled program s) (program_step program s)
+going program s P wild over itself resumes = by_control s.control
+  where
+    by_label : (own : Placed) (l : ℕ) (o : Option Rest) → label_rest own.places 0 own.stmts l ≡ o → P (option_map_or (λ r. resumed own r s) o s) (option_map_or (λ r. step program.callables (resumed own r s)) o Wild)
+    by_label own l None e = wild
+    by_label own l (Some r) e = resumes own r (inl (l, e))
 
-resumed_in_inside : (sections : List Placed) (n : ℕ) (s t : State) → resumed_in sections n s ≡ Some t → IsInside t.control
-resumed_in_inside [] n s t e = absurd (let h : None ≡ Some t = e in cc)
-resumed_in_inside (own ∷ others) n s t e = found_inside own s t (find_rest (rests_of own) n) (resumed_in others n s) (λ h. resumed_in_inside others n s t h) e
+    by_found : (n : ℕ) (o : Option State) → resumed_in program.sections n s ≡ o → P (option_map_or (λ t. t) o s) (option_map_or (λ t. step program.callables t) o Wild)
+    by_found n None e = wild
+    by_found n (Some t) e = let h = found_at program.sections n s t e in subst (λ t. P t (step program.callables t)) h.5 (resumes h.0 h.1 (inr (h.2, n, h.3, h.4)))
 
-inside_step : (program : Program) (t : State) (c : Control) → t.control ≡ c → IsInside c → step program.callables t ≡ program_step program t
-inside_step program t (Inside own k rest) e h = sym (ap (λ y. program_step_from program t y) e)
-inside_step program t _ e h = absurd h
+    by_home : (n : ℕ) (b : Bool) (f : Option Routine) → P (if b then s else option_map_or (λ _. s) f (option_map_or (λ t. t) (resumed_in program.sections n s) s))
+        (if b then Ends (Status (pos 0)) s else option_map_or (λ _. step program.callables s) f (option_map_or (λ t. step program.callables t) (resumed_in program.sections n s) Wild))
+    by_home n true f = over
+    by_home n false (Some f) = itself
+    by_home n false None = by_found n (resumed_in program.sections n s) refl
 
--- a state steps as the state as which it goes on
+    by_control : (c : Control) → P (settled_from program s c) (program_step_from program s c)
+    by_control (Inside own k rest) = itself
+    by_control (Behind own l) = by_label own l (label_rest own.places 0 own.stmts l) refl
+    by_control (At n) = by_home n (n == program.home) (program.callables.routine n)
+
+-- so it steps as the state as which it goes on
 pub settled_step : (program : Program) (s : State) → program_step program s ≡ program_step program (settled program s)
-settled_step program s = by_control s.control refl
-  where
-    behind : (own : Placed) (l : ℕ) → s.control ≡ Behind own l → (r : Option Rest) → label_rest own.places 0 own.stmts l ≡ r
-        → option_map_or (λ r. step program.callables (resumed own r s)) r Wild ≡ program_step program (option_map_or (λ r. resumed own r s) r s)
-    behind own l e (Some r) er = inside_step program (resumed own r s) (resumed own r s).control refl (resumed_inside own r s)
-    behind own l e None er =
-        sym (ap (λ y. program_step_from program s y) e ∙ ap (λ y. option_map_or (λ r. step program.callables (resumed own r s)) y Wild) er)
-
-    at_place : (n : ℕ) → s.control ≡ At n → (home : Bool) → (n == program.home) ≡ home → (routine : Option Routine) → program.callables.routine n ≡ routine
-        → (t : Option State) → resumed_in program.sections n s ≡ t
-        → at_number program n s ≡ program_step program (if home then s else option_map_or (λ _. s) routine (option_map_or (λ t. t) t s))
-    at_place n e true eh routine er t et = sym (ap (λ y. program_step_from program s y) e)
-    at_place n e false eh (Some f) er t et = sym (ap (λ y. program_step_from program s y) e)
-    at_place n e false eh None er None et = sym (ap (λ y. program_step_from program s y) e)
-    at_place n e false eh None er (Some t) et =
-        (rw (eh, er, et))
-        ∙ inside_step program t t.control refl (resumed_in_inside program.sections n s t et)
-
-    by_control : (c : Control) → s.control ≡ c → program_step_from program s c ≡ program_step program (settled_from program s c)
-    by_control (Inside own k rest) e = sym (ap (λ y. program_step_from program s y) e)
-    by_control (Behind own l) e = behind own l e (label_rest own.places 0 own.stmts l) refl
-    by_control (At n) e = at_place n e (n == program.home) refl (program.callables.routine n) refl (resumed_in program.sections n s) refl
+settled_step program s = going program s (λ t x. x ≡ program_step program s → program_step program s ≡ program_step program t) (λ e. refl) (λ e. refl) (λ e. refl)
+    (λ own r h e. sym e ∙ resumed_step program own r s r.takes) refl
 
 -- the rest at a statement is among those of the section
 more_rests : (o : Option Rest) (rs : List Rest) (i : ℕ) (r : Rest) → slice_get rs i ≡ Some r → (j : ℕ) × (slice_get (or_rest o rs) j ≡ Some r)
@@ -83,6 +81,11 @@ label_settled program s own i l are at is =
     ∙ ap (λ (r : Option Rest). option_map_or (λ (x : Rest). resumed own x s) r s)
     (label_rest-at own.places l 0 own.stmts i at (λ j low here. not_before own.stmts j i l (Label l) (Label l) are here at refl refl low))
 
+-- FNAP calls for a value, RTAP does not
+abbrev pub call_stmt : Bool → ℕ → Stmt
+call_stmt true n = CallFunction n
+call_stmt false n = CallRoutine n
+
 module _ (program : Program) (first F : ℕ) (well : IsWellPlaced program first F) (section : ℕ) (own : Placed) (is_own : slice_get program.sections section ≡ Some own) where
   -- at the number of a rest that is no LAB's
   pub rest_settled : (s : State) (j : ℕ) (r : Rest) → slice_get (rests_of own) j ≡ Some r → r.keeps ≡ false → s.control ≡ At r.place → settled program s ≡ resumed own r s
@@ -101,31 +104,23 @@ module _ (program : Program) (first F : ℕ) (well : IsWellPlaced program first 
       let among = rest_among own.places 0 own.stmts i (Entry l name) r at refl in
       rest_settled s among.0 r among.1 refl is
 
-  -- behind a call of a function: what is in hand becomes an item
-  pub function_settled : (s : State) (i n : ℕ) → slice_get own.stmts i ≡ Some (CallFunction n) → s.control ≡ At (own.places.call (length (drop (suc i) own.stmts)))
-      → settled program s ≡ record s {
-        control = Inside own (n + 1) (drop (suc i) own.stmts);
-        cells = write s.cells (s.frame + n) (Held Temporary (in_hand s.hand));
-        hand = None;
-        written = (s.frame + n) ∷ s.written;
-      }
-  function_settled s i n at is =
-      let r : Rest = record { place = own.places.call (length (drop (suc i) own.stmts)); depth = n; takes = true; keeps = false; behind = drop (suc i) own.stmts } in
-      let among = rest_among own.places 0 own.stmts i (CallFunction n) r at refl in
+  -- behind a call: what is in hand becomes an item where a function was called, and is dropped where a routine was
+  pub call_settled : (of : Bool) (s : State) (i n : ℕ) → slice_get own.stmts i ≡ Some (call_stmt of n) → s.control ≡ At (own.places.call (length (drop (suc i) own.stmts)))
+      → settled program s ≡ resumed own (record { place = own.places.call (length (drop (suc i) own.stmts)); depth = n; takes = of; keeps = false; behind = drop (suc i) own.stmts }) s
+  call_settled of s i n at is =
+      let r : Rest = record { place = own.places.call (length (drop (suc i) own.stmts)); depth = n; takes = of; keeps = false; behind = drop (suc i) own.stmts } in
+      let among = rest_among own.places 0 own.stmts i (call_stmt of n) r at (by_kind of) in
       rest_settled s among.0 r among.1 refl is
-
-  -- behind a call of a routine
-  pub routine_settled : (s : State) (i n : ℕ) → slice_get own.stmts i ≡ Some (CallRoutine n) → s.control ≡ At (own.places.call (length (drop (suc i) own.stmts)))
-      → settled program s ≡ record s { control = Inside own n (drop (suc i) own.stmts); hand = None }
-  routine_settled s i n at is =
-      let r : Rest = record { place = own.places.call (length (drop (suc i) own.stmts)); depth = n; takes = false; keeps = false; behind = drop (suc i) own.stmts } in
-      let among = rest_among own.places 0 own.stmts i (CallRoutine n) r at refl in
-      rest_settled s among.0 r among.1 refl is
+    where
+      by_kind : (of : Bool) → rest_of own.places (depth_behind 0 (take i own.stmts)) (call_stmt of n) (drop (suc i) own.stmts)
+          ≡ Some (record { place = own.places.call (length (drop (suc i) own.stmts)); depth = n; takes = of; keeps = false; behind = drop (suc i) own.stmts })
+      by_kind true = refl
+      by_kind false = refl
 
 -- ---- What each statement's step does, with the depth before it as d + 1, d + 2 or d + 3, where it takes so many items.
 
 -- depths without a difference
-one_off : (d : ℕ) → d + 1 - 1 ≡ d
+pub one_off : (d : ℕ) → d + 1 - 1 ≡ d
 one_off d = omega arith
 
 two_off : (d : ℕ) → d + 2 - 2 ≡ d
@@ -186,38 +181,14 @@ module _ (program : Program) (s : State) (own : Placed) (rest : List Stmt) where
   pub step_at : (k : ℕ) (stmt : Stmt) → s.control ≡ Inside own k (stmt ∷ rest) → program_step program s ≡ step_by program.callables s own k stmt rest
   step_at k stmt e = ap (λ y. program_step_from program s y) e ∙ ap (λ y. step_from program.callables s y) e
 
-  -- ---- an item is pushed
-  pub number_moves : (k : ℕ) (value : ℤ) → s.control ≡ Inside own k (Number value ∷ rest) → Moves program s (pushed s own k rest (Word (word_of value)))
-  number_moves k value e = (_, step_at k (Number value) e, refl)
-
-  pub true_moves : (k : ℕ) → s.control ≡ Inside own k (True ∷ rest) → Moves program s (pushed s own k rest (Word (truth true)))
-  true_moves k e = (_, step_at k True e, refl)
-
-  pub false_moves : (k : ℕ) → s.control ≡ Inside own k (False ∷ rest) → Moves program s (pushed s own k rest (Word (truth false)))
-  false_moves k e = (_, step_at k False e, refl)
-
-  pub query_moves : (k : ℕ) → s.control ≡ Inside own k (Query ∷ rest) → Moves program s (pushed s own k rest Unset)
-  query_moves k e = (_, step_at k Query e, refl)
-
-  pub load_moves : (k : ℕ) (from : Named) → s.control ≡ Inside own k (Load from ∷ rest) → Moves program s (pushed s own k rest (content_of (s.cells (named_place s own from))))
-  load_moves k from e = (_, step_at k (Load from) e, refl)
-
-  pub address_moves : (k : ℕ) (of : Named) → s.control ≡ Inside own k (Address of ∷ rest) → Moves program s (pushed s own k rest (Word (named_place s own of)))
-  address_moves k of e = (_, step_at k (Address of) e, refl)
-
-  pub text_moves : (k : ℕ) (bytes : List ℕ) → s.control ≡ Inside own k (Text bytes ∷ rest) → Moves program s (pushed s own k rest (Word (own.places.text (length rest))))
-  text_moves k bytes e = (_, step_at k (Text bytes) e, refl)
+  -- a statement that goes on as the state to which it goes
+  pub does : {u : State} (k : ℕ) (stmt : Stmt) → s.control ≡ Inside own k (stmt ∷ rest) → step_by program.callables s own k stmt rest ≡ Goes u → settled program u ≡ u → Moves program s u
+  does {u} k stmt e g h = (u, step_at k stmt e ∙ g, h)
 
   -- ---- an item takes the place of one or two
   pub contents_moves : (d a : ℕ) (content : Content) → s.control ≡ Inside own (d + 1) (Monadic Contents ∷ rest) → slot s d ≡ Word a
       → variable_at (s.frame + (d + 1)) s.cells a ≡ Some content → Moves program s (pushed s own d rest content)
   contents_moves d a content e ea ev = moves_to (step_at (d + 1) (Monadic Contents) e ∙ rw (one_off d, ea, ev)) refl
-
-  pub negate_moves : (d w : ℕ) → s.control ≡ Inside own (d + 1) (Monadic Negate ∷ rest) → slot s d ≡ Word w → Moves program s (pushed s own d rest (Word (word_negation w)))
-  negate_moves d w e ew = moves_to (step_at (d + 1) (Monadic Negate) e ∙ rw (one_off d, ew)) refl
-
-  pub not_moves : (d w : ℕ) → s.control ≡ Inside own (d + 1) (Monadic Not ∷ rest) → slot s d ≡ Word w → Moves program s (pushed s own d rest (Word (word_not w)))
-  not_moves d w e ew = moves_to (step_at (d + 1) (Monadic Not) e ∙ rw (one_off d, ew)) refl
 
   operates : (d : ℕ) (operator : DyadicOperator) (v w : ℕ) → s.control ≡ Inside own (d + 2) (Dyadic operator ∷ rest) → slot s d ≡ Word v → slot s (d + 1) ≡ Word w
       → program_step program s ≡ operated s own d rest (dyadic_word operator v w)
@@ -300,52 +271,23 @@ module _ (program : Program) (s : State) (own : Placed) (rest : List Stmt) where
   pub label_step : (k l : ℕ) → s.control ≡ Inside own k (Label l ∷ rest) → program_step program s ≡ Goes (record s { control = Behind own l })
   label_step k l e = step_at k (Label l) e
 
-  -- RSTACK pushes what is in hand
-  pub take_result_moves : (k n : ℕ) → s.control ≡ Inside own k (TakeResult n ∷ rest) → Moves program s (pushed s own n rest (option_map_or (λ result. result) s.hand Unset))
-  take_result_moves k n e = (_, step_at k (TakeResult n) e, refl)
-
-  -- ---- the depth is set, and words become variables
-  pub stack_moves : (k n : ℕ) → s.control ≡ Inside own k (Stack n ∷ rest) → Moves program s (onwards s own n rest (settle (s.frame + k) (s.frame + n) s.cells) [])
-  stack_moves k n e = (_, step_at k (Stack n) e, refl)
-
-  pub store_moves : (k : ℕ) → s.control ≡ Inside own k (Store ∷ rest) → Moves program s (onwards s own k rest (settle (s.frame + 2) (s.frame + k) s.cells) [])
-  store_moves k e = (_, step_at k Store e, refl)
-
-  pub save_moves : (k n : ℕ) → s.control ≡ Inside own k (Save n ∷ rest) → Moves program s (onwards s own n rest (settle (s.frame + 2) (s.frame + n) s.cells) [])
-  save_moves k n e = (_, step_at k (Save n) e, refl)
-
-  pub entry_moves : (k l : ℕ) (name : List ℕ) → s.control ≡ Inside own k (Entry l name ∷ rest) → Moves program s (record s { control = Inside own 2 rest; hand = None })
-  entry_moves k l name e = (_, step_at k (Entry l name) e, refl)
-
   -- ---- calls and returns
   calls : (d n e : ℕ) → can_be_called program.callables e ≡ true → nat_lt (2 ^ 31 - 65536) (s.frame + n) ≡ false
       → call program.callables s own (d + 1) n e rest ≡ Goes (entering s own d n e rest)
   calls d n e eb el =
       rw (eb, el, one_off d)
 
-  pub call_function_step : (d n e : ℕ) → s.control ≡ Inside own (d + 1) (CallFunction n ∷ rest) → slot s d ≡ Word e → can_be_called program.callables e ≡ true
+  pub call_step : (of : Bool) (d n e : ℕ) → s.control ≡ Inside own (d + 1) (call_stmt of n ∷ rest) → slot s d ≡ Word e → can_be_called program.callables e ≡ true
       → nat_lt (2 ^ 31 - 65536) (s.frame + n) ≡ false → program_step program s ≡ Goes (entering s own d n e rest)
-  call_function_step d n e ec ew eb el =
-      step_at (d + 1) (CallFunction n) ec
+  call_step of d n e ec ew eb el =
+      step_at (d + 1) (call_stmt of n) ec ∙ by_kind of
       ∙ ap (λ y. on_number (slot s y) (λ e. call program.callables s own (d + 1) n e rest)) (one_off d)
       ∙ ap (λ y. on_number y (λ e. call program.callables s own (d + 1) n e rest)) ew
       ∙ calls d n e eb el
-
-  pub call_routine_step : (d n e : ℕ) → s.control ≡ Inside own (d + 1) (CallRoutine n ∷ rest) → slot s d ≡ Word e → can_be_called program.callables e ≡ true
-      → nat_lt (2 ^ 31 - 65536) (s.frame + n) ≡ false → program_step program s ≡ Goes (entering s own d n e rest)
-  call_routine_step d n e ec ew eb el =
-      step_at (d + 1) (CallRoutine n) ec
-      ∙ ap (λ y. on_number (slot s y) (λ e. call program.callables s own (d + 1) n e rest)) (one_off d)
-      ∙ ap (λ y. on_number y (λ e. call program.callables s own (d + 1) n e rest)) ew
-      ∙ calls d n e eb el
-
-  -- a call whose frame would begin too high is wild
-  too_high : (d n e : ℕ) → nat_lt (2 ^ 31 - 65536) (s.frame + n) ≡ true → call program.callables s own (d + 1) n e rest ≡ Wild
-  too_high d n e el = by_entry (can_be_called program.callables e)
     where
-      by_entry : (b : Bool) → (if b then (if nat_lt (2 ^ 31 - 65536) (s.frame + n) then Wild else Goes (entering s own (d + 1 - 1) n e rest)) else Wild) ≡ Wild
-      by_entry true = ap (λ y. if y then Wild else Goes (entering s own (d + 1 - 1) n e rest)) el
-      by_entry false = refl
+      by_kind : (of : Bool) → step_by program.callables s own (d + 1) (call_stmt of n) rest ≡ on_number (slot s (d + 1 - 1)) (λ e. call program.callables s own (d + 1) n e rest)
+      by_kind true = refl
+      by_kind false = refl
 
   pub return_item_step : (d c p : ℕ) → s.control ≡ Inside own (d + 1) (ReturnItem ∷ rest) → slot s 1 ≡ Word c → slot s 0 ≡ Word p
       → program_step program s ≡ Goes (returning s (Some (slot s d)) c p)
@@ -372,84 +314,3 @@ module _ (program : Program) (s : State) (own : Placed) (rest : List Stmt) where
   pub label_moves : (k l i : ℕ) → AreFaultless own.stmts → slice_get own.stmts i ≡ Some (Label l) → s.control ≡ Inside own k (Label l ∷ rest)
       → Moves program s (record s { control = Inside own (depth_behind 0 (take i own.stmts)) (drop (suc i) own.stmts) })
   label_moves k l i are at e = (record s { control = Behind own l }, label_step program s own rest k l e, label_settled program (record s { control = Behind own l }) own i l are at refl)
-
-  -- ---- calls of routines
-  pub function_of_routine_moves : (d n e : ℕ) (routine : Routine) → s.control ≡ Inside own (d + 1) (CallFunction n ∷ rest) → slot s d ≡ Word e → program.callables.routine e ≡ Some routine
-      → can_be_called program.callables e ≡ true → nat_lt (2 ^ 31 - 65536) (s.frame + n) ≡ false → Moves program s (entering s own d n e rest)
-  function_of_routine_moves d n e routine ec ew er eb el =
-      (_, call_function_step program s own rest d n e ec ew eb el, at_routine program (entering s own d n e rest) e routine refl er)
-
-  pub call_of_routine_moves : (d n e : ℕ) (routine : Routine) → s.control ≡ Inside own (d + 1) (CallRoutine n ∷ rest) → slot s d ≡ Word e → program.callables.routine e ≡ Some routine
-      → can_be_called program.callables e ≡ true → nat_lt (2 ^ 31 - 65536) (s.frame + n) ≡ false → Moves program s (entering s own d n e rest)
-  call_of_routine_moves d n e routine ec ew er eb el =
-      (_, call_routine_step program s own rest d n e ec ew eb el, at_routine program (entering s own d n e rest) e routine refl er)
-
-  module _ (first F : ℕ) (well : IsWellPlaced program first F) (section : ℕ) (other : Placed) (is_other : slice_get program.sections section ≡ Some other) where
-    -- ---- calls of the entries of a section, at its ENTRY
-    pub function_moves : (d n i l : ℕ) (name : List ℕ) → s.control ≡ Inside own (d + 1) (CallFunction n ∷ rest) → slot s d ≡ Word (other.places.label l)
-        → slice_get other.stmts i ≡ Some (Entry l name) → can_be_called program.callables (other.places.label l) ≡ true → nat_lt (2 ^ 31 - 65536) (s.frame + n) ≡ false
-        → Moves program s (record (entering s own d n (other.places.label l) rest) { control = Inside other 2 (Entry l name ∷ drop (suc i) other.stmts); hand = None })
-    function_moves d n i l name ec ew at eb el = (
-      _,
-      call_function_step program s own rest d n (other.places.label l) ec ew eb el,
-      entry_settled program first F well section other is_other (entering s own d n (other.places.label l) rest) i l name at refl,
-    )
-
-    pub routine_moves : (d n i l : ℕ) (name : List ℕ) → s.control ≡ Inside own (d + 1) (CallRoutine n ∷ rest) → slot s d ≡ Word (other.places.label l)
-        → slice_get other.stmts i ≡ Some (Entry l name) → can_be_called program.callables (other.places.label l) ≡ true → nat_lt (2 ^ 31 - 65536) (s.frame + n) ≡ false
-        → Moves program s (record (entering s own d n (other.places.label l) rest) { control = Inside other 2 (Entry l name ∷ drop (suc i) other.stmts); hand = None })
-    routine_moves d n i l name ec ew at eb el = (
-      _,
-      call_routine_step program s own rest d n (other.places.label l) ec ew eb el,
-      entry_settled program first F well section other is_other (entering s own d n (other.places.label l) rest) i l name at refl,
-    )
-
-    -- ---- back behind a call in a section: what is in hand becomes an item where a function was called,
-    pub back_in_function : (t : State) (i n : ℕ) → slice_get other.stmts i ≡ Some (CallFunction n) → t.control ≡ At (other.places.call (length (drop (suc i) other.stmts)))
-        → program_step program s ≡ Goes t
-        → Moves program s (record t {
-          control = Inside other (n + 1) (drop (suc i) other.stmts);
-          cells = write t.cells (t.frame + n) (Held Temporary (in_hand t.hand));
-          hand = None;
-          written = (t.frame + n) ∷ t.written;
-        })
-    back_in_function t i n at e es = (t, es, function_settled program first F well section other is_other t i n at e)
-
-    -- and is dropped where a routine was
-    pub back_in_routine : (t : State) (i n : ℕ) → slice_get other.stmts i ≡ Some (CallRoutine n) → t.control ≡ At (other.places.call (length (drop (suc i) other.stmts)))
-        → program_step program s ≡ Goes t → Moves program s (record t { control = Inside other n (drop (suc i) other.stmts); hand = None })
-    back_in_routine t i n at e es = (t, es, routine_settled program first F well section other is_other t i n at e)
-
-    abbrev back_at : ℕ → ℕ
-    back_at i = other.places.call (length (drop (suc i) other.stmts))
-
-    -- FNRN and RTRN lead there by the links of the frame
-    pub return_item_to_function : (d p i n : ℕ) → s.control ≡ Inside own (d + 1) (ReturnItem ∷ rest) → slot s 1 ≡ Word (back_at i) → slot s 0 ≡ Word p → slice_get other.stmts i ≡ Some (CallFunction n)
-        → Moves program s (record s {
-          control = Inside other (n + 1) (drop (suc i) other.stmts);
-          cells = write (below s.frame s.cells) (p + n) (Held Temporary (slot s d));
-          frame = p;
-          hand = None;
-          written = (p + n) ∷ s.written;
-        })
-    return_item_to_function d p i n e e1 e0 at =
-        back_in_function (returning s (Some (slot s d)) (back_at i) p) i n at refl (return_item_step program s own rest d (back_at i) p e e1 e0)
-
-    pub return_item_to_routine : (d p i n : ℕ) → s.control ≡ Inside own (d + 1) (ReturnItem ∷ rest) → slot s 1 ≡ Word (back_at i) → slot s 0 ≡ Word p → slice_get other.stmts i ≡ Some (CallRoutine n)
-        → Moves program s (record s { control = Inside other n (drop (suc i) other.stmts); cells = below s.frame s.cells; frame = p; hand = None })
-    return_item_to_routine d p i n e e1 e0 at =
-        back_in_routine (returning s (Some (slot s d)) (back_at i) p) i n at refl (return_item_step program s own rest d (back_at i) p e e1 e0)
-
-    pub return_to_function : (k p i n : ℕ) → s.control ≡ Inside own k (Return ∷ rest) → slot s 1 ≡ Word (back_at i) → slot s 0 ≡ Word p → slice_get other.stmts i ≡ Some (CallFunction n)
-        → Moves program s (record s {
-          control = Inside other (n + 1) (drop (suc i) other.stmts);
-          cells = write (below s.frame s.cells) (p + n) (Held Temporary Unset);
-          frame = p;
-          hand = None;
-          written = (p + n) ∷ s.written;
-        })
-    return_to_function k p i n e e1 e0 at = back_in_function (returning s None (back_at i) p) i n at refl (return_step program s own rest k (back_at i) p e e1 e0)
-
-    pub return_to_routine : (k p i n : ℕ) → s.control ≡ Inside own k (Return ∷ rest) → slot s 1 ≡ Word (back_at i) → slot s 0 ≡ Word p → slice_get other.stmts i ≡ Some (CallRoutine n)
-        → Moves program s (record s { control = Inside other n (drop (suc i) other.stmts); cells = below s.frame s.cells; frame = p; hand = None })
-    return_to_routine k p i n e e1 e0 at = back_in_routine (returning s None (back_at i) p) i n at refl (return_step program s own rest k (back_at i) p e e1 e0)

@@ -1,11 +1,9 @@
 -- Names that come into scope: one more, and the labels of a scope.
-use Rattle.bk_simulation.proofs.Words.{◌≡◌, ℕ, ◌+◌, Bool, true, false, ◌||◌, cond, List, [], ◌∷◌, ◌++◌, Option, Some, refl, sym, ap, ◌∙◌, subst, bytes_eq, bytes_eq-Decides, Action, Actions, Bound, Binding, bound_in, bind as bind_bound, labels_of, labels_of_each, labels_in_scope, meant, variable, Environment, Sense, constant, cell, label, sense_in, bind_each, labelled, the_label, stands_in, stands_in_one, Around}
+use Rattle.bk_simulation.proofs.Words.{◌≡◌, ℕ, ◌+◌, Bool, true, false, cond, List, [], ◌∷◌, ◌++◌, Option, Some, refl, sym, ap, ◌∙◌, subst, bytes_eq, bytes_eq-Decides, Action, Actions, Bound, Binding, bound_in, bind as bind_bound, labels_of, labels_of_each, labels_in_scope, meant, variable, Environment, Sense, constant, cell, label, sense_in, bind_each, the_label, stands_in, stands_in_one, Around, or_parts}
+use Rattle.bk_simulation.proofs.Situations.{by_test, not_true, Exits, Scene, owning, place_of, NameAt, IsWord, NamedIn}
 use Rattle.bk_tree.specs.Tree as t
 use Rattle.bk_scope.specs.declared.bound.Bound.TheVariants.{Label}
 use Rattle.bk_meaning.specs.Environment.{bind}
-use Rattle.bk_simulation.proofs.Laid.{Exits, Scene, owning}
-use Rattle.bk_simulation.proofs.Frame.{place_of, IsWord, NameAt, NamedIn}
-use Rattle.bk_simulation.proofs.Orders.{by_test, not_true}
 
 abbrev pub binding_here : List Binding → Scene → Scene
 binding_here bs sc = record sc { bindings = bs }
@@ -34,9 +32,6 @@ labels_named [] sc env bases frame j n = n
 labels_named (x ∷ xs) sc env bases frame j n =
     labels_named xs (binding_here (bind_bound x (Label sc.procedure j) sc.bindings) sc) (bind x label env) bases frame (j + 1) (bound_named sc env bases frame x (Label sc.procedure j) label tt n)
 
-pub scope_named : (cs : Actions) (sc : Scene) (env : Environment) (bases : List ℕ) (frame j : ℕ) → NamedIn sc env bases frame → NamedIn (owning j cs sc) (labelled cs env) bases frame
-scope_named cs sc env bases frame j n = labels_named (labels_of_each cs) sc env bases frame j n
-
 -- none of these is the name
 abbrev Absent : List ℕ → List (List ℕ) → Type 0
 Absent y [] = Unit {0}
@@ -51,23 +46,15 @@ other_evaluation x y e = by_test (bytes_eq x y)
     (λ (h : bytes_eq x y ≡ true). not_true (sym e ∙ (bytes_eq-Decides y x).1 (sym ((bytes_eq-Decides x y).0 h))))
     (λ (h : bytes_eq x y ≡ false). h)
 
-or_first_false : (a b : Bool) → (a || b) ≡ false → a ≡ false
-or_first_false false b h = refl
-or_first_false true b h = not_true (sym h)
-
-or_second_false : (a b : Bool) → (a || b) ≡ false → b ≡ false
-or_second_false false b h = h
-or_second_false true b h = not_true (sym h)
-
 -- a label that does not stand there is none of the scope's
 mutual
   absent_in : (y : List ℕ) (env : Environment) (c : Action) → stands_in (the_label y) env c ≡ false → Absent y (labels_of c)
-  absent_in y env (t.label l x c) h = (other_evaluation x y (or_first_false (bytes_eq y x) (stands_in (the_label y) env c) h), absent_in y env c (or_second_false (bytes_eq y x) (stands_in (the_label y) env c) h))
+  absent_in y env (t.label l x c) h = (other_evaluation x y (or_parts (bytes_eq y x) (stands_in (the_label y) env c) h).0, absent_in y env c (or_parts (bytes_eq y x) (stands_in (the_label y) env c) h).1)
   absent_in y env (t.case_of l e c) h = absent_in y env c h
   absent_in y env (t.default l c) h = absent_in y env c h
   absent_in y env (t.when l b e c) h = absent_in y env c h
   absent_in y env (t.test l e a b) h =
-      absent_both y (labels_of a) (labels_of b) (absent_in y env a (or_first_false (stands_in (the_label y) env a) (stands_in (the_label y) env b) h)) (absent_in y env b (or_second_false (stands_in (the_label y) env a) (stands_in (the_label y) env b) h))
+      absent_both y (labels_of a) (labels_of b) (absent_in y env a (or_parts (stands_in (the_label y) env a) (stands_in (the_label y) env b) h).0) (absent_in y env b (or_parts (stands_in (the_label y) env a) (stands_in (the_label y) env b) h).1)
   absent_in y env (t.while l b e c) h = absent_in y env c h
   absent_in y env (t.switch l e c) h = absent_in y env c h
   absent_in y env (t.block l t.no_declarations cs) h = absent_in_each y env cs h
@@ -78,8 +65,8 @@ mutual
   absent_in_each : (y : List ℕ) (env : Environment) (cs : Actions) → stands_in_one (the_label y) env cs ≡ false → Absent y (labels_of_each cs)
   absent_in_each y env t.no_actions h = tt
   absent_in_each y env (t.also c cs) h =
-      absent_both y (labels_of c) (labels_of_each cs) (absent_in y env c (or_first_false (stands_in (the_label y) env c) (stands_in_one (the_label y) env cs) h))
-      (absent_in_each y env cs (or_second_false (stands_in (the_label y) env c) (stands_in_one (the_label y) env cs) h))
+      absent_both y (labels_of c) (labels_of_each cs) (absent_in y env c (or_parts (stands_in (the_label y) env c) (stands_in_one (the_label y) env cs) h).0)
+      (absent_in_each y env cs (or_parts (stands_in (the_label y) env c) (stands_in_one (the_label y) env cs) h).1)
 
 bound_past : (y : List ℕ) (xs : List (List ℕ)) (k j : ℕ) (bs : List Binding) → Absent y xs → bound_in (labels_in_scope k j xs bs) y ≡ bound_in bs y
 bound_past y [] k j bs a = refl

@@ -1,6 +1,5 @@
 -- What a call leaves in the store: the links of the new frame, the arguments behind them, and all else as it was.
-use Rattle.bk_simulation.proofs.Words.{◌≡◌, ◌≢◌, ℕ, zero, suc, ◌+◌, ◌<◌, ◌≤◌, List, [], ◌∷◌, length, Some, refl, ap, ◌∙◌, arith, ◌⊎◌, inl, inr, slice_get, Value, unset, holds, formal_cells, Word, Variable, Link, Cell, Held, content_of, write, below, settle, settle-kept}
-use Rattle.bk_meaning.specs.Values.{Cell as Cell_of}
+use Rattle.bk_simulation.proofs.Words.{◌≡◌, ◌≢◌, ℕ, zero, suc, ◌+◌, ◌<◌, ◌≤◌, List, [], ◌∷◌, length, Some, refl, ap, ◌∙◌, arith, ◌⊎◌, inl, inr, slice_get, Value, unset, holds, formal_cells, Word, Variable, Link, Cell, Held, content_of, write, below, settle, settle-kept, Cell_of}
 use Rattle.bk_simulation.proofs.FramesKept.{LinksFrom, links_through, links_below, links_settled}
 use Rattle.bk_simulation.proofs.Memory.{Like, like_refl, like_on}
 use Rattle.bk_simulation.proofs.WrittenCells.{written, untouched, below_at, settle_at}

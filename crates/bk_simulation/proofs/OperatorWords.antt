@@ -1,12 +1,7 @@
 -- The operators of the meaning on values, and those of OCODE on the words that stand for them.
-use Rattle.bk_simulation.proofs.Words.{◌≡◌, ◌≢◌, ℕ, ◌+◌, ◌-◌, ◌<◌, ◌≤◌, ◌%◌, ◌^◌, ◌==◌, nat_lt, nat_le, Bool, true, false, not, cond, pos, int_lt, List, length, Option, Some, None, refl, sym, ap, ◌∙◌, subst, if◌then◌else◌, arith, int_le, option_map, ints, nat_tests, signed, truth, word_sum, word_difference, word_quotient, word_remainder, word_less, word_greater, word_at_most, word_at_least, word_negation, word_not, infix_word, Operator, Value, number, address, procedure, routine, unset, cells_at, lives, World, Outcome, gives, ends, undefined, divide_by_zero, given, either, sum, difference, lies_within, truth_of_value, equals_zero, equal, ordered, on_numbers, truth_number, operate, operate_prefix, Content, Word, Cell, quotient, dyadic_word}
-use Rattle.std.proofs.lemmas.Bool.{eqb-true}
-use Rattle.bk_tree.specs.declared.tree.Operator.TheVariants as o
-use Rattle.bk_tree.specs.declared.tree.Prefix.TheVariants as q
-use Rattle.bk_meaning.specs.Values.{Cell as Cell_of}
-use Rattle.bk_meaning.specs.Operators.{within}
-use Rattle.bk_ocode.specs.declared.stmt.Dyadic.{Dyadic}
-use Rattle.bk_ocode.specs.declared.stmt.Dyadic.TheVariants as d
+use Rattle.bk_simulation.proofs.Lists.{by_option}
+use Rattle.bk_simulation.proofs.Words.{◌≡◌, ◌≢◌, ℕ, ◌+◌, ◌-◌, ◌<◌, ◌≤◌, ◌%◌, ◌^◌, ◌==◌, nat_lt, nat_le, Bool, true, false, not, cond, pos, int_lt, List, length, Option, Some, None, refl, sym, ap, ◌∙◌, subst, if◌then◌else◌, arith, int_le, option_map, ints, nat_tests, signed, truth, word_sum, word_difference, word_quotient, word_remainder, word_less, word_greater, word_at_most, word_at_least, word_negation, word_not, infix_word, Operator, Value, number, address, procedure, routine, unset, cells_at, lives, World, Outcome, gives, ends, undefined, divide_by_zero, given, either, sum, difference, lies_within, truth_of_value, equals_zero, equal, ordered, on_numbers, truth_number, operate, operate_prefix, Content, Word, Cell, quotient, dyadic_word, cond_some, leb-true, eqb-true}
+use Rattle.bk_simulation.proofs.Terms.{Operator as o, Prefix as q, within, Dyadic, Dyadic as d}
 use Rattle.bk_simulation.proofs.Memory.{BaseOf, Alive, Codes, Stands, Fits, one_base}
 use Rattle.bk_simulation.proofs.MadeObjects.{alive_from}
 
@@ -36,9 +31,6 @@ dyadic_of _ = None
 add_offset : (b i y : ℕ) → ((b + i) % 2 ^ 32 + y) % 2 ^ 32 ≡ (b + (i + y) % 2 ^ 32) % 2 ^ 32
 add_offset b i y = omega arith
 
-offset_add : (b j x : ℕ) → (x + (b + j) % 2 ^ 32) % 2 ^ 32 ≡ (b + (x + j) % 2 ^ 32) % 2 ^ 32
-offset_add b j x = omega arith
-
 apart_by : (b i j : ℕ) → i < 2 ^ 32 → j < 2 ^ 32 → word_difference ((b + i) % 2 ^ 32) ((b + j) % 2 ^ 32) ≡ word_difference i j
 apart_by b i j hi hj = omega arith
 
@@ -67,10 +59,6 @@ shift_most b i j = grind (arith, nat_tests)
 pub some_is : {A : Type 0} (x y : A) → Some x ≡ Some y → x ≡ y
 some_is x y e = cc
 
-if_some : {A : Type 0} (b : Bool) (x y : A) → cond b (Some x) None ≡ Some y → (b ≡ true) × (x ≡ y)
-if_some true x y e = (refl, cc)
-if_some false x y e = absurd (cc)
-
 if_there : {A : Type 0} (b : Bool) (x : Option A) (y : A) → cond b x None ≡ Some y → (b ≡ true) × (x ≡ Some y)
 if_there true x y e = (refl, e)
 if_there false x y e = absurd (cc)
@@ -85,12 +73,6 @@ twice_not : (b : Bool) → b ≡ not (not b)
 twice_not true = refl
 twice_not false = refl
 
-is_most : (i n : ℕ) → nat_le i n ≡ true → i ≤ n
-is_most i n e = grind (arith, nat_tests)
-
-above_zero : (b i : ℕ) → 16 ≤ b → (b + i ≡ 0) → ⊥
-above_zero b i h z = absurd (omega arith)
-
 module _ (codes : Codes) (bases : List ℕ) (cells : ℕ → Cell) (top : ℕ) (w : World) (f : Fits codes (record { bases = bases; mem = w.memory; cells = cells }) top) where
   -- an address within a living object is a small word, and not 0
   record SmallAddress (o i b : ℕ) : Type 0 where
@@ -99,16 +81,13 @@ module _ (codes : Codes) (bases : List ℕ) (cells : ℕ → Cell) (top : ℕ) (
     set : b + i ≢ 0
 
   small_address : (a i b : ℕ) → BaseOf bases a b → within w.memory a i ≡ true → SmallAddress a i b
-  small_address a i b eb e = by_cells (cells_at w.memory a) refl e
-    where
-      by_cells : (y : Option (List Cell_of)) → cells_at w.memory a ≡ y → lies_within y i ≡ true → SmallAddress a i b
-      by_cells None ey e = absurd (cc)
-      by_cells (Some own) ey e =
-          let alive : Alive w.memory a (length own) = alive_from (cells_at w.memory a) own ey in
-          let le : i ≤ length own = is_most i (length own) e in
-          let small : b + length own ≤ 2 ^ 31 - 1 = f.small a (length own) b alive eb in
-          let high : 16 ≤ b = f.set a (length own) b alive eb in
-          record { is_word = omega arith; small = omega arith; set = λ z. above_zero b i high z }
+  small_address a i b eb e =
+      by_option (λ y. lies_within y i ≡ true → SmallAddress a i b) (cells_at w.memory a) (λ _ e. absurd (cc)) (λ own ey e.
+      let alive : Alive w.memory a (length own) = alive_from (cells_at w.memory a) own ey in
+      let le : i ≤ length own = leb-true i (length own) e in
+      let small : b + length own ≤ 2 ^ 31 - 1 = f.small a (length own) b alive eb in
+      let high : 16 ≤ b = f.set a (length own) b alive eb in
+      record { is_word = omega arith; small = omega arith; set = λ z. absurd (omega arith) }) e
 
   -- ---- what counts as true
 
@@ -120,7 +99,7 @@ module _ (codes : Codes) (bases : List ℕ) (cells : ℕ → Cell) (top : ℕ) (
   pub judged_word : (v : Value) (x : Content) (t : Bool) → Stands codes bases v x → truth_of_value w.memory v ≡ Some t → Judged x t
   judged_word (number n) x t s e = record { word = n; is_word = s; zero_if = twice_not (n == 0) ∙ ap not (some_is _ t e) }
   judged_word (address a i) x t s e =
-      let h = if_some (within w.memory a i) true t e in
+      let h = cond_some (within w.memory a i) true t e in
       let m = small_address a i s.0 s.1 h.0 in
       record { word = s.0 + i; is_word = s.3 ∙ ap Word m.is_word; zero_if = not_zero (s.0 + i) m.set ∙ ap not h.1 }
   judged_word (procedure n) x t s e = record { word = codes.procedure n; is_word = s; zero_if = not_zero (codes.procedure n) (codes.procedure_set n) ∙ ap not (some_is _ t e) }
@@ -156,20 +135,20 @@ module _ (codes : Codes) (bases : List ℕ) (cells : ℕ → Cell) (top : ℕ) (
   sum_applied (number a) (number b) r x y su sv e = numbers_applied d.Add a b (word_sum a b) x y r su sv refl (some_is _ r e)
   sum_applied (address a i) (number n) r x y su sv e =
       address_applied d.Add ((su.0 + i) % 2 ^ 32) n a (word_sum i n) su.0 x y r su.3 sv su.1 (low_word (i + n)) (ap (λ z. Some z) (add_offset su.0 i n))
-      (if_some (lives w.memory a) (address a (word_sum i n)) r e).1
+      (cond_some (lives w.memory a) (address a (word_sum i n)) r e).1
   sum_applied (number n) (address b j) r x y su sv e =
-      address_applied d.Add n ((sv.0 + j) % 2 ^ 32) b (word_sum n j) sv.0 x y r su sv.3 sv.1 (low_word (n + j)) (ap (λ z. Some z) (offset_add sv.0 j n))
-      (if_some (lives w.memory b) (address b (word_sum n j)) r e).1
+      address_applied d.Add n ((sv.0 + j) % 2 ^ 32) b (word_sum n j) sv.0 x y r su sv.3 sv.1 (low_word (n + j)) (ap (λ z. Some z) (let q : (n + (sv.0 + j) % 2 ^ 32) % 2 ^ 32 ≡ (sv.0 + (n + j) % 2 ^ 32) % 2 ^ 32 = omega arith in q))
+      (cond_some (lives w.memory b) (address b (word_sum n j)) r e).1
   sum_applied _ _ r x y su sv e = absurd (let z : None ≡ Some r = e in cc)
 
   difference_applied : (u v r : Value) (x y : Content) → Stands codes bases u x → Stands codes bases v y → difference w.memory u v ≡ Some r → Applied d.Subtract x y r
   difference_applied (number a) (number b) r x y su sv e = numbers_applied d.Subtract a b (word_difference a b) x y r su sv refl (some_is _ r e)
   difference_applied (address a i) (number n) r x y su sv e =
       address_applied d.Subtract ((su.0 + i) % 2 ^ 32) n a (word_difference i n) su.0 x y r su.3 sv su.1 (low_word (i + (2 ^ 32 - n))) (ap (λ z. Some z) (add_offset su.0 i (2 ^ 32 - n)))
-      (if_some (lives w.memory a) (address a (word_difference i n)) r e).1
+      (cond_some (lives w.memory a) (address a (word_difference i n)) r e).1
   difference_applied (address a i) (address b j) r x y su sv e =
       let h = if_there (a == b) (cond (lives w.memory a) (Some (number (word_difference i j))) None) r e in
-      let k = if_some (lives w.memory a) (number (word_difference i j)) r h.1 in
+      let k = cond_some (lives w.memory a) (number (word_difference i j)) r h.1 in
       let same : sv.0 ≡ su.0 = one_base bases a sv.0 su.0 (subst (λ z. BaseOf bases z sv.0) (sym (eqb-true a b h.0)) sv.1) su.1 in
       numbers_applied d.Subtract ((su.0 + i) % 2 ^ 32) ((su.0 + j) % 2 ^ 32) (word_difference i j) x y r su.3 (sv.3 ∙ ap (λ z. Word ((z + j) % 2 ^ 32)) same)
       (ap (λ z. Some z) (apart_by su.0 i j su.2 sv.2)) k.1
@@ -187,13 +166,10 @@ module _ (codes : Codes) (bases : List ℕ) (cells : ℕ → Cell) (top : ℕ) (
   zero_words : (n : ℕ) (v : Value) (x y : Content) (t : Bool) → x ≡ Word n → Stands codes bases v y → equals_zero w.memory n v ≡ Some t → EqualWords x y t
   zero_words n v x y t ex sv e =
       let h = if_there (n == 0) (option_map not (truth_of_value w.memory v)) t e in
-      by_truth (truth_of_value w.memory v) refl (eqb-true n 0 h.0) h.1
-    where
-      by_truth : (o : Option Bool) → truth_of_value w.memory v ≡ o → n ≡ 0 → option_map not o ≡ Some t → EqualWords x y t
-      by_truth None eo ez e = absurd (cc)
-      by_truth (Some s) eo ez e =
-          let j = judged_word v y s sv eo in
-          record { left = n; right = j.word; is_left = ex; is_right = j.is_word; same = ap (λ z. z == j.word) ez ∙ turned 0 j.word ∙ j.zero_if ∙ some_is _ t e }
+      let ez = eqb-true n 0 h.0 in
+      by_option (λ o. option_map not o ≡ Some t → EqualWords x y t) (truth_of_value w.memory v) (λ _ e. absurd (cc)) (λ s eo e.
+      let j = judged_word v y s sv eo in
+      record { left = n; right = j.word; is_left = ex; is_right = j.is_word; same = ap (λ z. z == j.word) ez ∙ turned 0 j.word ∙ j.zero_if ∙ some_is _ t e }) h.1
 
   other_words : (x y : Content) (t : Bool) → EqualWords x y t → EqualWords y x t
   other_words x y t h = record { left = h.right; right = h.left; is_left = h.is_right; is_right = h.is_left; same = turned h.right h.left ∙ h.same }
@@ -202,7 +178,7 @@ module _ (codes : Codes) (bases : List ℕ) (cells : ℕ → Cell) (top : ℕ) (
   equal_words (number a) (number b) x y t su sv e = record { left = a; right = b; is_left = su; is_right = sv; same = some_is _ t e }
   equal_words (address a i) (address b j) x y t su sv e =
       let h = if_there (a == b) (cond (lives w.memory a) (Some (i == j)) None) t e in
-      let k = if_some (lives w.memory a) (i == j) t h.1 in
+      let k = cond_some (lives w.memory a) (i == j) t h.1 in
       let same : sv.0 ≡ su.0 = one_base bases a sv.0 su.0 (subst (λ z. BaseOf bases z sv.0) (sym (eqb-true a b h.0)) sv.1) su.1 in
       record {
         left = (su.0 + i) % 2 ^ 32;
@@ -221,23 +197,12 @@ module _ (codes : Codes) (bases : List ℕ) (cells : ℕ → Cell) (top : ℕ) (
   equal_words unset (number b) x y t su sv e = other_words y x t (zero_words b unset y x t sv su e)
   equal_words _ _ x y t su sv e = absurd (let z : None ≡ Some t = e in cc)
 
-  equal_applied : (u v r : Value) (x y : Content) → Stands codes bases u x → Stands codes bases v y → option_map truth_number (equal w.memory u v) ≡ Some r → Applied d.Equal x y r
-  equal_applied u v r x y su sv e = by_truth (equal w.memory u v) refl e
-    where
-      by_truth : (o : Option Bool) → equal w.memory u v ≡ o → option_map truth_number o ≡ Some r → Applied d.Equal x y r
-      by_truth None eo e = absurd (cc)
-      by_truth (Some t) eo e =
-          let h = equal_words u v x y t su sv eo in
-          numbers_applied d.Equal h.left h.right (truth t) x y r h.is_left h.is_right (ap (λ z. Some (truth z)) h.same) (some_is _ r e)
-
-  unequal_applied : (u v r : Value) (x y : Content) → Stands codes bases u x → Stands codes bases v y → option_map (λ b. truth_number (not b)) (equal w.memory u v) ≡ Some r → Applied d.Unequal x y r
-  unequal_applied u v r x y su sv e = by_truth (equal w.memory u v) refl e
-    where
-      by_truth : (o : Option Bool) → equal w.memory u v ≡ o → option_map (λ b. truth_number (not b)) o ≡ Some r → Applied d.Unequal x y r
-      by_truth None eo e = absurd (cc)
-      by_truth (Some t) eo e =
-          let h = equal_words u v x y t su sv eo in
-          numbers_applied d.Unequal h.left h.right (truth (not t)) x y r h.is_left h.is_right (ap (λ z. Some (truth (not z))) h.same) (some_is _ r e)
+  equal_applied : (op : Dyadic) (g : Bool → Bool) → ((a b : ℕ) → dyadic_word op a b ≡ Some (truth (g (a == b)))) → (u v r : Value) (x y : Content) → Stands codes bases u x → Stands codes bases v y
+      → option_map (λ b. truth_number (g b)) (equal w.memory u v) ≡ Some r → Applied op x y r
+  equal_applied op g is u v r x y su sv e =
+      by_option (λ o. option_map (λ b. truth_number (g b)) o ≡ Some r → Applied op x y r) (equal w.memory u v) (λ _ e. absurd (cc)) (λ t eo e.
+      let h = equal_words u v x y t su sv eo in
+      numbers_applied op h.left h.right (truth (g t)) x y r h.is_left h.is_right (is h.left h.right ∙ ap (λ z. Some (truth (g z))) h.same) (some_is _ r e)) e
 
   -- ---- order
 
@@ -312,8 +277,8 @@ module _ (codes : Codes) (bases : List ℕ) (cells : ℕ → Cell) (top : ℕ) (
   pub operates : (q : Operator) (u v : Value) (x y : Content) → Stands codes bases u x → Stands codes bases v y → ByOperator (dyadic_of q) x y (operate q u v w)
   operates o.Add u v x y su sv = given_as d.Add x y (sum w.memory u v) (λ r e. sum_applied u v r x y su sv e)
   operates o.Subtract u v x y su sv = given_as d.Subtract x y (difference w.memory u v) (λ r e. difference_applied u v r x y su sv e)
-  operates o.Equal u v x y su sv = given_as d.Equal x y _ (λ r e. equal_applied u v r x y su sv e)
-  operates o.Unequal u v x y su sv = given_as d.Unequal x y _ (λ r e. unequal_applied u v r x y su sv e)
+  operates o.Equal u v x y su sv = given_as d.Equal x y _ (λ r e. equal_applied d.Equal (λ b. b) (λ a b. refl) u v r x y su sv e)
+  operates o.Unequal u v x y su sv = given_as d.Unequal x y _ (λ r e. equal_applied d.Unequal not (λ a b. refl) u v r x y su sv e)
   operates o.Less u v x y su sv = given_as d.Less x y _ (λ r e. less_applied u v r x y su sv e)
   operates o.Greater u v x y su sv = given_as d.Greater x y _ (λ r e. greater_applied u v r x y su sv e)
   operates o.AtMost u v x y su sv = given_as d.AtMost x y _ (λ r e. at_most_applied u v r x y su sv e)
@@ -343,7 +308,3 @@ module _ (codes : Codes) (bases : List ℕ) (cells : ℕ → Cell) (top : ℕ) (
   pub inverts : (v : Value) (x : Content) → Stands codes bases v x → PrefixedAs word_not x (operate_prefix q.Not v w)
   inverts (number n) x s = (refl, n, s, refl)
   inverts _ x s = tt
-
-  pub stays : (v : Value) (x : Content) → Stands codes bases v x → PrefixedAs (λ n. n) x (operate_prefix q.Plus v w)
-  stays (number n) x s = (refl, n, s, refl)
-  stays _ x s = tt

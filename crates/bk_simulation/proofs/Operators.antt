@@ -1,24 +1,10 @@
 -- What is done with one value and with two: `!`, `@`, signs, NOT, and the operators. Truth where it is asked for: values, NOT, `&` and `|`; and `->`.
-use Rattle.bk_simulation.proofs.Words.{◌≡◌, ℕ, ◌+◌, ◌<◌, ◌≤◌, List, ◌∷◌, ◌++◌, Option, Some, None, refl, sym, ap, subst, arith, ◌-◌, ◌*◌, ◌%◌, ◌^◌, Bool, true, false, length, ◌∙◌, option_map, word_negation, word_not, signed, word_of, truth as truth_word, Operator, Word, content_of, Content, Unset, Temporary, Held, write, below, Inside, State, dyadic_word, named_place, DivideByZero, Stmt, Monadic, Dyadic, LoadByte, Number, True, False, Query, Load, Address, Text, infix_code, variable, push, truth_value, Value, number, address, unset, read, read_byte, World, Outcome, gives, ends, undefined, given, with, sum, operate, operate_prefix, fetch, Meanings, named, combined, Expression, past, Sense, constant, cell, sense_of, Adds, adds, with_after, of_z-to_z, Bound, bound_in, Local, Static, Target, meant, not, from_label, Label, GiveResult, TakeResult, Environment, either, history, stays, either_after}
-use Rattle.bk_ocode.specs.declared.stmt.Dyadic.{Dyadic as Two_word}
-use Rattle.bk_simulation.proofs.Moves.{contents_moves, negate_moves, not_moves, dyadic_moves, load_byte_moves, Moves, number_moves, true_moves, false_moves, query_moves, load_moves, address_moves, text_moves, dyadic_ends}
-use Rattle.bk_simulation.proofs.Memory.{Stands, fits_more, BaseOf, Grown, Store}
-use Rattle.bk_simulation.proofs.WrittenCells.{read_at, variable_found, read_here}
-use Rattle.bk_simulation.proofs.CellBytes.{read_byte_at}
-use Rattle.bk_simulation.proofs.OperatorWords.{operates, sum_applied, negates, inverts, PrefixedAs, OperatedAs}
-use Rattle.bk_simulation.proofs.Laid.{Setting, IsValue, named_word, Scene, LabelAt, IsJump}
-use Rattle.bk_simulation.proofs.Frame.{Configuration, Account, there, Has, went, start, Ready, Ran, with_ran, CompletedAt, Out, next, ready_next, store, state, place_of, IsWord, NameAt, by_option, Completed}
+use Rattle.bk_simulation.proofs.Words.{on_number, step_by, slot, Goes, ◌≡◌, ℕ, ◌+◌, ◌<◌, ◌≤◌, List, ◌∷◌, ◌++◌, Option, Some, None, refl, sym, ap, subst, arith, ◌-◌, ◌*◌, ◌%◌, ◌^◌, Bool, true, false, length, ◌∙◌, option_map, signed, word_of, truth as truth_word, Operator, Word, content_of, Content, Unset, Temporary, Held, write, below, Inside, State, dyadic_word, named_place, DivideByZero, Stmt, Monadic, Dyadic, LoadByte, Number, True, False, Query, Load, Address, Text, infix_code, variable, push, truth_value, Value, number, address, unset, read, read_byte, World, Outcome, gives, ends, undefined, given, with, sum, operate, operate_prefix, fetch, Meanings, named, combined, Expression, past, Sense, constant, cell, sense_of, Adds, adds, with_after, of_z-to_z, Bound, bound_in, Local, Static, Target, meant, not, from_label, Label, GiveResult, TakeResult, Environment, either, history, stays, either_after, w32}
+use Rattle.bk_simulation.proofs.Situations.{by_option, contents_moves, dyadic_moves, load_byte_moves, Moves, dyadic_ends, does, one_off, pushed, Stands, fits_more, BaseOf, Grown, Store, read_at, variable_found, read_here, read_byte_at, operates, sum_applied, PrefixedAs, OperatedAs, Setting, IsValue, named_word, Scene, LabelAt, IsJump, Configuration, Account, there, Has, went, start, Ready, Ran, with_ran, CompletedAt, Out, next, ready_next, store, state, place_of, NameAt, Completed, turns_of, IsWord}
+use Rattle.bk_simulation.proofs.Terms.{Dyadic as Two_word, Monadic as Monadic_word, Variable as Named, Operator as o, Prefix as q, Dyadic as two, Monadic as m, Bound as b}
 use Rattle.bk_simulation.proofs.Compose.{topped, completed_more, completed_on, ran_on, ran_first, ran_more, above, stay}
-use Rattle.bk_simulation.proofs.Weights.{turns_of}
 use Rattle.bk_simulation.proofs.Simulates.{Simulates, for_value, for_truth, where_to, HasTruth}
-use Rattle.std.specs.Int.{w32}
-use Rattle.bk_ocode.specs.declared.stmt.Variable.{Variable as Named}
 use Rattle.bk_simulation.proofs.ControlSteps.{label_on, landed_on, result_on, taken_on}
-use Rattle.bk_tree.specs.declared.tree.Operator.TheVariants as o
-use Rattle.bk_tree.specs.declared.tree.Prefix.TheVariants as q
-use Rattle.bk_ocode.specs.declared.stmt.Dyadic.TheVariants as two
-use Rattle.bk_ocode.specs.declared.stmt.Monadic.TheVariants as m
-use Rattle.bk_scope.specs.declared.bound.Bound.TheVariants as b
 
 -- ---- Values without parts: numbers, names, strings, tables, TRUE, FALSE and `?`.
 
@@ -44,41 +30,38 @@ pub number_runs : (setting : Setting) (B : Account) (z : Configuration) (c : Lis
     → RanValue setting (start z c w) B z rest w (gives (number n) w)
 number_runs setting B z c n rest w le le' ec lt r =
     went (pushes_item setting B z c (Number (signed n)) rest w (number n) (Word (word_of (signed n))) le le' ec r (ap Word (same_number n lt))
-    (number_moves setting.program (start z (Number (signed n) ∷ rest) w) z.scene.own rest z.depth (signed n) refl))
+    (does setting.program (start z (Number (signed n) ∷ rest) w) z.scene.own rest z.depth (Number (signed n)) refl refl refl))
 
 pub truth_runs : (setting : Setting) (B : Account) (z : Configuration) (c : List Stmt) (t : Bool) (rest : List Stmt) (w : World) → 16 * w.turns + 1 ≤ B.most → B.least ≤ w.turns → c ≡ truth_value t ∷ rest → Ready setting z w
     → RanValue setting (start z c w) B z rest w (gives (number (truth_word t)) w)
 truth_runs setting B z c true rest w le le' ec r =
-    went (pushes_item setting B z c True rest w (number (truth_word true)) (Word (truth_word true)) le le' ec r refl (true_moves setting.program (start z (True ∷ rest) w) z.scene.own rest z.depth refl))
+    went (pushes_item setting B z c True rest w (number (truth_word true)) (Word (truth_word true)) le le' ec r refl (does setting.program (start z (True ∷ rest) w) z.scene.own rest z.depth True refl refl refl))
 truth_runs setting B z c false rest w le le' ec r =
-    went (pushes_item setting B z c False rest w (number (truth_word false)) (Word (truth_word false)) le le' ec r refl (false_moves setting.program (start z (False ∷ rest) w) z.scene.own rest z.depth refl))
+    went (pushes_item setting B z c False rest w (number (truth_word false)) (Word (truth_word false)) le le' ec r refl (does setting.program (start z (False ∷ rest) w) z.scene.own rest z.depth False refl refl refl))
 
 pub query_runs : (setting : Setting) (B : Account) (z : Configuration) (c : List Stmt) (rest : List Stmt) (w : World) → 16 * w.turns + 1 ≤ B.most → B.least ≤ w.turns → c ≡ Query ∷ rest → Ready setting z w
     → RanValue setting (start z c w) B z rest w (gives unset w)
 query_runs setting B z c rest w le le' ec r =
-    went (pushes_item setting B z c Query rest w unset Unset le le' ec r tt (query_moves setting.program (start z (Query ∷ rest) w) z.scene.own rest z.depth refl))
-
-small_base : (base : ℕ) → base < 2 ^ 32 → base ≡ (base + 0) % 2 ^ 32
-small_base base lt = omega arith
+    went (pushes_item setting B z c Query rest w unset Unset le le' ec r tt (does setting.program (start z (Query ∷ rest) w) z.scene.own rest z.depth Query refl refl refl))
 
 -- the address of an object that lasts
 lasting_stands : (setting : Setting) (bases : List ℕ) (o base : ℕ) → Grown setting.lasting bases → BaseOf setting.lasting o base → Stands setting.codes bases (address o 0) (Word base)
 lasting_stands setting bases o base grown e =
     let low : base < 2 ^ 32 = setting.lasting_low o base e in
-    let zero : base ≡ (base + 0) % 2 ^ 32 = small_base base low in
+    let zero : base ≡ (base + 0) % 2 ^ 32 = omega arith in
     (base, grown.each o base e, omega arith, ap Word zero)
 
 pub text_runs : (setting : Setting) (B : Account) (z : Configuration) (c : List Stmt) (bytes : List ℕ) (rest : List Stmt) (w : World) (o : ℕ) → 16 * w.turns + 1 ≤ B.most → B.least ≤ w.turns → c ≡ Text bytes ∷ rest
     → BaseOf setting.lasting o (z.scene.own.places.text (length rest)) → Ready setting z w → RanValue setting (start z c w) B z rest w (gives (address o 0) w)
 text_runs setting B z c bytes rest w o le le' ec e r =
     went (pushes_item setting B z c (Text bytes) rest w (address o 0) (Word (z.scene.own.places.text (length rest))) le le' ec r (lasting_stands setting z.bases o _ r.lasts e)
-    (text_moves setting.program (start z (Text bytes ∷ rest) w) z.scene.own rest z.depth bytes refl))
+    (does setting.program (start z (Text bytes ∷ rest) w) z.scene.own rest z.depth (Text bytes) refl refl refl))
 
 pub table_runs : (setting : Setting) (B : Account) (z : Configuration) (c : List Stmt) (n : ℕ) (rest : List Stmt) (w : World) (o : ℕ) → 16 * w.turns + 1 ≤ B.most → B.least ≤ w.turns → c ≡ Address (Static n) ∷ rest
     → BaseOf setting.lasting o (z.scene.own.places.label n) → Ready setting z w → RanValue setting (start z c w) B z rest w (gives (address o 0) w)
 table_runs setting B z c n rest w o le le' ec e r =
     went (pushes_item setting B z c (Address (Static n)) rest w (address o 0) (Word (z.scene.own.places.label n)) le le' ec r (lasting_stands setting z.bases o _ r.lasts e)
-    (address_moves setting.program (start z (Address (Static n) ∷ rest) w) z.scene.own rest z.depth (Static n) refl))
+    (does setting.program (start z (Address (Static n) ∷ rest) w) z.scene.own rest z.depth (Address (Static n)) refl refl refl))
 
 -- the place that a statement names
 pub named_at : (z : Configuration) (c : List Stmt) (w : World) (v : Named) → named_place (start z c w) z.scene.own v ≡ place_of z.scene.own z.frame v
@@ -101,7 +84,7 @@ cell_runs setting B z c x rest w o i base le le' ec r eb ep (Some v) h =
     let here : z.cells (named_place s z.scene.own (named_word z.scene x)) ≡ z.cells (base + i) = ap z.cells (named_at z (Load (named_word z.scene x) ∷ rest) w (named_word z.scene x) ∙ sym ep) in
     went (pushes_item setting B z c (Load (named_word z.scene x)) rest w v (content_of (z.cells (named_place s z.scene.own (named_word z.scene x)))) le le' ec r
     (subst (λ k. Stands setting.codes z.bases v k) (sym (ap content_of (here ∙ f.there))) f.stands)
-    (load_moves setting.program s z.scene.own rest z.depth (named_word z.scene x) refl))
+    (does setting.program s z.scene.own rest z.depth (Load (named_word z.scene x)) refl refl refl))
 
 pub name_runs : (setting : Setting) (B : Account) (z : Configuration) (c : List Stmt) (x : List ℕ) (rest : List Stmt) (w : World) → 16 * w.turns + 1 ≤ B.most → B.least ≤ w.turns → c ≡ push z.scene.targets (meant (bound_in z.scene.bindings x)) ∷ rest
     → Ready setting z w → RanValue setting (start z c w) B z rest w (named (sense_of x z.env) w)
@@ -161,25 +144,15 @@ contents_run setting s A B z rest w w1 u le le' dp a = by_option (λ y. RanValue
     (variable_found (z.frame + (z.depth + 1)) (f.base + f.offset) a.arr.cells1 k (omega arith) f.cell.there))))
 
 -- a sign or NOT
-pub minus_run : (setting : Setting) (s : State) (A B : Account) (z : Configuration) (rest : List Stmt) (w w1 : World) (u : Value) → A.most + 1 ≤ B.most → B.least ≤ A.least → 2 ≤ z.depth
-    → Has setting s A z (Monadic m.Negate ∷ rest) (z.depth + 1) w u w1 → RanValue setting s B z rest w (operate_prefix q.Minus u w1)
-minus_run setting s A B z rest w w1 u le le' dp a = by_outcome (operate_prefix q.Minus u w1) (negates setting.codes a.arr.bases1 a.arr.cells1 (z.frame + z.depth) w1 a.arr.fits u _ a.stands)
-  where
-    by_outcome : (y : Outcome Value) → PrefixedAs setting.codes a.arr.bases1 a.arr.cells1 (z.frame + z.depth) w1 a.arr.fits word_negation (content_of (a.arr.cells1 (z.frame + z.depth))) y → RanValue setting s B z rest w y
-    by_outcome (gives v w2) h = subst (λ x. RanValue setting s B z rest w (gives v x)) (sym h.0) (went (topped _ le le' dp a.arr h.3
-        (negate_moves setting.program (there setting s A z (Monadic m.Negate ∷ rest) (z.depth + 1) w w1 a.arr) z.scene.own rest z.depth h.1 refl h.2)))
-    by_outcome undefined h = went tt
-    by_outcome _ h = absurd h
-
-pub not_run : (setting : Setting) (s : State) (A B : Account) (z : Configuration) (rest : List Stmt) (w w1 : World) (u : Value) → A.most + 1 ≤ B.most → B.least ≤ A.least → 2 ≤ z.depth
-    → Has setting s A z (Monadic m.Not ∷ rest) (z.depth + 1) w u w1 → RanValue setting s B z rest w (operate_prefix q.Not u w1)
-not_run setting s A B z rest w w1 u le le' dp a = by_outcome (operate_prefix q.Not u w1) (inverts setting.codes a.arr.bases1 a.arr.cells1 (z.frame + z.depth) w1 a.arr.fits u _ a.stands)
-  where
-    by_outcome : (y : Outcome Value) → PrefixedAs setting.codes a.arr.bases1 a.arr.cells1 (z.frame + z.depth) w1 a.arr.fits word_not (content_of (a.arr.cells1 (z.frame + z.depth))) y → RanValue setting s B z rest w y
-    by_outcome (gives v w2) h = subst (λ x. RanValue setting s B z rest w (gives v x)) (sym h.0) (went (topped _ le le' dp a.arr h.3
-        (not_moves setting.program (there setting s A z (Monadic m.Not ∷ rest) (z.depth + 1) w w1 a.arr) z.scene.own rest z.depth h.1 refl h.2)))
-    by_outcome undefined h = went tt
-    by_outcome _ h = absurd h
+pub sign_run : (setting : Setting) (s : State) (A B : Account) (z : Configuration) (op : Monadic_word) (f : ℕ → ℕ) (rest : List Stmt) (w w1 : World) (u : Value) (y : Outcome Value)
+    → ((t : State) (k : ℕ) → step_by setting.program.callables t z.scene.own k (Monadic op) rest ≡ on_number (slot t (k - 1)) (λ n. Goes (pushed t z.scene.own (k - 1) rest (Word (f n)))))
+    → A.most + 1 ≤ B.most → B.least ≤ A.least → 2 ≤ z.depth → (a : Has setting s A z (Monadic op ∷ rest) (z.depth + 1) w u w1)
+    → PrefixedAs setting.codes a.arr.bases1 a.arr.cells1 (z.frame + z.depth) w1 a.arr.fits f (content_of (a.arr.cells1 (z.frame + z.depth))) y → RanValue setting s B z rest w y
+sign_run setting s A B z op f rest w w1 u (gives v w2) is le le' dp a h =
+    let t = there setting s A z (Monadic op ∷ rest) (z.depth + 1) w w1 a.arr in
+    subst (λ x. RanValue setting s B z rest w (gives v x)) (sym h.0) (went (topped _ le le' dp a.arr h.3 (does setting.program t z.scene.own rest (z.depth + 1) (Monadic op) refl (is t (z.depth + 1) ∙ rw (one_off z.depth, h.2)) refl)))
+sign_run setting s A B z op f rest w w1 u undefined is le le' dp a h = went tt
+sign_run setting s A B z op f rest w w1 u _ is le le' dp a h = absurd h
 
 -- `+` before a number has no code
 pub plus_run : (setting : Setting) (s : State) (A B : Account) (z : Configuration) (rest : List Stmt) (w w1 : World) (u : Value) → A.most ≤ B.most → B.least ≤ A.least

@@ -1,22 +1,12 @@
 -- Commands in order, and what seeking finds in them.
 use Rattle.bk_simulation.proofs.Words.{◌≡◌, Bool, true, false, ◌||◌, cond, List, refl, sym, ap, ◌∙◌, subst, arith, Stmt, Action, Actions, Environment, past_action, Sought, Mode, forwards, seeking, stands_in, stands_in_one, World, with, either, history, Meanings, in_order, Adds, adds, stays, with_after, either_after}
+use Rattle.bk_simulation.proofs.Situations.{by_test, not_true, same_stands_one, Setting, IsAct, AreActs, Entered, EnteredAny, Configuration, start, Ready, went, with_ran, next, named_again, ready_in, ready_next}
 use Rattle.bk_tree.specs.Tree as t
-use Rattle.bk_simulation.proofs.Sought.{same_stands_one}
-use Rattle.bk_simulation.proofs.Laid.{Setting, IsAct, AreActs, Entered, EnteredAny}
-use Rattle.bk_simulation.proofs.Frame.{Configuration, start, Ready, went, with_ran, next, named_again, ready_in, ready_next}
 use Rattle.bk_simulation.proofs.Compose.{stay, comes_to, ran_first, ran_more, completed_more}
 use Rattle.bk_simulation.proofs.Simulates.{Simulates, for_act, for_scope, Did, RanDid}
 
--- a truth is tested, and its case is known
-pub by_test : {A : Type 0} (b : Bool) → (b ≡ true → A) → (b ≡ false → A) → A
-by_test true h k = h refl
-by_test false h k = k refl
-
 pub or_second : (a b : Bool) → (a || b) ≡ true → a ≡ false → b ≡ true
 or_second a b h e = cc
-
-pub not_true : {A : Type 0} → false ≡ true → A
-not_true h = absurd (cc)
 
 -- what commands in order add
 pub order_adds : (setting : Setting) (inner : Meanings) → Simulates setting inner → (cs : Actions) (mode : Mode) (env : Environment) → Adds (in_order inner cs mode env)

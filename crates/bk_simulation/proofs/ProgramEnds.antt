@@ -1,20 +1,10 @@
 -- How the program ends where the call of START ends, comes on or falls.
-use Rattle.bk_simulation.proofs.Words.{◌≡◌, ℕ, zero, suc, ◌+◌, ◌*◌, ◌≤◌, List, ◌++◌, Option, Some, None, refl, sym, ap, ◌∙◌, subst, arith, ◌⊎◌, ⊎_elim, inl, inr, max, [], ◌∷◌, length, FRAME_WORDS, State, Goes, Ends, At, global_place, program_step, run, HasFrames, Value, procedure, address, World, Outcome, gives, leaves, ends, undefined, going, each_way, calls_back, status, calling, making, Run, Going, Undefined, run_of, first_world, started, means, option_map, number_in, Unset, Word, content_of, first_cells, first_state, Entry, read, Environment, globals_object, Procedure, procedure_of, first_memory, history, After, Meanings, enter, call, run_body, bind_formals, formal_cells, closing_after}
-use Rattle.bk_base.specs.declared.run_end.End.{End}
+use Rattle.bk_simulation.proofs.Words.{◌≡◌, ℕ, zero, suc, ◌+◌, ◌*◌, ◌≤◌, List, ◌++◌, Option, Some, None, refl, sym, ap, ◌∙◌, subst, arith, ◌⊎◌, ⊎_elim, inl, inr, max, [], ◌∷◌, length, FRAME_WORDS, State, Goes, Ends, At, global_place, program_step, run, HasFrames, Value, procedure, address, World, Outcome, gives, leaves, ends, undefined, going, each_way, calls_back, status, calling, making, Run, Going, Undefined, run_of, first_world, started, means, option_map, number_in, Unset, Word, content_of, first_cells, first_state, Entry, read, Environment, globals_object, Procedure, procedure_of, first_memory, history, After, Meanings, enter, call, run_body, bind_formals, formal_cells, closing_after, End, settled, end_of, IsTooHigh, EndsWithin, ComesWithin, RunsOut, DoesEnd, Does, DoesFrom, drop}
+use Rattle.bk_simulation.proofs.Pieces.{settled_step, entry_settled, Setting, FewFrames, Account, Reaches, Stopped, Fell, FallsThose, Ran, Went, Falls, state, run_after, goes_on_so, RunSo, comes_run, roomy, Simulates, by_option}
 use Rattle.bk_meaning.specs.World as world
-use Rattle.bk_meaning.specs.Program.{Ends as Finishes}
-use Rattle.bk_simulation.specs.GoingOn.{settled}
-use Rattle.bk_simulation.specs.Simulation.{end_of, IsTooHigh, EndsWithin, ComesWithin, RunsOut, DoesEnd, Does, DoesFrom}
-use Rattle.bk_simulation.proofs.Moves.{settled_step, entry_settled}
-use Rattle.bk_simulation.proofs.Laid.{Setting}
-use Rattle.bk_simulation.proofs.Frame.{FewFrames, Account, Reaches, Stopped, Fell, FallsThose, Ran, Went, Falls, state}
+use Rattle.bk_simulation.proofs.Terms.{Ends as Finishes, Program}
 use Rattle.bk_simulation.proofs.Calls.{AnyExit, AloneRuns, body_after, IsProcedure, Procedures}
 use Rattle.bk_simulation.proofs.StartRuns.{Over, FirstStore, few_first, start_runs}
-use Rattle.bk_simulation.proofs.ProgramRuns.{run_after, goes_on_so, RunSo, comes_run}
-use Rattle.std.specs.Prelude.{drop}
-use Rattle.bk_meaning.specs.Lasting.{Program}
-use Rattle.bk_simulation.proofs.Compose.{roomy}
-use Rattle.bk_simulation.proofs.Simulates.{Simulates}
 use Rattle.bk_simulation.proofs.Applied.{AloneAdds}
 
 -- the calls that a run tells of
@@ -30,15 +20,12 @@ last_or (suc (suc k)) zero le = absurd (omega arith)
 last_or (suc k) (suc n) le = ⊎_elim (λ (x : k ≤ n). inl (omega arith)) (λ (x : k ≡ suc n). inr (ap (λ y. suc y) x)) (last_or k n (omega arith))
 
 module _ (setting : Setting) (s0 s : State) (is : settled setting.program s0 ≡ s) (few : FewFrames setting s0.cells s0.frame setting.cap) where
-  ends_no_more : (k : ℕ) (t u : State) (e : End) → run setting.program k s0 ≡ Ends e u → run setting.program k s0 ≡ Goes t → ⊥
-  ends_no_more k t u e h i = absurd (let z : Ends e u ≡ Goes t = sym h ∙ i in cc)
-
   pub stopped_ends : (B : Account) (e : world.End) (w : World) (end : End) (n : ℕ) → B.most ≤ n → end_of e ≡ Some end → Stopped setting s B e w → EndsWithin setting.program setting.first s0 n setting.cap w.output w.input end
   stopped_ends B e w end n le ee q =
       let until : (k : ℕ) (t : State) (m : ℕ) → k ≤ suc q.steps → run setting.program k s0 ≡ Goes t → HasFrames setting.program setting.first FRAME_WORDS t.cells t.frame m → RunSo setting q.steps s0 q.to → run setting.program (suc q.steps) s0 ≡ Ends end q.to → m ≤ setting.cap =
       λ k t m lk h f r over.
       ⊎_elim (λ (x : k ≤ q.steps). r.frames k t x h m f)
-      (λ (x : k ≡ suc q.steps). absurd (ends_no_more (suc q.steps) t q.to end over (subst (λ j. run setting.program j s0 ≡ Goes t) x h)))
+      (λ (x : k ≡ suc q.steps). absurd (let z : Ends end q.to ≡ Goes t = sym over ∙ subst (λ j. run setting.program j s0 ≡ Goes t) x h in cc))
       (last_or k q.steps lk) in
       let r = comes_run setting q.steps q.paid s s0 q.to is few q.comes in
       let mq = q.most in
@@ -105,10 +92,6 @@ module _ (setting : Setting) (s0 s : State) (is : settled setting.program s0 ≡
   does_those n k B (going w) le ec (inr f) = subst (λ c. Does setting.program setting.first n s0 (Going w.output w.input c)) (sym ec) (inr (falls_out w.output w.most_calls ec f))
   does_those n k B _ le ec r = tt
 
-  pub does_so : (n k : ℕ) (B : Account) (o : Outcome Value) → B.most ≤ 16 * n + 16 → calls_of (run_of (each_way (λ v after. gives v (calls_back k after)) (λ x w. undefined) o)) ≡ setting.cap → Ran setting s B (Over setting s B) AnyExit o
-      → Does setting.program setting.first n s0 (run_of (each_way (λ v after. gives v (calls_back k after)) (λ x w. undefined) o))
-  does_so n k B o le ec r = does_those n k B o le ec r.is
-
 -- ---- The program does from its first state what its sections mean.
 
 -- What global 1 holds: nothing, or a procedure and its word.
@@ -167,32 +150,18 @@ does_from setting p n input sim alone_runs alone_after procs fs (inl none) ec =
     subst (λ s. DoesFrom setting.program setting.first n s (started p (read (first_memory p) (address globals_object 1)) (first_world p input n) n)) (sym ef)
     ([], input, 0, ap (λ v. started p v (first_world p input n) n) none.is)
 does_from setting p n input sim alone_runs alone_after procs fs (inr has) ec =
-    let ef : first_state setting.program setting.first input ≡ Some (called_at setting input (setting.codes.procedure has.number)) = ap (λ c. option_map (called_at setting input) (number_in c)) has.word in
+    let m : Meanings = means p n in
+    let w0 : World = first_world p input n in
+    let s0 : State = called_at setting input (setting.codes.procedure has.number) in
+    let run_at : Option Procedure → Run = λ o. run_of (each_way (λ v after. gives v (calls_back 0 after)) (λ x w. undefined) (enter m o [] (calling w0))) in
+    let B : Account = record { most = 16 * n + 16; least = 0 } in
+    let ef : first_state setting.program setting.first input ≡ Some s0 = ap (λ c. option_map (called_at setting input) (number_in c)) has.word in
     let em : started p (read (first_memory p) (address globals_object 1)) (first_world p input n) n ≡ run_of (call p m (procedure has.number) [] w0) = ap (λ v. started p v w0 n) has.is in
     subst (λ s. DoesFrom setting.program setting.first n s (started p (read (first_memory p) (address globals_object 1)) w0 n)) (sym ef)
-    (subst (λ r. Does setting.program setting.first n (called_at setting input (setting.codes.procedure has.number)) r) (sym em) (by_procedure (procedure_of p has.number) refl (ap calls_of (sym em) ∙ ec)))
-  where
-    m : Meanings
-    m = means p n
-
-    w0 : World
-    w0 = first_world p input n
-
-    run_at : Option Procedure → Run
-    run_at o = run_of (each_way (λ v after. gives v (calls_back 0 after)) (λ x w. undefined) (enter m o [] (calling w0)))
-
-    B : Account
-    B = record { most = 16 * n + 16; least = 0 }
-
-    by_procedure : (o : Option Procedure) → procedure_of p has.number ≡ o → calls_of (run_at (procedure_of p has.number)) ≡ setting.cap → Does setting.program setting.first n (called_at setting input (setting.codes.procedure has.number)) (run_at (procedure_of p has.number))
-    by_procedure None eo ec = subst (λ x. Does setting.program setting.first n (called_at setting input (setting.codes.procedure has.number)) (run_at x)) (sym eo) tt
-    by_procedure (Some f) eo ec =
-        let at_procedure : (f : Procedure) → IsProcedure setting has.number f → calls_of (run_at (Some f)) ≡ setting.cap → Does setting.program setting.first n (called_at setting input (setting.codes.procedure has.number)) (run_at (Some f)) =
-        λ f ip ec.
-        let o : Outcome Value = enter m (Some f) [] (calling w0) in
-        let c1 : 1 ≤ calls_of (run_at (Some f)) = some_calls 0 w0 o (enter_after m alone_after setting sim f [] (calling w0)) in
-        let cap1 : 1 ≤ setting.cap = omega arith in
-        let x = entered_so setting p n input sim alone_runs fs has.number f ip cap1 in
-        does_so setting (called_at setting input (setting.codes.procedure has.number)) x.at x.is x.few n 0 B o (omega arith) ec (x.ran B (omega arith) (omega arith)) in
-        subst (λ x. Does setting.program setting.first n (called_at setting input (setting.codes.procedure has.number)) (run_at x)) (sym eo)
-        (at_procedure f (procs.each has.number f eo) (ap (λ x. calls_of (run_at x)) (sym eo) ∙ ec))
+    (subst (λ r. Does setting.program setting.first n s0 r) (sym em)
+    (by_option (λ o. calls_of (run_at o) ≡ setting.cap → Does setting.program setting.first n s0 (run_at o)) (procedure_of p has.number) (λ _ ec. tt) (λ f eo ec.
+    let o : Outcome Value = enter m (Some f) [] (calling w0) in
+    let c1 : 1 ≤ calls_of (run_at (Some f)) = some_calls 0 w0 o (enter_after m alone_after setting sim f [] (calling w0)) in
+    let cap1 : 1 ≤ setting.cap = omega arith in
+    let x = entered_so setting p n input sim alone_runs fs has.number f (procs.each has.number f eo) cap1 in
+    does_those setting s0 x.at x.is x.few n 0 B o (omega arith) ec (x.ran B (omega arith) (omega arith)).is) (ap calls_of (sym em) ∙ ec)))

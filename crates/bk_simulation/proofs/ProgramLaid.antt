@@ -1,18 +1,9 @@
 -- A program whose sections stand for accepted ones is laid.
-use Rattle.bk_simulation.proofs.Words.{◌≡◌, ℕ, zero, suc, ◌+◌, ◌<◌, ◌≤◌, ◌^◌, List, [], ◌∷◌, ◌++◌, length, Option, Some, None, refl, sym, ap, ◌∙◌, subst, arith, slice_get, append_assoc, FRAME_WORDS, Declarations, Placed, Program, AreFaultless, IsWellPlaced, scheme_is_accepted, stop, objects_of_declarations, Lasting, Procedure, global_vector, words, code, of_sections, program_of, procedure_of, procedure_in}
+use Rattle.bk_simulation.proofs.Words.{◌≡◌, ℕ, zero, suc, ◌+◌, ◌<◌, ◌≤◌, ◌^◌, List, [], ◌∷◌, ◌++◌, length, Option, Some, None, refl, sym, ap, ◌∙◌, subst, arith, slice_get, append_assoc, FRAME_WORDS, Declarations, Placed, Program, AreFaultless, IsWellPlaced, scheme_is_accepted, stop, Lasting, Procedure, global_vector, words, code, of_sections, program_of, procedure_of, procedure_in, AreAccepted, StandFor}
+use Rattle.bk_simulation.proofs.Forms.{all_at, each_at, one_more, each_itself, Codes, BaseOf, one_base, Setting, HeldWord, HeldOne, HeldList, IsProcedure, library_word, IsSized, HoldsEntry, HoldsOne, all_set_same, FollowWords, AreBelow, AreSet}
 use Rattle.bk_meaning.specs.Values as value
-use Rattle.bk_simulation.specs.Placement.{AreAccepted, StandFor}
-use Rattle.bk_simulation.proofs.Memory.{Codes, BaseOf, one_base}
-use Rattle.bk_simulation.proofs.Laid.{Setting}
-use Rattle.bk_simulation.proofs.Held.{HeldWord, HeldOne, HeldList}
-use Rattle.bk_simulation.proofs.HeldData.{get_behind}
-use Rattle.bk_simulation.proofs.Calls.{IsProcedure}
-use Rattle.bk_simulation.proofs.LastingKinds.{Kind, string, words_at, entry, AreAs}
-use Rattle.bk_simulation.proofs.LastingFits.{library_word, IsSized, HoldsEntry, HoldsOne}
 use Rattle.bk_simulation.proofs.LaidPrograms.{setting, AreLaid}
-use Rattle.bk_simulation.proofs.SectionGlobals.{all_set_same}
-use Rattle.bk_simulation.proofs.Standing.{Follow, FollowWords, AreBelow, AreSet}
-use Rattle.bk_simulation.proofs.SectionsLie.{SectionsLie, weights, sections_lie, all_bases, all_entries, all_counted, all_placed, AreIn, HasAll, others_suit, all_held, first_alike, sections_set}
+use Rattle.bk_simulation.proofs.SectionsLie.{SectionsLie, weights, sections_lie, all_bases, all_entries, all_counted, all_placed, HasAll, all_held, sections_set}
 
 -- ---- words of procedures by their numbers; other numbers have a word too
 
@@ -35,23 +26,9 @@ codes_of ws s = record { procedure = word_in ws; routine = library_word; procedu
 
 -- ---- lists that follow themselves
 
-one_more : {A : Type 0} (front : List A) (x : A) → length (front ++ (x ∷ [])) ≡ suc (length front)
-one_more [] x = refl
-one_more (y ∷ front) x = ap suc (one_more front x)
-
-at_front : {A : Type 0} (front xs : List A) (x : A) → slice_get (front ++ (x ∷ xs)) (length front) ≡ Some x
-at_front front xs x = let e : length front ≡ length front + 0 = omega arith in ap (slice_get (front ++ (x ∷ xs))) e ∙ get_behind front (x ∷ xs) 0
-
 word_front : (front ws : List ℕ) (w : ℕ) → word_in (front ++ (w ∷ ws)) (length front) ≡ w
 word_front [] ws w = refl
 word_front (x ∷ front) ws w = word_front front ws w
-
-follow_self : (front xs : List ℕ) → Follow (front ++ xs) (length front) xs
-follow_self front [] = tt
-follow_self front (x ∷ xs) = (
-  at_front front xs x,
-  subst (λ all. Follow all (suc (length front)) xs) (append_assoc front (x ∷ []) xs) (subst (λ n. Follow ((front ++ (x ∷ [])) ++ xs) n xs) (one_more front x) (follow_self (front ++ (x ∷ [])) xs)),
-)
 
 words_self : (front ws : List ℕ) → FollowWords (word_in (front ++ ws)) (length front) ws
 words_self front [] = tt
@@ -61,70 +38,16 @@ words_self front (w ∷ ws) = (
       (subst (λ n. FollowWords (word_in ((front ++ (w ∷ [])) ++ ws)) n ws) (one_more front w) (words_self (front ++ (w ∷ [])) ws)),
 )
 
-in_self : (front owns : List Placed) → AreIn (front ++ owns) (length front) owns
-in_self front [] = tt
-in_self front (x ∷ xs) = (
-  at_front front xs x,
-  subst (λ all. AreIn all (suc (length front)) xs) (append_assoc front (x ∷ []) xs) (subst (λ n. AreIn ((front ++ (x ∷ [])) ++ xs) n xs) (one_more front x) (in_self (front ++ (x ∷ [])) xs)),
-)
-
 -- ---- what is held
-
-below_at : (top : ℕ) (xs : List ℕ) (o b : ℕ) → AreBelow top xs → slice_get xs o ≡ Some b → b ≤ top
-below_at top [] o b h e = absurd (cc)
-below_at top (x ∷ xs) zero b h e = let same : x ≡ b = (let k : Some x ≡ Some b = e in cc) in subst (λ y. y ≤ top) same h.0
-below_at top (x ∷ xs) (suc o) b h e = below_at top xs o b h.1 e
-
-held_at : (setting : Setting) (i o : ℕ) (xs : List Lasting) (x : Lasting) → HeldList setting i xs → slice_get xs o ≡ Some x → HeldOne setting (i + o) x
-held_at setting i o [] x h e = absurd (cc)
-held_at setting i zero (y ∷ ys) x h e =
-    let same : y ≡ x = (let k : Some y ≡ Some x = e in cc) in
-    let here : i ≡ i + 0 = omega arith in
-    subst (λ n. HeldOne setting n x) here (subst (λ z. HeldOne setting i z) same h.0)
-held_at setting i (suc o) (y ∷ ys) x h e = let there : suc i + o ≡ i + suc o = omega arith in subst (λ n. HeldOne setting n x) there (held_at setting (suc i) o ys x h.1 e)
-
--- no part of a section is the global vector
-abbrev IsPart : Lasting → Type 0
-IsPart global_vector = ⊥
-IsPart _ = Unit {0}
-
-abbrev AreParts : List Lasting → Type 0
-AreParts [] = Unit {0}
-AreParts (x ∷ xs) = IsPart x × AreParts xs
-
-parts_both : (xs ys : List Lasting) → AreParts xs → AreParts ys → AreParts (xs ++ ys)
-parts_both [] ys h i = i
-parts_both (x ∷ xs) ys h i = (h.0, parts_both xs ys h.1 i)
-
-parts_as : (own : Placed) (ks : List Kind) (xs : List Lasting) (vs ws : List ℕ) → AreAs own ks xs vs ws → AreParts xs
-parts_as own ks [] vs ws a = tt
-parts_as own [] (x ∷ xs) vs ws a = absurd a
-parts_as own (k ∷ ks) (x ∷ xs) [] ws a = absurd a
-parts_as own (k ∷ ks) (x ∷ xs) (v ∷ vs) [] a = absurd a
-parts_as own (string ∷ ks) (words us ∷ xs) (v ∷ vs) (w ∷ ws) a = (tt, parts_as own ks xs vs ws a.1)
-parts_as own (words_at n ts ∷ ks) (words us ∷ xs) (v ∷ vs) (w ∷ ws) a = (tt, parts_as own ks xs vs ws a.1)
-parts_as own (entry n y ∷ ks) (code p ∷ xs) (v ∷ vs) (w ∷ ws) a = (tt, parts_as own ks xs vs ws a.1)
-parts_as own _ _ (v ∷ vs) (w ∷ ws) a = elim (a.0) [ ]
-
-all_parts : (setting : Setting) (pay k i : ℕ) (sections : List Declarations) (owns : List Placed) (h : SectionsLie pay k i sections owns) → HasAll setting pay k i sections owns h → AreParts (of_sections i sections)
-all_parts setting pay k i [] owns h a = tt
-all_parts setting pay k i (ds ∷ rest) [] h a = absurd h
-all_parts setting pay k i (ds ∷ rest) (own ∷ others) h a =
-    parts_both _ _ (parts_as own _ _ h.0.bases h.0.entries (first_alike setting pay k i ds rest own others h a)) (all_parts setting pay (suc k) (i + objects_of_declarations ds) rest others h.1 (others_suit setting pay k i ds rest own others h a))
-
-part_at : (xs : List Lasting) (o : ℕ) (x : Lasting) → AreParts xs → slice_get xs o ≡ Some x → IsPart x
-part_at [] o x h e = absurd (cc)
-part_at (y ∷ ys) zero x h e = let same : y ≡ x = (let k : Some y ≡ Some x = e in cc) in subst IsPart same h.0
-part_at (y ∷ ys) (suc o) x h e = part_at ys o x h.1 e
 
 entry_holds : (setting : Setting) (global : Option ℕ) (o b : ℕ) → BaseOf setting.lasting o b → HeldWord setting o global → HoldsEntry setting.program setting.first setting.codes global o b
 entry_holds setting None o b base h = let d = h.2 in (d.number, d.datum, d.at, d.placed ∙ one_base setting.lasting o h.0 b h.1 base, d.is)
 entry_holds setting (Some k) o b base h = let e = one_base setting.lasting o h.0 b h.1 base in (subst (λ y. 16 ≤ y) e h.2, subst (λ y. y ≤ setting.first) e h.3)
 
-held_holds : (setting : Setting) (o b : ℕ) (x : Lasting) → IsPart x → BaseOf setting.lasting o b → HeldOne setting o x → HoldsOne setting.program setting.first setting.codes x o b
-held_holds setting o b global_vector part base h = absurd part
-held_holds setting o b (words ws) part base h = let d = h.2 in (d.number, d.datum, d.at, d.placed ∙ one_base setting.lasting o h.0 b h.1 base, d.is)
-held_holds setting o b (code f) part base h = entry_holds setting f.global o b base h.1
+held_holds : (setting : Setting) (o b : ℕ) (x : Lasting) → BaseOf setting.lasting o b → HeldOne setting o x → HoldsOne setting.program setting.first setting.codes x o b
+held_holds setting o b global_vector base h = absurd h
+held_holds setting o b (words ws) base h = let d = h.2 in (d.number, d.datum, d.at, d.placed ∙ one_base setting.lasting o h.0 b h.1 base, d.is)
+held_holds setting o b (code f) base h = entry_holds setting f.global o b base h.1
 
 -- ---- the program
 
@@ -155,7 +78,7 @@ abbrev pub own_entries : (program : Program) (first : ℕ) (sections : List Decl
 own_entries program first sections t = all_entries (pay_of sections) 0 1 sections program.sections (lie_together program first sections t)
 
 pub placed_together : (program : Program) (first : ℕ) (sections : List Declarations) (t : Together program first sections) → AreBelow first (own_bases program first sections t) × AreSet (own_entries program first sections t)
-placed_together program first sections t = all_placed program first t.well (pay_of sections) 0 1 sections program.sections (lie_together program first sections t) (in_self [] program.sections)
+placed_together program first sections t = all_placed program first t.well (pay_of sections) 0 1 sections program.sections (lie_together program first sections t) (each_itself [] program.sections)
 
 -- the bases of all objects, and the words of all procedures
 abbrev pub lasting_of : (program : Program) (first : ℕ) (sections : List Declarations) → Together program first sections → List ℕ
@@ -170,7 +93,7 @@ codes_together program first sections t = codes_of (1 ∷ own_entries program fi
 pub lasting_small : (program : Program) (first : ℕ) (sections : List Declarations) (t : Together program first sections) (o base : ℕ) → BaseOf (lasting_of program first sections t) o base → base < 2 ^ 32
 lasting_small program first sections t zero base e = let same : 16 ≡ base = (let k : Some 16 ≡ Some base = e in cc) in omega (arith, same)
 lasting_small program first sections t (suc o) base e =
-    let below = below_at first (own_bases program first sections t) o base (placed_together program first sections t).0 e in
+    let below = all_at (λ b. b ≤ first) (own_bases program first sections t) o base (placed_together program first sections t).0 e in
     let low = t.well.low in
     omega (arith, below, low)
 
@@ -182,10 +105,10 @@ setting_together program first sections t most =
 pub has_all : (program : Program) (first : ℕ) (sections : List Declarations) (t : Together program first sections) (most : ℕ)
     → HasAll (setting_together program first sections t most) (pay_of sections) 0 1 sections program.sections (lie_together program first sections t)
 has_all program first sections t most = record {
-  own = in_self [] program.sections;
+  own = each_itself [] program.sections;
   pays = omega arith;
   some = omega arith;
-  follow = follow_self (16 ∷ []) (own_bases program first sections t);
+  follow = each_itself (16 ∷ []) (own_bases program first sections t);
   words = words_self (1 ∷ []) (own_entries program first sections t);
 }
 
@@ -206,9 +129,8 @@ holds_each program first sections t zero b x e base =
     subst (λ y. HoldsOne program first (codes_together program first sections t) y 0 b) same (refl, sym at)
 holds_each program first sections t (suc o) b x e base =
     let g = setting_together program first sections t 0 in
-    let part = part_at (of_sections 1 sections) o x (all_parts g (pay_of sections) 0 1 sections program.sections (lie_together program first sections t) (has_all program first sections t 0)) e in
     let there : 1 + o ≡ suc o = omega arith in
-    held_holds g (suc o) b x part base (subst (λ n. HeldOne g n x) there (held_at g 1 o (of_sections 1 sections) x (held_together program first sections t 0) e))
+    held_holds g (suc o) b x base (subst (λ n. HeldOne g n x) there (each_at (HeldOne g) 1 o (of_sections 1 sections) x (held_together program first sections t 0) e))
 
 procedure_here : (x : Option Lasting) (f : Procedure) → procedure_in x ≡ Some f → x ≡ Some (code f)
 procedure_here (Some (code p)) f e = ap (λ y. Some (code y)) (let k : Some p ≡ Some f = e in cc)
@@ -220,7 +142,7 @@ procedures_together program first sections t most zero f e = absurd (cc)
 procedures_together program first sections t most (suc n) f e =
     let g = setting_together program first sections t most in
     let there : 1 + n ≡ suc n = omega arith in
-    subst (λ k. IsProcedure g k f) there (held_at g 1 n (of_sections 1 sections) (code f) (held_together program first sections t most) (procedure_here (slice_get (of_sections 1 sections) n) f e)).0
+    subst (λ k. IsProcedure g k f) there (each_at (HeldOne g) 1 n (of_sections 1 sections) (code f) (held_together program first sections t most) (procedure_here (slice_get (of_sections 1 sections) n) f e)).0
 
 -- A PROGRAM IS LAID whose sections stand for accepted ones
 pub laid_together : (program : Program) (first : ℕ) (sections : List Declarations) (t : Together program first sections) → LieApart program first sections t → AreLaid program first t.well sections

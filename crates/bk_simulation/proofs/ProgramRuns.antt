@@ -1,13 +1,6 @@
 -- Counted runs of settled states are runs of the program, in as many frames.
-use Rattle.bk_simulation.proofs.Words.{◌≡◌, ◌≢◌, ℕ, zero, suc, ◌+◌, ◌<◌, ◌≤◌, ◌==◌, Bool, true, false, List, [], ◌∷◌, Option, Some, None, refl, sym, ap, ◌∙◌, subst, if◌then◌else◌, arith, slice_get, ◌++◌, pos, append_assoc, append-nil, option_map_or, FRAME_WORDS, Temporary, Cell, Held, write, next_depth, Placement, Placed, Routine, Control, Inside, Behind, At, State, Next, Goes, Ends, Wild, Rest, rest_of, or_rest, rests, rests_of, in_hand, resumed, resumed_by, resumed_in, find_rest, label_rest, Program, program_step, run, then_run, program_step_from, Stmt, Entry, Label, CallFunction, CallRoutine, IsWellPlaced, Status, step}
-use Rattle.bk_ocode.specs.StmtRange.{InRange}
-use Rattle.bk_simulation.proofs.Moves.{settled, settled_from, settled_step}
-use Rattle.bk_simulation.proofs.FramesKept.{LinksFrom, links_kept}
-use Rattle.bk_simulation.proofs.WrittenCells.{untouched}
-use Rattle.bk_simulation.proofs.Laid.{Setting}
-use Rattle.bk_simulation.proofs.Frame.{FewFrames, Comes, here, go_on}
-use Rattle.bk_ocode.proofs.Lemmas.{steps_grow}
-use Rattle.bk_simulation.specs.Simulation.{Begin}
+use Rattle.bk_simulation.proofs.Words.{inl, inr, ◌≡◌, ◌≢◌, ℕ, zero, suc, ◌+◌, ◌≤◌, ◌==◌, Bool, true, false, List, [], ◌∷◌, Option, Some, None, refl, sym, ap, ◌∙◌, subst, if◌then◌else◌, arith, slice_get, ◌++◌, pos, append_assoc, append-nil, option_map_or, FRAME_WORDS, Temporary, Held, next_depth, Placement, Placed, State, Next, Goes, Ends, Wild, Rest, rest_of, or_rest, rests, in_hand, resumed, resumed_by, find_rest, label_rest, Program, program_step, run, then_run, Stmt, Entry, Label, CallFunction, CallRoutine, IsWellPlaced, Status, step, InRange, steps_grow, Begin}
+use Rattle.bk_simulation.proofs.Situations.{settled, settled_step, going, IsRest, LinksFrom, links_kept, untouched, Setting, FewFrames, Comes, here, go_on}
 
 -- ---- a rest that takes up a result has slot 2 at least
 
@@ -45,14 +38,11 @@ pub record Resumes (s t : State) : Type 0 where
 resumes_same : (s t : State) → t.frame ≡ s.frame → t.cells ≡ s.cells → t.output ≡ s.output → t.input ≡ s.input → Resumes s t
 resumes_same s t ef ec eo ei = record { frame = ef; links = λ x w le e. ap (λ f. f x) ec ∙ e; output = eo; input = ei }
 
-link_stays : (cells : ℕ → Cell) (top at : ℕ) (c : Cell) → top < at → LinksFrom top (write cells at c) cells
-link_stays cells top at c lt x w le e = let ne : x ≢ at = omega arith in untouched cells at c x ne ∙ e
-
 resumed_so : (own : Placed) (r : Rest) (s : State) → (r.takes ≡ true → 2 ≤ r.depth) → Resumes s (resumed own r s)
 resumed_so own r s high = by_takes r.takes refl
   where
     by_takes : (b : Bool) → r.takes ≡ b → Resumes s (resumed_by b own r s)
-    by_takes true e = let h : 2 ≤ r.depth = high e in record { frame = refl; links = link_stays s.cells (suc s.frame) (s.frame + r.depth) (Held Temporary (in_hand s.hand)) (omega arith); output = refl; input = refl }
+    by_takes true e = let h : 2 ≤ r.depth = high e in record { frame = refl; links = λ x w le e. let ne : x ≢ s.frame + r.depth = omega arith in untouched s.cells (s.frame + r.depth) (Held Temporary (in_hand s.hand)) x ne ∙ e; output = refl; input = refl }
     by_takes false e = resumes_same s (resumed_by false own r s) refl refl refl refl
 
 label_low : (places : Placement) (k : ℕ) (stmts : List Stmt) (l : ℕ) (r : Rest) → label_rest places k stmts l ≡ Some r → r.takes ≡ true → ⊥
@@ -68,40 +58,15 @@ label_low places k (s ∷ rest) l r e t = by_label s e (λ h. label_low places (
     by_label _ e go = go e
 
 module _ (program : Program) (first F : ℕ) (well : IsWellPlaced program first F) where
-  pub found_so : (sections : List Placed) → ((i : ℕ) (own : Placed) → slice_get sections i ≡ Some own → (j : ℕ) (s : Stmt) → slice_get own.stmts j ≡ Some s → InRange s) → (n : ℕ) (s t : State) → resumed_in sections n s ≡ Some t → Resumes s t
-  found_so [] range n s t e = absurd (let z : None ≡ Some t = e in cc)
-  found_so (own ∷ others) range n s t e = by_rest (find_rest (rests_of own) n) refl e (λ h. found_so others (λ i o at. range (suc i) o at) n s t h)
-    where
-      by_rest : (o : Option Rest) → find_rest (rests_of own) n ≡ o → option_map_or (λ r. Some (resumed own r s)) o (resumed_in others n s) ≡ Some t → (resumed_in others n s ≡ Some t → Resumes s t) → Resumes s t
-      by_rest None eo e go = go e
-      by_rest (Some r) eo e go = subst (Resumes s) (let z : resumed own r s ≡ t = cc in z) (resumed_so own r s (λ q. takes_high own.places 0 own.stmts (range 0 own refl) n r eo q))
+  rest_high : (own : Placed) (r : Rest) → IsRest program own r → r.takes ≡ true → 2 ≤ r.depth
+  rest_high own r (inl h) t = absurd (label_low own.places 0 own.stmts h.0 r h.1 t)
+  rest_high own r (inr h) t = takes_high own.places 0 own.stmts (λ j u e. (well.is_program.accepted h.0 own h.2).in_range j u e) h.1 r h.3 t
+
+  pub rest_so : (s : State) (own : Placed) (r : Rest) → IsRest program own r → Resumes s (resumed own r s)
+  rest_so s own r h = resumed_so own r s (rest_high own r h)
 
   pub goes_on_so : (s : State) → Resumes s (settled program s)
-  goes_on_so s = by_control s.control
-    where
-      same : Resumes s s
-      same = resumes_same s s refl refl refl refl
-
-      by_label : (own : Placed) (l : ℕ) (o : Option Rest) → label_rest own.places 0 own.stmts l ≡ o → Resumes s (option_map_or (λ r. resumed own r s) o s)
-      by_label own l None e = same
-      by_label own l (Some r) e = resumed_so own r s (λ q. absurd (label_low own.places 0 own.stmts l r e q))
-
-      by_found : (n : ℕ) (o : Option State) → resumed_in program.sections n s ≡ o → Resumes s (option_map_or (λ t. t) o s)
-      by_found n None e = same
-      by_found n (Some t) e = found_so program.sections (λ i own at j u e1. (well.is_program.accepted i own at).in_range j u e1) n s t e
-
-      by_routine : (n : ℕ) (o : Option Routine) → Resumes s (option_map_or (λ _. s) o (option_map_or (λ t. t) (resumed_in program.sections n s) s))
-      by_routine n (Some r) = same
-      by_routine n None = by_found n (resumed_in program.sections n s) refl
-
-      by_home : (n : ℕ) (b : Bool) → Resumes s (if b then s else option_map_or (λ _. s) (program.callables.routine n) (option_map_or (λ t. t) (resumed_in program.sections n s) s))
-      by_home n true = same
-      by_home n false = by_routine n (program.callables.routine n)
-
-      by_control : (c : Control) → Resumes s (settled_from program s c)
-      by_control (Inside own k rest) = same
-      by_control (Behind own l) = by_label own l (label_rest own.places 0 own.stmts l) refl
-      by_control (At n) = by_home n (n == program.home)
+  goes_on_so s = let same = resumes_same s s refl refl refl refl in going program s (λ t x. Resumes s t) same same same (rest_so s)
 
 -- ---- runs
 
@@ -165,34 +130,8 @@ module _ (program : Program) (first F : ℕ) (well : IsWellPlaced program first 
 
   -- a step
   pub step_begins : (s u : State) → program_step program s ≡ Goes u → Begin s.output u.output
-  step_begins s u e = by_control s.control e
-    where
-      by_takes : (b : Bool) (own : Placed) (r : Rest) → (resumed_by b own r s).output ≡ s.output
-      by_takes true own r = refl
-      by_takes false own r = refl
-
-      by_label : (own : Placed) (o : Option Rest) → option_map_or (λ r. step program.callables (resumed own r s)) o Wild ≡ Goes u → Begin s.output u.output
-      by_label own None e = absurd (let z : Wild ≡ Goes u = e in cc)
-      by_label own (Some r) e = step_on s (resumed own r s) u (by_takes r.takes own r) e
-
-      by_found : (n : ℕ) (o : Option State) → resumed_in program.sections n s ≡ o → option_map_or (λ t. step program.callables t) o Wild ≡ Goes u → Begin s.output u.output
-      by_found n None eo e = absurd (let z : Wild ≡ Goes u = e in cc)
-      by_found n (Some t) eo e =
-          step_on s t u (found_so program first F well program.sections (λ i own at j x e1. (well.is_program.accepted i own at).in_range j x e1) n s t eo).output e
-
-      by_routine : (n : ℕ) (o : Option Routine) → option_map_or (λ _. step program.callables s) o (option_map_or (λ t. step program.callables t) (resumed_in program.sections n s) Wild) ≡ Goes u → Begin s.output u.output
-      by_routine n (Some r) e = step_on s s u refl e
-      by_routine n None e = by_found n (resumed_in program.sections n s) refl e
-
-      by_home : (n : ℕ) (b : Bool) → (if b then Ends (Status (pos 0)) s else option_map_or (λ _. step program.callables s) (program.callables.routine n) (option_map_or (λ t. step program.callables t) (resumed_in program.sections n s) Wild)) ≡ Goes u
-          → Begin s.output u.output
-      by_home n true e = absurd (let z : Ends (Status (pos 0)) s ≡ Goes u = e in cc)
-      by_home n false e = by_routine n (program.callables.routine n) e
-
-      by_control : (c : Control) → program_step_from program s c ≡ Goes u → Begin s.output u.output
-      by_control (Inside own k rest) e = step_on s s u refl e
-      by_control (Behind own l) e = by_label own (label_rest own.places 0 own.stmts l) e
-      by_control (At n) e = by_home n (n == program.home) e
+  step_begins s u e = going program s (λ t x. x ≡ Goes u → Begin s.output u.output) (λ e. absurd (let z : Wild ≡ Goes u = e in cc)) (λ e. absurd (let z : Ends (Status (pos 0)) s ≡ Goes u = e in cc)) (step_on s s u refl)
+      (λ own r h e. step_on s (resumed own r s) u (rest_so program first F well s own r h).output e) e
 
   -- a step, and the run behind it
   record Stepped (n : ℕ) (s last : State) : Type 0 where

@@ -1,15 +1,7 @@
 -- What MANIFEST, STATIC and GLOBAL bring into scope: names that agree, labels that stay, and words that stand where the names say. What a LET brings into
 -- scope: its procedures, and behind it its variables; names that agree, labels that stay, and words that stand where the names say.
-use Rattle.bk_simulation.proofs.Words.{◌≡◌, ℕ, suc, ◌+◌, ◌<◌, ◌≤◌, ◌^◌, Bool, true, false, List, [], ◌∷◌, Option, Some, None, cond, refl, sym, ap, ◌∙◌, subst, arith, nat_lt, bytes_eq, nat_tests, bytes_eq-Decides, GLOBAL_NUMBER, Mention, Expression, Items, Definitions, Starts, Bound, Binding, bound_in, bind, named_word, constant_word, within, manifests_in_scope, statics_in_scope, globals_in_scope, ManifestsSound, GlobalsSound, Placed, Target, meant, goal_of, variable, Named, Environment, Sense, cell, foreign, sense_in, word_named, constant_in, global_named, bind_procedure_as, bind_procedures, objects, objects_of_action, objects_of_starts, sense_of_constant, sense_of_global, letters, manifests, statics, ◌-◌, ◌++◌, length, FRAME_WORDS, VEC_NUMBER, bind_all, is_global, Enclosing, deeper, Spot as ScopeSpot, words_of_vector, words_of_start, variables_of, place_behind, place_behind_defined, variables_in_scope, procedure_in_scope, procedures_in_scope, HasWordUpTo, SoundStarted, SoundDefined, behind_starts, behind_definitions, worth, starts_named, definitions_named, variables_hidden, bind_each}
-use Rattle.bk_simulation.specs.Regular.{RegularItems, starts, RegularDefinitions}
-use Rattle.bk_simulation.proofs.Memory.{BaseOf, Grown}
-use Rattle.bk_simulation.proofs.Sought.{with_names}
-use Rattle.bk_simulation.proofs.Laid.{Setting, Scene, place_of, IsWord, IsLabelHere, NameAt, NamedIn, KeepsLabels, Renames, Spot, spots_of, variables_bound, AreAt, RenamesVariables}
-use Rattle.bk_simulation.proofs.NamesBound.{bound_named}
-use Rattle.bk_simulation.proofs.NamesAgree.{Agree, AgreeWords, SameGlobal, own_cell, agree_bound}
-use Rattle.bk_simulation.proofs.LaidExpressions.{HasWords, constants_agree}
-use Rattle.bk_simulation.proofs.Constants.{constant_small}
-use Rattle.bk_simulation.proofs.BehindDeclarations.{words_constant, words_bound}
+use Rattle.bk_simulation.proofs.Words.{◌≡◌, ℕ, suc, ◌+◌, ◌<◌, ◌≤◌, ◌^◌, Bool, true, false, List, [], ◌∷◌, Option, Some, None, cond, refl, sym, ap, ◌∙◌, subst, arith, bytes_eq, bytes_eq-Decides, GLOBAL_NUMBER, Mention, Expression, Items, Definitions, Starts, Bound, Binding, bound_in, bind, named_word, constant_word, within, manifests_in_scope, statics_in_scope, globals_in_scope, ManifestsSound, GlobalsSound, Placed, Target, meant, goal_of, variable, Named, Environment, Sense, cell, foreign, sense_in, word_named, constant_in, global_named, bind_procedure_as, bind_procedures, objects, objects_of_action, objects_of_starts, sense_of_constant, sense_of_global, letters, manifests, statics, ◌-◌, ◌++◌, length, FRAME_WORDS, VEC_NUMBER, bind_all, is_global, Enclosing, deeper, Spot as ScopeSpot, words_of_vector, words_of_start, variables_of, place_behind, place_behind_defined, variables_in_scope, procedure_in_scope, procedures_in_scope, HasWordUpTo, SoundStarted, SoundDefined, behind_starts, behind_definitions, worth, starts_named, definitions_named, variables_hidden, bind_each, le-ltb, RegularItems, starts, RegularDefinitions}
+use Rattle.bk_simulation.proofs.Forms.{Each, BaseOf, Grown, with_names, Setting, Scene, IsWord, IsLabelHere, NamedIn, KeepsLabels, Spot, spots_of, variables_bound, AreAt, RenamesVariables, bound_named, Agree, AgreeWords, SameGlobal, own_cell, agree_bound, HasWords, constants_agree, constant_small, words_constant, words_bound, place_of, NameAt}
 use Rattle.bk_tree.specs.Tree as t
 use Rattle.bk_scope.specs.declared.bound.Bound.TheVariants as b
 use Rattle.bk_meaning.specs.Environment as m
@@ -37,12 +29,30 @@ keeps_both a c d f g z h = let e = g z h in e ∙ f z (subst (λ y. IsLabelHere 
 abbrev pub MeanThere : Setting → Scene → Environment → List Binding → Environment → Type 0
 MeanThere setting sc env bs env1 = (bases : List ℕ) (frame : ℕ) → Grown setting.lasting bases → NamedIn sc env bases frame → NamedIn (record sc { bindings = bs }) env1 bases frame
 
--- ---- MANIFEST
+-- What stands behind declarations: names that agree, labels that stay, and, where this holds, names that mean what they should.
+pub record Behind (setting : Setting) (sc : Scene) (ns : List Named) (i : ℕ) (P : Type 0) (bs : List Binding) (env : Environment) : Type 0 where
+  pub agree : Agree env.names bs
+  pub keeps : KeepsLabels sc.bindings bs
+  pub means : P → MeanThere setting sc (with_names ns i) bs env
 
--- what stands behind the items
-pub record ManifestsBehind (setting : Setting) (sc : Scene) (ns : List Named) (i : ℕ) (is : Items) : Type 0 where
-  pub agree : Agree (manifests is (with_names ns i)).names (manifests_in_scope sc.bindings is)
-  pub renames : Renames setting sc (with_names ns i) (manifests_in_scope sc.bindings is) (manifests is (with_names ns i))
+none_behind : {setting : Setting} {sc : Scene} {ns : List Named} {i : ℕ} {P : Type 0} → Agree ns sc.bindings → Behind setting sc ns i P sc.bindings (with_names ns i)
+none_behind {sc = sc} a = record { agree = a; keeps = keeps_same sc.bindings; means = λ u bases frame grown n. n }
+
+-- the number of the next object does not matter
+more_behind : {setting : Setting} {sc : Scene} {ns : List Named} {i j : ℕ} {P Q : Type 0} {bs : List Binding} {env : Environment} → (P → Q) → Behind setting sc ns j Q bs env → Behind setting sc ns i P bs env
+more_behind go a = record { agree = a.agree; keeps = a.keeps; means = λ u bases frame grown n. a.means (go u) bases frame grown (record { each = n.each }) }
+
+-- one name, which is no label, and what stands behind it
+one_behind : {setting : Setting} {sc : Scene} {ns : List Named} {i j : ℕ} {P Q : Type 0} {bs : List Binding} {env : Environment} (x : List ℕ) (y : Bound) (s : Sense) → (IsLabelHere (Some y) → ⊥) → (P → Q)
+    → ((bases : List ℕ) (frame : ℕ) → Grown setting.lasting bases → P → NameAt (record sc { bindings = bind x y sc.bindings }) bases frame x (Some s))
+    → Behind setting (record sc { bindings = bind x y sc.bindings }) (record { name = x; sense = s } ∷ ns) j Q bs env → Behind setting sc ns i P bs env
+one_behind {sc = sc} {ns} {i} {bs = bs} x y s f go at more = record {
+  agree = more.agree;
+  keeps = keeps_both sc.bindings (bind x y sc.bindings) bs (keeps_bound x y sc.bindings f) more.keeps;
+  means = λ u bases frame grown n. more.means (go u) bases frame grown (record { each = (bound_named sc (with_names ns i) bases frame x y s (at bases frame grown u) n).each });
+}
+
+-- ---- MANIFEST
 
 constant_agrees : (u v : Option ℕ) → u ≡ v → word_named (Some (sense_of_constant u)) ≡ named_word (Some (b.Constant v))
 constant_agrees None v e = e
@@ -56,28 +66,19 @@ bound_constant : (y : Option Bound) (u : Option ℕ) (sc : Scene) (bases : List 
     → NameAt sc bases frame x (Some (sense_of_constant u))
 bound_constant y u sc bases frame x w e h k = subst (λ z. NameAt sc bases frame x (Some (sense_of_constant z))) (sym k) (e, h)
 
-pub renames_manifests : (is : Items) (setting : Setting) (sc : Scene) (ns : List Named) (i : ℕ) → HasWords sc.bindings → Agree ns sc.bindings → RegularItems is → ManifestsSound sc.bindings is → ManifestsBehind setting sc ns i is
-renames_manifests t.no_items setting sc ns i h a r k = record { agree = a; renames = (keeps_same sc.bindings, λ bases frame grown n. n) }
+pub renames_manifests : (is : Items) (setting : Setting) (sc : Scene) (ns : List Named) (i : ℕ) → HasWords sc.bindings → Agree ns sc.bindings → RegularItems is → ManifestsSound sc.bindings is
+    → Behind setting sc ns i (Unit {0}) (manifests_in_scope sc.bindings is) (manifests is (with_names ns i))
+renames_manifests t.no_items setting sc ns i h a r k = none_behind a
 renames_manifests (t.item l x e is) setting sc ns i h a r k =
     let bs : List Binding = sc.bindings in
     let y : Bound = b.Constant (constant_word bs e) in
-    let s : Sense = sense_of_constant (constant_in (with_names ns i) e) in
+    let u : Option ℕ = constant_in (with_names ns i) e in
     let same = constants_agree ns bs i a.0 e in
-    let w = k.0.0 in
     let is_word = k.0.1 in
-    let small = constant_small bs h e r.0 w is_word in
-    let h1 = words_constant x e bs h r.0 in
-    let a1 = agree_bound x s y ns bs (constant_agrees (constant_in (with_names ns i) e) (constant_word bs e) same) (no_constant_global (constant_in (with_names ns i) e) (constant_word bs e)) a in
-    let more = renames_manifests is setting (record sc { bindings = bind x y bs }) (record { name = x; sense = s } ∷ ns) i h1 a1 r.1 k.1 in
-    record {
-      agree = more.agree;
-      renames = (
-        keeps_both bs (bind x y bs) (manifests_in_scope (bind x y bs) is) (keeps_bound x y bs (λ z. z)) more.renames.0,
-        λ bases frame grown n. more.renames.1 bases frame grown
-            (bound_named sc (with_names ns i) bases frame x y s
-            (bound_constant (Some y) (constant_in (with_names ns i) e) (record sc { bindings = bind x y bs }) bases frame x w (itself x y bs ∙ ap (λ z. Some (b.Constant z)) is_word) small (same ∙ is_word)) n),
-      );
-    }
+    let a1 = agree_bound x (sense_of_constant u) y ns bs (constant_agrees u (constant_word bs e) same) (no_constant_global u (constant_word bs e)) a in
+    one_behind x y (sense_of_constant u) (λ z. z) (λ v. v)
+    (λ bases frame grown v. bound_constant (Some y) u (record sc { bindings = bind x y bs }) bases frame x k.0.0 (itself x y bs ∙ ap (λ z. Some (b.Constant z)) is_word) (constant_small bs h e r.0 k.0.0 is_word) (same ∙ is_word))
+    (renames_manifests is setting (record sc { bindings = bind x y bs }) (record { name = x; sense = sense_of_constant u } ∷ ns) i (words_constant x e bs h r.0) a1 r.1 k.1)
 
 -- ---- STATIC
 
@@ -88,13 +89,7 @@ static_places own ts n (t.item l x e is) = own.places.label ((goal_of ts n).labe
 
 -- these are the bases of the objects with numbers from i on
 abbrev pub AreBases : List ℕ → ℕ → List ℕ → Type 0
-AreBases all i [] = Unit {0}
-AreBases all i (x ∷ xs) = BaseOf all i x × AreBases all (suc i) xs
-
-pub record StaticsBehind (setting : Setting) (sc : Scene) (ns : List Named) (i n : ℕ) (is : Items) : Type 0 where
-  pub agree : Agree (statics is (with_names ns i)).names (statics_in_scope n is sc.bindings)
-  pub keeps : KeepsLabels sc.bindings (statics_in_scope n is sc.bindings)
-  pub renames : AreBases setting.lasting i (static_places sc.own sc.targets n is) → Renames setting sc (with_names ns i) (statics_in_scope n is sc.bindings) (statics is (with_names ns i))
+AreBases all i xs = Each (BaseOf all) i xs
 
 pub static_at : (setting : Setting) (sc : Scene) (bases : List ℕ) (frame : ℕ) (x : List ℕ) (i n : ℕ) → Grown setting.lasting bases → BaseOf setting.lasting i (sc.own.places.label ((goal_of sc.targets n).label)) → bound_in sc.bindings x ≡ Some (b.Static n)
     → NameAt sc bases frame x (Some (cell i 0))
@@ -105,79 +100,43 @@ static_at setting sc bases frame x i n grown base e =
     let at : p + 0 ≡ p = omega arith in
     (p, grown.each i p base, small, at ∙ ap (λ y. place_of sc.own frame (variable sc.targets (meant y))) (sym e), subst (λ y. IsWord y) (sym e) tt)
 
-pub renames_statics : (is : Items) (setting : Setting) (sc : Scene) (ns : List Named) (i n : ℕ) → 0 < i → Agree ns sc.bindings → StaticsBehind setting sc ns i n is
-renames_statics t.no_items setting sc ns i n some a =
-    record { agree = a; keeps = keeps_same sc.bindings; renames = λ u. (keeps_same sc.bindings, λ bases frame grown k. k) }
+pub renames_statics : (is : Items) (setting : Setting) (sc : Scene) (ns : List Named) (i n : ℕ) → 0 < i → Agree ns sc.bindings
+    → Behind setting sc ns i (AreBases setting.lasting i (static_places sc.own sc.targets n is)) (statics_in_scope n is sc.bindings) (statics is (with_names ns i))
+renames_statics t.no_items setting sc ns i n some a = none_behind a
 renames_statics (t.item l x e is) setting sc ns i n some a =
     let bs : List Binding = sc.bindings in
     let y : Bound = b.Static n in
-    let s : Sense = cell i 0 in
     let one : i + 1 ≡ suc i = omega arith in
-    let some1 : 0 < i + 1 = omega (arith, some) in
-    let a1 = agree_bound x s y ns bs refl (own_cell i 0 some) a in
     let sc1 : Scene = record sc { bindings = bind x y bs } in
-    let more = renames_statics is setting sc1 (record { name = x; sense = s } ∷ ns) (i + 1) (n + 1) some1 a1 in
-    let through = keeps_both bs (bind x y bs) (statics_in_scope (n + 1) is (bind x y bs)) (keeps_bound x y bs (λ z. z)) more.keeps in
-    record {
-      agree = more.agree;
-      keeps = through;
-      renames = λ u. (
-        through,
-        λ bases frame grown k. (more.renames (subst (λ z. AreBases setting.lasting z (static_places sc.own sc.targets (n + 1) is)) (sym one) u.1)).1 bases frame grown
-            (record { each = (bound_named sc (with_names ns i) bases frame x y s (static_at setting sc1 bases frame x i n grown u.0 (itself x y bs)) k).each }),
-      );
-    }
+    one_behind x y (cell i 0) (λ z. z) (λ u. subst (λ z. AreBases setting.lasting z (static_places sc.own sc.targets (n + 1) is)) (sym one) u.1)
+    (λ bases frame grown u. static_at setting sc1 bases frame x i n grown u.0 (itself x y bs))
+    (renames_statics is setting sc1 (record { name = x; sense = cell i 0 } ∷ ns) (i + 1) (n + 1) (omega (arith, some)) (agree_bound x (cell i 0) y ns bs refl (own_cell i 0 some) a))
 
 -- ---- GLOBAL
 
-pub record GlobalsBehind (setting : Setting) (sc : Scene) (outer : List Named) (os : List Binding) (ns : List Named) (i : ℕ) (is : Items) : Type 0 where
-  pub agree : Agree (m.globals (with_names outer i) is (with_names ns i)).names (globals_in_scope os is sc.bindings)
-  pub keeps : KeepsLabels sc.bindings (globals_in_scope os is sc.bindings)
-  pub renames : BaseOf setting.lasting 0 16 → Renames setting sc (with_names ns i) (globals_in_scope os is sc.bindings) (m.globals (with_names outer i) is (with_names ns i))
-
--- with the first item in scope
-record GlobalsLater (setting : Setting) (sc : Scene) (outer : List Named) (os : List Binding) (ns : List Named) (i : ℕ) (is : Items) (bs : List Binding) (env : Environment) : Type 0 where
-  pub agree : Agree (m.globals (with_names outer i) is env).names (globals_in_scope os is bs)
-  pub keeps : KeepsLabels sc.bindings (globals_in_scope os is bs)
-  pub renames : BaseOf setting.lasting 0 16 → Renames setting sc (with_names ns i) (globals_in_scope os is bs) (m.globals (with_names outer i) is env)
-
-not_more : (w : ℕ) → w ≤ GLOBAL_NUMBER → nat_lt GLOBAL_NUMBER w ≡ false
-not_more w h = grind (arith, nat_tests)
-
 within_most : (w : ℕ) → w ≤ GLOBAL_NUMBER → within GLOBAL_NUMBER (Some w) ≡ Some w
-within_most w h = ap (λ (q : Bool). cond q None (Some w)) (not_more w h)
+within_most w h = ap (λ (q : Bool). cond q None (Some w)) (le-ltb GLOBAL_NUMBER w h)
 
 global_at : (setting : Setting) (sc : Scene) (bases : List ℕ) (frame : ℕ) (x : List ℕ) (w : ℕ) → Grown setting.lasting bases → BaseOf setting.lasting 0 16 → w ≤ GLOBAL_NUMBER → bound_in sc.bindings x ≡ Some (b.Global (Some w)) → NameAt sc bases frame x (Some (cell 0 w))
 global_at setting sc bases frame x w grown base low e =
     let small : 16 + w < 2 ^ 32 = omega (arith, low) in
     (16, grown.each 0 16 base, small, ap (λ y. place_of sc.own frame (variable sc.targets (meant y))) (sym e), subst (λ y. IsWord y) (sym e) tt)
 
-pub renames_globals : (is : Items) (setting : Setting) (sc : Scene) (outer : List Named) (os : List Binding) (ns : List Named) (i : ℕ) → AgreeWords outer os → Agree ns sc.bindings → GlobalsSound os is → GlobalsBehind setting sc outer os ns i is
-renames_globals t.no_items setting sc outer os ns i ao a k =
-    record { agree = a; keeps = keeps_same sc.bindings; renames = λ u. (keeps_same sc.bindings, λ bases frame grown n. n) }
+pub renames_globals : (is : Items) (setting : Setting) (sc : Scene) (outer : List Named) (os : List Binding) (ns : List Named) (i : ℕ) → AgreeWords outer os → Agree ns sc.bindings → GlobalsSound os is
+    → Behind setting sc ns i (BaseOf setting.lasting 0 16) (globals_in_scope os is sc.bindings) (m.globals (with_names outer i) is (with_names ns i))
+renames_globals t.no_items setting sc outer os ns i ao a k = none_behind a
 renames_globals (t.item l x e is) setting sc outer os ns i ao a k =
     let bs : List Binding = sc.bindings in
     let w : ℕ = k.0.0 in
-    let is_word : constant_word os e ≡ Some w = k.0.1 in
-    let low : w ≤ GLOBAL_NUMBER = k.0.2 in
-    let y : Bound = b.Global (within GLOBAL_NUMBER (constant_word os e)) in
-    let s : Sense = sense_of_global (constant_in (with_names outer i) e) in
-    let y_is : y ≡ b.Global (Some w) = ap (λ z. b.Global (within GLOBAL_NUMBER z)) is_word ∙ ap b.Global (within_most w low) in
-    let s_is : s ≡ cell 0 w = ap sense_of_global (constants_agree outer os i ao e ∙ is_word) in
-    let yw : Bound = b.Global (Some w) in
-    let sw : Sense = cell 0 w in
-    let sc1 : Scene = record sc { bindings = bind x yw bs } in
-    let a1 = agree_bound x sw yw ns bs refl refl a in
-    let more = renames_globals is setting sc1 outer os (record { name = x; sense = sw } ∷ ns) i ao a1 k.1 in
-    let through = keeps_both bs (bind x yw bs) (globals_in_scope os is (bind x yw bs)) (keeps_bound x yw bs (λ z. z)) more.keeps in
-    let whole : GlobalsLater setting sc outer os ns i is (bind x yw bs) (m.bind x sw (with_names ns i)) = record {
-      agree = more.agree;
-      keeps = through;
-      renames = λ u. (through, λ bases frame grown n. (more.renames u).1 bases frame grown (bound_named sc (with_names ns i) bases frame x yw sw (global_at setting sc1 bases frame x w grown u low (itself x yw bs)) n));
-    } in
-    let whole1 = subst (λ z. GlobalsLater setting sc outer os ns i is (bind x z bs) (m.bind x sw (with_names ns i))) (sym y_is) whole in
-    let whole2 = subst (λ z. GlobalsLater setting sc outer os ns i is (bind x y bs) (m.bind x z (with_names ns i))) (sym s_is) whole1 in
-    record { agree = whole2.agree; keeps = whole2.keeps; renames = whole2.renames }
+    let y : Bound = b.Global (Some w) in
+    let s : Sense = cell 0 w in
+    let y_is : b.Global (within GLOBAL_NUMBER (constant_word os e)) ≡ y = ap (λ z. b.Global (within GLOBAL_NUMBER z)) k.0.1 ∙ ap b.Global (within_most w k.0.2) in
+    let s_is : sense_of_global (constant_in (with_names outer i) e) ≡ s = ap sense_of_global (constants_agree outer os i ao e ∙ k.0.1) in
+    let sc1 : Scene = record sc { bindings = bind x y bs } in
+    let more = renames_globals is setting sc1 outer os (record { name = x; sense = s } ∷ ns) i ao (agree_bound x s y ns bs refl refl a) k.1 in
+    let whole = one_behind {i = i} x y s (λ z. z) (λ u. u) (λ bases frame grown u. global_at setting sc1 bases frame x w grown u k.0.2 (itself x y bs)) more in
+    subst (λ z. Behind setting sc ns i (BaseOf setting.lasting 0 16) (globals_in_scope os is (bind x (b.Global (within GLOBAL_NUMBER (constant_word os e))) bs)) (m.globals (with_names outer i) is (m.bind x z (with_names ns i)))) (sym s_is)
+    (subst (λ z. Behind setting sc ns i (BaseOf setting.lasting 0 16) (globals_in_scope os is (bind x z bs)) (m.globals (with_names outer i) is (m.bind x s (with_names ns i)))) (sym y_is) whole)
 
 -- ---- the procedures of a LET
 
@@ -190,12 +149,6 @@ AreProcedures all own ts bs i n (t.define (t.function l x fs e) ds) =
     (is_global (bound_in bs x) ≡ false → BaseOf all i (own.places.label ((goal_of ts n).label))) × AreProcedures all own ts (procedure_in_scope n x bs) (i + (1 + objects e)) (n + 1) ds
 AreProcedures all own ts bs i n (t.define (t.variables l xs is) ds) = AreProcedures all own ts bs (i + objects_of_starts is) n ds
 
--- what stands behind some of them, with this in scope and these names in the run
-pub record ProceduresBehind (setting : Setting) (sc : Scene) (ns : List Named) (i n : ℕ) (ds : Definitions) (P : Type 0) (bs : List Binding) (env : Environment) : Type 0 where
-  pub agree : Agree (bind_procedures ds env).names (procedures_in_scope n ds bs)
-  pub keeps : KeepsLabels sc.bindings (procedures_in_scope n ds bs)
-  pub means : P → MeanThere setting sc (with_names ns i) (procedures_in_scope n ds bs) (bind_procedures ds env)
-
 global_here : (s : Option Sense) (y : Option Bound) → SameGlobal s y → is_global y ≡ true → global_named s ≡ None → ⊥
 global_here s (Some (b.Global None)) h e k = h
 global_here s _ h e k = absurd (cc)
@@ -204,48 +157,35 @@ global_there : (s : Option Sense) (y : Option Bound) (v : ℕ) → SameGlobal s 
 global_there s (Some (b.Global v)) w h e k = absurd (cc)
 global_there s _ w h e k = absurd (cc)
 
+-- what stands behind procedures, with these in scope and these names in the run
+abbrev BehindProcedures : Setting → Scene → List Named → ℕ → ℕ → Definitions → Type 0 → List Binding → Environment → Type 0
+BehindProcedures setting sc ns i n ds P bs env = Behind setting sc ns i P (procedures_in_scope n ds bs) (bind_procedures ds env)
+
 -- one procedure, and those behind it
 one_procedure : (setting : Setting) (sc : Scene) (ns : List Named) (i n k : ℕ) (ds : Definitions) (x : List ℕ) (u : Option ℕ) (q : Bool) → global_named (sense_in ns x) ≡ u → is_global (bound_in sc.bindings x) ≡ q → 0 < i → Agree ns sc.bindings
-    → ((sc1 : Scene) (ns1 : List Named) → Agree ns1 sc1.bindings → ProceduresBehind setting sc1 ns1 (i + k) (n + 1) ds (AreProcedures setting.lasting sc1.own sc1.targets sc1.bindings (i + k) (n + 1) ds) sc1.bindings (with_names ns1 (i + k)))
-    → ProceduresBehind setting sc ns i (n + 1) ds
+    → ((sc1 : Scene) (ns1 : List Named) → Agree ns1 sc1.bindings → BehindProcedures setting sc1 ns1 (i + k) (n + 1) ds (AreProcedures setting.lasting sc1.own sc1.targets sc1.bindings (i + k) (n + 1) ds) sc1.bindings (with_names ns1 (i + k)))
+    → BehindProcedures setting sc ns i (n + 1) ds
     ((q ≡ false → BaseOf setting.lasting i (sc.own.places.label ((goal_of sc.targets n).label))) × AreProcedures setting.lasting sc.own sc.targets (cond q sc.bindings (bind x (b.Static n) sc.bindings)) (i + k) (n + 1) ds)
     (cond q sc.bindings (bind x (b.Static n) sc.bindings)) (m.behind k (bind_procedure_as u x (with_names ns i)))
 one_procedure setting sc ns i n k ds x None true e f some a more = absurd (global_here (sense_in ns x) (bound_in sc.bindings x) (a.1 x) f e)
 one_procedure setting sc ns i n k ds x None false e f some a more =
-    let bs : List Binding = sc.bindings in
     let y : Bound = b.Static n in
-    let s : Sense = cell i 0 in
-    let sc1 : Scene = record sc { bindings = bind x y bs } in
-    let mine = more sc1 (record { name = x; sense = s } ∷ ns) (agree_bound x s y ns bs refl (own_cell i 0 some) a) in
-    record {
-      agree = mine.agree;
-      keeps = keeps_both bs (bind x y bs) (procedures_in_scope (n + 1) ds (bind x y bs)) (keeps_bound x y bs (λ z. z)) mine.keeps;
-      means = λ u bases frame grown r.
-          let there = bound_named sc (with_names ns i) bases frame x y s (static_at setting sc1 bases frame x i n grown (u.0 refl) (itself x y bs)) r in
-          mine.means u.1 bases frame grown (record { each = there.each });
-    }
-one_procedure setting sc ns i n k ds x (Some v) true e f some a more =
-    let mine = more sc ns a in
-    record { agree = mine.agree; keeps = mine.keeps; means = λ u bases frame grown r. mine.means u.1 bases frame grown (record { each = r.each }) }
+    let sc1 : Scene = record sc { bindings = bind x y sc.bindings } in
+    one_behind x y (cell i 0) (λ z. z) (λ u. u.1) (λ bases frame grown u. static_at setting sc1 bases frame x i n grown (u.0 refl) (itself x y sc.bindings))
+    (more sc1 (record { name = x; sense = cell i 0 } ∷ ns) (agree_bound x (cell i 0) y ns sc.bindings refl (own_cell i 0 some) a))
+one_procedure setting sc ns i n k ds x (Some v) true e f some a more = more_behind (λ u. u.1) (more sc ns a)
 one_procedure setting sc ns i n k ds x (Some v) false e f some a more = absurd (global_there (sense_in ns x) (bound_in sc.bindings x) v (a.1 x) f e)
 
 pub renames_procedures : (ds : Definitions) (setting : Setting) (sc : Scene) (ns : List Named) (i n : ℕ) → 0 < i → Agree ns sc.bindings
-    → ProceduresBehind setting sc ns i n ds (AreProcedures setting.lasting sc.own sc.targets sc.bindings i n ds) sc.bindings (with_names ns i)
-renames_procedures t.no_definitions setting sc ns i n some a = record { agree = a; keeps = keeps_same sc.bindings; means = λ u bases frame grown r. r }
+    → Behind setting sc ns i (AreProcedures setting.lasting sc.own sc.targets sc.bindings i n ds) (procedures_in_scope n ds sc.bindings) (bind_procedures ds (with_names ns i))
+renames_procedures t.no_definitions setting sc ns i n some a = none_behind a
 renames_procedures (t.define (t.routine l x fs c) ds) setting sc ns i n some a =
-    let k : ℕ = 1 + objects_of_action c in
-    let some1 : 0 < i + (1 + objects_of_action c) = omega (arith, some) in
-    let one = one_procedure setting sc ns i n k ds x (global_named (sense_in ns x)) (is_global (bound_in sc.bindings x)) refl refl some a (λ sc1 ns1 a1. renames_procedures ds setting sc1 ns1 (i + k) (n + 1) some1 a1) in
-    record { agree = one.agree; keeps = one.keeps; means = one.means }
+    one_procedure setting sc ns i n (1 + objects_of_action c) ds x (global_named (sense_in ns x)) (is_global (bound_in sc.bindings x)) refl refl some a
+    (λ sc1 ns1 a1. renames_procedures ds setting sc1 ns1 (i + (1 + objects_of_action c)) (n + 1) (omega (arith, some)) a1)
 renames_procedures (t.define (t.function l x fs e) ds) setting sc ns i n some a =
-    let k : ℕ = 1 + objects e in
-    let some1 : 0 < i + (1 + objects e) = omega (arith, some) in
-    let one = one_procedure setting sc ns i n k ds x (global_named (sense_in ns x)) (is_global (bound_in sc.bindings x)) refl refl some a (λ sc1 ns1 a1. renames_procedures ds setting sc1 ns1 (i + k) (n + 1) some1 a1) in
-    record { agree = one.agree; keeps = one.keeps; means = one.means }
-renames_procedures (t.define (t.variables l xs is) ds) setting sc ns i n some a =
-    let some1 : 0 < i + objects_of_starts is = omega (arith, some) in
-    let more = renames_procedures ds setting sc ns (i + objects_of_starts is) n some1 a in
-    record { agree = more.agree; keeps = more.keeps; means = λ u bases frame grown r. more.means u bases frame grown (record { each = r.each }) }
+    one_procedure setting sc ns i n (1 + objects e) ds x (global_named (sense_in ns x)) (is_global (bound_in sc.bindings x)) refl refl some a
+    (λ sc1 ns1 a1. renames_procedures ds setting sc1 ns1 (i + (1 + objects e)) (n + 1) (omega (arith, some)) a1)
+renames_procedures (t.define (t.variables l xs is) ds) setting sc ns i n some a = more_behind (λ u. u) (renames_procedures ds setting sc ns (i + objects_of_starts is) n (omega (arith, some)) a)
 
 -- ---- the variables of a LET
 
@@ -336,13 +276,10 @@ renames_variables ps sc bl env n k keeps f = (
 )
 
 -- the variables that scoping binds
-most_within : (most : ℕ) (w : ℕ) → w ≤ most → nat_lt most w ≡ false
-most_within most w h = grind (arith, nat_tests)
-
 vector_size : (bs : List Binding) (e : Expression) → HasWordUpTo VEC_NUMBER (constant_word bs e) → words_of_start bs e ≡ worth (constant_word bs e) + 1
 vector_size bs e h =
     let is_word = h.1 in
-    ap (λ y. words_of_vector (within VEC_NUMBER y)) is_word ∙ ap (λ (q : Bool). words_of_vector (cond q None (Some h.0))) (most_within VEC_NUMBER h.0 h.2) ∙ ap (λ y. worth y + 1) (sym is_word)
+    ap (λ y. words_of_vector (within VEC_NUMBER y)) is_word ∙ ap (λ (q : Bool). words_of_vector (cond q None (Some h.0))) (le-ltb VEC_NUMBER h.0 h.2) ∙ ap (λ y. worth y + 1) (sym is_word)
 
 pub depth_grows : (bs : List Binding) (d : ℕ) (is : Starts) → d ≤ depth_past bs d is
 depth_grows bs d t.no_starts = omega arith

@@ -1,32 +1,43 @@
 -- Where code stands in a section, with the depth before it; what a label and a call have from that; and the bases of lasting objects
 -- one behind the other.
-use Rattle.bk_simulation.proofs.Words.{length-append, ◌≡◌, ℕ, false, zero, suc, ◌+◌, ◌<◌, ◌≤◌, List, [], ◌∷◌, ◌++◌, length, Some, take, drop, slice_get, refl, ap, ◌∙◌, subst, arith, FRAME_WORDS, next_depth, depth_behind, AreFaultless, Placed, Program, IsWellPlaced, from_label, Stmt, Label, label_has_one_place, Binding, Target, outermost, Named, Lasting}
-use Rattle.bk_ocode.proofs.Lemmas.{depth_within}
-use Rattle.bk_simulation.proofs.Memory.{BaseOf, Grown}
-use Rattle.bk_simulation.proofs.Sought.{with_names}
-use Rattle.bk_simulation.proofs.Laid.{Setting, Scene, LabelAt, CallAt, NamedIn}
-use Rattle.bk_simulation.proofs.Held.{HeldOneIn, HeldIn, held_in_both, InData}
-use Rattle.bk_simulation.proofs.NamesAgree.{Agree}
-use Rattle.bk_simulation.proofs.LastingKinds.{Kind, AsKind, AreAs, as_both}
+use Rattle.bk_simulation.proofs.Words.{length-append, sym, cond, Datum, is_in, datum_of, data_of, ◌≡◌, ℕ, false, zero, suc, ◌+◌, ◌<◌, ◌≤◌, List, [], ◌∷◌, ◌++◌, length, Some, take, drop, slice_get, refl, ap, ◌∙◌, subst, arith, FRAME_WORDS, next_depth, depth_behind, AreFaultless, Placed, Program, IsWellPlaced, from_label, Stmt, Label, label_has_one_place, Binding, Target, outermost, Named, Lasting, Part, target_of, procedure_code, data_code, AllFound, entries_of, joined, entry_setting, map, map-append, ap₂, append_assoc, item_words, option_map_or, global_vector, words, code, ◌==◌, depth_within, Option, None, all_data}
+use Rattle.bk_simulation.proofs.Pieces.{All, Each, all_both, each_front, each_back, each_both, BaseOf, Grown, with_names, Setting, Scene, LabelAt, CallAt, NamedIn, Agree}
+use Rattle.bk_simulation.proofs.LastingFits.{settings}
+use Rattle.bk_simulation.proofs.SectionGlobals.{settings_append}
+use Rattle.bk_simulation.proofs.Calls.{IsProcedure}
+
+-- ---- What is held of lasting objects.
+
+-- a datum of the program has this place and these words
+pub record InData (program : Program) (base : ℕ) (ws : List ℕ) : Type 0 where
+  pub number : ℕ
+  pub datum : Datum
+  pub at : slice_get (all_data program.sections) number ≡ Some datum
+  pub placed : datum.place ≡ base
+  pub is : datum.words ≡ ws
+
+-- the word of a procedure that sets no global
+abbrev pub HeldWord : Setting → ℕ → Option ℕ → Type 0
+HeldWord setting o None = (b : ℕ) × BaseOf setting.lasting o b × InData setting.program b (setting.codes.procedure o ∷ [])
+HeldWord setting o (Some k) = (b : ℕ) × BaseOf setting.lasting o b × (16 ≤ b) × (b ≤ setting.first)
+
+abbrev pub HeldOne : Setting → ℕ → Lasting → Type 0
+HeldOne setting o global_vector = ⊥
+HeldOne setting o (words ws) = (b : ℕ) × BaseOf setting.lasting o b × InData setting.program b ws
+HeldOne setting o (code f) = IsProcedure setting o f × HeldWord setting o f.global
+
+-- with numbers from o on
+abbrev pub HeldList : Setting → ℕ → List Lasting → Type 0
+HeldList setting o xs = Each (HeldOne setting) o xs
 
 -- ---- Bases that lie below the first frame, and words of procedures that are set.
 
 abbrev pub AreBelow : ℕ → List ℕ → Type 0
-AreBelow top [] = Unit {0}
-AreBelow top (b ∷ bs) = (b ≤ top) × AreBelow top bs
+AreBelow top bs = All (λ b. b ≤ top) bs
 
 -- a word that is 0 is not set
 abbrev pub AreSet : List ℕ → Type 0
-AreSet [] = Unit {0}
-AreSet (w ∷ ws) = (0 < w) × AreSet ws
-
-pub below_both : (top : ℕ) (xs ys : List ℕ) → AreBelow top xs → AreBelow top ys → AreBelow top (xs ++ ys)
-below_both top [] ys h i = i
-below_both top (x ∷ xs) ys h i = (h.0, below_both top xs ys h.1 i)
-
-pub set_both : (xs ys : List ℕ) → AreSet xs → AreSet ys → AreSet (xs ++ ys)
-set_both [] ys h i = i
-set_both (x ∷ xs) ys h i = (h.0, set_both xs ys h.1 i)
+AreSet ws = All (λ w. 0 < w) ws
 
 -- data of a program lie there
 pub data_below : (program : Program) (first : ℕ) → IsWellPlaced program first FRAME_WORDS → (base : ℕ) (ws : List ℕ) → InData program base ws → base ≤ first
@@ -42,6 +53,24 @@ pub record StandsAt (own : Placed) (depth : ℕ) (c : List Stmt) : Type 0 where
   pub behind : drop place own.stmts ≡ c
   pub same_depth : depth_behind 0 (take place own.stmts) ≡ depth
   pub shallow : depth ≤ FRAME_WORDS
+
+-- how many of these data have the address
+abbrev pub data_with : ℕ → List Datum → ℕ
+data_with a [] = 0
+data_with a (d ∷ ds) = cond (is_in a d) 1 0 + data_with a ds
+
+pub data_both : (a : ℕ) (xs ys : List Datum) → data_with a (xs ++ ys) ≡ data_with a xs + data_with a ys
+data_both a [] ys = omega arith
+data_both a (x ∷ xs) ys = let h = data_both a xs ys in omega (arith, h)
+
+-- and how many of those that statements give
+abbrev pub data_at : Placed → ℕ → List Stmt → ℕ
+data_at own a [] = 0
+data_at own a (x ∷ rest) = data_with a (datum_of own.places x rest) + data_at own a rest
+
+pub data_is : (own : Placed) (a : ℕ) (c : List Stmt) → data_at own a c ≡ data_with a (data_of own.places c)
+data_is own a [] = refl
+data_is own a (x ∷ rest) = let h = data_is own a rest in let e = data_both a (datum_of own.places x rest) (data_of own.places rest) in omega (arith, h, e)
 
 -- the first statement of what stands from a place on
 pub record FirstOf (xs : List Stmt) (i : ℕ) (s : Stmt) (c : List Stmt) : Type 0 where
@@ -89,37 +118,64 @@ call_at setting sc d call rest own h =
     let f = first_of sc.own.stmts h.place call rest h.behind in
     record { is_own = own; place = h.place; at = f.at; behind = f.behind }
 
+-- ---- parts, with what stands behind them
+
+-- code that stands somewhere in a section, whatever the depth before it
+pub record StandsIn (own : Placed) (cs : List Stmt) : Type 0 where
+  pub depth : ℕ
+  pub rest : List Stmt
+  pub stands : StandsAt own depth (cs ++ rest)
+
+-- data that stand so, with no item behind them
+pub record DataIn (own : Placed) (cs : List Stmt) : Type 0 where
+  pub depth : ℕ
+  pub rest : List Stmt
+  pub stands : StandsAt own depth (cs ++ rest)
+  pub ends : item_words own.places rest ≡ []
+
+-- a part whose targets are found, and whose code and data stand in the section
+abbrev pub PartFound : Placed → List Target → Part → Type 0
+PartFound own ts x = AllFound ts (target_of x) × StandsIn own (procedure_code ts x) × DataIn own (data_code x)
+
+abbrev pub FoundParts : Placed → List Target → List Part → Type 0
+FoundParts own ts [] = Unit {0}
+FoundParts own ts (x ∷ xs) = PartFound own ts x × FoundParts own ts xs
+
+abbrev pub found_front : (own : Placed) (ts : List Target) (xs ys : List Part) → FoundParts own ts (xs ++ ys) → FoundParts own ts xs
+found_front own ts [] ys h = tt
+found_front own ts (x ∷ xs) ys h = (h.0, found_front own ts xs ys h.1)
+
+abbrev pub found_back : (own : Placed) (ts : List Target) (xs ys : List Part) → FoundParts own ts (xs ++ ys) → FoundParts own ts ys
+found_back own ts [] ys h = h
+found_back own ts (x ∷ xs) ys h = found_back own ts xs ys h.1
+
+-- how many data with an address code has, with this behind it; and how many the code and the data of parts have
+abbrev pub data_within : Placed → ℕ → List Stmt → List Stmt → ℕ
+data_within own a [] rest = 0
+data_within own a (x ∷ cs) rest = data_with a (datum_of own.places x (cs ++ rest)) + data_within own a cs rest
+
+pub within_at : (own : Placed) (a : ℕ) (cs rest : List Stmt) → data_at own a (cs ++ rest) ≡ data_within own a cs rest + data_at own a rest
+within_at own a [] rest = omega arith
+within_at own a (x ∷ cs) rest = let h = within_at own a cs rest in omega (arith, h)
+
+abbrev pub data_of_parts : (own : Placed) (ts : List Target) (a : ℕ) (xs : List Part) → FoundParts own ts xs → ℕ
+data_of_parts own ts a [] f = 0
+data_of_parts own ts a (x ∷ xs) f = data_within own a (procedure_code ts x) f.0.1.rest + data_within own a (data_code x) f.0.2.rest + data_of_parts own ts a xs f.1
+
+pub parts_both : (own : Placed) (ts : List Target) (a : ℕ) (xs ys : List Part) (f : FoundParts own ts (xs ++ ys))
+    → data_of_parts own ts a (xs ++ ys) f ≡ data_of_parts own ts a xs (found_front own ts xs ys f) + data_of_parts own ts a ys (found_back own ts xs ys f)
+parts_both own ts a [] ys f = omega arith
+parts_both own ts a (x ∷ xs) ys f = let h = parts_both own ts a xs ys f.1 in omega (arith, h)
+
 -- ---- the bases of lasting objects
 
 -- these bases are those of the objects from this number on
 abbrev pub Follow : List ℕ → ℕ → List ℕ → Type 0
-Follow all next [] = Unit {0}
-Follow all next (b ∷ bs) = BaseOf all next b × Follow all (suc next) bs
-
-pub follow_first : (all : List ℕ) (next : ℕ) (xs ys : List ℕ) → Follow all next (xs ++ ys) → Follow all next xs
-follow_first all next [] ys h = tt
-follow_first all next (x ∷ xs) ys h = (h.0, follow_first all (suc next) xs ys h.1)
-
-pub follow_second : (all : List ℕ) (next n : ℕ) (xs ys : List ℕ) → length xs ≡ n → Follow all next (xs ++ ys) → Follow all (next + n) ys
-follow_second all next n [] ys e h = let s : next ≡ next + n = omega (arith, e) in subst (λ k. Follow all k ys) s h
-follow_second all next n (x ∷ xs) ys e h =
-    let s : suc next + length xs ≡ next + n = omega (arith, e) in
-    subst (λ k. Follow all k ys) s (follow_second all (suc next) (length xs) xs ys refl h.1)
+Follow all next bs = Each (BaseOf all) next bs
 
 -- these words are those of the procedures with numbers from this one on
 abbrev pub FollowWords : (ℕ → ℕ) → ℕ → List ℕ → Type 0
-FollowWords f next [] = Unit {0}
-FollowWords f next (w ∷ ws) = (f next ≡ w) × FollowWords f (suc next) ws
-
-pub words_first : (f : ℕ → ℕ) (next : ℕ) (xs ys : List ℕ) → FollowWords f next (xs ++ ys) → FollowWords f next xs
-words_first f next [] ys h = tt
-words_first f next (x ∷ xs) ys h = (h.0, words_first f (suc next) xs ys h.1)
-
-pub words_second : (f : ℕ → ℕ) (next n : ℕ) (xs ys : List ℕ) → length xs ≡ n → FollowWords f next (xs ++ ys) → FollowWords f (next + n) ys
-words_second f next n [] ys e h = let s : next ≡ next + n = omega (arith, e) in subst (λ k. FollowWords f k ys) s h
-words_second f next n (x ∷ xs) ys e h =
-    let s : suc next + length xs ≡ next + n = omega (arith, e) in
-    subst (λ k. FollowWords f k ys) s (words_second f (suc next) (length xs) xs ys refl h.1)
+FollowWords f next ws = Each (λ n w. f n ≡ w) next ws
 
 -- the section in which code stands, the names in scope there, and what a step pays at least
 pub record Home : Type 0 where
@@ -160,34 +216,81 @@ ArePlaced h bases entries = (program : Program) (first : ℕ) → IsWellPlaced p
 abbrev pub IsBelow : Home → ℕ → Type 0
 IsBelow h base = (program : Program) (first : ℕ) → IsWellPlaced program first FRAME_WORDS → slice_get program.sections h.section ≡ Some h.own → base ≤ first
 
--- Lasting objects from this number on, so many, of these kinds, with bases: where a setting has them, this is so, and those objects are
--- held there.
-pub record Bases (h : Home) (next many : ℕ) (kinds : List Kind) (objects : List Named → List Lasting) (P : Setting → Type 0) : Type 0 where
+joined_both : {A B : Type 0} (f : A → List B) (xs ys : List A) → joined f (xs ++ ys) ≡ joined f xs ++ joined f ys
+joined_both f [] ys = refl
+joined_both f (x ∷ xs) ys = ap (λ z. f x ++ z) (joined_both f xs ys) ∙ sym (append_assoc (f x) (joined f xs) (joined f ys))
+
+-- how many objects with words have this base
+abbrev pub with_base : ℕ → List Lasting → List ℕ → ℕ
+with_base q (words (y ∷ ys) ∷ xs) (v ∷ vs) = cond (v == q) 1 0 + with_base q xs vs
+with_base q (code f ∷ xs) (v ∷ vs) = option_map_or (λ _. 0) f.global (cond (v == q) 1 0) + with_base q xs vs
+with_base q (x ∷ xs) (v ∷ vs) = with_base q xs vs
+with_base q _ _ = 0
+
+pub base_both : (q : ℕ) (xs ys : List Lasting) (vs us : List ℕ) → length xs ≡ length vs → with_base q (xs ++ ys) (vs ++ us) ≡ with_base q xs vs + with_base q ys us
+base_both q [] ys [] us e = omega arith
+base_both q [] ys (v ∷ vs) us e = absurd (omega (arith, e))
+base_both q (x ∷ xs) ys [] us e = absurd (omega (arith, e))
+base_both q (words [] ∷ xs) ys (v ∷ vs) us e = base_both q xs ys vs us (omega (arith, e))
+base_both q (words (w ∷ ws) ∷ xs) ys (v ∷ vs) us e = let h = base_both q xs ys vs us (omega (arith, e)) in omega (arith, h)
+base_both q (code f ∷ xs) ys (v ∷ vs) us e = let h = base_both q xs ys vs us (omega (arith, e)) in omega (arith, h)
+base_both q (global_vector ∷ xs) ys (v ∷ vs) us e = base_both q xs ys vs us (omega (arith, e))
+
+-- Lasting objects from this number on, so many, with bases, in code and in these parts: where a setting has them, this is so, and those
+-- objects are held there. Their procedures set the globals that the parts set. Those with words have no more bases of an address than
+-- this, and the parts, have data.
+pub record Bases (h : Home) (next many : ℕ) (ps : List Part) (f : FoundParts h.own h.targets ps) (objects : List Named → List Lasting) (C : ℕ → ℕ) (P : Setting → Type 0) : Type 0 where
   pub bases : List ℕ
   pub entries : List ℕ
   pub all : length bases ≡ many
   pub all_entries : length entries ≡ many
   pub count : (ns : List Named) → length (objects ns) ≡ many
   pub laid : (setting : Setting) → Suits h next bases entries setting → P setting
-  pub held : (setting : Setting) → Suits h next bases entries setting → (ns : List Named) → Agree ns h.bindings → Mean h setting ns → HeldIn setting h.own next (objects ns)
-  pub alike : (setting : Setting) → Suits h next bases entries setting → (ns : List Named) → Agree ns h.bindings → Mean h setting ns → AreAs h.own kinds (objects ns) bases entries
+  pub held : (setting : Setting) → Suits h next bases entries setting → (ns : List Named) → Agree ns h.bindings → Mean h setting ns → HeldList setting next (objects ns)
+  pub sets : (setting : Setting) → Suits h next bases entries setting → (ns : List Named) → Agree ns h.bindings → Mean h setting ns → settings setting.codes next (objects ns) ≡ map (entry_setting h.own.places) (joined entries_of ps)
+  pub once : (setting : Setting) → Suits h next bases entries setting → (ns : List Named) → Agree ns h.bindings → Mean h setting ns → (q : ℕ) → with_base q (objects ns) bases ≤ C q + data_of_parts h.own h.targets q ps f
   pub placed : ArePlaced h bases entries
 
 -- none
-pub no_bases : (h : Home) (next : ℕ) (P : Setting → Type 0) → ((setting : Setting) → Fitting h setting → P setting) → Bases h next 0 [] (λ ns. []) P
-no_bases h next P f = record { bases = []; entries = []; all = refl; all_entries = refl; count = λ ns. refl; laid = λ setting x. f setting x.fits; held = λ setting x ns a u. tt; alike = λ setting x ns a u. tt; placed = λ program first well own. (tt, tt) }
+pub no_bases : (h : Home) (next : ℕ) {f : FoundParts h.own h.targets []} (P : Setting → Type 0) → ((setting : Setting) → Fitting h setting → P setting) → Bases h next 0 [] f (λ ns. []) (λ a. 0) P
+no_bases h next P f = record {
+  bases = [];
+  entries = [];
+  all = refl;
+  all_entries = refl;
+  count = λ ns. refl;
+  laid = λ setting x. f setting x.fits;
+  held = λ setting x ns a u. tt;
+  sets = λ setting x ns a u. refl;
+  once = λ setting x ns a u q. omega arith;
+  placed = λ program first well own. (tt, tt);
+}
 
--- one
-pub new_base : (h : Home) (next base : ℕ) (kind : Kind) (object : List Named → Lasting) (P : Setting → Type 0) → ((ns : List Named) → Agree ns h.bindings → AsKind h.own kind (object ns) base 1) → IsBelow h base → ((setting : Setting) → Fitting h setting → BaseOf setting.lasting next base → P setting)
-    → ((setting : Setting) → Fitting h setting → BaseOf setting.lasting next base → (ns : List Named) → Agree ns h.bindings → Mean h setting ns → HeldOneIn setting h.own next (object ns)) → Bases h next 1 (kind ∷ []) (λ ns. object ns ∷ []) P
-new_base h next base kind object P z low f k = record { bases = base ∷ []; entries = 1 ∷ []; all = refl; all_entries = refl; count = λ ns. refl; laid = λ setting x. f setting x.fits (x.follow.0); held = λ setting x ns a u. (k setting x.fits (x.follow.0) ns a u, tt); alike = λ setting x ns a u. (z ns a, tt); placed = λ program first well own. ((low program first well own, tt), (omega arith, tt)) }
+-- one, of words
+pub new_base : (h : Home) (next base : ℕ) (ps : List Part) (f : FoundParts h.own h.targets ps) (ws : List Named → List ℕ) {C : ℕ → ℕ} (P : Setting → Type 0) → [] ≡ joined entries_of ps
+    → ((ns : List Named) → Agree ns h.bindings → (q : ℕ) → with_base q (words (ws ns) ∷ []) (base ∷ []) ≤ C q + data_of_parts h.own h.targets q ps f) → IsBelow h base
+    → ((setting : Setting) → Fitting h setting → BaseOf setting.lasting next base → P setting)
+    → ((setting : Setting) → Fitting h setting → BaseOf setting.lasting next base → (ns : List Named) → Agree ns h.bindings → Mean h setting ns → HeldOne setting next (words (ws ns))) → Bases h next 1 ps f (λ ns. words (ws ns) ∷ []) C P
+new_base h next base ps f ws P none z low g k = record {
+  bases = base ∷ [];
+  entries = 1 ∷ [];
+  all = refl;
+  all_entries = refl;
+  count = λ ns. refl;
+  laid = λ setting x. g setting x.fits (x.follow.0);
+  held = λ setting x ns a u. (k setting x.fits (x.follow.0) ns a u, tt);
+  sets = λ setting x ns a u. ap (map (entry_setting h.own.places)) none;
+  once = λ setting x ns a u q. z ns a q;
+  placed = λ program first well own. ((low program first well own, tt), (omega arith, tt));
+}
 
 -- Objects of one part, and then those of another, where other names are in scope, which mean what they should wherever the objects
 -- of the first part have their bases.
-pub then_bases : (h : Home) (bs : List Binding) (next n m : ℕ) {ks ls : List Kind} {K L : List Named → List Lasting} (P Q : Setting → Type 0) (names : List Named → List Named) (a : Bases h next n ks K P)
+pub then_bases : (h : Home) (bs : List Binding) (next n m : ℕ) (ps : List Part) {qs : List Part} (f : FoundParts h.own h.targets (ps ++ qs)) {K L : List Named → List Lasting} {C D : ℕ → ℕ} (P Q : Setting → Type 0) (names : List Named → List Named)
+    (a : Bases h next n ps (found_front h.own h.targets ps qs f) K C P)
     → ((setting : Setting) → Suits h next a.bases a.entries setting → (ns : List Named) → Agree ns h.bindings → Mean h setting ns → Agree (names ns) bs × Mean (record h { bindings = bs }) setting (names ns))
-    → Bases (record h { bindings = bs }) (next + n) m ls L Q → Bases h next (n + m) (ks ++ ls) (λ ns. K ns ++ L (names ns)) (λ setting. P setting × Q setting)
-then_bases h bs next n m {ks} {ls} {K} {L} P Q names a after b =
+    → Bases (record h { bindings = bs }) (next + n) m qs (found_back h.own h.targets ps qs f) L D Q → Bases h next (n + m) (ps ++ qs) f (λ ns. K ns ++ L (names ns)) (λ a. C a + D a) (λ setting. P setting × Q setting)
+then_bases h bs next n m ps {qs} f {K} {L} P Q names a after b =
     let an = a.all in
     let bn = b.all in
     let ae = a.all_entries in
@@ -195,12 +298,12 @@ then_bases h bs next n m {ks} {ls} {K} {L} P Q names a after b =
     let l = length-append a.bases b.bases in
     let le = length-append a.entries b.entries in
     let front : (setting : Setting) → Suits h next (a.bases ++ b.bases) (a.entries ++ b.entries) setting → Suits h next a.bases a.entries setting =
-    λ setting x. record { fits = x.fits; some = x.some; follow = follow_first setting.lasting next a.bases b.bases x.follow; words = words_first setting.codes.procedure next a.entries b.entries x.words } in
+    λ setting x. record { fits = x.fits; some = x.some; follow = each_front (BaseOf setting.lasting) next a.bases b.bases x.follow; words = each_front (λ n w. setting.codes.procedure n ≡ w) next a.entries b.entries x.words } in
     let back : (setting : Setting) → Suits h next (a.bases ++ b.bases) (a.entries ++ b.entries) setting → Suits (record h { bindings = bs }) (next + n) b.bases b.entries setting = λ setting x. record {
       fits = record { own = x.fits.own; pays = x.fits.pays };
       some = (let z = x.some in omega (arith, z));
-      follow = follow_second setting.lasting next n a.bases b.bases an x.follow;
-      words = words_second setting.codes.procedure next n a.entries b.entries ae x.words;
+      follow = each_back (BaseOf setting.lasting) next n a.bases b.bases an x.follow;
+      words = each_back (λ n w. setting.codes.procedure n ≡ w) next n a.entries b.entries ae x.words;
     } in
     record {
       bases = a.bases ++ b.bases;
@@ -211,101 +314,124 @@ then_bases h bs next n m {ks} {ls} {K} {L} P Q names a after b =
       laid = λ setting x. (a.laid setting (front setting x), b.laid setting (back setting x));
       held = λ setting x ns e u.
           let i = after setting (front setting x) ns e u in
-          held_in_both setting h.own next n (K ns) (L (names ns)) (a.count ns) (a.held setting (front setting x) ns e u) (b.held setting (back setting x) (names ns) i.0 i.1);
-      alike = λ setting x ns e u.
+          each_both (HeldOne setting) next n (K ns) (L (names ns)) (a.count ns) (a.held setting (front setting x) ns e u) (b.held setting (back setting x) (names ns) i.0 i.1);
+      sets = λ setting x ns e u.
           let i = after setting (front setting x) ns e u in
-          as_both h.own ks (K ns) a.bases a.entries ls (L (names ns)) b.bases b.entries (a.alike setting (front setting x) ns e u) (b.alike setting (back setting x) (names ns) i.0 i.1);
+          settings_append setting.codes next (K ns) (L (names ns)) ∙ ap (λ k. settings setting.codes next (K ns) ++ settings setting.codes (next + k) (L (names ns))) (a.count ns)
+          ∙ ap₂ (λ y z. y ++ z) (a.sets setting (front setting x) ns e u) (b.sets setting (back setting x) (names ns) i.0 i.1)
+          ∙ sym (ap (map (entry_setting h.own.places)) (joined_both entries_of ps qs) ∙ map-append (entry_setting h.own.places) (joined entries_of ps) (joined entries_of qs));
+      once = λ setting x ns e u q.
+          let i = after setting (front setting x) ns e u in
+          let v = a.once setting (front setting x) ns e u q in let w = b.once setting (back setting x) (names ns) i.0 i.1 q in
+          let y = base_both q (K ns) (L (names ns)) a.bases b.bases (a.count ns ∙ sym an) in let z = parts_both h.own h.targets q ps qs f in omega (arith, v, w, y, z);
       placed = λ program first well own.
           let p = a.placed program first well own in
           let q = b.placed program first well own in
-          (below_both first a.bases b.bases p.0 q.0, set_both a.entries b.entries p.1 q.1);
+          (all_both (λ b. b ≤ first) a.bases b.bases p.0 q.0, all_both (λ w. 0 < w) a.entries b.entries p.1 q.1);
     }
 
 -- those of one part and then those of another
-pub both_bases : (h : Home) (next n m : ℕ) {ks ls : List Kind} {K L : List Named → List Lasting} (P Q : Setting → Type 0) → Bases h next n ks K P → Bases h (next + n) m ls L Q
-    → Bases h next (n + m) (ks ++ ls) (λ ns. K ns ++ L ns) (λ setting. P setting × Q setting)
-both_bases h next n m P Q a b = then_bases h h.bindings next n m P Q (λ ns. ns) a (λ setting x ns e u. (e, u)) b
+pub both_bases : (h : Home) (next n m : ℕ) (ps : List Part) {qs : List Part} (f : FoundParts h.own h.targets (ps ++ qs)) {K L : List Named → List Lasting} {C D : ℕ → ℕ} (P Q : Setting → Type 0)
+    → Bases h next n ps (found_front h.own h.targets ps qs f) K C P → Bases h (next + n) m qs (found_back h.own h.targets ps qs f) L D Q
+    → Bases h next (n + m) (ps ++ qs) f (λ ns. K ns ++ L ns) (λ a. C a + D a) (λ setting. P setting × Q setting)
+both_bases h next n m ps f P Q a b = then_bases h h.bindings next n m ps f P Q (λ ns. ns) a (λ setting x ns e u. (e, u)) b
 
 -- those of three
-pub three_bases : (h : Home) (next n m k : ℕ) {ks ls ms : List Kind} {K L M : List Named → List Lasting} (P Q R : Setting → Type 0) → Bases h next n ks K P → Bases h (next + n) m ls L Q → Bases h (next + n + m) k ms M R
-    → Bases h next (n + m + k) (ks ++ ls ++ ms) (λ ns. K ns ++ L ns ++ M ns) (λ setting. (P setting × Q setting) × R setting)
-three_bases h next n m k {ks} {ls} {ms} {K} {L} {M} P Q R a b c =
+pub three_bases : (h : Home) (next n m k : ℕ) (ps qs : List Part) {rs : List Part} (f : FoundParts h.own h.targets (ps ++ qs ++ rs)) {K L M : List Named → List Lasting} {C D E : ℕ → ℕ} (P Q R : Setting → Type 0)
+    → Bases h next n ps (found_front h.own h.targets ps qs (found_front h.own h.targets (ps ++ qs) rs f)) K C P → Bases h (next + n) m qs (found_back h.own h.targets ps qs (found_front h.own h.targets (ps ++ qs) rs f)) L D Q
+    → Bases h (next + n + m) k rs (found_back h.own h.targets (ps ++ qs) rs f) M E R → Bases h next (n + m + k) (ps ++ qs ++ rs) f (λ ns. K ns ++ L ns ++ M ns) (λ a. C a + D a + E a) (λ setting. (P setting × Q setting) × R setting)
+three_bases h next n m k ps qs {rs} f {M = M} {E = E} P Q R a b c =
     let e : next + n + m ≡ next + (n + m) = omega arith in
-    both_bases h next (n + m) k _ R (both_bases h next n m P Q a b) (subst (λ x. Bases h x k ms M R) e c)
+    both_bases h next (n + m) k (ps ++ qs) f _ R (both_bases h next n m ps _ P Q a b) (subst (λ x. Bases h x k rs (found_back h.own h.targets (ps ++ qs) rs f) M E R) e c)
 
-pub bases_so : (h : Home) (next n : ℕ) {ks : List Kind} {L : List Named → List Lasting} (P Q : Setting → Type 0) → ((setting : Setting) → Fitting h setting → P setting → Q setting) → Bases h next n ks L P → Bases h next n ks L Q
-bases_so h next n P Q f a = record { bases = a.bases; entries = a.entries; all = a.all; all_entries = a.all_entries; count = a.count; laid = λ setting x. f setting x.fits (a.laid setting x); held = a.held; alike = a.alike; placed = a.placed }
+module _ (h : Home) {next n : ℕ} {ps : List Part} {f : FoundParts h.own h.targets ps} where
+  -- Said otherwise: with other names in scope inside, which mean what they should where the objects' bases say so, and where a step pays for more.
+  pub bases_as : (bs : List Binding) (pay : ℕ) {K L : List Named → List Lasting} {C D : ℕ → ℕ} {P : Setting → Type 0} (Q : Setting → Type 0) (names : List Named → List Named) → pay ≤ h.pay
+      → ((setting : Setting) → Fitting h setting → 0 < next → P setting → Q setting) → ((ns : List Named) → K (names ns) ≡ L ns) → ((a : ℕ) → C a ≤ D a)
+      → ((setting : Setting) → 0 < next → P setting → (ns : List Named) → Agree ns h.bindings → Mean h setting ns → Agree (names ns) bs × Mean (record h { bindings = bs; pay = pay }) setting (names ns))
+      → Bases (record h { bindings = bs; pay = pay }) next n ps f K C P → Bases h next n ps f L D Q
+  bases_as bs pay {K} {L} Q names low said same less means a =
+      let inner : (setting : Setting) → Suits h next a.bases a.entries setting → Suits (record h { bindings = bs; pay = pay }) next a.bases a.entries setting =
+      λ setting x. record { fits = record { own = x.fits.own; pays = (let z = x.fits.pays in omega (arith, z, low)) }; some = x.some; follow = x.follow; words = x.words } in
+      record {
+        bases = a.bases;
+        entries = a.entries;
+        all = a.all;
+        all_entries = a.all_entries;
+        count = λ ns. subst (λ x. length x ≡ n) (same ns) (a.count (names ns));
+        laid = λ setting x. said setting x.fits x.some (a.laid setting (inner setting x));
+        held = λ setting x ns u v. let i = means setting x.some (a.laid setting (inner setting x)) ns u v in subst (λ y. HeldList setting next y) (same ns) (a.held setting (inner setting x) (names ns) i.0 i.1);
+        sets = λ setting x ns u v. let i = means setting x.some (a.laid setting (inner setting x)) ns u v in ap (settings setting.codes next) (sym (same ns)) ∙ a.sets setting (inner setting x) (names ns) i.0 i.1;
+        once = λ setting x ns u v q.
+            let i = means setting x.some (a.laid setting (inner setting x)) ns u v in
+            let o = a.once setting (inner setting x) (names ns) i.0 i.1 q in let e = ap (λ y. with_base q y a.bases) (same ns) in let l = less q in omega (arith, o, e, l);
+        placed = a.placed;
+      }
 
--- the same objects, said otherwise
-pub bases_of : (h : Home) (next n : ℕ) {ks : List Kind} (K L : List Named → List Lasting) (P : Setting → Type 0) → ((ns : List Named) → K ns ≡ L ns) → Bases h next n ks K P → Bases h next n ks L P
-bases_of h next n {ks} K L P e a = record {
-  bases = a.bases;
-  entries = a.entries;
-  all = a.all;
-  all_entries = a.all_entries;
-  count = λ ns. subst (λ x. length x ≡ n) (e ns) (a.count ns);
-  laid = a.laid;
-  held = λ setting x ns u v. subst (λ y. HeldIn setting h.own next y) (e ns) (a.held setting x ns u v);
-  alike = λ setting x ns u v. subst (λ y. AreAs h.own ks y a.bases a.entries) (e ns) (a.alike setting x ns u v);
-  placed = a.placed;
-}
+  pub bases_so : {L : List Named → List Lasting} {C : ℕ → ℕ} {P : Setting → Type 0} (Q : Setting → Type 0) → ((setting : Setting) → Fitting h setting → P setting → Q setting) → Bases h next n ps f L C P → Bases h next n ps f L C Q
+  bases_so Q said a = bases_as h.bindings h.pay Q (λ ns. ns) (omega arith) (λ setting x some p. said setting x p) (λ ns. refl) (λ q. omega arith) (λ setting some p ns u v. (u, v)) a
 
--- where their bases say so, more names are in scope inside
-pub bases_under : (h : Home) (bs : List Binding) (next n : ℕ) {ks : List Kind} {L : List Named → List Lasting} (P : Setting → Type 0) (names : List Named → List Named)
-    → ((setting : Setting) → 0 < next → P setting → (ns : List Named) → Agree ns h.bindings → Mean h setting ns → Agree (names ns) bs × Mean (record h { bindings = bs }) setting (names ns)) → Bases (record h { bindings = bs }) next n ks L P
-    → Bases h next n ks (λ ns. L (names ns)) P
-bases_under h bs next n P names f a =
-    let inner : (setting : Setting) → Suits h next a.bases a.entries setting → Suits (record h { bindings = bs }) next a.bases a.entries setting =
-    λ setting x. record { fits = record { own = x.fits.own; pays = x.fits.pays }; some = x.some; follow = x.follow; words = x.words } in
-    record {
-      bases = a.bases;
-      entries = a.entries;
-      all = a.all;
-      all_entries = a.all_entries;
-      count = λ ns. a.count (names ns);
-      laid = λ setting x. a.laid setting (inner setting x);
-      held = λ setting x ns u v. let i = f setting x.some (a.laid setting (inner setting x)) ns u v in a.held setting (inner setting x) (names ns) i.0 i.1;
-      alike = λ setting x ns u v. let i = f setting x.some (a.laid setting (inner setting x)) ns u v in a.alike setting (inner setting x) (names ns) i.0 i.1;
-      placed = a.placed;
-    }
+  -- the same objects, said otherwise
+  pub bases_of : (K L : List Named → List Lasting) {C : ℕ → ℕ} {P : Setting → Type 0} → ((ns : List Named) → K ns ≡ L ns) → Bases h next n ps f K C P → Bases h next n ps f L C P
+  bases_of K L {P = P} e a = bases_as h.bindings h.pay P (λ ns. ns) (omega arith) (λ setting x some p. p) e (λ q. omega arith) (λ setting some p ns u v. (u, v)) a
 
--- with more names in scope inside
-pub bases_inside : (h : Home) (bs : List Binding) (next n : ℕ) {ks : List Kind} {L : List Named → List Lasting} (P : Setting → Type 0) (names : List Named → List Named)
-    → ((setting : Setting) (ns : List Named) → Agree ns h.bindings → Mean h setting ns → Agree (names ns) bs × Mean (record h { bindings = bs }) setting (names ns)) → Bases (record h { bindings = bs }) next n ks L P
-    → Bases h next n ks (λ ns. L (names ns)) P
-bases_inside h bs next n P names f a = bases_under h bs next n P names (λ setting some p ns u v. f setting ns u v) a
+  -- where their bases say so, more names are in scope inside
+  pub bases_under : (bs : List Binding) {L : List Named → List Lasting} {C : ℕ → ℕ} {P : Setting → Type 0} (names : List Named → List Named)
+      → ((setting : Setting) → 0 < next → P setting → (ns : List Named) → Agree ns h.bindings → Mean h setting ns → Agree (names ns) bs × Mean (record h { bindings = bs }) setting (names ns))
+      → Bases (record h { bindings = bs }) next n ps f L C P → Bases h next n ps f (λ ns. L (names ns)) C P
+  bases_under bs {P = P} names means a = bases_as bs h.pay P names (omega arith) (λ setting x some p. p) (λ ns. refl) (λ q. omega arith) means a
 
--- none of them is the global vector
-pub bases_some : (h : Home) (next n : ℕ) {ks : List Kind} {L : List Named → List Lasting} (P : Setting → Type 0) → Bases h next n ks L P → Bases h next n ks L (λ setting. (0 < next) × P setting)
-bases_some h next n P a = record { bases = a.bases; entries = a.entries; all = a.all; all_entries = a.all_entries; count = a.count; laid = λ setting x. (x.some, a.laid setting x); held = a.held; alike = a.alike; placed = a.placed }
+  -- none of them is the global vector
+  pub bases_some : {L : List Named → List Lasting} {C : ℕ → ℕ} {P : Setting → Type 0} → Bases h next n ps f L C P → Bases h next n ps f L C (λ setting. (0 < next) × P setting)
+  bases_some a = bases_as h.bindings h.pay _ (λ ns. ns) (omega arith) (λ setting x some p. (some, p)) (λ ns. refl) (λ q. omega arith) (λ setting some p ns u v. (u, v)) a
+
+  pub bases_within : {L : List Named → List Lasting} {C D : ℕ → ℕ} {P : Setting → Type 0} → ((a : ℕ) → C a ≤ D a) → Bases h next n ps f L C P → Bases h next n ps f L D P
+  bases_within {P = P} less a = bases_as h.bindings h.pay P (λ ns. ns) (omega arith) (λ setting x some p. p) (λ ns. refl) less (λ setting some p ns u v. (u, v)) a
 
 -- where a step pays for more
-pub bases_paid : (h : Home) (more next n : ℕ) {ks : List Kind} {L : List Named → List Lasting} (P : Setting → Type 0) → h.pay ≤ more → Bases h next n ks L P → Bases (record h { pay = more }) next n ks L P
-bases_paid h more next n P low a =
-    let inner : (setting : Setting) → Suits (record h { pay = more }) next a.bases a.entries setting → Suits h next a.bases a.entries setting =
-    λ setting x. record { fits = record { own = x.fits.own; pays = (let z = x.fits.pays in omega (arith, z, low)) }; some = x.some; follow = x.follow; words = x.words } in
-    record {
-      bases = a.bases;
-      entries = a.entries;
-      all = a.all;
-      all_entries = a.all_entries;
-      count = a.count;
-      laid = λ setting x. a.laid setting (inner setting x);
-      held = λ setting x ns u v. a.held setting (inner setting x) ns u v;
-      alike = λ setting x ns u v. a.alike setting (inner setting x) ns u v;
-      placed = a.placed;
-    }
+pub bases_paid : (h : Home) (more : ℕ) {next n : ℕ} {ps : List Part} {f : FoundParts h.own h.targets ps} {L : List Named → List Lasting} {C : ℕ → ℕ} {P : Setting → Type 0} → h.pay ≤ more → Bases h next n ps f L C P → Bases (record h { pay = more }) next n ps f L C P
+bases_paid h more {P = P} low a = bases_as (record h { pay = more }) h.bindings h.pay P (λ ns. ns) low (λ setting x some p. p) (λ ns. refl) (λ q. omega arith) (λ setting some p ns u v. (u, v)) a
 
--- What is laid, and where the code goes on: with this depth before these statements.
-pub record Lies (h : Home) (next many depth : ℕ) (rest : List Stmt) (kinds : List Kind) (objects : List Named → List Lasting) (P : Setting → Type 0) : Type 0 where
+-- What is laid from these statements on, and where the code goes on: with this depth before those. Those objects with words and the data behind
+-- them are no more than the data of the statements and of the parts.
+pub record Lies (h : Home) (next many depth : ℕ) (c rest : List Stmt) (ps : List Part) (f : FoundParts h.own h.targets ps) (objects : List Named → List Lasting) (P : Setting → Type 0) : Type 0 where
+  pub credit : ℕ → ℕ
   pub on : StandsAt h.own depth rest
-  pub objects_are : Bases h next many kinds objects P
+  pub objects_are : Bases h next many ps f objects credit P
+  pub paid : (a : ℕ) → credit a + data_at h.own a rest ≤ data_at h.own a c
 
-pub lies_so : (h : Home) (next many depth : ℕ) (rest : List Stmt) {ks : List Kind} {L : List Named → List Lasting} (P Q : Setting → Type 0) → ((setting : Setting) → Fitting h setting → P setting → Q setting) → Lies h next many depth rest ks L P
-    → Lies h next many depth rest ks L Q
-lies_so h next many depth rest P Q f a = record { on = a.on; objects_are = bases_so h next many P Q f a.objects_are }
+pub lie : {h : Home} {next many depth : ℕ} {c rest : List Stmt} {ps : List Part} {f : FoundParts h.own h.targets ps} {L : List Named → List Lasting} {B : ℕ → ℕ} {P : Setting → Type 0} → StandsAt h.own depth rest → Bases h next many ps f L B P
+    → ((a : ℕ) → B a + data_at h.own a rest ≤ data_at h.own a c) → Lies h next many depth c rest ps f L P
+lie {B = B} on objects paid = record { credit = B; on = on; objects_are = objects; paid = paid }
+
+pub lies_so : (h : Home) {next many depth : ℕ} {c rest : List Stmt} {ps : List Part} {f : FoundParts h.own h.targets ps} {L : List Named → List Lasting} {P : Setting → Type 0} (Q : Setting → Type 0) → ((setting : Setting) → Fitting h setting → P setting → Q setting)
+    → Lies h next many depth c rest ps f L P → Lies h next many depth c rest ps f L Q
+lies_so h Q g a = lie a.on (bases_so h Q g a.objects_are) a.paid
 
 -- one statement further
-pub lies_behind : (h : Home) (next many k depth : ℕ) (x : Stmt) (rest : List Stmt) {ks : List Kind} {L : List Named → List Lasting} (P : Setting → Type 0) → next_depth k x ≡ depth → Lies h next many k (x ∷ rest) ks L P
-    → Lies h next many depth rest ks L P
-lies_behind h next many k depth x rest P e a = record { on = passed h.own k depth x rest a.on e; objects_are = a.objects_are }
+pub lies_behind : (h : Home) {next many : ℕ} (k depth : ℕ) {c : List Stmt} (x : Stmt) (rest : List Stmt) {ps : List Part} {f : FoundParts h.own h.targets ps} {L : List Named → List Lasting} {P : Setting → Type 0} → next_depth k x ≡ depth
+    → Lies h next many k c (x ∷ rest) ps f L P → Lies h next many depth c rest ps f L P
+lies_behind h k depth x rest e a = lie (passed h.own k depth x rest a.on e) a.objects_are (λ q. let p = a.paid q in omega (arith, p))
+
+-- from earlier statements on
+pub lies_within : {h : Home} {next many depth : ℕ} {c c1 rest : List Stmt} {ps : List Part} {f : FoundParts h.own h.targets ps} {L : List Named → List Lasting} {P : Setting → Type 0} → ((a : ℕ) → data_at h.own a c1 ≤ data_at h.own a c)
+    → Lies h next many depth c1 rest ps f L P → Lies h next many depth c rest ps f L P
+lies_within less a = lie a.on a.objects_are (λ q. let x = a.paid q in let y = less q in omega (arith, x, y))
+
+-- and with a part in front that sets no global
+pub lies_after : {h : Home} {next many depth : ℕ} {c rest : List Stmt} (x : Part) {ps : List Part} {f : FoundParts h.own h.targets (x ∷ ps)} {L : List Named → List Lasting} {P : Setting → Type 0} → entries_of x ≡ []
+    → Lies h next many depth c rest ps f.1 L P → Lies h next many depth c rest (x ∷ ps) f L P
+lies_after {h} x {ps} e a =
+    let o = a.objects_are in
+    lie a.on (record {
+      bases = o.bases;
+      entries = o.entries;
+      all = o.all;
+      all_entries = o.all_entries;
+      count = o.count;
+      laid = o.laid;
+      held = o.held;
+      sets = λ setting s ns u v. o.sets setting s ns u v ∙ ap (λ y. map (entry_setting h.own.places) (y ++ joined entries_of ps)) (sym e);
+      once = λ setting s ns u v q. let w = o.once setting s ns u v q in omega (arith, w);
+      placed = o.placed;
+    }) a.paid

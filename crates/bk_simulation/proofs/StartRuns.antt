@@ -1,20 +1,7 @@
 -- START is called: into its frame, through its body, and home.
-use Rattle.bk_simulation.proofs.Words.{◌≡◌, ℕ, suc, ◌+◌, ◌-◌, ◌*◌, ◌<◌, ◌≤◌, ◌^◌, List, [], ◌∷◌, ◌++◌, length, Some, None, pos, refl, sym, ap, ◌∙◌, subst, if◌then◌else◌, arith, ⊎_elim, slice_get, option_map_or, slice_get_within, FRAME_WORDS, GLOBAL_NUMBER, Status, Word, Link, Cell, Held, content_of, below, settle, Placed, Inside, At, State, Ends, Wild, global_place, step, Program, resumed_in, program_step, program_step_from, HasFrames, start, called, Entry, Value, unset, holds, Memory, World, making, forgetting, calling, status, Environment, Procedure, Meanings, formal_cells, bind_formals, enter, settle-kept}
-use Rattle.std.specs.Prelude.{drop}
-use Rattle.std.proofs.lemmas.Bool.{eq-eqb}
-use Rattle.bk_meaning.specs.Values.{Cell as Cell_of}
-use Rattle.bk_simulation.specs.GoingOn.{settled, settled_from}
-use Rattle.bk_simulation.proofs.Moves.{Moves, entry_moves, save_moves, returning}
-use Rattle.bk_simulation.proofs.FramesKept.{links_kept, links_through, links_below, links_settled}
-use Rattle.bk_simulation.proofs.Memory.{BaseOf, Like, like_on, StandsCell, Store, Grown, Fits, fits_above, fits_more}
-use Rattle.bk_simulation.proofs.MadeObjects.{make, grown_made, make_fits, get_new}
-use Rattle.bk_simulation.proofs.WrittenCells.{below_at, below_like, settle_like, settle_at}
-use Rattle.bk_simulation.proofs.BytesKept.{HasBytes, AllBytes, moves_bytes}
-use Rattle.bk_simulation.proofs.Laid.{Setting}
-use Rattle.bk_simulation.proofs.Frame.{Configuration, state, FewFrames, Ready, Account, Comes, here, go_on, comes_on, one, Ran, ran_from, there, Stopped}
-use Rattle.bk_simulation.proofs.Compose.{roomy}
-use Rattle.bk_simulation.proofs.Simulates.{Simulates}
-use Rattle.bk_simulation.proofs.NewFrames.{formals_long, formal_is}
+use Rattle.bk_simulation.proofs.Words.{Save, ◌≡◌, ℕ, suc, ◌+◌, ◌-◌, ◌*◌, ◌<◌, ◌≤◌, ◌^◌, List, [], ◌∷◌, ◌++◌, length, Some, None, pos, refl, sym, ap, ◌∙◌, subst, if◌then◌else◌, arith, ⊎_elim, slice_get, option_map_or, slice_get_within, FRAME_WORDS, GLOBAL_NUMBER, Status, Word, Link, Cell, Held, content_of, below, settle, Placed, Inside, At, State, Ends, Wild, global_place, step, Program, resumed_in, program_step, program_step_from, HasFrames, start, called, Entry, Value, unset, holds, Memory, World, making, forgetting, calling, status, Environment, Procedure, Meanings, formal_cells, bind_formals, enter, settle-kept, settled, settled_from, drop, eq-eqb, Cell_of}
+use Rattle.bk_simulation.proofs.Pieces.{Moves, returning, does, links_kept, links_through, links_settled, BaseOf, Like, like_on, StandsCell, Store, Grown, Fits, fits_above, fits_more, make, grown_made, make_fits, get_new, below_at, below_like, settle_like, settle_at, HasBytes, AllBytes, moves_bytes, Setting, Configuration, state, FewFrames, Ready, Account, Comes, here, go_on, comes_on, one, Ran, ran_from, there, Stopped, roomy, Simulates, formals_long, formal_is}
+use Rattle.bk_simulation.proofs.FramesKept.{links_below}
 use Rattle.bk_simulation.proofs.Calls.{AnyExit, Yielded, AloneRuns, for_body, body_small, body_runs, closing_ran, IsProcedure, in_body, links_free}
 
 -- what the store holds before START is called
@@ -51,6 +38,14 @@ pub start_runs : (setting : Setting) (inner : Meanings) → Simulates setting in
     → Ran setting (state ip.scene.own 2 (Entry ip.label ip.name ∷ drop (suc ip.place) ip.scene.own.stmts) c0 setting.first None [] w0) B (Over setting (state ip.scene.own 2 (Entry ip.label ip.name ∷ drop (suc ip.place) ip.scene.own.stmts) c0 setting.first None [] w0) B) AnyExit
     (enter inner (Some f) [] (calling w0))
 start_runs setting inner sim alone_runs k f ip c0 w0 fs no_calls cap1 B leB leB' =
+    let top : ℕ = setting.first in
+    let size : ℕ = length f.formals + 2 in
+    let o : ℕ = length w0.memory in
+    let own : Placed = ip.scene.own in
+    let c3 : ℕ → Cell = below (top + size) (settle (top + 2) (top + size) c0) in
+    let cells : List Cell_of = formal_cells f.formals [] in
+    let h1 : Store = record { bases = setting.lasting; mem = w0.memory; cells = c3 } in
+    let env : Environment = bind_formals o 0 f.formals f.env in
     let b : ℕ = top + 2 in
     let w2 : World = making cells (calling w0) in
     let z1 : Configuration = in_body ip.scene env top (setting.lasting ++ b ∷ []) c3 [] size in
@@ -102,8 +97,8 @@ start_runs setting inner sim alone_runs k f ip c0 w0 fs no_calls cap1 B leB leB'
     (links_through (suc top) c0 (settle (top + 2) (top + size) c0) c3 (links_settled (suc top) (top + 2) (top + size) c0) (links_below (suc top) (top + size) (settle (top + 2) (top + size) c0))) few0 in
     let cap0 : FewFrames setting c0 top setting.cap = roomy setting c0 top 1 few0 cap1 in
     let cap3 : FewFrames setting c3 top setting.cap = roomy setting c3 top 1 few3 cap1 in
-    let m2 : Moves setting.program s1 s2 = entry_moves setting.program s1 own (drop (suc ip.place) own.stmts) 2 ip.label ip.name refl in
-    let m3 : Moves setting.program s2 s3 = save_moves setting.program s2 own ip.body 2 size (ap (λ y. Inside own 2 y) ip.behind) in
+    let m2 : Moves setting.program s1 s2 = does setting.program s1 own (drop (suc ip.place) own.stmts) 2 (Entry ip.label ip.name) refl refl refl in
+    let m3 : Moves setting.program s2 s3 = does setting.program s2 own ip.body 2 (Save size) (ap (λ y. Inside own 2 y) ip.behind) refl refl in
     let to_body : Comes setting 2 (setting.pay + (setting.pay + 0)) s1 s3 = go_on 1 _ s1 s2 s3 m2 cap0 (go_on 0 0 s2 s3 s3 m3 cap3 (here s3)) in
     let has1 : HasBytes s1 = record { words = fs.words; hand = tt } in
     let has3 : HasBytes s3 = moves_bytes setting.program s2 s3 m3 (moves_bytes setting.program s1 s2 m2 has1) in
@@ -127,27 +122,3 @@ start_runs setting inner sim alone_runs k f ip c0 w0 fs no_calls cap1 B leB leB'
     closing_ran {K = Yielded setting s3 N z1 w2} o (λ v w3 q. over v w3 q f1 to_body)
     (ran_from to_body (omega arith) (omega arith) (λ v w3 q. q) (λ x w3 q. q)
     (body_runs setting inner sim alone_runs f.body z1 ip.body w2 (ip.laid o some_made) r1))
-  where
-    top : ℕ
-    top = setting.first
-
-    size : ℕ
-    size = length f.formals + 2
-
-    o : ℕ
-    o = length w0.memory
-
-    own : Placed
-    own = ip.scene.own
-
-    c3 : ℕ → Cell
-    c3 = below (top + size) (settle (top + 2) (top + size) c0)
-
-    cells : List Cell_of
-    cells = formal_cells f.formals []
-
-    h1 : Store
-    h1 = record { bases = setting.lasting; mem = w0.memory; cells = c3 }
-
-    env : Environment
-    env = bind_formals o 0 f.formals f.env

@@ -1,21 +1,10 @@
 -- Where the sections mean a run without an end, the program goes on with it.
-use Rattle.bk_simulation.proofs.Words.{◌≡◌, ℕ, zero, suc, ◌+◌, ◌*◌, ◌≤◌, nat_lt, true, false, List, [], Option, Some, None, refl, sym, ap, ◌∙◌, subst, arith, ◌⊎◌, ⊎_elim, inl, inr, FRAME_WORDS, option_map, Declarations, number_in, State, Goes, Program, run, first_state, Value, procedure, World, Outcome, gives, undefined, going, each_way, calling, calls_back, Procedure, program_of, procedure_of, Meanings, enter, Going, Undefined, means, meaning, started, run_of, first_world, IsWellPlaced}
+use Rattle.bk_simulation.proofs.Words.{ltb-false, ◌≡◌, ℕ, zero, suc, ◌+◌, ◌*◌, ◌≤◌, nat_lt, true, false, List, [], Option, Some, None, refl, sym, ap, ◌∙◌, subst, arith, ◌⊎◌, ⊎_elim, inl, inr, FRAME_WORDS, option_map, Declarations, number_in, State, Goes, Program, run, first_state, Value, procedure, World, Outcome, gives, undefined, going, each_way, calling, calls_back, Procedure, program_of, procedure_of, Meanings, enter, Going, Undefined, means, meaning, started, run_of, first_world, IsWellPlaced, ltb-true, cut_only_without_turns, settled, Begin, RunsOut, StillGoes, RunsOutOnTheWay, IsWithoutEnd, StepsDoWhatSourcesMean, StepsGoOnWithTheirSource, StartsWithTheirSource, AreAccepted, StandFor}
+use Rattle.bk_simulation.proofs.Forms.{by_option, by_test, Setting, Account, FewFrames, Comes, here, go_on, FallsThose, Reaches, Ran, Simulates, AnyExit, Procedures, goes_on_so, comes_run, Over, calls_of, fell_out, NoStart, HasStart, called_at, some_calls, enter_after, entered_so, first_store, start_there}
 use Rattle.bk_meaning.specs.Lasting as lasting
-use Rattle.bk_meaning.proofs.Lemmas.{cut_only_without_turns}
-use Rattle.bk_simulation.specs.GoingOn.{settled}
-use Rattle.bk_simulation.specs.Simulation.{Begin, RunsOut, StillGoes, RunsOutOnTheWay, IsWithoutEnd, StepsDoWhatSourcesMean, StepsGoOnWithTheirSource, StartsWithTheirSource}
-use Rattle.bk_simulation.proofs.Laid.{Setting}
-use Rattle.bk_simulation.proofs.Frame.{Account, FewFrames, Comes, here, go_on, FallsThose, Reaches, Ran, by_option}
-use Rattle.bk_simulation.proofs.Simulates.{Simulates}
-use Rattle.bk_simulation.proofs.Calls.{AnyExit, Procedures, is_above, is_at_most}
 use Rattle.bk_simulation.proofs.All.{alone_runs, alone_adds, simulates}
-use Rattle.bk_simulation.proofs.ProgramRuns.{goes_on_so, comes_run, passed}
-use Rattle.bk_simulation.proofs.StartRuns.{Over}
-use Rattle.bk_simulation.proofs.ProgramEnds.{calls_of, fell_out, NoStart, HasStart, called_at, some_calls, enter_after, entered_so}
-use Rattle.bk_simulation.proofs.LastingFits.{first_store, start_there}
+use Rattle.bk_simulation.proofs.ProgramRuns.{passed}
 use Rattle.bk_simulation.proofs.LaidPrograms.{setting, AreLaid, knows, laid_does, starts_with_their_source}
-use Rattle.bk_simulation.proofs.Orders.{by_test}
-use Rattle.bk_simulation.specs.Placement.{AreAccepted, StandFor}
 use Rattle.bk_simulation.proofs.ProgramLaid.{Together, laid_together}
 use Rattle.bk_simulation.proofs.LieApart.{apart_together}
 
@@ -73,80 +62,48 @@ far_so setting s0 s is few n k B _ le cut bytes left calls e ec r = absurd (cc)
 pub laid_goes_on : (sections : List Declarations) (program : Program) (first : ℕ) (input : List ℕ) (s : State) (well : IsWellPlaced program first FRAME_WORDS) → AreLaid program first well sections → first_state program first input ≡ Some s → IsWithoutEnd sections input
     → (j : ℕ) → StillGoes program first sections input s j ⊎ RunsOutOnTheWay program first sections input s
 laid_goes_on sections program first input s well laid es without j =
+    let n : ℕ = times j laid.pay + 1 in
+    let bytes : List ℕ = (without n).0 in
+    let left : List ℕ = (without n).1 in
+    let calls : ℕ = (without n).2 in
+    let means_so : meaning sections input n ≡ Going bytes left calls = (without n).3 in
+    let g : Setting = setting program first well laid.codes laid.pay calls laid.lasting laid.low laid.vector in
+    let p : lasting.Program = program_of sections in
+    let procs : Procedures g p = laid.procedures calls in
+    let m : Meanings = means p n in
+    let w0 : World = first_world p input n in
+    let sim : Simulates g m = simulates g p procs (knows g laid.library) n in
+    let B : Account = record { most = 16 * n + 16; least = n } in
+    let Result : Type 0 = StillGoes program first sections input s j ⊎ RunsOutOnTheWay program first sections input s in
+    let there : Far g n s bytes → StillGoes program first sections input s j = λ q.
+    let enough : j ≤ q.steps = by_test (nat_lt q.steps j) (λ (t : nat_lt q.steps j ≡ true). let lt = ltb-true q.steps j t in let le = times_more q.steps j laid.pay (omega arith) in let en = q.enough in absurd (omega arith)) (λ (t : nat_lt q.steps j ≡ false). ltb-false q.steps j t) in
+    let x = passed program first FRAME_WORDS well j q.steps s q.last enough q.runs in
+    record {
+      now = x.now;
+      goes = x.goes;
+      turns = n;
+      bytes = bytes;
+      left = left;
+      calls = calls;
+      means = means_so;
+      wrote = subst (λ y. Begin x.now.output y) q.wrote x.begins;
+    } in
+    let at_start : (x : HasStart g p) → called_at g input (g.codes.procedure x.number) ≡ s → Result = λ x at.
+    let so : (o : Option Procedure) → procedure_of p x.number ≡ o → run_of (back_to 0 (enter m o [] (calling w0))) ≡ Going bytes left calls = λ o eo. ap (λ y. run_of (back_to 0 (enter m y [] (calling w0)))) (sym eo) ∙ ap (λ v. started p v w0 n) (sym x.is) ∙ means_so in
+    by_option (λ o. Result) (procedure_of p x.number) (λ eo. absurd (let z : Undefined ≡ Going bytes left calls = so None eo in cc)) (λ f eo.
+    let o : Outcome Value = enter m (Some f) [] (calling w0) in
+    let e : run_of (back_to 0 o) ≡ Going bytes left calls = so (Some f) eo in
+    let c1 : 1 ≤ calls_of (run_of (back_to 0 o)) = some_calls 0 w0 o (enter_after m (alone_adds g m sim) g sim f [] (calling w0)) in
+    let cap1 : 1 ≤ calls = subst (λ y. 1 ≤ calls_of y) e c1 in
+    let y = entered_so g p n input sim (alone_runs g m sim) (first_store g _ laid.holds laid.library) x.number f (procs.each x.number f eo) cap1 in
+    let z = far_so g (called_at g input (g.codes.procedure x.number)) y.at y.is y.few n 0 B o (omega arith)
+    (λ v ev. cut_only_without_turns p (procedure x.number) [] n w0 v (omega arith) (ap (λ u. back_to 0 (enter m u [] (calling w0))) eo ∙ ev)) bytes left calls e refl (y.ran B (omega arith) (omega arith)) in
+    ⊎_elim (λ (q : Far g n (called_at g input (g.codes.procedure x.number)) bytes). inl (there (subst (λ u. Far g n u bytes) at q)))
+    (λ (q : RunsOut program first (called_at g input (g.codes.procedure x.number)) calls bytes). inr (record { turns = n; bytes = bytes; left = left; calls = calls; means = means_so; runs_out = subst (λ u. RunsOut program first u calls bytes) at q })) z) in
     ⊎_elim
     (λ (x : NoStart g p). absurd (let z : None ≡ Some s = sym (ap (λ c. option_map (called_at g input) (number_in c)) x.word) ∙ es in cc))
     (λ (x : HasStart g p). at_start x (let z : Some (called_at g input (g.codes.procedure x.number)) ≡ Some s = sym (ap (λ c. option_map (called_at g input) (number_in c)) x.word) ∙ es in cc))
     (start_there g _ laid.holds laid.library)
-  where
-    n : ℕ
-    n = times j laid.pay + 1
-
-    bytes : List ℕ
-    bytes = (without n).0
-
-    left : List ℕ
-    left = (without n).1
-
-    calls : ℕ
-    calls = (without n).2
-
-    means_so : meaning sections input n ≡ Going bytes left calls
-    means_so = (without n).3
-
-    g : Setting
-    g = setting program first well laid.codes laid.pay calls laid.lasting laid.low laid.vector
-
-    p : lasting.Program
-    p = program_of sections
-
-    procs : Procedures g p
-    procs = laid.procedures calls
-
-    m : Meanings
-    m = means p n
-
-    w0 : World
-    w0 = first_world p input n
-
-    sim : Simulates g m
-    sim = simulates g p procs (knows g laid.library) n
-
-    B : Account
-    B = record { most = 16 * n + 16; least = n }
-
-    Result : Type 0
-    Result = StillGoes program first sections input s j ⊎ RunsOutOnTheWay program first sections input s
-
-    -- far enough
-    there : Far g n s bytes → StillGoes program first sections input s j
-    there q =
-        let enough : j ≤ q.steps = by_test (nat_lt q.steps j) (λ (t : nat_lt q.steps j ≡ true). let lt = is_above q.steps j t in let le = times_more q.steps j laid.pay (omega arith) in let en = q.enough in absurd (omega arith)) (λ (t : nat_lt q.steps j ≡ false). is_at_most j q.steps t) in
-        let x = passed program first FRAME_WORDS well j q.steps s q.last enough q.runs in
-        record {
-          now = x.now;
-          goes = x.goes;
-          turns = n;
-          bytes = bytes;
-          left = left;
-          calls = calls;
-          means = means_so;
-          wrote = subst (λ y. Begin x.now.output y) q.wrote x.begins;
-        }
-
-    at_start : (x : HasStart g p) → called_at g input (g.codes.procedure x.number) ≡ s → Result
-    at_start x at = by_option (λ o. Result) (procedure_of p x.number) (λ eo. absurd (let z : Undefined ≡ Going bytes left calls = so None eo in cc)) (λ f eo.
-        let o : Outcome Value = enter m (Some f) [] (calling w0) in
-        let e : run_of (back_to 0 o) ≡ Going bytes left calls = so (Some f) eo in
-        let c1 : 1 ≤ calls_of (run_of (back_to 0 o)) = some_calls 0 w0 o (enter_after m (alone_adds g m sim) g sim f [] (calling w0)) in
-        let cap1 : 1 ≤ calls = subst (λ y. 1 ≤ calls_of y) e c1 in
-        let y = entered_so g p n input sim (alone_runs g m sim) (first_store g _ laid.holds laid.library) x.number f (procs.each x.number f eo) cap1 in
-        let z = far_so g (called_at g input (g.codes.procedure x.number)) y.at y.is y.few n 0 B o (omega arith)
-        (λ v ev. cut_only_without_turns p (procedure x.number) [] n w0 v (omega arith) (ap (λ u. back_to 0 (enter m u [] (calling w0))) eo ∙ ev)) bytes left calls e refl (y.ran B (omega arith) (omega arith)) in
-        ⊎_elim (λ (q : Far g n (called_at g input (g.codes.procedure x.number)) bytes). inl (there (subst (λ u. Far g n u bytes) at q)))
-        (λ (q : RunsOut program first (called_at g input (g.codes.procedure x.number)) calls bytes). inr (record { turns = n; bytes = bytes; left = left; calls = calls; means = means_so; runs_out = subst (λ u. RunsOut program first u calls bytes) at q })) z)
-      where
-        so : (o : Option Procedure) → procedure_of p x.number ≡ o → run_of (back_to 0 (enter m o [] (calling w0))) ≡ Going bytes left calls
-        so o eo = ap (λ y. run_of (back_to 0 (enter m y [] (calling w0)))) (sym eo) ∙ ap (λ v. started p v w0 n) (sym x.is) ∙ means_so
 
 -- ---- THE LAWS OF PROGRAMS: the steps of OCODE do what the source means.
 

@@ -1,8 +1,8 @@
 -- Reading and writing the words of living objects.
-use Rattle.bk_simulation.proofs.Words.{◌≡◌, ◌≢◌, ℕ, ◌+◌, ◌-◌, ◌<◌, ◌≤◌, ◌%◌, ◌^◌, ◌==◌, Bool, true, false, cond, List, length, Option, Some, None, refl, sym, ap, ◌∙◌, subst, if◌then◌else◌, arith, ◌⊎◌, ⊎_elim, inl, inr, nat_lt, slice_get, slice_set, is_some, option_and_then, nat_tests, slice_get_within, Value, number, address, unset, holds, places, value_in, Memory, living, cells_of, cells_at, cell_at, replaced, with_cell, read, Content, Word, Variable, Link, Cell, Free, Held, content_of, write, below, settle, variable_in, variable_at}
-use Rattle.bk_meaning.specs.Values.{Cell as Cell_of}
+use Rattle.bk_simulation.proofs.Lists.{either_way}
+use Rattle.bk_simulation.proofs.Words.{◌≡◌, ◌≢◌, ℕ, ◌+◌, ◌-◌, ◌<◌, ◌≤◌, ◌%◌, ◌^◌, ◌==◌, Bool, cond, List, length, Option, Some, None, refl, sym, ap, ◌∙◌, subst, if◌then◌else◌, arith, ◌⊎◌, ⊎_elim, inl, inr, nat_lt, slice_get, slice_set, is_some, option_and_then, nat_tests, slice_get_within, Value, number, address, unset, holds, places, value_in, Memory, living, cells_of, cells_at, cell_at, replaced, with_cell, read, Content, Word, Variable, Link, Cell, Free, Held, content_of, write, below, settle, variable_in, variable_at, le-ltb, length-set, lt-ltb, Cell_of}
 use Rattle.bk_simulation.proofs.Memory.{Like, like_refl, BaseOf, size_in, Alive, IsCell, Store, Moved, cell_alive, one_base, Codes, Stands, StandsCell, Fits}
-use Rattle.bk_simulation.proofs.MadeObjects.{alive_is, alive_from, cell_in, object_there, get_set, set_length}
+use Rattle.bk_simulation.proofs.MadeObjects.{alive_is, alive_from, cell_in, object_there, get_set}
 
 -- ---- cells of the store
 
@@ -12,15 +12,9 @@ written f a c = grind (arith, nat_tests)
 pub untouched : (f : ℕ → Cell) (a : ℕ) (c : Cell) (x : ℕ) → x ≢ a → write f a c x ≡ f x
 untouched f a c x ne = grind (arith, nat_tests)
 
-pub is_less : (x y : ℕ) → x < y → nat_lt x y ≡ true
-is_less x y h = grind (arith, nat_tests)
-
-pub not_less : (x y : ℕ) → y ≤ x → nat_lt x y ≡ false
-not_less x y h = grind (arith, nat_tests)
-
 -- what is in use below a place is as it was
 pub below_at : (top : ℕ) (cells : ℕ → Cell) (a : ℕ) → a < top → below top cells a ≡ cells a
-below_at top cells a lt = ap (λ (t : Bool). if t then cells a else Free) (is_less a top lt)
+below_at top cells a lt = ap (λ (t : Bool). if t then cells a else Free) (lt-ltb a top lt)
 
 pub below_like : (top : ℕ) (cells : ℕ → Cell) (a : ℕ) → a < top → Like (below top cells a) (cells a)
 below_like top cells a lt = like_refl _ _ (below_at top cells a lt)
@@ -38,7 +32,7 @@ pushed_at frame k cells c = below_at (frame + (k + 1)) (write cells (frame + k) 
 
 -- a variable below a place is found at its address
 pub variable_found : (top a : ℕ) (cells : ℕ → Cell) (k : Content) → a < top → cells a ≡ Held Variable k → variable_at top cells a ≡ Some k
-variable_found top a cells k lt e = ap (λ (t : Bool). if t then variable_in (cells a) else None) (is_less a top lt) ∙ ap variable_in e
+variable_found top a cells k lt e = ap (λ (t : Bool). if t then variable_in (cells a) else None) (lt-ltb a top lt) ∙ ap variable_in e
 
 -- ---- a cell of a living object is changed
 
@@ -87,12 +81,12 @@ wrote mem mem1 o i c h =
       size = length own;
       alive = alive_from (cells_at mem o) own g.is;
       inside = g.inside;
-      long = ap length g.changes ∙ set_length mem o (living (slice_set own i c));
+      long = ap length g.changes ∙ length-set mem o (living (slice_set own i c));
       is_alive = λ o1 n a.
           let l = alive_is (cells_at mem1 o1) n a in
           ⊎_elim
           (λ (e : (o1 ≡ o) × (l.cells ≡ slice_set own i c)).
-          ap (λ q. size_in (cells_at mem q)) e.0 ∙ alive_from (cells_at mem o) own g.is ∙ ap (λ q. Some q) (sym (set_length own i c) ∙ sym (ap length e.1) ∙ l.long))
+          ap (λ q. size_in (cells_at mem q)) e.0 ∙ alive_from (cells_at mem o) own g.is ∙ ap (λ q. Some q) (sym (length-set own i c) ∙ sym (ap length e.1) ∙ l.long))
           (λ (e : cells_at mem o1 ≡ Some l.cells). alive_from (cells_at mem o1) l.cells e ∙ ap (λ q. Some q) l.long)
           (cells_after g o1 l.cells l.is);
       is_cell = λ o1 i1 u h1.
@@ -120,11 +114,7 @@ abbrev pub put : Store → Memory → ℕ → Content → Store
 put h mem1 a x = record { bases = h.bases; mem = mem1; cells = write h.cells a (Held Variable x) }
 
 stays_variable : (f : ℕ → Cell) (a : ℕ) (x : Content) (y : ℕ) → ((k : Content) × (f y ≡ Held Variable k)) → (k : Content) × (write f a (Held Variable x) y ≡ Held Variable k)
-stays_variable f a x y h = by_test (y == a)
-  where
-    by_test : (t : Bool) → (k : Content) × ((if t then Held Variable x else f y) ≡ Held Variable k)
-    by_test true = (x, refl)
-    by_test false = h
+stays_variable f a x y h = either_way (λ c. (k : Content) × (c ≡ Held Variable k)) (y == a) (Held Variable x) (f y) (x, refl) h
 
 pub write_fits : (codes : Codes) (h : Store) (top o i b : ℕ) (x : Content) (c : Cell_of) (mem1 : Memory) → BaseOf h.bases o b → StandsCell codes h.bases c x → Wrote h.mem mem1 o i c
     → Fits codes h top → Fits codes (put h mem1 (b + i) x) top
@@ -155,11 +145,7 @@ no_link : (x : Content) (w : ℕ) → Held Variable x ≡ Held Link (Word w) →
 no_link x w e = absurd (cc)
 
 old_link : (f : ℕ → Cell) (at : ℕ) (x : Content) (a w : ℕ) → write f at (Held Variable x) a ≡ Held Link (Word w) → f a ≡ Held Link (Word w)
-old_link f at x a w e = by_test (a == at) e
-  where
-    by_test : (t : Bool) → (if t then Held Variable x else f a) ≡ Held Link (Word w) → f a ≡ Held Link (Word w)
-    by_test true e = absurd (no_link x w e)
-    by_test false e = e
+old_link f at x a w e = either_way (λ c. c ≡ Held Link (Word w) → f a ≡ Held Link (Word w)) (a == at) (Held Variable x) (f a) (λ e. absurd (no_link x w e)) (λ e. e) e
 
 pub write_moved : (h : Store) (top o i b : ℕ) (x : Content) (c : Cell_of) (mem1 : Memory) → BaseOf h.bases o b → Wrote h.mem mem1 o i c → Moved top h (put h mem1 (b + i) x)
 write_moved h top o i b x c mem1 eb wr = record {
@@ -279,16 +265,10 @@ write_at codes h top _ x c mem1 f s e = absurd (let z : None ≡ Some mem1 = e i
 -- ---- words that become variables
 
 pub settle_like : (from to : ℕ) (cells : ℕ → Cell) (a : ℕ) → Like (settle from to cells a) (cells a)
-settle_like from to cells a = by_test (nat_lt a from) (nat_lt a to)
-  where
-    variable_like : (c : Cell) → Like (Held Variable (content_of c)) c
-    variable_like c = record { content = refl; variable = λ k e. ap (λ (z : Cell). Held Variable (content_of z)) e; link = λ w e. absurd (no_link (content_of c) w e) }
-
-    by_test : (t u : Bool) → Like (if t then cells a else if u then Held Variable (content_of (cells a)) else cells a) (cells a)
-    by_test false true = variable_like (cells a)
-    by_test _ _ = like_refl _ _ refl
+settle_like from to cells a = either_way (λ c. Like c (cells a)) (nat_lt a from) (cells a) _ (like_refl _ _ refl) (either_way (λ c. Like c (cells a)) (nat_lt a to) (Held Variable (content_of (cells a))) (cells a)
+    (record { content = refl; variable = λ k e. ap (λ (z : Cell). Held Variable (content_of z)) e; link = λ w e. absurd (no_link (content_of (cells a)) w e) }) (like_refl _ _ refl))
 
 pub settle_at : (from to : ℕ) (cells : ℕ → Cell) (a : ℕ) → from ≤ a → a < to → settle from to cells a ≡ Held Variable (content_of (cells a))
 settle_at from to cells a le lt =
-    ap (λ (t : Bool). if t then cells a else if nat_lt a to then Held Variable (content_of (cells a)) else cells a) (not_less a from le)
-    ∙ ap (λ (t : Bool). if t then Held Variable (content_of (cells a)) else cells a) (is_less a to lt)
+    ap (λ (t : Bool). if t then cells a else if nat_lt a to then Held Variable (content_of (cells a)) else cells a) (le-ltb a from le)
+    ∙ ap (λ (t : Bool). if t then Held Variable (content_of (cells a)) else cells a) (lt-ltb a to lt)
