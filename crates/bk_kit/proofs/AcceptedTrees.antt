@@ -1,12 +1,6 @@
 -- The trees of a source are accepted sections: without faults, within the limits, regular, and with constants that are words.
-use Rattle.std.proofs.Common.{ℕ, suc, List, [], ◌∷◌, ◌++◌, refl, sym, subst, append_assoc}
-use Rattle.bk_lex.specs.Symbol.{Symbol}
-use Rattle.bk_lex.specs.Lexing.{Section}
-use Rattle.bk_tree.specs.Tree.{Declarations}
-use Rattle.bk_ocode.specs.StmtRange.{AreBytes}
+use Rattle.bk_kit.proofs.Terms.{ℕ, suc, List, [], ◌∷◌, ◌++◌, refl, sym, subst, append_assoc, Symbol, Section, Declarations, AreBytes, IsTree, Means, Accepted, WholeSection, bytes_of, trees_of, AreAccepted, HasTrees}
 use Rattle.bk_simulation.specs.Placement as placement
-use Rattle.bk_kit.specs.Sources.{IsTree, Means, Accepted, WholeSection, bytes_of, trees_of, AreAccepted}
-use Rattle.bk_kit.specs.SourceSections.{HasTrees}
 use Rattle.bk_kit.proofs.SmallSymbols.{Bytes, bytes_back, AreSmall, symbols_small}
 use Rattle.bk_kit.proofs.RegularTrees.{tree_regular}
 use Rattle.bk_kit.proofs.SmallWords.{regular_words}

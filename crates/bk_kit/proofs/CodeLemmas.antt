@@ -1,20 +1,6 @@
 -- Parts that were read of a text, segments of INTCODE or sections of OCODE, and the bytes that were taken for them.
-use Rattle.std.proofs.Common.{◌≡◌, ℕ, ◌++◌, Bool, true, false, IsTrue, List, [], ◌∷◌, Option, Result, Err, length, if◌then◌else◌, refl, sym, subst, ◌∙◌, append-nil}
-use Rattle.std.specs.Io.KnownBytes.{Consumes}
-use Rattle.bk_base.specs.Devices.{NothingLeft}
-use Rattle.bk_base.specs.DeviceLaws.{Consumes-trans}
-use Rattle.bk_base.specs.declared.ocode_fault.OcodeFault.{OcodeFault}
-use Rattle.bk_base.specs.declared.refused.Refused.{Refused}
-use Rattle.bk_base.specs.declared.refused.Refused.TheVariants as refusals
-use Rattle.bk_base.specs.declared.refused.Refused.TheVariants.{Fault, Device}
-use Rattle.bk_words.specs.TextEnd.{AtEnd}
-use Rattle.bk_words.specs.Words.{words_of}
+use Rattle.bk_kit.proofs.Terms.{◌≡◌, ℕ, ◌++◌, Bool, true, false, IsTrue, List, [], ◌∷◌, Option, Result, Err, length, if◌then◌else◌, refl, sym, subst, ◌∙◌, append-nil, Consumes, NothingLeft, Consumes-trans, OcodeFault, Refused, Fault, Device, AtEnd, words_of, Stmt, ocode, ocode_refused, is_read, Format, Stands as Says, StopsInPart, parts, refused, part_number, OcodeRefused, Refused as refusals}
 use Rattle.bk_ocode.specs.SectionAnswer.{Answers, StandsWhateverFollows, StopsAtDevice, is_device}
-use Rattle.bk_ocode.specs.declared.stmt.Stmt.{Stmt}
-use Rattle.bk_kit.specs.Generating.{ocode, ocode_refused}
-use Rattle.bk_kit.specs.Interpreting.{is_read}
-use Rattle.bk_kit.specs.Texts.{Format, Stands as Says, StopsInPart, parts, refused, part_number}
-use Rattle.bk_kit.specs.Tracing.{OcodeRefused}
 use Rattle.bk_kit.proofs.TextLemmas as text
 use Rattle.bk_kit.proofs.TextLemmas.{read_more, says_refused, says_whole, says_all, nothing_taken}
 

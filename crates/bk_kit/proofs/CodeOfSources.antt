@@ -1,33 +1,11 @@
 -- The code of a source is read as the segments that it is of; and what interpreting it comes to.
-use Rattle.std.proofs.Common.{◌≡◌, ◌≢◌, ℕ, ◌+◌, ◌<◌, ◌≤◌, max, Bool, IsTrue, true, false, List, [], ◌∷◌, ◌++◌, map, Option, Some, None, Result, Ok, Err, OnOk, length, refl, sym, ap, ◌∙◌, subst, arith}
-use Rattle.std.specs.Io.KnownBytes.{Consumes, Appends}
-use Rattle.std.proofs.lemmas.List.{append_cancel_left}
+use Rattle.bk_kit.proofs.Terms.{◌≡◌, ◌≢◌, ℕ, ◌+◌, ◌<◌, ◌≤◌, max, Bool, IsTrue, true, false, List, [], ◌∷◌, ◌++◌, map, Option, Some, None, Result, Ok, Err, OnOk, length, refl, sym, ap, ◌∙◌, subst, arith, Consumes, Appends, append_cancel_left, INPUT_BYTES, STORE_MOST, FRAME_WORDS_LEAST, End, words_of, Item, SEGMENTS, stack_start, any_starts, greatest_frame, item_text, largest_depth, Declarations, Part, segments, image, frame_words, KitFault, Source, Ocode, Intcode, TooSmall, NoStart, Read, Write, Memory, intcode, all_words, AreWhole, parts, refused, Stands, AnyBytes, Streams, Interpreted, sizes_line, Reports, stmts_of_tree, codes_of_trees, meanings_with, Output, IsCodeOf, ReportsFrames, InterpretsSources, FramesAreOfSources, FindsNoFault, RunsAs}
 use Rattle.bk_base.specs.declared.intcode_fault.IntcodeKind.{IntcodeKind}
-use Rattle.bk_base.specs.declared.limit.TheConstants.{INPUT_BYTES, STORE_MOST, FRAME_WORDS_LEAST}
-use Rattle.bk_base.specs.declared.run_end.End.{End}
-use Rattle.bk_words.specs.Words.{words_of}
-use Rattle.bk_intcode.specs.declared.item.Item.{Item}
 use Rattle.bk_intcode.specs.Segment.{IsSegment, frame_of}
-use Rattle.bk_intcode.specs.Placement.{SEGMENTS, stack_start, any_starts, greatest_frame}
-use Rattle.bk_intcode_text.specs.ItemText.{item_text}
 use Rattle.bk_intcode_text.specs.FirstSaying.{segment, nothing, fault, Says, SayOneThing}
-use Rattle.bk_ocode.specs.Depth.{largest_depth}
-use Rattle.bk_tree.specs.Tree.{Declarations}
-use Rattle.bk_gen.specs.BackEnd.{Part, segments, image}
-use Rattle.bk_gen.specs.StandsFor.{frame_words}
-use Rattle.bk_kit.specs.declared.kit_fault.KitFault.{KitFault}
-use Rattle.bk_kit.specs.declared.kit_fault.KitFault.TheVariants.{Source, Ocode, Intcode, TooSmall, NoStart, Read, Write, Memory}
-use Rattle.bk_kit.specs.Code.{intcode}
-use Rattle.bk_kit.specs.Texts.{all_words, AreWhole, parts, refused, Stands}
 use Rattle.bk_kit.specs.Texts as texts
 use Rattle.bk_kit.specs.Headline.{Keeps}
-use Rattle.bk_kit.specs.Interpreting.{AnyBytes, Streams, Interpreted}
-use Rattle.bk_kit.specs.Sizes.{sizes_line, Reports}
-use Rattle.bk_kit.specs.Sources.{stmts_of_tree, codes_of_trees}
 use Rattle.bk_kit.specs.SourceMeaning as meaning
-use Rattle.bk_kit.specs.SourceMeaning.{meanings_with}
-use Rattle.bk_kit.specs.Telling.{Output}
-use Rattle.bk_kit.specs.SourceCode.{IsCodeOf, ReportsFrames, InterpretsSources, FramesAreOfSources, FindsNoFault, RunsAs}
 use Rattle.bk_kit.proofs.SameParts.{same_parts}
 use Rattle.bk_kit.proofs.SameParts as same
 use Rattle.bk_kit.proofs.MeaningLemmas.{RunLaws, AreOf, image_within, source_run, too_small, startless}
@@ -174,14 +152,10 @@ module _ (one : SayOneThing) (source code : List ℕ) (is : IsCodeOf source code
       some : (ps : List Part) (trees : List Declarations) → AreOf ps trees → any_starts (segments ps) ≡ true → trees ≢ []
       some [] trees is starts none = cc
       some (p ∷ ps) trees is starts none = let h : p.stmts ∷ map (λ (q : Part). q.stmts) ps ≡ codes_of_trees trees = is in let e : codes_of_trees trees ≡ [] = ap codes_of_trees none in cc
-  report_sizes tell (Err TooSmall) words before after said = (tt, tt)
-  report_sizes tell (Err NoStart) words before after said = (tt, tt)
-  report_sizes tell (Err Read) words before after said = (tt, tt)
-  report_sizes tell (Err Memory) words before after said = (tt, tt)
-  report_sizes tell (Err Write) words before after said = (tt, tt)
   report_sizes tell (Err (Intcode number f)) words before after said = absurd (not_refused_here number f.item f.kind said.0)
   report_sizes tell (Err (Source f)) words before after said = absurd said.0
   report_sizes tell (Err (Ocode number f)) words before after said = absurd said.0
+  report_sizes tell (Err x) words before after said = (tt, tt)
 
 pub interprets_sources : RunLaws → SayOneThing → InterpretsSources
 interprets_sources laws one source code is answer steps words new ended before after short most over interpreted = interprets one source code is new ended short over laws steps words most answer before after interpreted

@@ -1,22 +1,5 @@
 -- Sections that are compiled one after another, and their texts.
-use Rattle.std.proofs.Common.{◌≡◌, inl, inr, ◌⊎◌, ℕ, ◌≤◌, ◌<◌, ◌++◌, Bool, false, List, [], ◌∷◌, Option, None, Some, Result, Ok, Err, IfErr, length, if◌then◌else◌, arith, refl, sym, ap, subst, ◌∙◌, append_assoc, append-nil}
-use Rattle.std.specs.Prelude.{IsErr}
-use Rattle.std.specs.Io.KnownBytes.{Appends, Keeps}
-use Rattle.bk_base.specs.Devices.{Begins, AppendsPart}
-use Rattle.bk_base.specs.DeviceLaws.{Begins-refl, Begins-trans, Appends-nothing, Appends-trans}
-use Rattle.bk_base.specs.declared.limit.TheConstants.{INPUT_BYTES}
-use Rattle.bk_ocode.specs.declared.stmt.Stmt.{Stmt}
-use Rattle.bk_ocode.specs.SectionText.{section_text}
-use Rattle.bk_kit.specs.declared.kit_fault.KitFault.{KitFault}
-use Rattle.bk_kit.specs.declared.kit_fault.KitFault.TheVariants.{Source, Ocode, Intcode, TooSmall, NoStart, Read, Write, Memory}
-use Rattle.bk_kit.specs.declared.section.CompiledSection.{CompiledSection}
-use Rattle.bk_kit.specs.Interpreting.{is_read_fault}
-use Rattle.bk_kit.specs.ReadingSource.{IsUndecided, Settles, IsDelivered}
-use Rattle.bk_kit.specs.Sources.{bytes_of, codes_of, line_behind, texts_of}
-use Rattle.bk_kit.specs.CompilingSection.{codes_in, Compiled, Refuses}
-use Rattle.bk_kit.specs.Compiling.{AreAllTyped, Accepts, Takes, Comes, Delivers, PutsSections, Compiles}
-use Rattle.bk_kit.specs.Filters.{Written, Puts}
-use Rattle.bk_kit.specs.Telling.{Output}
+use Rattle.bk_kit.proofs.Terms.{◌≡◌, inl, inr, ◌⊎◌, ℕ, ◌≤◌, ◌<◌, ◌++◌, Bool, false, List, [], ◌∷◌, Option, None, Some, Result, Ok, Err, IfErr, length, if◌then◌else◌, arith, refl, sym, ap, subst, ◌∙◌, append_assoc, append-nil, IsErr, Appends, Keeps, Begins, AppendsPart, Begins-refl, Begins-trans, Appends-nothing, Appends-trans, INPUT_BYTES, Stmt, section_text, KitFault, Source, Ocode, Intcode, TooSmall, NoStart, Read, Write, Memory, CompiledSection, is_read_fault, IsUndecided, Settles, IsDelivered, bytes_of, codes_of, line_behind, texts_of, codes_in, Compiled, Refuses, AreAllTyped, Accepts, Takes, Comes, Delivers, PutsSections, Compiles, Written, Puts, Output}
 use Rattle.bk_kit.proofs.FilterLemmas.{flushed, stuck}
 use Rattle.bk_kit.proofs.ReadingLemmas.{ends_with_source}
 use Rattle.bk_kit.proofs.PassedSections.{refused_as, refuses_behind, takes_as, not_ended, Passed, passed_none, all_counted, passed_and_part, passed_on, typed_in}
@@ -86,10 +69,7 @@ module _ (old now new : Option (List ℕ)) (ended : Bool) (reads taken taken' li
     not_compiled Memory refuses = record { delivers = delivers (Err Memory) after (λ short. written_none (Err Memory) (refl, none_failed short)); passes = front.passes }
     not_compiled (Ocode number fault) refuses = absurd refuses
     not_compiled (Intcode number fault) refuses = absurd refuses
-    not_compiled TooSmall refuses = absurd refuses
-    not_compiled NoStart refuses = absurd refuses
-    not_compiled Read refuses = absurd refuses
-    not_compiled Write refuses = absurd refuses
+    not_compiled x refuses = absurd refuses
 
     module _ (c : CompiledSection) (compiled : Compiled c text line) (after' : Output) (passes : Begins after.passed after'.passed) where
       accepts : taken' < INPUT_BYTES → Accepts text line ended compiled.tokens compiled.has.trees

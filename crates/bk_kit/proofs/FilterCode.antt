@@ -1,36 +1,14 @@
 -- What the two filters write of a source, one after the other, is its code; and nothing is refused on the way.
-use Rattle.std.proofs.Common.{◌≡◌, ℕ, ◌<◌, IsTrue, Bool, List, [], ◌∷◌, ◌++◌, map, Option, Some, None, Result, Ok, Err, OnOk, length, refl, sym, ap, ◌∙◌, subst, arith, append_assoc, append-nil, length-append}
-use Rattle.std.specs.Io.KnownBytes.{Appends, Consumes}
-use Rattle.std.proofs.lemmas.List.{append_cancel_left, map-append}
-use Rattle.bk_base.specs.declared.limit.TheConstants.{INPUT_BYTES}
+use Rattle.bk_kit.proofs.Terms.{◌≡◌, ℕ, ◌<◌, IsTrue, Bool, List, [], ◌∷◌, ◌++◌, map, Option, Some, None, Result, Ok, Err, OnOk, length, refl, sym, ap, ◌∙◌, subst, arith, append_assoc, append-nil, length-append, Appends, Consumes, append_cancel_left, map-append, INPUT_BYTES, words_of, Declarations, section_words, AreBytes, AreTyped, Stmt, each_stmt, words_of-printed, item_text, Part, segments, KitFault, Source, Ocode, Intcode, TooSmall, NoStart, Read, Write, Memory, intcode, all_words, AreWhole, parts, Follows, bytes_of, trees_of, codes_of, codes_of_trees, stmts_of_tree, texts_of, AreAllTyped, Compiles, ocode, Generated, IsGenerated, AreGenerated, sections_of, Generates, HasTrees, IsRefused, Output, IsCodeOf, ReportsFrames, FiltersWriteCode, IsNotRefused, RunsAs, GeneratesAs, OneAfterAnother}
 use Rattle.bk_base.specs.declared.ocode_fault.OcodeKind.{OcodeKind}
-use Rattle.bk_words.specs.Words.{words_of}
-use Rattle.bk_tree.specs.Tree.{Declarations}
 use Rattle.bk_ocode.specs.FirstFault.{section, nothing, fault, Says, SayOneThing}
 use Rattle.bk_ocode.specs.Section.{IsSection}
-use Rattle.bk_ocode.specs.SectionText.{section_words}
-use Rattle.bk_ocode.specs.StmtRange.{AreBytes, AreTyped}
-use Rattle.bk_ocode.specs.declared.stmt.Stmt.{Stmt}
-use Rattle.bk_ocode.proofs.Lemmas.{each_stmt, words_of-printed}
-use Rattle.bk_intcode_text.specs.ItemText.{item_text}
 use Rattle.bk_intcode_text.specs.FirstSaying as intcode_text
 use Rattle.bk_intcode_text.proofs.Lemmas as printed
-use Rattle.bk_gen.specs.BackEnd.{Part, segments}
 use Rattle.bk_trans.specs.Laws.{SchemeIsAccepted}
 use Rattle.bk_simulation.specs.Placement as placement
-use Rattle.bk_kit.specs.declared.kit_fault.KitFault.{KitFault}
-use Rattle.bk_kit.specs.declared.kit_fault.KitFault.TheVariants.{Source, Ocode, Intcode, TooSmall, NoStart, Read, Write, Memory}
-use Rattle.bk_kit.specs.Code.{intcode}
-use Rattle.bk_kit.specs.Texts.{all_words, AreWhole, parts}
 use Rattle.bk_kit.specs.Texts as texts
-use Rattle.bk_kit.specs.ReadingSource.{Follows}
-use Rattle.bk_kit.specs.Sources.{bytes_of, trees_of, codes_of, codes_of_trees, stmts_of_tree, texts_of}
-use Rattle.bk_kit.specs.Compiling.{AreAllTyped, Compiles}
-use Rattle.bk_kit.specs.Generating.{ocode, Generated, IsGenerated, AreGenerated, sections_of, Generates}
 use Rattle.bk_kit.specs.Generating as generating
-use Rattle.bk_kit.specs.SourceSections.{HasTrees, IsRefused}
-use Rattle.bk_kit.specs.Telling.{Output}
-use Rattle.bk_kit.specs.SourceCode.{IsCodeOf, ReportsFrames, FiltersWriteCode, IsNotRefused, RunsAs, GeneratesAs, OneAfterAnother}
 use Rattle.bk_kit.proofs.AcceptedTrees.{trees_are_accepted}
 use Rattle.bk_kit.proofs.CodeOfSources.{taken_of, runs_as}
 use Rattle.bk_kit.proofs.CompileLemmas.{texts_push}
@@ -161,10 +139,8 @@ module _ (one : SayOneThing) (source text : List ℕ) (trees : List Declarations
       let said = (g.delivers.holds (few faults before after (Err (Ocode number f)) g)).0.comes.1 in
       let says = said_of (texts.refused number f.statement f.kind) (generating.bytes_of g.delivers.sections) said.0 g.delivers.behind g.delivers.delivered said.1 said.2 in
       absurd (not_refused one (codes_of_trees trees) says.0 says.1 f.statement f.kind is_text.whole says.2 says.4 says.3)
-  not_ocode faults before after (Err (Source f)) g = absurd (g.delivers.holds (few faults before after (Err (Source f)) g)).0.comes
   not_ocode faults before after (Err (Intcode number f)) g = absurd (g.delivers.holds (few faults before after (Err (Intcode number f)) g)).0.comes
-  not_ocode faults before after (Err TooSmall) g = absurd (g.delivers.holds (few faults before after (Err TooSmall) g)).0.comes
-  not_ocode faults before after (Err NoStart) g = absurd (g.delivers.holds (few faults before after (Err NoStart) g)).0.comes
+  not_ocode faults before after (Err x) g = absurd (g.delivers.holds (few faults before after (Err x) g)).0.comes
 
 -- what it writes runs so
 generates_as : SayOneThing → intcode_text.SayOneThing → RunLaws → (source text : List ℕ) (trees : List Declarations) → HasTrees source trees → IsText text trees → GeneratesAs source trees text

@@ -1,11 +1,5 @@
 -- The last flush of a filter.
-use Rattle.std.proofs.Common.{◌≡◌, inl, inr, ℕ, ◌++◌, List, Result, Ok, Err}
-use Rattle.std.specs.Io.KnownBytes.{Keeps}
-use Rattle.bk_base.specs.DeviceLaws.{Appends-Keeps}
-use Rattle.bk_kit.specs.declared.kit_fault.KitFault.{KitFault}
-use Rattle.bk_kit.specs.declared.kit_fault.KitFault.TheVariants.{Source, Ocode, Intcode, TooSmall, NoStart, Read, Write, Memory}
-use Rattle.bk_kit.specs.Filters.{Written, Breaks, Puts, Ends}
-use Rattle.bk_kit.specs.Telling.{Output}
+use Rattle.bk_kit.proofs.Terms.{◌≡◌, inl, inr, ℕ, ◌++◌, List, Result, Ok, Err, Keeps, Appends-Keeps, KitFault, Source, Ocode, Intcode, TooSmall, NoStart, Read, Write, Memory, Written, Breaks, Puts, Ends, Output}
 
 module _ (Comes : Result (Unit {0}) KitFault → List ℕ → Type 0) (Takes : List ℕ → Type 0) (front : List ℕ) (before after after' : Output) (keeps : Keeps after.taken after'.taken) where
   written_kept : (answer : Result (Unit {0}) KitFault) → Written Comes Takes front before after answer → Written Comes Takes front before after' answer
@@ -33,10 +27,7 @@ module _ (Comes : Result (Unit {0}) KitFault → List ℕ → Type 0) (Takes : L
   flushed (Err (Source fault)) puts never all none = (written_kept (Err (Source fault)) puts, all, none)
   flushed (Err (Ocode number fault)) puts never all none = (written_kept (Err (Ocode number fault)) puts, all, none)
   flushed (Err (Intcode number fault)) puts never all none = (written_kept (Err (Intcode number fault)) puts, all, none)
-  flushed (Err TooSmall) puts never all none = (written_kept (Err TooSmall) puts, all, none)
-  flushed (Err NoStart) puts never all none = (written_kept (Err NoStart) puts, all, none)
-  flushed (Err Read) puts never all none = (written_kept (Err Read) puts, all, none)
-  flushed (Err Memory) puts never all none = (written_kept (Err Memory) puts, all, none)
+  flushed x puts never all none = (written_kept x puts, all, none)
 
   -- the flush failed
   pub stuck : (answer : Result (Unit {0}) KitFault) → Puts Comes Takes front before after answer → after'.faults ≡ 1 → Ends Comes Takes front before after' (Err Write)

@@ -1,20 +1,9 @@
 -- The constants in scope are words where a section's tree is regular.
-use Rattle.std.proofs.Common.{◌≡◌, ℕ, ◌+◌, ◌<◌, ◌^◌, Bool, true, false, List, [], ◌∷◌, ◌++◌, Option, Some, None, cond, refl, subst}
+use Rattle.bk_kit.proofs.Terms.{◌≡◌, ℕ, ◌+◌, ◌<◌, ◌^◌, Bool, true, false, List, [], ◌∷◌, ◌++◌, Option, Some, None, cond, refl, subst, Mention, Expression, Declaration, Declarations, Items, Definitions, Starts, Bound, Enclosing, Binding, bound_in, bind, bind_all, is_global, constant_word, with_formals, words_of_start, place_behind, variables_of, labels_in_scope, procedure_in_scope, procedures_in_scope, variables_in_scope, manifests_in_scope, statics_in_scope, globals_in_scope, scope_behind_one, place_behind_one, scope_behind, Regular, RegularItems, RegularDeclaration, RegularDeclarations, Sort as sort, Bound as b}
 use Rattle.std.specs.Str.{bytes_eq}
-use Rattle.bk_tree.specs.declared.tree.Sort.TheVariants as sort
 use Rattle.bk_tree.specs.Tree as t
-use Rattle.bk_tree.specs.Tree.{Mention, Expression, Declaration, Declarations, Items, Definitions, Starts}
-use Rattle.bk_scope.specs.declared.bound.Bound.{Bound}
-use Rattle.bk_scope.specs.declared.bound.Bound.TheVariants as b
-use Rattle.bk_scope.specs.declared.place.Enclosing.{Enclosing}
-use Rattle.bk_scope.specs.Scope.{Binding, bound_in, bind, bind_all, is_global}
-use Rattle.bk_scope.specs.Constants.{constant_word}
 use Rattle.bk_scope.specs.Places.{kept, deeper}
-use Rattle.bk_scope.specs.Entering.{with_formals}
-use Rattle.bk_scope.specs.Names.{words_of_start, place_behind, variables_of}
 use Rattle.bk_scope.specs.Spots.{Spot, behind_one_declared}
-use Rattle.bk_scope.specs.Scoping.{labels_in_scope, procedure_in_scope, procedures_in_scope, variables_in_scope, manifests_in_scope, statics_in_scope, globals_in_scope, scope_behind_one, place_behind_one, scope_behind}
-use Rattle.bk_simulation.specs.Regular.{Regular, RegularItems, RegularDeclaration, RegularDeclarations}
 use Rattle.bk_simulation.proofs.Lemmas.{HasWords, constant_small}
 
 -- a constant is a word

@@ -1,31 +1,10 @@
 -- Sections that are read and generated one after another, and the bytes and texts of them.
-use Rattle.std.proofs.Common.{◌≡◌, inl, inr, ℕ, ◌+◌, ◌≤◌, ◌++◌, Bool, true, false, IsTrue, List, [], ◌∷◌, Option, None, Some, Result, Ok, Err, length, if◌then◌else◌, arith, refl, sym, ap, subst, ◌∙◌, append_assoc, append-nil, length-append}
-use Rattle.std.proofs.lemmas.List.{map-append, length-map}
-use Rattle.std.specs.Io.KnownBytes.{Consumes, Appends, Keeps}
-use Rattle.bk_base.specs.Devices.{Begins, AppendsPart, NothingLeft}
-use Rattle.bk_base.specs.DeviceLaws.{Begins-refl, Begins-trans, Consumes-nothing, Consumes-trans, Appends-nothing, Appends-trans}
-use Rattle.bk_base.specs.declared.limit.TheConstants.{INPUT_BYTES}
-use Rattle.bk_base.specs.declared.ocode_fault.OcodeFault.{OcodeFault}
-use Rattle.bk_base.specs.declared.refused.Refused.{Refused}
-use Rattle.bk_base.specs.declared.refused.Refused.TheVariants as refusals
-use Rattle.bk_base.specs.declared.refused.Refused.TheVariants.{Fault, Device}
-use Rattle.bk_words.specs.TextEnd.{AtEnd}
+use Rattle.bk_kit.proofs.Terms.{◌≡◌, inl, inr, ℕ, ◌+◌, ◌≤◌, ◌++◌, Bool, true, false, IsTrue, List, [], ◌∷◌, Option, None, Some, Result, Ok, Err, length, if◌then◌else◌, arith, refl, sym, ap, subst, ◌∙◌, append_assoc, append-nil, length-append, map-append, length-map, Consumes, Appends, Keeps, Begins, AppendsPart, NothingLeft, Begins-refl, Begins-trans, Consumes-nothing, Consumes-trans, Appends-nothing, Appends-trans, INPUT_BYTES, OcodeFault, Refused, Fault, Device, AtEnd, Stmt, stmts_of, section_words, items_of, segment_whole, StandsFor, EndsWithFrame, frame_words, KitFault, Ocode, Read, Write, Memory, Output, Written, Puts, parts, refused, part_number, SaysWhateverFollows, Refused as refusals}
 use Rattle.bk_words.specs.WordLaws.{words_of-all}
 use Rattle.bk_ocode.specs.declared.section.Ocode as o
-use Rattle.bk_ocode.specs.declared.stmt.Stmt.{Stmt}
-use Rattle.bk_ocode.specs.SectionStmts.{stmts_of}
-use Rattle.bk_ocode.specs.SectionText.{section_words}
 use Rattle.bk_ocode.specs.SectionAnswer.{Answers, StandsWhateverFollows, is_device}
 use Rattle.bk_intcode.specs.declared.segment.Intcode as i
-use Rattle.bk_intcode.specs.SegmentItems.{items_of}
-use Rattle.bk_intcode.specs.SegmentLaws.{segment_whole}
 use Rattle.bk_intcode_text.specs.SegmentText.{segment_text}
-use Rattle.bk_gen.specs.StandsFor.{StandsFor, EndsWithFrame, frame_words}
-use Rattle.bk_kit.specs.declared.kit_fault.KitFault.{KitFault}
-use Rattle.bk_kit.specs.declared.kit_fault.KitFault.TheVariants.{Ocode, Read, Write, Memory}
-use Rattle.bk_kit.specs.Telling.{Output}
-use Rattle.bk_kit.specs.Filters.{Written, Puts}
-use Rattle.bk_kit.specs.Texts.{parts, refused, part_number, SaysWhateverFollows}
 use Rattle.bk_kit.specs.Generating.{ocode, ocode_refused, Generated, IsRead, IsGenerated, AreGenerated, bytes_of, sections_of, texts_of, Comes, Takes, Delivers, Generates, PutsSegments}
 use Rattle.bk_kit.proofs.FilterLemmas.{flushed, stuck}
 use Rattle.bk_kit.proofs.TextLemmas as text

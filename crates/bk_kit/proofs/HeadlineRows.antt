@@ -1,13 +1,7 @@
 -- What the headline and the limits refuse, tried on a language of which each source goes on for ever and writes nothing, on one of which
 -- each writes an A before something undefined, and on a run of the machine.
-use Rattle.std.proofs.Common.{◌≡◌, ℕ, inl, inr, List, [], ◌∷◌, None, Some, Bool, refl, sym, subst, arith, ◌∙◌, append-nil}
-use Rattle.std.specs.Prelude.{⊤, pos}
-use Rattle.bk_base.specs.declared.run_end.End.{End}
-use Rattle.bk_base.specs.declared.run_end.End.TheVariants.{Status, StepLimit}
-use Rattle.bk_intcode.specs.declared.registers.Registers.{Registers}
+use Rattle.bk_kit.proofs.Terms.{◌≡◌, ℕ, inl, inr, List, [], ◌∷◌, None, Some, Bool, refl, sym, subst, arith, ◌∙◌, append-nil, ⊤, pos, End, Status, StepLimit, Registers, Streams, Language, OneBegins, Agrees, Runs}
 use Rattle.bk_intcode.specs.Runs.{Going, Over, run, Told, Follows, Finished, Ran}
-use Rattle.bk_kit.specs.Interpreting.{Streams}
-use Rattle.bk_kit.specs.Headline.{Language, OneBegins, Agrees, Runs}
 
 abbrev endless : Language
 endless = record {

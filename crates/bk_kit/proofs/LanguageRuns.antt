@@ -1,14 +1,6 @@
 -- A run of the machine is one of a source, where the machine does what the source means in a language.
-use Rattle.std.proofs.Common.{◌≡◌, ◌≢◌, ℕ, ◌⊎◌, inl, inr, List, [], ◌∷◌, ◌++◌, refl, sym, ap, ap₂, ◌∙◌, subst, append_assoc, append-nil}
-use Rattle.std.proofs.lemmas.List.{append_cancel_right}
-use Rattle.bk_base.specs.Devices.{Begins}
-use Rattle.bk_base.specs.declared.run_end.End.{End}
-use Rattle.bk_base.specs.declared.run_end.End.TheVariants.{Status, DivideByZero, StoreLimit, StepLimit, BadOperation, ReadFault, WriteFault}
-use Rattle.bk_intcode.specs.declared.registers.Registers.{Registers}
-use Rattle.bk_intcode.specs.Runs.{Standing, Going, Over, output_of, run, Finished, Ran, Blames}
+use Rattle.bk_kit.proofs.Terms.{◌≡◌, ◌≢◌, ℕ, ◌⊎◌, inl, inr, List, [], ◌∷◌, ◌++◌, refl, sym, ap, ap₂, ◌∙◌, subst, append_assoc, append-nil, append_cancel_right, Begins, End, Status, DivideByZero, StoreLimit, StepLimit, BadOperation, ReadFault, WriteFault, Registers, Standing, Going, Over, output_of, run, Finished, Ran, Blames, Streams, told_streams, Language, OneBegins, IsWhole, IsEnd, IsPart, NeverEnds, Reaches, Covers, TooFew, Agrees, Runs}
 use Rattle.bk_intcode.specs.RunLaws.{Beginning, waiting-begins, broken-begins}
-use Rattle.bk_kit.specs.Interpreting.{Streams, told_streams}
-use Rattle.bk_kit.specs.Headline.{Language, OneBegins, IsWhole, IsEnd, IsPart, NeverEnds, Reaches, Covers, TooFew, Agrees, Runs}
 
 -- A machine that is not over, or that the store stopped, with a beginning of these bytes.
 pub data BeginsOf (bytes : List ℕ) : Standing → Type 0 where

@@ -1,3 +1,4 @@
+mod Terms
 mod HeadlineRows
 mod PieceLemmas
 mod TextLemmas

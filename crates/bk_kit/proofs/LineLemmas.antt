@@ -1,21 +1,13 @@
 -- Numbers and limits that a command line gives.
-use Rattle.std.proofs.Common.{◌≡◌, ◌∙◌, ◌⊎◌, inl, inr, ℕ, ◌<◌, ◌^◌, List, [], Bool, true, false, Bor, option_map, Option, None, Some, Result, Ok, Err, IfErr, IfSome, IsSome, codes, length, refl, sym, ap, ap₂, subst, arith}
-use Rattle.std.specs.Str.Parse.{ParsesUnsigned, ParsesBool}
-use Rattle.std.specs.Prelude.{Box}
+use Rattle.bk_kit.proofs.Terms.{◌≡◌, ◌∙◌, ◌⊎◌, inl, inr, ℕ, ◌<◌, ◌^◌, List, [], Bool, true, false, Bor, option_map, Option, None, Some, Result, Ok, Err, IfErr, IfSome, IsSome, codes, length, refl, sym, ap, ap₂, subst, arith, ParsesUnsigned, ParsesBool, Box, rows_of, found_of, subcommand_name_of, subcommand_rows, subcommand_rows_of, is_simple_and_free, fault_of, App, Row, Text, ReadsOne, IsAmong, one_of, first_of, subcommand_of, takes, Bounds, ErrorKind, ErrorKind as kind}
 use Rattle.std.specs.Box.{box_value}
 use Rattle.clap.specs.declared.parser.matches.ArgMatches.{ArgMatches}
 use Rattle.clap.specs.declared.parser.matches.ArgMatches.TheViews.{out-ArgMatches, out-SubCommand}
 use Rattle.clap.specs.declared.parser.matches.SubCommand.{SubCommand}
-use Rattle.clap.specs.Words.{rows_of, found_of, subcommand_name_of, subcommand_rows, subcommand_rows_of}
-use Rattle.clap.specs.Faults.{is_simple_and_free, fault_of}
-use Rattle.clap.specs.Words.{App, Row, Text, ReadsOne, IsAmong, one_of, first_of, subcommand_of, takes}
-use Rattle.clap.specs.declared.error.kind.ErrorKind.{ErrorKind}
-use Rattle.clap.specs.declared.error.kind.ErrorKind.TheVariants as kind
 use Rattle.bk_kit.specs.declared.command_line.LineFault.{LineFault}
 use Rattle.bk_kit.specs.declared.command_line.LineFault.TheVariants.{Help, Bad, Memory}
 use Rattle.bk_kit.specs.declared.orders.Order.{Order}
 use Rattle.bk_kit.specs.declared.orders.Order.TheVariants.{Compile, Generate, Run, Check, Show, ShowInput, Interpret, Trace, Sizes}
-use Rattle.bk_base.specs.Bounds.{Bounds}
 use Rattle.bk_kit.specs.CommandLine.{ReadsNumber, ReadsLimits, AreLimits, truth_text, kit_command, IsOrder, RefusesValues, IsHelp, IsFaultOf, Refuses}
 
 -- what `get_one` gives is the number that its text spells

@@ -1,36 +1,19 @@
 -- Runs of the machine with segments that stand for the sections of a source, and what the source means.
-use Rattle.std.proofs.Common.{◌≡◌, ◌≢◌, ◌⊎◌, inl, inr, ℕ, zero, suc, ◌+◌, ◌*◌, ◌≤◌, ◌<◌, max, ◌==◌, Bool, true, false, List, [], ◌∷◌, ◌++◌, map, Option, Some, None, Err, if◌then◌else◌, refl, sym, ap, ◌∙◌, subst, arith, append_assoc, append-nil}
-use Rattle.std.specs.Option.{option_map_or}
-use Rattle.bk_base.specs.declared.limit.TheConstants.{STORE_MOST, FRAME_WORDS}
-use Rattle.bk_base.specs.declared.run_end.End.{End}
-use Rattle.bk_base.specs.declared.run_end.End.TheVariants.{StoreLimit, WriteFault}
-use Rattle.bk_base.specs.Devices.{Begins}
-use Rattle.bk_intcode.specs.declared.registers.Registers.{Registers}
-use Rattle.bk_intcode.specs.Placement.{SEGMENTS, segment_size, stack_start, any_starts, loaded_store}
-use Rattle.bk_intcode.specs.Runs.{Standing, Over, output_of, Ran, Blames}
-use Rattle.bk_ocode.specs.Cells.{Cell}
-use Rattle.bk_ocode.specs.Depth.{largest_depth}
+use Rattle.bk_kit.proofs.Terms.{◌≡◌, ◌≢◌, ◌⊎◌, inl, inr, ℕ, zero, suc, ◌+◌, ◌*◌, ◌≤◌, ◌<◌, max, ◌==◌, Bool, true, false, List, [], ◌∷◌, ◌++◌, map, Option, Some, None, Err, if◌then◌else◌, refl, sym, ap, ◌∙◌, subst, arith, append_assoc, append-nil, option_map_or, STORE_MOST, FRAME_WORDS, End, StoreLimit, WriteFault, Begins, Registers, SEGMENTS, segment_size, stack_start, any_starts, loaded_store, Standing, Over, output_of, Ran, Blames, Cell, largest_depth, Declarations, Part, segments, image, depth_of, own_of, parts_at, program_of, start_of, machine_after, IsPartly, going, stopped, HoldsFrames, BackEnd, BackEndHolds, PartsAreWellPlaced, PartsWithoutStart, TooSmall, NoStart, AnyBytes, Streams, told_streams, first_registers, stmts_of_tree, codes_of_trees, HasTrees, HasParts, text_of, frame_of, HasWords, HasFramesOf, HasNoStart, MeaningEnds, MeaningGoesOn, EnoughToEnd, EnoughToGo, Placing, StepsToEnd, StepsToGo, image_of, meanings_with, MeaningRuns, MeaningTooSmall, MeaningStartless}
 use Rattle.bk_ocode.specs.Frames.{HasFrames, start, called, HasFramesAtMost}
 use Rattle.bk_ocode.specs.OcodeState.{Routine, Placed, Control, Inside, Behind, At, State}
 use Rattle.bk_ocode.specs.OcodeRun.{Program, Rest, resumed_by, resumed, label_rest, resumed_in, find_rest, rests_of}
 use Rattle.bk_ocode.specs.SectionData.{text_size}
 use Rattle.bk_ocode.specs.WellPlaced.{IsWellPlaced}
-use Rattle.bk_tree.specs.Tree.{Declarations}
 use Rattle.bk_meaning.specs.World as world
 use Rattle.bk_meaning.specs.Program as program
 use Rattle.bk_meaning.specs.Program.{Run, meaning}
 use Rattle.bk_simulation.specs.GoingOn.{settled_from}
 use Rattle.bk_simulation.specs.Placement.{AreAccepted, StandFor}
 use Rattle.bk_simulation.specs.Simulation.{Begin, end_of, EndsWithin, ComesWithin, RunsOut, DoesEnd, Does, DoesFrom, StillGoes, RunsOutOnTheWay, StepsDoWhatSourcesMean, StepsGoOnWithTheirSource, StartsWithTheirSource, IsWithoutEnd, StartsSo, with_start, without_start}
-use Rattle.bk_gen.specs.BackEnd.{Part, segments, image, depth_of, own_of, parts_at, program_of, start_of, machine_after, IsPartly, going, stopped, HoldsFrames, BackEnd, BackEndHolds, PartsAreWellPlaced, PartsWithoutStart}
 use Rattle.bk_gen.specs.BackEnd as back_end
-use Rattle.bk_kit.specs.declared.kit_fault.KitFault.TheVariants.{TooSmall, NoStart}
-use Rattle.bk_kit.specs.Interpreting.{AnyBytes, Streams, told_streams, first_registers}
 use Rattle.bk_kit.specs.Headline.{Language, Runs, Keeps}
-use Rattle.bk_kit.specs.Sources.{stmts_of_tree, codes_of_trees}
-use Rattle.bk_kit.specs.SourceSections.{HasTrees, HasParts}
 use Rattle.bk_kit.specs.SourceMeaning as of_trees
-use Rattle.bk_kit.specs.SourceMeaning.{text_of, frame_of, HasWords, HasFramesOf, HasNoStart, MeaningEnds, MeaningGoesOn, EnoughToEnd, EnoughToGo, Placing, StepsToEnd, StepsToGo, image_of, meanings_with, MeaningRuns, MeaningTooSmall, MeaningStartless}
 use Rattle.bk_kit.proofs.LanguageRuns.{BeginsOf, Meant, runs}
 use Rattle.bk_kit.proofs.LanguageRuns as language_runs
 use Rattle.bk_kit.proofs.OcodeEnds.{ends_of_itself}
@@ -44,49 +27,42 @@ AreOf parts trees = map (λ (p : Part). p.stmts) parts ≡ codes_of_trees trees
 first_of : (p : Part) (parts : List Part) (tree : Declarations) (trees : List Declarations) → AreOf (p ∷ parts) (tree ∷ trees) → (p.stmts ≡ stmts_of_tree tree) × AreOf parts trees
 first_of p parts tree trees e = let h : p.stmts ∷ map (λ (q : Part). q.stmts) parts ≡ stmts_of_tree tree ∷ codes_of_trees trees = e in (cc, cc)
 
+-- what holds of none holds of all, if each part and its tree keep it
+along : (P : List Part → List Declarations → Type 0) → P [] []
+    → ((p : Part) (parts : List Part) (tree : Declarations) (trees : List Declarations) → p.stmts ≡ stmts_of_tree tree → P parts trees → P (p ∷ parts) (tree ∷ trees))
+    → (parts : List Part) (trees : List Declarations) → AreOf parts trees → P parts trees
+along P none more [] [] e = none
+along P none more [] (tree ∷ trees) e = absurd (let h : [] ≡ stmts_of_tree tree ∷ codes_of_trees trees = e in cc)
+along P none more (p ∷ parts) [] e = absurd (let h : p.stmts ∷ map (λ (q : Part). q.stmts) parts ≡ [] = e in cc)
+along P none more (p ∷ parts) (tree ∷ trees) e = let h = first_of p parts tree trees e in more p parts tree trees h.0 (along P none more parts trees h.1)
+
 -- the image is within its number
+sums : (b s t u m : ℕ) → s ≤ 8 * t → m ≤ b + s + 8 * u → m ≤ b + 8 * (t + u)
+sums b s t u m low rest = omega arith
+
 pub image_within : (base : ℕ) (parts : List Part) (trees : List Declarations) → AreOf parts trees → stack_start base (segments parts) ≤ base + 8 * text_of trees
-image_within base [] [] e = omega arith
-image_within base [] (tree ∷ trees) e = absurd (let h : [] ≡ stmts_of_tree tree ∷ codes_of_trees trees = e in cc)
-image_within base (p ∷ parts) [] e = absurd (let h : p.stmts ∷ map (λ (q : Part). q.stmts) parts ≡ [] = e in cc)
-image_within base (p ∷ parts) (tree ∷ trees) e =
-    let h = first_of p parts tree trees e in
-    let low : segment_size p.items ≤ 8 * text_size (stmts_of_tree tree) = subst (λ stmts. segment_size p.items ≤ 8 * text_size stmts) h.0 p.stands.size in
-    let rest = image_within (base + segment_size p.items) parts trees h.1 in
-    sums base (segment_size p.items) (text_size (stmts_of_tree tree)) (text_of trees) (stack_start (base + segment_size p.items) (segments parts)) low rest
-  where
-    sums : (b s t u m : ℕ) → s ≤ 8 * t → m ≤ b + s + 8 * u → m ≤ b + 8 * (t + u)
-    sums b s t u m low rest = omega arith
+image_within base parts trees e = along (λ ps ts. (b : ℕ) → stack_start b (segments ps) ≤ b + 8 * text_of ts) (λ b. omega arith)
+    (λ p ps tree ts same rest b.
+    let low : segment_size p.items ≤ 8 * text_size (stmts_of_tree tree) = subst (λ stmts. segment_size p.items ≤ 8 * text_size stmts) same p.stands.size in
+    sums b (segment_size p.items) (text_size (stmts_of_tree tree)) (text_of ts) (stack_start (b + segment_size p.items) (segments ps)) low (rest (b + segment_size p.items)))
+    parts trees e base
 
 -- and the largest depth within its own
+larger : (a b m n : ℕ) → a ≡ b → m ≤ n → max a m ≤ max b n
+larger a b m n e le = omega arith
+
 pub depth_within : (parts : List Part) (trees : List Declarations) → AreOf parts trees → depth_of parts ≤ frame_of trees
-depth_within [] [] e = omega arith
-depth_within [] (tree ∷ trees) e = absurd (let h : [] ≡ stmts_of_tree tree ∷ codes_of_trees trees = e in cc)
-depth_within (p ∷ parts) [] e = absurd (let h : p.stmts ∷ map (λ (q : Part). q.stmts) parts ≡ [] = e in cc)
-depth_within (p ∷ parts) (tree ∷ trees) e =
-    let h = first_of p parts tree trees e in
-    larger (largest_depth p.stmts) (largest_depth (stmts_of_tree tree)) (depth_of parts) (frame_of trees) (ap largest_depth h.0) (depth_within parts trees h.1)
-  where
-    larger : (a b m n : ℕ) → a ≡ b → m ≤ n → max a m ≤ max b n
-    larger a b m n e le = omega arith
+depth_within parts trees e = along (λ ps ts. depth_of ps ≤ frame_of ts) (omega arith)
+    (λ p ps tree ts same rest. larger (largest_depth p.stmts) (largest_depth (stmts_of_tree tree)) (depth_of ps) (frame_of ts) (ap largest_depth same) rest) parts trees e
 
 -- which has a floor
 own_depth_within : (parts : List Part) (trees : List Declarations) → AreOf parts trees → depth_of parts ≤ of_trees.depth_of trees
-own_depth_within [] [] e = omega arith
-own_depth_within [] (tree ∷ trees) e = absurd (let h : [] ≡ stmts_of_tree tree ∷ codes_of_trees trees = e in cc)
-own_depth_within (p ∷ parts) [] e = absurd (let h : p.stmts ∷ map (λ (q : Part). q.stmts) parts ≡ [] = e in cc)
-own_depth_within (p ∷ parts) (tree ∷ trees) e =
-    let h = first_of p parts tree trees e in
-    larger (largest_depth p.stmts) (largest_depth (stmts_of_tree tree)) (depth_of parts) (of_trees.depth_of trees) (ap largest_depth h.0) (own_depth_within parts trees h.1)
-  where
-    larger : (a b m n : ℕ) → a ≡ b → m ≤ n → max a m ≤ max b n
-    larger a b m n e le = omega arith
+own_depth_within parts trees e = along (λ ps ts. depth_of ps ≤ of_trees.depth_of ts) (omega arith)
+    (λ p ps tree ts same rest. larger (largest_depth p.stmts) (largest_depth (stmts_of_tree tree)) (depth_of ps) (of_trees.depth_of ts) (ap largest_depth same) rest) parts trees e
 
 stand_for : (base : ℕ) (parts : List Part) (trees : List Declarations) → AreOf parts trees → StandFor trees (map own_of (parts_at base parts))
-stand_for base [] [] e = tt
-stand_for base [] (tree ∷ trees) e = absurd (let h : [] ≡ stmts_of_tree tree ∷ codes_of_trees trees = e in cc)
-stand_for base (p ∷ parts) [] e = absurd (let h : p.stmts ∷ map (λ (q : Part). q.stmts) parts ≡ [] = e in cc)
-stand_for base (p ∷ parts) (tree ∷ trees) e = let h = first_of p parts tree trees e in (h.0, stand_for (base + segment_size p.items) parts trees h.1)
+stand_for base parts trees e = along (λ ps ts. (b : ℕ) → StandFor ts (map own_of (parts_at b ps))) (λ b. tt)
+    (λ p ps tree ts same rest b. (same, rest (b + segment_size p.items))) parts trees e base
 
 -- products
 more_frames : (d a b : ℕ) → a ≤ b → d * a ≤ d * b

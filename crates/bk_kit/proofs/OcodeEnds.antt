@@ -1,19 +1,13 @@
 -- A run of OCODE ends of itself with a status, or by a division by zero: never for want of words.
-use Rattle.std.proofs.Common.{◌≡◌, ◌≢◌, ℕ, zero, suc, ◌+◌, ◌-◌, ◌^◌, ◌==◌, nat_lt, Bool, true, false, List, [], ◌∷◌, ◌++◌, Option, Some, None, subst, if◌then◌else◌}
-use Rattle.std.specs.Prelude.{⊤}
-use Rattle.std.specs.Option.{option_map_or}
-use Rattle.bk_base.specs.declared.run_end.End.{End}
-use Rattle.bk_base.specs.declared.run_end.End.TheVariants.{Status, DivideByZero, StoreLimit}
+use Rattle.bk_kit.proofs.Terms.{◌≡◌, ◌≢◌, ℕ, zero, suc, ◌+◌, ◌-◌, ◌^◌, ◌==◌, nat_lt, Bool, true, false, List, [], ◌∷◌, ◌++◌, Option, Some, None, subst, if◌then◌else◌, ⊤, option_map_or, End, Status, DivideByZero, StoreLimit, Content, Unset, Partly, Word, Variable, Held, write, Stmt}
 use Rattle.bk_base.specs.Format.{parts}
 use Rattle.bk_base.specs.Word.{signed, word_sum, byte_distance}
 use Rattle.bk_ocode.specs.Access.{variable_at, number_in, byte_at, word_with_byte_at, string_at}
-use Rattle.bk_ocode.specs.Cells.{Content, Unset, Partly, Word, Variable, Held, write}
 use Rattle.bk_ocode.specs.OcodeState.{Routine, Stop, Rdch, Wrch, Newline, Writes, Writen, Writed, Getbyte, Putbyte, Writef, Placed, Callables, Control, Inside, Behind, At, State, Next, Goes, Ends, Wild}
 use Rattle.bk_ocode.specs.OcodeStep.{slot, on_number, on_some, operated, named_place, has_word, from_label, case_label, can_be_called, jump, call, return, tells, read_byte, routine_step, dyadic_word, step_by, step_in, step_from}
 use Rattle.bk_ocode.specs.OcodeRun.{Program, resumed, label_rest, resumed_in, program_step_from, program_step, then_run, run}
 use Rattle.bk_ocode.specs.Telling.{format_bytes}
 use Rattle.bk_ocode.specs.declared.stmt.Monadic.TheVariants.{Contents, Negate, Not}
-use Rattle.bk_ocode.specs.declared.stmt.Stmt.{Stmt}
 use Rattle.bk_ocode.specs.declared.stmt.Stmt.TheVariants.{Number, True, False, Query, Load, Address, Text, Monadic, Dyadic, LoadByte, Assign, AssignAt, AssignByte, Jump, JumpIf, Label, GiveResult, TakeResult, Stack, Store, Entry, Save, CallFunction, CallRoutine, ReturnItem, Return, EndProcedure, Switch, Finish, DataLabel, DataNumber, DataAddress, Globals}
 
 -- the end of a step, if it is one, is not for want of words
@@ -81,24 +75,16 @@ step_by_own callables s own k AssignByte rest =
 step_by_own callables s own k (Jump l) rest = jump_own s own k l
 step_by_own callables s own k (JumpIf true l) rest = number_own (slot s (k - 1)) _ (λ w. if_own (w == 0) _ _ tt (jump_own s own (k - 1) l))
 step_by_own callables s own k (JumpIf false l) rest = number_own (slot s (k - 1)) _ (λ w. if_own (w == 0) _ _ (jump_own s own (k - 1) l) tt)
-step_by_own callables s own k (Label l) rest = tt
 step_by_own callables s own k (GiveResult l) rest = some_own (from_label own.stmts l) _ (λ rest'. tt)
-step_by_own callables s own k (TakeResult n) rest = tt
-step_by_own callables s own k (Stack n) rest = tt
-step_by_own callables s own k Store rest = tt
 step_by_own callables s own k (Entry l name) rest = tt
-step_by_own callables s own k (Save n) rest = tt
 step_by_own callables s own k (CallFunction n) rest = number_own (slot s (k - 1)) _ (λ e. call_own callables s own k n e rest)
 step_by_own callables s own k (CallRoutine n) rest = number_own (slot s (k - 1)) _ (λ e. call_own callables s own k n e rest)
 step_by_own callables s own k ReturnItem rest = return_own s _
 step_by_own callables s own k Return rest = return_own s None
 step_by_own callables s own k (Switch default cases) rest = number_own (slot s (k - 1)) _ (λ w. jump_own s own (k - 1) (case_label cases default w))
 step_by_own callables s own k Finish rest = not_status 0
-step_by_own callables s own k EndProcedure rest = tt
-step_by_own callables s own k (DataLabel l) rest = tt
 step_by_own callables s own k (DataNumber value) rest = tt
-step_by_own callables s own k (DataAddress l) rest = tt
-step_by_own callables s own k (Globals entries) rest = tt
+step_by_own callables s own k x rest = tt
 
 step_in_own : (callables : Callables) (s : State) (own : Placed) (k : ℕ) (rest : List Stmt) → OfItself (step_in callables s own k rest)
 step_in_own callables s own k [] = tt

@@ -1,11 +1,6 @@
 -- A source has one list of trees.
-use Rattle.std.proofs.Common.{◌≡◌, ℕ, false, List, [], ◌∷◌, ◌++◌, sym, ap, ap₂, ◌∙◌, subst, append_assoc}
-use Rattle.bk_lex.specs.Symbol.{Symbol}
-use Rattle.bk_lex.specs.Lexing.{Section}
-use Rattle.bk_tree.specs.Tree.{Declarations}
+use Rattle.bk_kit.proofs.Terms.{◌≡◌, ℕ, false, List, [], ◌∷◌, ◌++◌, sym, ap, ap₂, ◌∙◌, subst, append_assoc, Symbol, Section, Declarations, Means, Accepted, WholeSection, bytes_of, trees_of, line_behind, AreAccepted, HasTrees}
 use Rattle.bk_syntax.proofs.Lemmas.{one_tree}
-use Rattle.bk_kit.specs.Sources.{Means, Accepted, WholeSection, bytes_of, trees_of, line_behind, AreAccepted}
-use Rattle.bk_kit.specs.SourceSections.{HasTrees}
 use Rattle.bk_kit.proofs.SourceSectionLemmas.{one_section, behind, differ}
 
 -- symbols have one tree, or none

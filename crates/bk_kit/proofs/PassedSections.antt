@@ -1,28 +1,7 @@
 -- Accepted sections, one after another, that were read of a source.
-use Rattle.std.proofs.Common.{◌≡◌, ◌≢◌, inl, inr, ℕ, zero, suc, ◌≤◌, ◌<◌, ◌++◌, Bool, true, false, List, [], ◌∷◌, Option, None, Some, Ok, Err, length, if◌then◌else◌, arith, refl, sym, ap, subst, ◌∙◌, append_assoc, append-nil, length-append}
-use Rattle.std.proofs.lemmas.List.{map-append}
-use Rattle.std.specs.Io.KnownBytes.{Consumes}
-use Rattle.bk_base.specs.DeviceLaws.{Consumes-nothing, Consumes-trans}
-use Rattle.bk_base.specs.declared.limit.TheConstants.{INPUT_BYTES}
-use Rattle.bk_base.specs.declared.source_fault.SourceFault.{SourceFault}
-use Rattle.bk_lex.specs.declared.counting.State.{State}
-use Rattle.bk_lex.specs.Counting.{start}
-use Rattle.bk_lex.specs.Cutting.{state_behind, NotEnded, Settled}
-use Rattle.bk_lex.specs.Symbol.{Symbol}
-use Rattle.bk_lex.specs.Lexing.{Section, lexed}
-use Rattle.bk_lex.proofs.Lemmas.{means_as, lexed_has_fault, lexed_told, lexed_is_section, section_is_lexed}
-use Rattle.bk_ocode.specs.StmtRange.{AreBytes}
-use Rattle.bk_ocode.specs.declared.stmt.Stmt.{Stmt}
-use Rattle.bk_ocode.proofs.Lemmas.{section_whole}
-use Rattle.bk_tree.specs.Tree.{Declarations}
-use Rattle.bk_kit.specs.declared.kit_fault.KitFault.TheVariants.{Source}
-use Rattle.bk_kit.specs.declared.section.CompiledSection.{CompiledSection}
-use Rattle.bk_kit.specs.declared.section.SectionCode.{SectionCode}
-use Rattle.bk_kit.specs.ReadingSource.{Settles, IsDelivered}
+use Rattle.bk_kit.proofs.Terms.{◌≡◌, ◌≢◌, inl, inr, ℕ, zero, suc, ◌≤◌, ◌<◌, ◌++◌, Bool, true, false, List, [], ◌∷◌, Option, None, Some, Ok, Err, length, if◌then◌else◌, arith, refl, sym, ap, subst, ◌∙◌, append_assoc, append-nil, length-append, map-append, Consumes, Consumes-nothing, Consumes-trans, INPUT_BYTES, SourceFault, State, start, state_behind, NotEnded, Settled, Symbol, Section, lexed, means_as, lexed_has_fault, lexed_told, lexed_is_section, section_is_lexed, AreBytes, Stmt, section_whole, Declarations, Source, CompiledSection, SectionCode, Settles, IsDelivered, codes_in, Compiled, Refuses, AreAllTyped, Accepts, Delivered}
 use Rattle.bk_kit.specs.Sources as sources
 use Rattle.bk_kit.specs.Sources.{Accepted, Refused, WholeSection, bytes_of, trees_of, codes_of, codes_of_trees, stmts_of_tree, line_behind, AreAccepted}
-use Rattle.bk_kit.specs.CompilingSection.{codes_in, Compiled, Refuses}
-use Rattle.bk_kit.specs.Compiling.{AreAllTyped, Accepts, Delivered}
 use Rattle.bk_kit.proofs.ReadingLemmas.{whole_used, used_some}
 
 -- ---- lists of sections

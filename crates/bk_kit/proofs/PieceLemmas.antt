@@ -1,10 +1,5 @@
 -- The pieces so far, the next one, and the others.
-use Rattle.std.proofs.Common.{◌≡◌, ℕ, ◌+◌, ◌<◌, List, [], ◌∷◌, ◌++◌, length, take, drop, get_or, sym, ◌∙◌, ap, append_assoc, append-nil, subst, Option, refl, Bor}
-use Rattle.std.specs.Io.KnownBytes.{Appends}
-use Rattle.std.proofs.lemmas.List.{take_more, take-append-drop}
-use Rattle.bk_base.specs.Devices.{AppendsPart}
-use Rattle.bk_base.specs.DeviceLaws.{Appends-trans, AppendsPart-behind, AppendsPart-front}
-use Rattle.bk_kit.specs.Pieces.{joined}
+use Rattle.bk_kit.proofs.Terms.{◌≡◌, ℕ, ◌+◌, ◌<◌, List, [], ◌∷◌, ◌++◌, length, take, drop, get_or, sym, ◌∙◌, ap, append_assoc, append-nil, subst, Option, refl, Bor, Appends, take_more, take-append-drop, AppendsPart, Appends-trans, AppendsPart-behind, AppendsPart-front, joined}
 
 joined-append : (a b : List (Bor (List ℕ))) → joined (a ++ b) ≡ joined a ++ joined b
 joined-append [] b = refl

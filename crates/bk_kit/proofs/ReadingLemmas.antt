@@ -1,23 +1,11 @@
 -- What is read of a section up to its end.
-use Rattle.std.proofs.Common.{◌≡◌, ℕ, ◌+◌, ◌≤◌, Bool, true, false, cond, List, [], ◌∷◌, ◌++◌, length, Result, Ok, Err, Option, Some, None, ◌⊎◌, inl, inr, refl, sym, ap, subst, ◌∙◌, arith, length-append, append_assoc}
-use Rattle.bk_base.specs.declared.source_fault.SourceFault.{SourceFault}
-use Rattle.std.specs.Io.KnownBytes.{Consumes}
-use Rattle.bk_base.specs.DeviceLaws.{Consumes-trans}
-use Rattle.bk_base.specs.declared.limit.TheConstants.{SECTION_BYTES}
+use Rattle.bk_kit.proofs.Terms.{◌≡◌, ℕ, ◌+◌, ◌≤◌, Bool, true, false, cond, List, [], ◌∷◌, ◌++◌, length, Result, Ok, Err, Option, Some, None, ◌⊎◌, inl, inr, refl, sym, ap, subst, ◌∙◌, arith, length-append, append_assoc, SourceFault, Consumes, Consumes-trans, SECTION_BYTES, State, Step, start, step_of, finished, ◌>>=◌, cut_behind, goes_on_from, then_on, state_behind, cut_as, IsUndecided, Asked, Settles, IsDelivered, Act, Act as acts}
 use Rattle.bk_lex.specs.declared.machine.Fault.{Fault}
-use Rattle.bk_lex.specs.declared.counting.State.{State}
-use Rattle.bk_lex.specs.Counting.{Step}
 use Rattle.bk_lex.specs.declared.counting.PieceResult.{PieceResult}
-use Rattle.bk_lex.specs.declared.counting.Act.{Act}
-use Rattle.bk_lex.specs.declared.counting.Act.TheVariants as acts
 use Rattle.bk_lex.specs.declared.cutter.Cut.{Cut}
 use Rattle.bk_lex.specs.declared.cutter.Cut.TheVariants.{More, End}
-use Rattle.bk_lex.specs.Counting.{start, step_of, finished, ◌>>=◌}
 use Rattle.bk_lex.specs.Lexing.{Section, section, Reading, read, read_on, run, end_as, begin, is_dot, lexed}
-use Rattle.bk_lex.specs.Found.{cut_behind}
-use Rattle.bk_lex.specs.Cutting.{goes_on_from, then_on, state_behind, cut_as}
 use Rattle.bk_lex.proofs.Lemmas.{behind, read_state, behind_more, used_at_end, more_undecided, end_is_decided, lexed_is_section}
-use Rattle.bk_kit.specs.ReadingSource.{IsUndecided, Asked, Settles, IsDelivered}
 
 -- ---- the bytes that were asked for
 

@@ -1,15 +1,9 @@
 -- Trees of the grammar are regular: their numbers are words, an assignment and a LET have as many values as names, and a section's own
 -- LETs have no variables.
-use Rattle.std.proofs.Common.{◌≡◌, ℕ, inl, inr, Bool, true, false, List, [], ◌∷◌, Some, None, cond, refl, subst, ◌∙◌, arith}
-use Rattle.bk_lex.specs.Symbol.{Symbol}
+use Rattle.bk_kit.proofs.Terms.{◌≡◌, ℕ, inl, inr, Bool, true, false, List, [], ◌∷◌, Some, None, cond, refl, subst, ◌∙◌, arith, Symbol, Mention, Expression, Expressions, Action, Actions, Declaration, Declarations, Items, Definition, Definitions, Starts, inner, left, behind, is_relation, start_count, IsSection, starts, Regular, RegularEach, RegularAction, RegularActions, RegularItems, RegularDeclaration, RegularDeclarations, RegularDefinition, RegularDefinitions, RegularStarts, DefineNoVariables, DeclareNoVariables, IsRegular}
 use Rattle.bk_tree.specs.declared.tree.Operator.TheVariants as o
 use Rattle.bk_tree.specs.Tree as t
-use Rattle.bk_tree.specs.Tree.{Mention, Expression, Expressions, Action, Actions, Declaration, Declarations, Items, Definition, Definitions, Starts}
-use Rattle.bk_grammar.specs.Rows.{inner, left, behind, is_relation}
 use Rattle.bk_grammar.specs.Grammar.{Names, Formals, Semis, last, Reads, Each, Does, Body, Parted, Heads, Declares, Listed, Defined, Defines, Started}
-use Rattle.bk_tree.specs.Parts.{start_count}
-use Rattle.bk_grammar.specs.SyntaxFault.{IsSection}
-use Rattle.bk_simulation.specs.Regular.{starts, Regular, RegularEach, RegularAction, RegularActions, RegularItems, RegularDeclaration, RegularDeclarations, RegularDefinition, RegularDefinitions, RegularStarts, DefineNoVariables, DeclareNoVariables, IsRegular}
 use Rattle.bk_kit.proofs.SmallSymbols.{AreSmall, leaf_small, plain_small}
 
 -- ---- symbols that are left

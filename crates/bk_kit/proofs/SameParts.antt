@@ -1,6 +1,5 @@
 -- Parts of a text that have the same words are the same parts, and are not refused.
-use Rattle.std.proofs.Common.{◌≡◌, ℕ, List, [], ◌∷◌, ◌++◌, refl, sym, ap, ◌∙◌, append_assoc}
-use Rattle.bk_kit.specs.Texts.{Format, all_words, AreWhole}
+use Rattle.bk_kit.proofs.Terms.{◌≡◌, ℕ, List, [], ◌∷◌, ◌++◌, refl, sym, ap, ◌∙◌, append_assoc, Format, all_words, AreWhole}
 
 -- where the words of a part tell it, and where they end
 module _ {Part Kind : Type 0} (format : Format Part Kind)

@@ -1,28 +1,14 @@
 -- The symbols of a section that are refused, for their syntax or their names.
-use Rattle.std.proofs.Common.{◌≡◌, ◌≢◌, inl, inr, ℕ, true, false, ◌==◌, length, arith, eqb-true, List, [], ◌∷◌, None, Some, Ok, Err, refl, sym, ap, ◌∙◌}
-use Rattle.bk_base.specs.declared.source_fault.SourceFault.{SourceFault}
-use Rattle.bk_base.specs.declared.refused.Refused.{Refused}
-use Rattle.bk_base.specs.declared.refused.Refused.TheVariants as refusals
-use Rattle.bk_base.specs.declared.refused.Refused.TheVariants.{Fault, Device}
+use Rattle.bk_kit.proofs.Terms.{◌≡◌, ◌≢◌, inl, inr, ℕ, true, false, ◌==◌, length, arith, eqb-true, List, [], ◌∷◌, None, Some, Ok, Err, refl, sym, ap, ◌∙◌, SourceFault, Refused, Fault, Device, Symbol, symbols_of, section_of, lexed, Declarations, IsSection, declarations_of, Stmt, KitFault, Source, source_refused, Translates, HasCode, Refuses, RefusesSymbols, Refused as refusals, KitFault as k}
 use Rattle.bk_lex.specs.declared.scan.Lexed.{Lexed}
 use Rattle.bk_lex.specs.declared.token.Token.{Token}
-use Rattle.bk_lex.specs.Symbol.{Symbol, symbols_of}
-use Rattle.bk_lex.specs.Lexing.{section_of, lexed}
 use Rattle.bk_tree.specs.declared.section.Section.{Section}
-use Rattle.bk_tree.specs.Tree.{Declarations}
 use Rattle.bk_tree.specs.Limits.{Within}
-use Rattle.bk_grammar.specs.SyntaxFault.{IsSection}
 use Rattle.bk_syntax.specs.Parsing.{Parses, Gives}
-use Rattle.bk_tree.specs.Section.{declarations_of}
 use Rattle.bk_scope.specs.Points.{first_told}
 use Rattle.bk_scope.specs.Faults.{faults}
 use Rattle.bk_scope.specs.FirstFault.{breach_of}
 use Rattle.bk_scope.specs.Resolution.{Resolves}
-use Rattle.bk_ocode.specs.declared.stmt.Stmt.{Stmt}
-use Rattle.bk_kit.specs.declared.kit_fault.KitFault.{KitFault}
-use Rattle.bk_kit.specs.declared.kit_fault.KitFault.TheVariants as k
-use Rattle.bk_kit.specs.declared.kit_fault.KitFault.TheVariants.{Source}
-use Rattle.bk_kit.specs.CompilingSection.{source_refused, Translates, HasCode, Refuses, RefusesSymbols}
 
 module _ (symbols : List Symbol) (end : ℕ) (fault : SourceFault) where
   -- they are no section within the limits
@@ -63,10 +49,7 @@ section_refuses (Source fault) text from l is some refuses = inr (section_of l, 
 section_refuses k.Memory text from l is some refuses = tt
 section_refuses (k.Ocode number fault) text from l is some refuses = absurd refuses
 section_refuses (k.Intcode number fault) text from l is some refuses = absurd refuses
-section_refuses k.TooSmall text from l is some refuses = absurd refuses
-section_refuses k.NoStart text from l is some refuses = absurd refuses
-section_refuses k.Read text from l is some refuses = absurd refuses
-section_refuses k.Write text from l is some refuses = absurd refuses
+section_refuses x text from l is some refuses = absurd refuses
 
 -- or it has this meaning
 pub code_some : (symbols : List Symbol) (stmts : List Stmt) (tree : Declarations) → symbols ≢ [] → Translates symbols stmts tree → HasCode symbols (stmts ∷ []) (tree ∷ [])

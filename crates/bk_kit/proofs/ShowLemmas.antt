@@ -1,33 +1,7 @@
 -- A source whose sections are written one after another.
-use Rattle.std.proofs.Common.{◌≡◌, inl, inr, ◌⊎◌, ℕ, ◌<◌, ◌≤◌, Bool, true, false, List, [], ◌∷◌, ◌++◌, map, Option, None, Some, Result, Ok, Err, IfOk, IfErr, refl, sym, ap, subst, ◌∙◌, append-nil}
-use Rattle.std.proofs.lemmas.List.{map-append}
-use Rattle.std.specs.Prelude.{IsErr, if◌then◌else◌}
-use Rattle.std.specs.Io.KnownBytes.{Keeps}
-use Rattle.bk_base.specs.Devices.{Begins}
-use Rattle.bk_base.specs.DeviceLaws.{Begins-refl, Begins-trans, Begins-Keeps}
-use Rattle.bk_base.specs.declared.limit.TheConstants.{INPUT_BYTES}
-use Rattle.bk_lex.specs.Lexing.{Section, lexed}
-use Rattle.bk_lex.specs.Symbol.{Symbol}
-use Rattle.bk_tree.specs.Tree.{Declarations}
-use Rattle.bk_tree.specs.Section.{declarations_of}
-use Rattle.bk_ocode.specs.SectionStmts.{stmts_of}
-use Rattle.bk_ocode.specs.declared.stmt.Stmt.{Stmt}
-use Rattle.bk_gen.specs.StandsFor.{StandsFor}
+use Rattle.bk_kit.proofs.Terms.{◌≡◌, inl, inr, ◌⊎◌, ℕ, ◌<◌, ◌≤◌, Bool, true, false, List, [], ◌∷◌, ◌++◌, map, Option, None, Some, Result, Ok, Err, IfOk, IfErr, refl, sym, ap, subst, ◌∙◌, append-nil, map-append, Keeps, Begins, Begins-refl, Begins-trans, Begins-Keeps, INPUT_BYTES, Section, lexed, Symbol, Declarations, declarations_of, stmts_of, Stmt, StandsFor, KitFault, Source, Ocode, Intcode, TooSmall, NoStart, Read, Write, Memory, CompiledSection, SectionCode, HasTheseTrees, Compiled, HasCode, Refuses, trees_in, codes_in, is_read, is_read_fault, IsUndecided, IsDelivered, Settles, NotAssembled, ReadsSource, IsTree, Means, stmts_of_tree, Output, NotShown, NotShown as unshown, IsErr, if◌then◌else◌}
 use Rattle.bk_show.specs.Viewed.{Viewed}
-use Rattle.bk_show.specs.declared.section.NotShown.{NotShown}
-use Rattle.bk_show.specs.declared.section.NotShown.TheVariants as unshown
-use Rattle.bk_kit.specs.declared.kit_fault.KitFault.{KitFault}
-use Rattle.bk_kit.specs.declared.kit_fault.KitFault.TheVariants.{Source, Ocode, Intcode, TooSmall, NoStart, Read, Write, Memory}
-use Rattle.bk_kit.specs.declared.section.CompiledSection.{CompiledSection}
-use Rattle.bk_kit.specs.declared.section.SectionCode.{SectionCode}
-use Rattle.bk_kit.specs.Checking.{HasTheseTrees}
-use Rattle.bk_kit.specs.CompilingSection.{Compiled, HasCode, Refuses, trees_in, codes_in}
-use Rattle.bk_kit.specs.Interpreting.{is_read, is_read_fault}
-use Rattle.bk_kit.specs.ReadingSource.{IsUndecided, IsDelivered, Settles}
-use Rattle.bk_kit.specs.RunningSource.{NotAssembled, ReadsSource}
 use Rattle.bk_kit.specs.Showing.{IsViewed, AreViewed, trees_viewed, Written, Stops, HasViewed, ShowsSections, PutsSection, NotPut, Shows, PassesAll, ShowsSource}
-use Rattle.bk_kit.specs.Sources.{IsTree, Means, stmts_of_tree}
-use Rattle.bk_kit.specs.Telling.{Output}
 use Rattle.bk_kit.proofs.SourceLemmas.{WithTrees, trees_none, not_read, no_memory, not_compiled, trees_go_on, trees_end, stops_reading, has_read}
 
 -- ---- the values of one section
@@ -63,11 +37,9 @@ viewed_fault : {O : Type 0} (Writes : O → O → Viewed → Type 0) (Fails : O 
 viewed_fault Writes Fails (Source fault) sections old new ended reads out refused count = ((refused, count), refl)
 viewed_fault Writes Fails (Ocode number fault) sections old new ended reads out refused count = absurd refused
 viewed_fault Writes Fails (Intcode number fault) sections old new ended reads out refused count = absurd refused
-viewed_fault Writes Fails TooSmall sections old new ended reads out refused count = absurd refused
-viewed_fault Writes Fails NoStart sections old new ended reads out refused count = absurd refused
 viewed_fault Writes Fails Read sections old new ended reads out refused count = ((refused, count), refl)
-viewed_fault Writes Fails Write sections old new ended reads out refused count = absurd refused
 viewed_fault Writes Fails Memory sections old new ended reads out refused count = ((refused, count), inl refl)
+viewed_fault Writes Fails x sections old new ended reads out refused count = absurd refused
 
 module _ {O : Type 0} (Writes : O → O → Viewed → Type 0) (Fails : O → O → NotShown → Type 0) where
   written_more : (before : O) (sections : List Viewed) (mid after : O) (x : Viewed) → Written Writes Fails before sections mid → Writes mid after x
@@ -140,10 +112,7 @@ module _ {O : Type 0} (Writes : O → O → Viewed → Type 0) (Fails : O → O 
       section_not_compiled Memory refuses = refused_as_source Memory refl refuses
       section_not_compiled (Ocode number fault) refuses = absurd refuses
       section_not_compiled (Intcode number fault) refuses = absurd refuses
-      section_not_compiled TooSmall refuses = absurd refuses
-      section_not_compiled NoStart refuses = absurd refuses
-      section_not_compiled Read refuses = absurd refuses
-      section_not_compiled Write refuses = absurd refuses
+      section_not_compiled x refuses = absurd refuses
 
       module _ (after' : O) where
         unwritten : NotPut Writes Fails after after' unshown.Memory → (after' ≡ after) ⊎ Fails after after' unshown.Memory
@@ -249,9 +218,7 @@ module _ {O : Type 0} (taken passed : O → Option (List ℕ)) (faults : O → �
   stops_grows (Err (Source fault)) mid after same = same_grows mid after same
   stops_grows (Err (Ocode number fault)) mid after same = same_grows mid after same
   stops_grows (Err (Intcode number fault)) mid after same = same_grows mid after same
-  stops_grows (Err TooSmall) mid after same = same_grows mid after same
-  stops_grows (Err NoStart) mid after same = same_grows mid after same
-  stops_grows (Err Read) mid after same = same_grows mid after same
+  stops_grows x mid after same = same_grows mid after same
 
   module _ (answer : Result (Unit {0}) KitFault) (old new : Option (List ℕ)) (ended : Bool) (reads : ℕ) (before after : O) (shows : ShowsSections Puts Leaves answer old new ended reads before after) where
     pub shown_grows : Grows before after

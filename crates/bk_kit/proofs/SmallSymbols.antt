@@ -1,27 +1,19 @@
 -- What numbers and characters of a section stand for are words, where its text is of bytes.
-use Rattle.std.proofs.Common.{◌≡◌, ℕ, ◌+◌, ◌-◌, ◌*◌, ◌<◌, ◌%◌, ◌^◌, ◌==◌, ◌||◌, nat_lt, Bool, true, false, List, [], ◌∷◌, ◌++◌, Option, Some, None, cond, if◌then◌else◌, refl, sym, ap, subst, arith, length}
-use Rattle.std.proofs.lemmas.Bool.{ltb-true, and_parts}
+use Rattle.bk_kit.proofs.Terms.{◌≡◌, ℕ, ◌+◌, ◌-◌, ◌*◌, ◌<◌, ◌%◌, ◌^◌, ◌==◌, ◌||◌, nat_lt, Bool, true, false, List, [], ◌∷◌, ◌++◌, Option, Some, None, cond, if◌then◌else◌, refl, sym, ap, subst, arith, length, ltb-true, and_parts, Symbol, symbol, Section, inserted_symbols, leaf, Kind, Kind as k, What, What as whats}
 use Rattle.std.proofs.lemmas.Nat.{mod_below}
 use Rattle.std.specs.List.{list_all}
-use Rattle.bk_lex.specs.declared.token.Kind.{Kind}
-use Rattle.bk_lex.specs.declared.token.Kind.TheVariants as k
-use Rattle.bk_lex.specs.declared.reserved.What.{What}
-use Rattle.bk_lex.specs.declared.reserved.What.TheVariants as whats
 use Rattle.bk_lex.specs.declared.machine.Base.{Base}
 use Rattle.bk_lex.specs.declared.machine.Base.TheVariants.{Octal, Decimal, Hexadecimal}
 use Rattle.bk_lex.specs.declared.machine.Header.{Header}
 use Rattle.bk_lex.specs.declared.machine.Header.TheVariants.{Plain, Formatted}
-use Rattle.bk_lex.specs.Symbol.{Symbol, symbol}
 use Rattle.bk_lex.specs.Bytes.{digit_value}
 use Rattle.bk_lex.specs.Machine.{digits_in}
 use Rattle.bk_lex.specs.Values.{word_from, behind_hash, number_word, escaped, character_byte}
 use Rattle.bk_lex.specs.Header.{header_symbols}
-use Rattle.bk_lex.specs.Lexing.{Section, inserted_symbols}
 use Rattle.bk_lex.specs.Insertion.{inserted}
 use Rattle.bk_lex.specs.Pieces.{Piece, CutsTo}
 use Rattle.bk_lex.specs.Tokens.{what_of, header_named, Putting, putting, seen, named_as, put_as, is_dot_sort, put, puts, IsSection}
 use Rattle.bk_tree.specs.Tree as t
-use Rattle.bk_grammar.specs.Rows.{leaf}
 use Rattle.bk_grammar.specs.Spelling.{tag_of}
 use Rattle.bk_grammar.specs.Brackets.{same_tag, Closing, one_more, up_to_tag, closed_by, in_front, plain_behind, plain_by, plain}
 

@@ -1,30 +1,13 @@
 -- The words of a section's constants are words where its tree is regular.
-use Rattle.std.proofs.Common.{◌≡◌, ℕ, zero, suc, ◌+◌, ◌<◌, ◌^◌, ◌==◌, nat_lt, Bool, true, false, List, [], ◌∷◌, ◌++◌, length, slice_get, Option, Some, None, cond, refl, subst}
-use Rattle.bk_base.specs.declared.limit.TheConstants.{GLOBAL_NUMBER, VEC_NUMBER, FRAME_WORDS}
-use Rattle.bk_tree.specs.declared.tree.Prefix.{Prefix}
-use Rattle.bk_tree.specs.declared.tree.Prefix.TheVariants as q
-use Rattle.bk_tree.specs.declared.tree.Simple.{Simple}
-use Rattle.bk_tree.specs.declared.tree.Simple.TheVariants as w
-use Rattle.bk_tree.specs.declared.tree.Sort.TheVariants as sort
+use Rattle.bk_kit.proofs.Terms.{◌≡◌, ℕ, zero, suc, ◌+◌, ◌<◌, ◌^◌, ◌==◌, nat_lt, Bool, true, false, List, [], ◌∷◌, ◌++◌, length, slice_get, Option, Some, None, cond, refl, subst, GLOBAL_NUMBER, VEC_NUMBER, FRAME_WORDS, Mention, Expression, Expressions, Action, Actions, Declaration, Declarations, Items, Definition, Definitions, Starts, line_of, size, Bound, Enclosing, Binding, bound_in, bind, has_address, constant_word, is_prefix_of_constants, is_infix_of_constants, divides_by_zero, labels_of, labels_of_each, with_formals, parenthesised, role_of_operand, role_of_operands, place_of_second, words_of_start, labels_in_scope, procedures_in_scope, place_behind_one_defined, scope_behind_one, place_behind_one, scope_behind, place_behind_all, Regular, RegularEach, RegularAction, RegularActions, RegularItems, RegularDeclaration, RegularDeclarations, RegularDefinition, RegularDefinitions, RegularStarts, Prefix, Prefix as q, Simple, Simple as w, Sort as sort, Bound as b}
 use Rattle.bk_tree.specs.Tree as t
-use Rattle.bk_tree.specs.Tree.{Mention, Expression, Expressions, Action, Actions, Declaration, Declarations, Items, Definition, Definitions, Starts}
-use Rattle.bk_tree.specs.Parts.{line_of, size}
-use Rattle.bk_scope.specs.declared.bound.Bound.{Bound}
-use Rattle.bk_scope.specs.declared.bound.Bound.TheVariants as b
-use Rattle.bk_scope.specs.declared.place.Enclosing.{Enclosing}
 use Rattle.bk_scope.specs.declared.role.Role.{Role}
 use Rattle.bk_scope.specs.declared.role.Role.TheVariants.{Value, Truth, Address, Destination}
-use Rattle.bk_scope.specs.Scope.{Binding, bound_in, bind, has_address}
 use Rattle.bk_scope.specs.Wrong.{Wrong, not_assignable, no_result_or_return, global_out_of_range, vec_out_of_range}
-use Rattle.bk_scope.specs.Constants.{constant_word, is_prefix_of_constants, is_infix_of_constants, divides_by_zero}
 use Rattle.bk_scope.specs.Places.{kept, deeper, looping, switching, labelled, valued, called, outermost}
-use Rattle.bk_scope.specs.Entering.{labels_of, labels_of_each, with_formals}
-use Rattle.bk_scope.specs.Names.{parenthesised, role_of_operand, role_of_operands, place_of_second, words_of_start}
 use Rattle.bk_scope.specs.Spots.{Spot, procedures_in, onward, past, numbered, behind, behind_each, behind_done, behind_declared, behind_one_declared, behind_one_defined, behind_constant, symbols_each, beginning}
 use Rattle.bk_scope.specs.Points.{Point, meaning, word, depth, wrong, claim, at, deepest, without_depths, words_of}
-use Rattle.bk_scope.specs.Scoping.{labels_in_scope, procedures_in_scope, place_behind_one_defined, scope_behind_one, place_behind_one, scope_behind, place_behind_all}
 use Rattle.bk_scope.specs.Faults.{unless, used_at, gone_to, constant_name, constant_wrongs, constant_wrongs_each, its_word, constant, each_constant, at_most, assigned, addressed, prefixed, depth_named, pushed, chosen_at, defaulted_at, single_at, one_of, each_of, manifest_items, static_items, global_items, its_meaning, its_global, its_frame, inside_procedure, procedure, told, told_each, told_destinations, told_done, told_done_each, told_declared, told_one_declared, told_defined, told_one_defined, told_started, told_of, words}
-use Rattle.bk_simulation.specs.Regular.{Regular, RegularEach, RegularAction, RegularActions, RegularItems, RegularDeclaration, RegularDeclarations, RegularDefinition, RegularDefinitions, RegularStarts}
 use Rattle.bk_kit.proofs.FitScopes.{Fit, fit_constant, fit_manifest, fit_labels, fit_formals, fit_procedures, fit_one, fit_declared}
 
 -- ---- what is told
@@ -32,10 +15,7 @@ use Rattle.bk_kit.proofs.FitScopes.{Fit, fit_constant, fit_manifest, fit_labels,
 abbrev SmallWords : List Point → Type 0
 SmallWords [] = Unit {0}
 SmallWords (word v ∷ xs) = (v < 2 ^ 32) × SmallWords xs
-SmallWords (meaning y ∷ xs) = SmallWords xs
-SmallWords (depth m ∷ xs) = SmallWords xs
-SmallWords (wrong f ∷ xs) = SmallWords xs
-SmallWords (claim c f ∷ xs) = SmallWords xs
+SmallWords (x ∷ xs) = SmallWords xs
 
 -- the words that are told are words
 record Small (xs : List Point) : Type 0 where
@@ -44,10 +24,7 @@ record Small (xs : List Point) : Type 0 where
 words_both : (xs ys : List Point) → SmallWords xs → SmallWords ys → SmallWords (xs ++ ys)
 words_both [] ys h i = i
 words_both (word v ∷ xs) ys h i = (h.0, words_both xs ys h.1 i)
-words_both (meaning y ∷ xs) ys h i = words_both xs ys h i
-words_both (depth m ∷ xs) ys h i = words_both xs ys h i
-words_both (wrong f ∷ xs) ys h i = words_both xs ys h i
-words_both (claim c f ∷ xs) ys h i = words_both xs ys h i
+words_both (x ∷ xs) ys h i = words_both xs ys h i
 
 both : {xs ys : List Point} → Small xs → Small ys → Small (xs ++ ys)
 both {xs} {ys} h i = record { all = words_both xs ys h.all i.all }
@@ -63,28 +40,17 @@ unless_small : {xs : List Point} (p : Bool) → Small xs → Small (unless p xs)
 unless_small p h = either p no_words h
 
 used_small : (k n l : ℕ) (x : List ℕ) (o : Option Bound) → Small (used_at k n l x o)
-used_small k n l x None = record { all = tt }
 used_small k n l x (Some (b.Variable j d)) = either (j == k) (record { all = tt }) (record { all = tt })
-used_small k n l x (Some (b.Label j m)) = record { all = tt }
-used_small k n l x (Some (b.Constant v)) = record { all = tt }
-used_small k n l x (Some (b.Global g)) = record { all = tt }
-used_small k n l x (Some (b.Static m)) = record { all = tt }
+used_small k n l x y = record { all = tt }
 
 gone_small : (k n l : ℕ) (x : List ℕ) (o : Option Bound) → Small (gone_to k n l x o)
-gone_small k n l x None = record { all = tt }
 gone_small k n l x (Some (b.Label j m)) = either (j == k) (record { all = tt }) (record { all = tt })
 gone_small k n l x (Some (b.Variable j d)) = both (unless_small (j == k) (record { all = tt })) (record { all = tt })
-gone_small k n l x (Some (b.Constant v)) = record { all = tt }
-gone_small k n l x (Some (b.Global g)) = record { all = tt }
-gone_small k n l x (Some (b.Static m)) = record { all = tt }
+gone_small k n l x y = record { all = tt }
 
 named_small : (k n l : ℕ) (x : List ℕ) (o : Option Bound) → Small (constant_name k n l x o)
-named_small k n l x None = record { all = tt }
-named_small k n l x (Some (b.Constant v)) = record { all = tt }
 named_small k n l x (Some (b.Variable j d)) = both (unless_small (j == k) (record { all = tt })) (record { all = tt })
-named_small k n l x (Some (b.Label j m)) = record { all = tt }
-named_small k n l x (Some (b.Global g)) = record { all = tt }
-named_small k n l x (Some (b.Static m)) = record { all = tt }
+named_small k n l x y = record { all = tt }
 
 mutual
   wrongs_small : (bs : List Binding) (k : ℕ) (s : Spot) (e : Expression) → Small (constant_wrongs bs k s e)
@@ -99,10 +65,7 @@ mutual
   wrongs_small bs k s (t.choice l m c x y) =
       both (both (both (wrongs_small bs k s c) (record { all = tt })) (wrongs_small bs k (past 1 (behind_constant c s)) x)) (wrongs_small bs k (behind_constant x (past 1 (behind_constant c s))) y)
   wrongs_small bs k s (t.apply l m f es) = both (both (wrongs_small bs k s f) (record { all = tt })) (each_wrong_small bs k (past 1 (behind_constant f s)) es)
-  wrongs_small bs k s (t.text l x) = record { all = tt }
-  wrongs_small bs k s (t.query l) = record { all = tt }
-  wrongs_small bs k s (t.valof l c) = record { all = tt }
-  wrongs_small bs k s (t.table l es) = record { all = tt }
+  wrongs_small bs k s y = record { all = tt }
 
   each_wrong_small : (bs : List Binding) (k : ℕ) (s : Spot) (es : Expressions) → Small (constant_wrongs_each bs k s es)
   each_wrong_small bs k s t.none = no_words
@@ -125,16 +88,11 @@ at_most_small most n l x (Some v) = either (nat_lt most v) (record { all = tt })
 
 prefixed_small : (f : Prefix) (bs : List Binding) (s : Spot) (e : Expression) → Small (prefixed f bs s e)
 prefixed_small q.Address bs s e = unless_small (addressed bs e) (record { all = tt })
-prefixed_small q.Contents bs s e = no_words
-prefixed_small q.Plus bs s e = no_words
-prefixed_small q.Minus bs s e = no_words
-prefixed_small q.Not bs s e = no_words
+prefixed_small x bs s e = no_words
 
 depth_small : (r : Role) (p : Enclosing) (o : Option Bound) → Small (depth_named r p o)
 depth_small (Destination x l) p o = unless_small (has_address o) (record { all = tt })
-depth_small Value p o = record { all = tt }
-depth_small Truth p o = record { all = tt }
-depth_small (Address x l) p o = record { all = tt }
+depth_small y p o = record { all = tt }
 
 chosen_small : (m : Option ℕ) (n l : ℕ) (o : Option ℕ) → Small (chosen_at m n l o)
 chosen_small None n l o = record { all = tt }
@@ -168,12 +126,7 @@ meaning_small (Some y) = record { all = tt }
 
 global_small : (n l : ℕ) (x : List ℕ) (o : Option Bound) → Small (its_global n l x o)
 global_small n l x (Some (b.Global (Some g))) = record { all = tt }
-global_small n l x (Some (b.Global None)) = no_words
-global_small n l x (Some (b.Constant v)) = no_words
-global_small n l x (Some (b.Static m)) = no_words
-global_small n l x (Some (b.Variable j d)) = no_words
-global_small n l x (Some (b.Label j m)) = no_words
-global_small n l x None = no_words
+global_small n l x y = no_words
 
 frame_small : (n l d : ℕ) → Small (its_frame n l d)
 frame_small n l d = either (nat_lt FRAME_WORDS d) (record { all = tt }) no_words
@@ -181,10 +134,7 @@ frame_small n l d = either (nat_lt FRAME_WORDS d) (record { all = tt }) no_words
 flat_words : (xs : List Point) → SmallWords xs → SmallWords (without_depths xs)
 flat_words [] h = tt
 flat_words (word v ∷ xs) h = (h.0, flat_words xs h.1)
-flat_words (meaning y ∷ xs) h = flat_words xs h
-flat_words (depth m ∷ xs) h = flat_words xs h
-flat_words (wrong f ∷ xs) h = flat_words xs h
-flat_words (claim c f ∷ xs) h = flat_words xs h
+flat_words (x ∷ xs) h = flat_words xs h
 
 procedure_small : (m k : ℕ) (s : Spot) (l : ℕ) (x : List ℕ) (fs : List Mention) (o : Option Bound) (body : List Point) → Small body → Small (procedure m k s l x fs o body)
 procedure_small m k s l x fs o body h =
@@ -321,10 +271,7 @@ each_word : (xs : List Point) (j v : ℕ) → SmallWords xs → slice_get (words
 each_word [] j v h e = absurd cc
 each_word (word x ∷ xs) zero v h e = subst (λ y. y < 2 ^ 32) (let same : x ≡ v = cc in same) h.0
 each_word (word x ∷ xs) (suc j) v h e = each_word xs j v h.1 e
-each_word (meaning y ∷ xs) j v h e = each_word xs j v h e
-each_word (depth m ∷ xs) j v h e = each_word xs j v h e
-each_word (wrong f ∷ xs) j v h e = each_word xs j v h e
-each_word (claim c f ∷ xs) j v h e = each_word xs j v h e
+each_word (z ∷ xs) j v h e = each_word xs j v h e
 
 pub regular_words : (ds : Declarations) → RegularDeclarations ds → (j v : ℕ) → slice_get (words ds) j ≡ Some v → v < 2 ^ 32
 regular_words ds r j v e = each_word (told_of ds) j v (declared_small [] outermost beginning ds tt r).all e

@@ -1,41 +1,10 @@
 -- A source whose sections are assembled one after another, and then loaded and run.
-use Rattle.std.proofs.Common.{◌≡◌, ◌≢◌, inl, inr, ◌⊎◌, ℕ, ◌+◌, ◌≤◌, ◌<◌, ◌++◌, Bool, true, false, List, [], ◌∷◌, Option, None, Some, Result, Ok, Err, IfErr, map, arith, refl, sym, ap, subst, ◌∙◌, append-nil}
-use Rattle.std.specs.Prelude.{IsErr}
-use Rattle.std.proofs.lemmas.List.{map-append}
-use Rattle.bk_base.specs.Devices.{Begins}
-use Rattle.bk_base.specs.declared.limit.TheConstants.{INPUT_BYTES, STORE_MOST}
-use Rattle.bk_base.specs.declared.run_end.End.{End}
-use Rattle.bk_base.specs.declared.run_end.End.TheVariants.{WriteFault}
-use Rattle.bk_ocode.specs.SectionStmts.{stmts_of}
-use Rattle.bk_ocode.specs.StmtRange.{AreBytes}
+use Rattle.bk_kit.proofs.Terms.{◌≡◌, ◌≢◌, inl, inr, ◌⊎◌, ℕ, ◌+◌, ◌≤◌, ◌<◌, ◌++◌, Bool, true, false, List, [], ◌∷◌, Option, None, Some, Result, Ok, Err, IfErr, map, arith, refl, sym, ap, subst, ◌∙◌, append-nil, IsErr, map-append, Begins, INPUT_BYTES, STORE_MOST, End, WriteFault, stmts_of, AreBytes, Stmt, section_whole, Item, Registers, items_of, SEGMENTS, stack_start, any_starts, loaded_store, Ran, Blames, segment_whole, Part, segments, image, items_of_part, StandsFor, KitFault, Source, Ocode, Intcode, TooSmall, NoStart, Read, Write, Memory, CompiledSection, SectionCode, Declarations, AnyBytes, Streams, told_streams, first_registers, is_read_fault, is_read, IsUndecided, Settles, Follows, IsDelivered, EachSource, codes_in, trees_in, Compiled, Refuses, HasTrees, IsRefused, HasParts, Headline, meanings, MeaningRuns, MeaningTooSmall, MeaningStartless, LoadFault, LoadFault as load}
 use Rattle.bk_ocode.specs.declared.section.Ocode as o
-use Rattle.bk_ocode.specs.declared.stmt.Stmt.{Stmt}
-use Rattle.bk_ocode.proofs.Lemmas.{section_whole}
-use Rattle.bk_intcode.specs.declared.item.Item.{Item}
 use Rattle.bk_intcode.specs.declared.segment.Intcode as i
-use Rattle.bk_intcode.specs.declared.load_fault.LoadFault.{LoadFault}
-use Rattle.bk_intcode.specs.declared.load_fault.LoadFault.TheVariants as load
-use Rattle.bk_intcode.specs.declared.registers.Registers.{Registers}
-use Rattle.bk_intcode.specs.SegmentItems.{items_of}
-use Rattle.bk_intcode.specs.Placement.{SEGMENTS, stack_start, any_starts, loaded_store}
-use Rattle.bk_intcode.specs.Runs.{Ran, Blames}
-use Rattle.bk_intcode.specs.SegmentLaws.{segment_whole}
-use Rattle.bk_gen.specs.BackEnd.{Part, segments, image, items_of_part}
-use Rattle.bk_gen.specs.StandsFor.{StandsFor}
-use Rattle.bk_kit.specs.declared.kit_fault.KitFault.{KitFault}
-use Rattle.bk_kit.specs.declared.kit_fault.KitFault.TheVariants.{Source, Ocode, Intcode, TooSmall, NoStart, Read, Write, Memory}
-use Rattle.bk_kit.specs.declared.section.CompiledSection.{CompiledSection}
-use Rattle.bk_kit.specs.declared.section.SectionCode.{SectionCode}
-use Rattle.bk_tree.specs.Tree.{Declarations}
-use Rattle.bk_kit.specs.Interpreting.{AnyBytes, Streams, told_streams, first_registers, is_read_fault, is_read}
-use Rattle.bk_kit.specs.ReadingSource.{IsUndecided, Settles, Follows, IsDelivered, EachSource}
 use Rattle.bk_kit.specs.Sources.{Accepted, Refused, bytes_of, trees_of, codes_of, stmts_of_tree}
-use Rattle.bk_kit.specs.CompilingSection.{codes_in, trees_in, Compiled, Refuses}
 use Rattle.bk_kit.specs.Loading.{load_refused}
-use Rattle.bk_kit.specs.SourceSections.{HasTrees, IsRefused, HasParts}
 use Rattle.bk_kit.specs.RunningSource.{stmts_of_parts, Stand, Generated, Assembled, NotAssembled, RefusesSource, ReadsSource, NotLoaded}
-use Rattle.bk_kit.specs.Headline.{Headline}
-use Rattle.bk_kit.specs.SourceMeaning.{meanings, MeaningRuns, MeaningTooSmall, MeaningStartless}
 use Rattle.bk_kit.proofs.SourceSectionLemmas.{meaning_refuses, has_delivered, refused_delivered}
 use Rattle.bk_kit.proofs.ReadingLemmas.{ends_with_source}
 use Rattle.bk_kit.proofs.PassedSections.{bytes_both, refused_as, refuses_behind, takes_as, not_ended, Passed, passed_none, all_delivered, all_counted, passed_and_part, passed_on}
@@ -150,10 +119,7 @@ module _ (old now new : Option (List ℕ)) (ended : Bool) (taken taken' line : �
     not_compiled Memory refuses = no_memory
     not_compiled (Ocode number fault) refuses = absurd refuses
     not_compiled (Intcode number fault) refuses = absurd refuses
-    not_compiled TooSmall refuses = absurd refuses
-    not_compiled NoStart refuses = absurd refuses
-    not_compiled Read refuses = absurd refuses
-    not_compiled Write refuses = absurd refuses
+    not_compiled x refuses = absurd refuses
 
     module _ (c : CompiledSection) (compiled : Compiled c text line) where
       -- the source is of bytes, which nothing follows
@@ -227,22 +193,18 @@ module _ (words : ℕ) (old new : Option (List ℕ)) (ended : Bool) where
       each_source_as old new ended (λ source. IsRefused source fault) _ (λ source is. meaning_refuses source fault steps words before is) refused
   not_assembled Read refused steps before = each_source_as old new ended (λ source. Unit) _ (λ source is. refl) refused
   not_assembled Memory refused steps before = each_source_as old new ended (λ source. Unit) _ (λ source is. refl) refused
-  not_assembled TooSmall refused steps before = absurd refused
-  not_assembled NoStart refused steps before = absurd refused
-  not_assembled Write refused steps before = absurd refused
   not_assembled (Ocode section fault) refused steps before = absurd refused
   not_assembled (Intcode segment fault) refused steps before = absurd refused
+  not_assembled x refused steps before = absurd refused
 
   -- nor are its segments loaded
   pub none_loaded : (fault : KitFault) → NotAssembled fault old new ended → NotLoaded fault words old new ended
   none_loaded (Source fault) refused = tt
   none_loaded Read refused = tt
   none_loaded Memory refused = tt
-  none_loaded TooSmall refused = absurd refused
-  none_loaded NoStart refused = absurd refused
-  none_loaded Write refused = absurd refused
   none_loaded (Ocode section fault) refused = absurd refused
   none_loaded (Intcode segment fault) refused = absurd refused
+  none_loaded x refused = absurd refused
 
   pub segments_not_loaded : (fault : LoadFault) (all : List (List Item)) → Assembled all old new ended
       → (fault ≡ load.TooSmall → words < stack_start SEGMENTS all + 16) → (fault ≡ load.NoStart → (stack_start SEGMENTS all + 16 ≤ words) × (any_starts all ≡ false))

@@ -1,13 +1,6 @@
 -- A source that is refused is not accepted.
-use Rattle.std.proofs.Common.{◌≡◌, ℕ, true, false, List, [], ◌∷◌, ◌++◌, length, refl, sym, ap, ◌∙◌, subst, append_assoc}
-use Rattle.bk_base.specs.declared.source_fault.SourceFault.{SourceFault}
-use Rattle.bk_lex.specs.Lexing.{Section}
-use Rattle.bk_lex.proofs.Lemmas.{section_is_lexed}
-use Rattle.bk_tree.specs.Tree.{Declarations}
+use Rattle.bk_kit.proofs.Terms.{◌≡◌, ℕ, true, false, List, [], ◌∷◌, ◌++◌, length, refl, sym, ap, ◌∙◌, subst, append_assoc, SourceFault, Section, section_is_lexed, Declarations, AreBytes, HasTrees, IsRefused, MeaningRefuses}
 use Rattle.bk_kit.specs.Sources.{Accepted, Refused, WholeSection, bytes_of, trees_of, line_behind, AreAccepted}
-use Rattle.bk_ocode.specs.StmtRange.{AreBytes}
-use Rattle.bk_kit.specs.SourceSections.{HasTrees, IsRefused}
-use Rattle.bk_kit.specs.SourceMeaning.{MeaningRefuses}
 
 -- the first section of a text is one
 pub one_section : (text : List ℕ) (line : ℕ) (s t : Section) (trees others : List Declarations) → Accepted text line s trees → Accepted text line t others → s ≡ t

@@ -1,11 +1,5 @@
 -- The parts that were read of a text, and what the words of the text say.
-use Rattle.std.proofs.Common.{◌≡◌, inl, inr, ℕ, ◌<◌, ◌++◌, Bool, IsTrue, List, [], ◌∷◌, Option, None, Some, length, arith, refl, sym, ap, ◌∙◌, append_assoc, append-nil, length-append}
-use Rattle.std.specs.Io.KnownBytes.{Consumes}
-use Rattle.bk_base.specs.Devices.{NothingLeft}
-use Rattle.bk_base.specs.declared.limit.TheConstants.{INPUT_BYTES}
-use Rattle.bk_words.specs.TextEnd.{AtEnd}
-use Rattle.bk_words.specs.Words.{words_of}
-use Rattle.bk_kit.specs.Texts.{Format, parts, refused, part_number, all_words, AreWhole, SaysWhateverFollows}
+use Rattle.bk_kit.proofs.Terms.{◌≡◌, inl, inr, ℕ, ◌<◌, ◌++◌, Bool, IsTrue, List, [], ◌∷◌, Option, None, Some, length, arith, refl, sym, ap, ◌∙◌, append_assoc, append-nil, length-append, Consumes, NothingLeft, INPUT_BYTES, AtEnd, words_of, Format, parts, refused, part_number, all_words, AreWhole, SaysWhateverFollows}
 
 -- a text that is short enough ends only where the end was told
 at_end : (ended : Bool) (taken more : List ℕ) → length (taken ++ more) < INPUT_BYTES → (IsTrue ended → more ≡ []) → AtEnd ended (length taken) → more ≡ []

@@ -1,14 +1,5 @@
 -- A run that is made of runs of one step.
-use Rattle.std.proofs.Common.{◌≡◌, ◌≢◌, ℕ, ◌+◌, List, Result, Ok, Err, IfErr, if◌then◌else◌, refl, sym, subst}
-use Rattle.std.specs.Prelude.{IsErr}
-use Rattle.bk_base.specs.Devices.{Begins}
-use Rattle.bk_base.specs.declared.run_end.End.{End}
-use Rattle.bk_base.specs.declared.run_end.End.TheVariants.{Status, DivideByZero, StoreLimit, StepLimit, BadOperation, ReadFault, WriteFault}
-use Rattle.bk_intcode.specs.declared.registers.Registers.{Registers}
-use Rattle.bk_intcode.specs.Runs.{Told, Paused, Went, Ran, Blames}
-use Rattle.bk_kit.specs.declared.kit_fault.KitFault.{KitFault}
-use Rattle.bk_kit.specs.Interpreting.{Streams, is_read_fault}
-use Rattle.bk_kit.specs.Tracing.{FileRead, OcodeRefused, RefusesNames}
+use Rattle.bk_kit.proofs.Terms.{◌≡◌, ◌≢◌, ℕ, ◌+◌, List, Result, Ok, Err, IfErr, if◌then◌else◌, refl, sym, subst, IsErr, Begins, End, Status, DivideByZero, StoreLimit, StepLimit, BadOperation, ReadFault, WriteFault, Registers, Told, Paused, Went, Ran, Blames, KitFault, Streams, is_read_fault, FileRead, OcodeRefused, RefusesNames}
 use Rattle.bk_intcode.proofs.Lemmas.{went_on, went_more}
 
 -- an answer that is a fault of the OCODE
@@ -24,22 +15,12 @@ module _ (Holds : List ℕ → Type 0) where
   went_so : (e : End) (n : ℕ) (store : List ℕ) (r : Registers) (store' : List ℕ) (r' : Registers) (old new : Told) → e ≢ WriteFault
       → Ran Holds e n store r store' r' old new → Went Holds e n store r store' r' old new
   went_so WriteFault n store r store' r' old new sound ran = absurd (sound refl)
-  went_so StepLimit n store r store' r' old new sound ran = ran
-  went_so ReadFault n store r store' r' old new sound ran = ran
-  went_so (Status v) n store r store' r' old new sound ran = ran
-  went_so DivideByZero n store r store' r' old new sound ran = ran
-  went_so StoreLimit n store r store' r' old new sound ran = ran
-  went_so BadOperation n store r store' r' old new sound ran = ran
+  went_so x n store r store' r' old new sound ran = ran
 
   ran_so : (e : End) (n : ℕ) (store : List ℕ) (r : Registers) (store' : List ℕ) (r' : Registers) (old new : Told) → e ≢ WriteFault
       → Went Holds e n store r store' r' old new → Ran Holds e n store r store' r' old new
   ran_so WriteFault n store r store' r' old new sound went = absurd (sound refl)
-  ran_so StepLimit n store r store' r' old new sound went = went
-  ran_so ReadFault n store r store' r' old new sound went = went
-  ran_so (Status v) n store r store' r' old new sound went = went
-  ran_so DivideByZero n store r store' r' old new sound went = went
-  ran_so StoreLimit n store r store' r' old new sound went = went
-  ran_so BadOperation n store r store' r' old new sound went = went
+  ran_so x n store r store' r' old new sound went = went
 
   module _ (k j : ℕ) (store : List ℕ) (r : Registers) (store' : List ℕ) (r' : Registers) (store'' : List ℕ) (r'' : Registers) (old mid new : Told)
       (first : Paused Holds k store r store' r' old mid) (passes : Begins mid.passed new.passed) where

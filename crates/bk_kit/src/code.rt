@@ -2,6 +2,7 @@
 ghost use Rattle.std.specs.Prelude.{◌≡◌, ◌≤◌, IfOk, IfErr, map, if◌then◌else◌};
 ghost use Rattle.bk_base.specs.declared.limit.TheConstants.{STORE_LEAST, STORE_MOST};
 ghost use Rattle.bk_intcode.specs.SegmentItems.{items_of};
+ghost use Rattle.bk_intcode.specs.State.{words_of};
 ghost use Rattle.bk_kit.specs.Texts.{part_number, parts, Stands};
 ghost use Rattle.bk_kit.specs.Code.{intcode};
 ghost use Rattle.bk_kit.specs.Interpreting.{TextRefused, CodeRefused, Loads, is_read};
@@ -49,6 +50,7 @@ pub fn load_code<C: ByteIn>(alloc: Global, code: &mut C, words: u32) -> Result<M
     requires least { STORE_LEAST ≤ words }
     requires most { words ≤ STORE_MOST }
     ensures loaded { IfOk result (λ machine. Loads machine words (C.left code.old) (C.left code.new) (C.ended code.new)) }
+    ensures words { IfOk result (λ machine. words_of machine ≡ words) }
     ensures refused { IfErr result (λ fault. CodeRefused fault words (C.left code.old) (C.left code.new) (C.ended code.new)) }
     ensures failures { C.faults code.new ≡ (if is_read result then 1 else 0) }
 {

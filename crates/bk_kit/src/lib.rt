@@ -21,6 +21,7 @@ mod status;
 mod tracing;
 
 pub use checker::{NotChecked, Refusal, check_source};
+pub use code::load_code;
 pub use command_line::{LineFault, order};
 pub use compiler::compile;
 pub use generator::generate_all;
@@ -31,4 +32,5 @@ pub use runner::{interpret, sizes};
 pub use service::{refuse, serve};
 pub use showing::{show_sections, show_source};
 pub use source::run_source;
+pub use status::{status_of_end, status_of_fault};
 pub use tracing::{trace, trace_named};

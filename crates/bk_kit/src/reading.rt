@@ -51,10 +51,8 @@ pub fn read_source_section<C: ByteIn>(
     let Ok(mut lexer) = Lexer::new(alloc, from) else {
         return Err(no_memory(source, taken));
     };
-    for _ in 0..SECTION_BYTES + 1 {
-        if *taken == INPUT_BYTES {
-            return Ok(lexer);
-        }
+    let room = (INPUT_BYTES - *taken).min(SECTION_BYTES as u64 + 1);
+    for _ in 0..room {
         let byte = match source.next() {
             Ok(Some(byte)) => byte,
             Ok(None) => return Ok(lexer),

@@ -24,8 +24,23 @@ fn status_of_stop(number: i32) -> u8
     }
 }
 
-/// The status for a fault.
-fn status_of_fault(fault: &KitFault) -> u8
+/// The exit status for the end of a run.
+pub fn status_of_end(end: End) -> u8
+    ensures { result ≡ end_status end }
+{
+    match end {
+        End::Status(number) => status_of_stop(number),
+        End::DivideByZero => 104,
+        End::StoreLimit => 105,
+        End::StepLimit => 106,
+        End::BadOperation => 107,
+        End::ReadFault => 109,
+        End::WriteFault => 110,
+    }
+}
+
+/// The exit status for a fault.
+pub fn status_of_fault(fault: &KitFault) -> u8
     ensures { result ≡ fault_status fault.now }
 {
     match fault {
@@ -91,14 +106,15 @@ fn report_end<E: ByteOut>(end: End, err: &mut E) -> u8
         (record { taken = E.taken err.old; passed = E.passed err.old; faults = E.faults err.old })
         (record { taken = E.taken err.new; passed = E.passed err.new; faults = E.faults err.new }) }
 {
+    let status = status_of_end(end);
     match end {
-        End::Status(number) => status_of_stop(number),
-        End::DivideByZero => report_text("division by zero", 104, err),
-        End::StoreLimit => report_text("store limit", 105, err),
-        End::StepLimit => report_text("step limit", 106, err),
-        End::BadOperation => report_text("bad operation", 107, err),
-        End::ReadFault => report_text("read fault", 109, err),
-        End::WriteFault => report_text("write fault", 110, err),
+        End::Status(_) => status,
+        End::DivideByZero => report_text("division by zero", status, err),
+        End::StoreLimit => report_text("store limit", status, err),
+        End::StepLimit => report_text("step limit", status, err),
+        End::BadOperation => report_text("bad operation", status, err),
+        End::ReadFault => report_text("read fault", status, err),
+        End::WriteFault => report_text("write fault", status, err),
     }
 }
 

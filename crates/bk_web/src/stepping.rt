@@ -1,99 +1,30 @@
 //! The machine after some steps.
-ghost use Rattle.std.specs.Prelude.{◌≡◌, ◌≤◌, ◌⊎◌, IfOk, IfErr, length, map, take, min};
+ghost use Rattle.std.specs.Prelude.{◌≡◌, ◌≤◌, ◌⊎◌, IfOk, IfErr, length, take, min};
 ghost use Rattle.bk_base.specs.declared.limit.TheConstants.{STORE_LEAST, STORE_MOST};
-ghost use Rattle.bk_intcode.specs.SegmentItems.{items_of};
 ghost use Rattle.bk_intcode.specs.State.{store_of, words_of};
 ghost use Rattle.bk_intcode.specs.Runs.{HeldBy};
-ghost use Rattle.bk_kit.specs.Code.{intcode};
-ghost use Rattle.bk_kit.specs.Interpreting.{TextRefused};
-ghost use Rattle.bk_kit.specs.Texts.{part_number, parts, Stands};
-ghost use Rattle.bk_kit.specs.Statuses.{fault_status, end_status};
 ghost use Rattle.bk_web.specs.Page.{LoadsText, RefusesText, Steps, RunsNothing};
 
 use crate::answer::Standing;
 use crate::kept::{Kept, copy_front};
 use bk_base::limit::{STORE_LEAST, STORE_MOST};
-use bk_base::{ByteIn, End, Reader512, Refused};
-use bk_intcode::{Intcode, Machine};
-use bk_intcode_text::read_segment;
-use bk_kit::KitFault;
+use bk_base::{ByteIn, End, Reader512};
+use bk_intcode::Machine;
+use bk_kit::{KitFault, load_code, status_of_end, status_of_fault};
 use bk_show::{Step, put_step};
 use std::alloc::Global;
 
 /// The status where no store has so many words.
 const BAD_WORDS: u8 = 112;
 
-/// The number of the segment after so many others.
-fn number_behind(before: usize) -> u32
-    ensures { result ≡ part_number before }
-{
-    before.min(u32::MAX as usize - 1) as u32 + 1
-}
-
-/// Reads all segments of a text.
-fn read_code<C: ByteIn>(alloc: Global, code: &mut C) -> Result<Vec<Intcode>, KitFault>
-    ensures read { IfOk result (λ list. Stands intcode (parts (map items_of list.items)) (C.left code.old) (C.left code.new) (C.ended code.new)) }
-    ensures refused { IfErr result (λ fault. TextRefused fault (C.left code.old) (C.left code.new) (C.ended code.new)) }
-{
-    let mut list = Vec::new(alloc);
-    loop {
-        match read_segment(alloc, code) {
-            Ok(Some(segment)) => {
-                let Ok(()) = list.push(segment) else {
-                    return Err(KitFault::Memory);
-                };
-            }
-            Ok(None) => return Ok(list),
-            Err(Refused::Fault(fault)) => {
-                return Err(KitFault::Intcode(number_behind(list.len()), fault));
-            }
-            Err(Refused::Memory) => return Err(KitFault::Memory),
-            Err(Refused::Device) => return Err(KitFault::Read),
-        }
-    }
-}
-
 /// Reads all segments of a text and loads them into a store of so many words.
-fn load_code(alloc: Global, code: &[u8], words: u32) -> Result<Machine, KitFault>
+fn load_text(alloc: Global, code: &[u8], words: u32) -> Result<Machine, KitFault>
     requires least { STORE_LEAST ≤ words }
     requires most { words ≤ STORE_MOST }
     ensures loaded { IfOk result (λ machine. LoadsText machine words code.now) }
     ensures refused { IfErr result (λ fault. RefusesText fault words code.now) }
 {
-    let segments = read_code(alloc, &mut Reader512::new(code))?;
-    Ok(Machine::load(alloc, segments.as_slice(), words)?)
-}
-
-/// The status of a fault.
-fn status_of_fault(fault: &KitFault) -> u8
-    ensures { result ≡ fault_status fault.now }
-{
-    match fault {
-        KitFault::Source(_) => 101,
-        KitFault::Ocode(_, _) => 102,
-        KitFault::Intcode(_, _) => 103,
-        KitFault::TooSmall => 105,
-        KitFault::NoStart => 108,
-        KitFault::Read => 109,
-        KitFault::Write => 110,
-        KitFault::Memory => 111,
-    }
-}
-
-/// The status of an end.
-fn status_of(end: End) -> u8
-    ensures { result ≡ end_status end }
-{
-    match end {
-        End::Status(number) if number >= 0 && number < 100 => number as u8,
-        End::Status(_) => 100,
-        End::DivideByZero => 104,
-        End::StoreLimit => 105,
-        End::StepLimit => 106,
-        End::BadOperation => 107,
-        End::ReadFault => 109,
-        End::WriteFault => 110,
-    }
+    load_code(alloc, &mut Reader512::new(code), words)
 }
 
 /// Copies the front of the store, as many of its words as fit, and answers how many.
@@ -163,7 +94,7 @@ pub extern "C" fn bk_step<'a>(
         *standing = Standing::not_loaded(BAD_WORDS);
         return;
     }
-    let mut machine = match load_code(alloc, code, words) {
+    let mut machine = match load_text(alloc, code, words) {
         Ok(machine) => machine,
         Err(fault) => {
             *standing = Standing::not_loaded(status_of_fault(&fault));
@@ -182,6 +113,6 @@ pub extern "C" fn bk_step<'a>(
         a: registers.a,
         b: registers.b,
         stack: machine.sizes().image,
-        status: status_of(end),
+        status: status_of_end(end),
     };
 }

@@ -1,11 +1,4 @@
-use Rattle.std.proofs.Common.{◌≡◌, ◌++◌, sym, subst, arith, ℕ, List, map, rules}
-use Rattle.bk_tree.specs.Tree.{Declarations}
-use Rattle.bk_tree.specs.Section.{declarations_of}
-use Rattle.bk_kit.specs.declared.kit_fault.KitFault.{KitFault}
-use Rattle.bk_kit.specs.CompilingSection.{trees_in, Compiled, Refuses}
-use Rattle.bk_kit.specs.Checking.{HasTheseTrees}
-use Rattle.bk_kit.specs.Interpreting.{is_read_fault}
-use Rattle.bk_kit.specs.RunningSource.{NotAssembled, ReadsSource}
+use Rattle.bk_kit.proofs.Terms.{◌≡◌, ◌++◌, sym, subst, arith, ℕ, List, map, rules, Declarations, declarations_of, KitFault, trees_in, Compiled, Refuses, HasTheseTrees, is_read_fault, NotAssembled, ReadsSource}
 use Rattle.bk_kit.proofs.PassedSections.{some_taken}
 use Rattle.bk_kit.proofs.SourceLemmas.{WithTrees, trees_none, not_read, no_memory, not_compiled, trees_go_on, trees_end, stops_reading, has_read}
 use Rattle.bk_kit.proofs.checker.read_trees.Goals as goal

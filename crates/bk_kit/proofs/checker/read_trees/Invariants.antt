@@ -1,5 +1,4 @@
-use Rattle.std.proofs.Common.{◌-◌, ◌^◌, map}
-use Rattle.bk_tree.specs.Section.{declarations_of}
+use Rattle.bk_kit.proofs.Terms.{◌-◌, ◌^◌, map, declarations_of}
 use Rattle.bk_kit.proofs.SourceLemmas.{WithTrees}
 use Rattle.bk_kit.proofs.checker.read_trees.Given as goal
 

@@ -1,11 +1,5 @@
-use Rattle.std.proofs.Common.{◌≡◌, ◌+◌, ◌≤◌, Bool, true, false, List, map, rules, sym, ◌∙◌, subst, refl, inl, inr}
-use Rattle.std.proofs.lemmas.Bool.{cases_lt}
-use Rattle.bk_intcode.specs.declared.item.Item.{Item}
+use Rattle.bk_kit.proofs.Terms.{◌≡◌, ◌+◌, ◌≤◌, Bool, true, false, List, map, rules, sym, ◌∙◌, subst, refl, inl, inr, cases_lt, Item, items_of, SEGMENTS, stack_start, any_starts, parts, Stands, intcode}
 use Rattle.bk_intcode.specs.declared.segment.Intcode.{Intcode}
-use Rattle.bk_intcode.specs.SegmentItems.{items_of}
-use Rattle.bk_intcode.specs.Placement.{SEGMENTS, stack_start, any_starts}
-use Rattle.bk_kit.specs.Texts.{parts, Stands}
-use Rattle.bk_kit.specs.Code.{intcode}
 use Rattle.bk_kit.proofs.LoadLemmas.{refused_anyhow}
 use Rattle.bk_kit.proofs.code.load_code.Goals as goal
 

@@ -1,11 +1,5 @@
-use Rattle.std.proofs.Common.{◌≡◌, ◌∙◌, List, [], ◌∷◌, ◌++◌, length, map, ap, sym, subst, rules}
-use Rattle.std.proofs.lemmas.List.{map-append, length-map}
-use Rattle.bk_intcode.specs.declared.item.Item.{Item}
-use Rattle.bk_intcode.specs.SegmentItems.{items_of}
-use Rattle.bk_intcode.specs.SegmentLaws.{segment_whole}
+use Rattle.bk_kit.proofs.Terms.{◌≡◌, ◌∙◌, List, [], ◌∷◌, ◌++◌, length, map, ap, sym, subst, rules, map-append, length-map, Item, items_of, segment_whole, part_number, intcode}
 use Rattle.bk_intcode_text.specs.SegmentReading.{StopsAtDevice}
-use Rattle.bk_kit.specs.Texts.{part_number}
-use Rattle.bk_kit.specs.Code.{intcode}
 use Rattle.bk_kit.proofs.CodeLemmas.{Front, Front-push, Front-refused, Front-stops, Front-whole}
 use Rattle.bk_kit.proofs.code.read_code.Goals as goal
 

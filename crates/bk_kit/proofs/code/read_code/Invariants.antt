@@ -1,6 +1,4 @@
-use Rattle.std.proofs.Common.{◌-◌, ◌^◌, length, map}
-use Rattle.bk_intcode.specs.SegmentItems.{items_of}
-use Rattle.bk_kit.specs.Code.{intcode}
+use Rattle.bk_kit.proofs.Terms.{◌-◌, ◌^◌, length, map, items_of, intcode}
 use Rattle.bk_kit.proofs.CodeLemmas.{Front}
 use Rattle.bk_kit.proofs.code.read_code.Given as goal
 

@@ -1,8 +1,4 @@
-use Rattle.std.proofs.Common.{rules, ◌≡◌, ◌∙◌, ap, ap₂, false}
-use Rattle.clap.specs.Words.{app_of, with_rule}
-use Rattle.clap.specs.Simple.{app_of_fields}
-use Rattle.clap.specs.declared.builder.Command.TheViews.{out-Command as fields_of}
-use Rattle.bk_kit.specs.CommandLine.{interpret_command}
+use Rattle.bk_kit.proofs.Terms.{rules, ◌≡◌, ◌∙◌, ap, ap₂, false, app_of, with_rule, app_of_fields, out-Command as fields_of, interpret_command}
 use Rattle.bk_kit.proofs.command_line.interpret_subcommand.Goals as goal
 
 pub returns : goal.returns

@@ -1,8 +1,4 @@
-use Rattle.std.proofs.Common.{rules, ◌≡◌, ◌∙◌, ap, ap₂, false}
-use Rattle.clap.specs.Words.{App, app_of, with_subcommand}
-use Rattle.clap.specs.Simple.{app_of_fields}
-use Rattle.clap.specs.declared.builder.Command.TheViews.{out-Command as fields_of}
-use Rattle.bk_kit.specs.CommandLine.{with_version, kit_command}
+use Rattle.bk_kit.proofs.Terms.{rules, ◌≡◌, ◌∙◌, ap, ap₂, false, App, app_of, with_subcommand, app_of_fields, out-Command as fields_of, with_version, kit_command}
 use Rattle.bk_kit.proofs.command_line.kit.Goals as goal
 
 pub returns : goal.returns

@@ -1,9 +1,4 @@
-use Rattle.std.proofs.Common.{◌≡◌, ◌∙◌, arith, codes, subst, sym}
-use Rattle.std.specs.Str.Parse.{ParsesUnsigned, ExplainsUnsignedError, HasUnsignedDigitsIfOk}
-use Rattle.clap.specs.Words.{rows_of, found_of, one_of}
-use Rattle.clap.proofs.WalkLemmas.{one_text-rows}
-use Rattle.bk_base.specs.Bounds.{Bounds}
-use Rattle.bk_kit.specs.CommandLine.{ReadsLimits, ReadsNumber}
+use Rattle.bk_kit.proofs.Terms.{◌≡◌, ◌∙◌, arith, codes, subst, sym, ParsesUnsigned, ExplainsUnsignedError, HasUnsignedDigitsIfOk, rows_of, found_of, one_of, one_text-rows, Bounds, ReadsLimits, ReadsNumber}
 use Rattle.bk_kit.proofs.LineLemmas.{number_of, number_given, if_some_map}
 use Rattle.bk_kit.proofs.command_line.limits_of.Goals as goal
 

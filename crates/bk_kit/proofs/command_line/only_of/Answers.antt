@@ -1,6 +1,4 @@
-use Rattle.std.proofs.Common.{codes}
-use Rattle.clap.specs.Words.{found_of}
-use Rattle.clap.proofs.WalkLemmas.{first_value-rows}
+use Rattle.bk_kit.proofs.Terms.{codes, found_of, first_value-rows}
 use Rattle.bk_kit.proofs.LineLemmas.{text_of, text_given}
 use Rattle.bk_kit.proofs.command_line.only_of.Goals as goal
 

@@ -1,8 +1,5 @@
-use Rattle.std.proofs.Common.{rules, ◌≡◌, inr, List, [], Option, None, Some, IfOk, map, refl, sym, ◌∙◌, subst}
-use Rattle.clap.specs.Faults.{fault_of}
+use Rattle.bk_kit.proofs.Terms.{rules, ◌≡◌, inr, List, [], Option, None, Some, IfOk, map, refl, sym, ◌∙◌, subst, fault_of, App, HasMatchesOf, Row, Text, app_of, rows_of, found_of, subcommand_of, subcommand_rows_of, kit_command, Reads, IsOrder}
 use Rattle.clap.specs.Values.{kind_of}
-use Rattle.clap.specs.Words.{App, HasMatchesOf, Row, Text, app_of, rows_of, found_of, subcommand_of, subcommand_rows_of}
-use Rattle.bk_kit.specs.CommandLine.{kit_command, Reads, IsOrder}
 use Rattle.bk_kit.proofs.LineLemmas.{found_subcommand, faults_told, words_refused, values_refused}
 use Rattle.bk_kit.proofs.command_line.order.Goals as goal
 

@@ -1,6 +1,4 @@
-use Rattle.std.proofs.Common.{codes}
-use Rattle.clap.specs.Words.{found_of}
-use Rattle.clap.proofs.WalkLemmas.{one_text-rows}
+use Rattle.bk_kit.proofs.Terms.{codes, found_of, one_text-rows}
 use Rattle.bk_kit.proofs.LineLemmas.{truth_of, truth_given}
 use Rattle.bk_kit.proofs.command_line.trace_asked.Goals as goal
 

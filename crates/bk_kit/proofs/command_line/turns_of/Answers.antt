@@ -1,8 +1,4 @@
-use Rattle.std.proofs.Common.{◌≡◌, ◌∙◌, ℕ, Option, None, Some, IfSome, IsSome, refl, sym, arith, codes}
-use Rattle.std.specs.Str.Parse.{ParsesUnsigned, ExplainsUnsignedError, HasUnsignedDigitsIfOk}
-use Rattle.clap.specs.Words.{rows_of, found_of, one_of}
-use Rattle.clap.proofs.WalkLemmas.{one_text-rows}
-use Rattle.bk_kit.specs.CommandLine.{ReadsNumber}
+use Rattle.bk_kit.proofs.Terms.{◌≡◌, ◌∙◌, ℕ, Option, None, Some, IfSome, IsSome, refl, sym, arith, codes, ParsesUnsigned, ExplainsUnsignedError, HasUnsignedDigitsIfOk, rows_of, found_of, one_of, one_text-rows, ReadsNumber}
 use Rattle.bk_kit.proofs.LineLemmas.{number_of, number_given, some_given}
 use Rattle.bk_kit.proofs.command_line.turns_of.Goals as goal
 

@@ -1,5 +1,4 @@
-use Rattle.std.proofs.Common.{rules}
-use Rattle.bk_base.specs.DeviceLaws.{Begins-trans}
+use Rattle.bk_kit.proofs.Terms.{rules, Begins-trans}
 use Rattle.bk_kit.proofs.PieceLemmas.{AppendsPart-piece, Appends-piece}
 use Rattle.bk_kit.proofs.pieces.put_pieces.Goals as goal
 

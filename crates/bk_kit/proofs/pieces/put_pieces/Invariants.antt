@@ -1,7 +1,4 @@
-use Rattle.std.proofs.Common.{◌≡◌, take}
-use Rattle.std.specs.Io.KnownBytes.{Appends}
-use Rattle.bk_base.specs.Devices.{Begins}
-use Rattle.bk_kit.specs.Pieces.{joined}
+use Rattle.bk_kit.proofs.Terms.{◌≡◌, take, Appends, Begins, joined}
 use Rattle.bk_kit.proofs.pieces.put_pieces.Given as goal
 
 abbrev pub invariant-loop-piece : goal.invariant-loop-piece

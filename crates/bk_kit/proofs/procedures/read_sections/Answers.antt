@@ -1,8 +1,4 @@
-use Rattle.std.proofs.Common.{◌≡◌, ◌∙◌, List, [], ◌∷◌, ◌++◌, length, map, ap, sym, subst, rules}
-use Rattle.std.proofs.lemmas.List.{map-append, length-map}
-use Rattle.bk_ocode.specs.SectionStmts.{stmts_of}
-use Rattle.bk_ocode.specs.declared.stmt.Stmt.{Stmt}
-use Rattle.bk_kit.specs.Generating.{ocode}
+use Rattle.bk_kit.proofs.Terms.{◌≡◌, ◌∙◌, List, [], ◌∷◌, ◌++◌, length, map, ap, sym, subst, rules, map-append, length-map, stmts_of, Stmt, ocode}
 use Rattle.bk_kit.proofs.CodeLemmas.{Front, Front-push, Front-whole, sections_refused, refused_fails}
 use Rattle.bk_kit.proofs.procedures.read_sections.Goals as goal
 

@@ -1,6 +1,4 @@
-use Rattle.std.proofs.Common.{◌-◌, ◌^◌, length, map}
-use Rattle.bk_ocode.specs.SectionStmts.{stmts_of}
-use Rattle.bk_kit.specs.Generating.{ocode}
+use Rattle.bk_kit.proofs.Terms.{◌-◌, ◌^◌, length, map, stmts_of, ocode}
 use Rattle.bk_kit.proofs.CodeLemmas.{Front}
 use Rattle.bk_kit.proofs.procedures.read_sections.Given as goal
 

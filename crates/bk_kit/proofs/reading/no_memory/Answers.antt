@@ -1,5 +1,4 @@
-use Rattle.std.proofs.Common.{inl, inr, refl, arith, [], rules}
-use Rattle.bk_base.specs.DeviceLaws.{Consumes-nothing}
+use Rattle.bk_kit.proofs.Terms.{inl, inr, refl, arith, [], rules, Consumes-nothing}
 use Rattle.bk_kit.proofs.ReadingLemmas.{delivered_more, goes_at_start, nothing_asked, undecided_at_start}
 use Rattle.bk_kit.proofs.reading.no_memory.Goals as goal
 

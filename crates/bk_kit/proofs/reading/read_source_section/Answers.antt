@@ -1,9 +1,6 @@
-use Rattle.std.proofs.Common.{inl, inr, ℕ, List, ◌≡◌, ◌≤◌, ◌⊎◌, [], ◌∷◌, ◌++◌, ◌∙◌, refl, sym, ap, arith, length-append, subst, rules}
-use Rattle.bk_base.specs.DeviceLaws.{Consumes-nothing}
+use Rattle.bk_kit.proofs.Terms.{inl, inr, ℕ, List, ◌≡◌, ◌≤◌, ◌⊎◌, [], ◌∷◌, ◌++◌, ◌∙◌, refl, sym, ap, arith, length-append, subst, rules, Consumes-nothing, SectionBytes, cut_behind, more_undecided}
 use Rattle.bk_lex.specs.Cutting.{Means}
-use Rattle.bk_lex.specs.Found.{SectionBytes, cut_behind}
 use Rattle.bk_lex.specs.declared.cutter.Cut.TheVariants.{End, More}
-use Rattle.bk_lex.proofs.Lemmas.{more_undecided}
 use Rattle.bk_kit.proofs.ReadingLemmas.{delivered_more, goes_at_start, nothing_asked}
 use Rattle.bk_kit.proofs.reading.read_source_section.Goals as goal
 

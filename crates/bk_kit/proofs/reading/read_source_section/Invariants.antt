@@ -1,8 +1,5 @@
-use Rattle.std.proofs.Common.{◌≡◌, ◌⊎◌, ◌+◌, ◌≤◌, length}
-use Rattle.std.specs.Io.KnownBytes.{Consumes}
-use Rattle.bk_lex.specs.Found.{cut_behind}
+use Rattle.bk_kit.proofs.Terms.{◌≡◌, ◌⊎◌, ◌+◌, ◌≤◌, length, Consumes, cut_behind, Asked}
 use Rattle.bk_lex.specs.declared.cutter.Cut.TheVariants.{More}
-use Rattle.bk_kit.specs.ReadingSource.{Asked}
 use Rattle.bk_kit.proofs.reading.read_source_section.Given as goal
 
 abbrev pub invariant-loop : goal.invariant-loop

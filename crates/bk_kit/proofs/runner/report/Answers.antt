@@ -1,6 +1,4 @@
-use Rattle.std.proofs.Common.{[], sym, append-nil}
-use Rattle.bk_base.specs.DeviceLaws.{AppendsPart-kept}
-use Rattle.bk_kit.specs.Sizes.{sizes_line}
+use Rattle.bk_kit.proofs.Terms.{[], sym, append-nil, AppendsPart-kept, sizes_line}
 use Rattle.bk_kit.proofs.ReportLemmas.{on_err}
 use Rattle.bk_kit.proofs.runner.report.Goals as goal
 

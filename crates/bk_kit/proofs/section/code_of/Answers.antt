@@ -1,6 +1,5 @@
-use Rattle.std.proofs.Common.{◌∙◌, ap, refl, rules}
+use Rattle.bk_kit.proofs.Terms.{◌∙◌, ap, refl, rules, declarations_of}
 use Rattle.bk_tree.specs.declared.section.Section.{Section}
-use Rattle.bk_tree.specs.Section.{declarations_of}
 use Rattle.bk_trans.specs.Naming.{named_tree}
 use Rattle.bk_trans.specs.Scheme.{scheme}
 use Rattle.bk_kit.proofs.SectionLemmas.{parse_refuses, resolve_refuses}

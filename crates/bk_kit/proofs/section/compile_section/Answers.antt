@@ -1,5 +1,4 @@
-use Rattle.std.proofs.Common.{◌≡◌, ◌∙◌, ◌==◌, false, length, sym, rules}
-use Rattle.bk_lex.specs.Lexing.{section_of}
+use Rattle.bk_kit.proofs.Terms.{◌≡◌, ◌∙◌, ◌==◌, false, length, sym, rules, section_of}
 use Rattle.bk_kit.proofs.SectionLemmas.{section_refuses, code_some, code_none, no_symbols, some_symbols}
 use Rattle.bk_kit.proofs.section.compile_section.Goals.{then-lexed, else-lexed, then-is_empty, else-is_empty+in_ok-code_of}
 use Rattle.bk_kit.proofs.section.compile_section.Goals as goal

@@ -1,6 +1,4 @@
-use Rattle.std.proofs.Common.{inr, refl, sym, ap}
-use Rattle.bk_lex.specs.Symbol.{symbols_of}
-use Rattle.bk_tree.specs.Section.{declarations_of}
+use Rattle.bk_kit.proofs.Terms.{inr, refl, sym, ap, symbols_of, declarations_of}
 use Rattle.bk_kit.proofs.ShowLemmas.{section_put, if_ok_map, if_err_map}
 use Rattle.bk_kit.proofs.showing.put_section.Goals as goal
 

@@ -1,5 +1,4 @@
-use Rattle.std.proofs.Common.{◌-◌, ◌^◌, map}
-use Rattle.bk_intcode.specs.SegmentItems.{items_of}
+use Rattle.bk_kit.proofs.Terms.{◌-◌, ◌^◌, map, items_of}
 use Rattle.bk_kit.proofs.SourceLemmas.{Gathered}
 use Rattle.bk_kit.proofs.source.assemble.Given as goal
 

@@ -1,10 +1,4 @@
-use Rattle.std.proofs.Common.{◌≡◌, ◌∙◌, ◌+◌, ◌≤◌, ap, sym, Bool, true, false, refl, inl, inr, List, map, rules, Err}
-use Rattle.std.proofs.lemmas.Bool.{cases_lt}
-use Rattle.bk_intcode.specs.declared.item.Item.{Item}
-use Rattle.bk_intcode.specs.SegmentItems.{items_of}
-use Rattle.bk_intcode.specs.Placement.{SEGMENTS, stack_start, any_starts}
-use Rattle.bk_gen.specs.BackEnd.{segments}
-use Rattle.bk_kit.specs.RunningSource.{Assembled}
+use Rattle.bk_kit.proofs.Terms.{◌≡◌, ◌∙◌, ◌+◌, ◌≤◌, ap, sym, Bool, true, false, refl, inl, inr, List, map, rules, Err, cases_lt, Item, items_of, SEGMENTS, stack_start, any_starts, segments, Assembled}
 use Rattle.bk_kit.proofs.SourceLemmas.{not_assembled, not_loaded, none_loaded, segments_not_loaded}
 use Rattle.bk_kit.proofs.source.load_source.Goals as goal
 

@@ -1,6 +1,4 @@
-use Rattle.std.proofs.Common.{refl}
-use Rattle.bk_gen.specs.BackEnd.{segments}
-use Rattle.bk_intcode.specs.State.{store_of, registers_of}
+use Rattle.bk_kit.proofs.Terms.{refl, segments, store_of, registers_of}
 use Rattle.bk_kit.specs.AnyReader.{ran_with_any}
 use Rattle.bk_kit.proofs.SourceLemmas.{source_runs}
 use Rattle.bk_kit.proofs.source.run_source.Goals as goal

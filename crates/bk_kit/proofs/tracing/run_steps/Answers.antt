@@ -1,7 +1,4 @@
-use Rattle.std.proofs.Common.{rules, ◌≡◌, ◌≢◌, ◌+◌, ◌-◌, ℕ, arith}
-use Rattle.bk_base.specs.DeviceLaws.{Begins-trans}
-use Rattle.bk_base.specs.declared.run_end.End.TheVariants.{StepLimit}
-use Rattle.bk_intcode.specs.Runs.{HeldBy, Ran}
+use Rattle.bk_kit.proofs.Terms.{rules, ◌≡◌, ◌≢◌, ◌+◌, ◌-◌, ℕ, arith, Begins-trans, StepLimit, HeldBy, Ran}
 use Rattle.bk_kit.proofs.TraceLemmas.{paused_more, ran_more}
 use Rattle.bk_kit.proofs.tracing.run_steps.Goals as goal
 

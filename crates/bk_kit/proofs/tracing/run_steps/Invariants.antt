@@ -1,7 +1,4 @@
-use Rattle.std.proofs.Common.{◌≡◌, ◌≤◌, None}
-use Rattle.bk_base.specs.Devices.{Begins}
-use Rattle.bk_intcode.specs.Runs.{HeldBy, Paused}
-use Rattle.bk_intcode.specs.State.{store_of, registers_of, end_of}
+use Rattle.bk_kit.proofs.Terms.{◌≡◌, ◌≤◌, None, Begins, HeldBy, Paused, store_of, registers_of, end_of}
 use Rattle.bk_kit.proofs.tracing.run_steps.Given as goal
 
 abbrev pub invariant-loop-i : goal.invariant-loop-i

@@ -1,6 +1,4 @@
-use Rattle.std.proofs.Common.{inl, inr, map, refl, rules}
-use Rattle.bk_ocode.specs.SectionStmts.{stmts_of}
-use Rattle.bk_kit.specs.declared.kit_fault.KitFault.TheVariants.{Memory}
+use Rattle.bk_kit.proofs.Terms.{inl, inr, map, refl, rules, stmts_of, Memory}
 use Rattle.bk_kit.proofs.TraceLemmas.{names_refused}
 use Rattle.bk_kit.proofs.tracing.trace_named.Goals as goal
 

@@ -1,5 +1,4 @@
-use Rattle.bk_base.specs.DeviceLaws.{Begins-trans}
-use Rattle.bk_intcode.specs.State.{store_of, registers_of}
+use Rattle.bk_kit.proofs.Terms.{Begins-trans, store_of, registers_of}
 use Rattle.bk_kit.proofs.tracing.trace_with.Goals as goal
 
 pub returns-clause-traced : goal.returns-clause-traced
