@@ -33,9 +33,13 @@ settings codes n (code f ∷ rest) = setting_of codes n f.global ++ settings cod
 settings codes n (global_vector ∷ rest) = settings codes (suc n) rest
 settings codes n (words ws ∷ rest) = settings codes (suc n) rest
 
--- words of an object that are given
-abbrev pub InData : Program → ℕ → List ℕ → Type 0
-InData program b ws = (j : ℕ) × (d : Datum) × (slice_get (all_data program.sections) j ≡ Some d) × (d.place ≡ b) × (d.words ≡ ws)
+-- a datum of the program has this place and these words
+pub record InData (program : Program) (base : ℕ) (ws : List ℕ) : Type 0 where
+  pub number : ℕ
+  pub datum : Datum
+  pub at : slice_get (all_data program.sections) number ≡ Some datum
+  pub placed : datum.place ≡ base
+  pub is : datum.words ≡ ws
 
 abbrev pub HoldsEntry : Program → ℕ → Codes → Option ℕ → ℕ → ℕ → Type 0
 HoldsEntry program first codes None o b = InData program b (codes.procedure o ∷ [])
@@ -339,12 +343,12 @@ module _ (program : Program) (first : ℕ) (well : IsWellPlaced program first FR
       sized (w ∷ ws) at lt = subst HasWords (sym at) tt
 
       by_entry : (f : Procedure) (g : Option ℕ) → f.global ≡ g → slice_get p o ≡ Some (code f) → HoldsEntry program first codes g o b → length (entry_cells g o) ≡ n → Region program first p o n b
-      by_entry f None eg at h e = datum h.0 h.1 h.2 h.3 (ap length h.4 ∙ e) (λ lt. subst HasWords (sym at) (subst HasEntry (sym eg) tt))
+      by_entry f None eg at h e = datum h.number h.datum h.at h.placed (ap length h.is ∙ e) (λ lt. subst HasWords (sym at) (subst HasEntry (sym eg) tt))
       by_entry f (Some g) eg at h e = nothing (sym e) h.0 h.1
 
       by_one : (x : Lasting) → slice_get p o ≡ Some x → HoldsOne program first codes x o b → length (one_cells p o x) ≡ n → Region program first p o n b
       by_one global_vector at h e = vector h.0 h.1 (sym e ∙ globals_long codes p)
-      by_one (words ws) at h e = let lw : length ws ≡ n = sym (length-map ws (λ w. holds (number w))) ∙ e in datum h.0 h.1 h.2 h.3 (ap length h.4 ∙ lw) (λ lt. sized ws at (omega arith))
+      by_one (words ws) at h e = let lw : length ws ≡ n = sym (length-map ws (λ w. holds (number w))) ∙ e in datum h.number h.datum h.at h.placed (ap length h.is ∙ lw) (λ lt. sized ws at (omega arith))
       by_one (code f) at h e = by_entry f f.global refl at h e
 
   cell_is : (o b i : ℕ) (c : value.Cell) → IsCell (first_memory p) o i c → BaseOf lasting o b → CellIs codes c (first_cells program first (b + i))
@@ -357,11 +361,11 @@ module _ (program : Program) (first : ℕ) (well : IsWellPlaced program first FR
       only_one zero e go = let z : holds (procedure o) ≡ c = (let q : Some (holds (procedure o)) ≡ Some c = e in cc) in subst (λ y. CellIs codes y (first_cells program first (b + i))) z (go refl)
       only_one (suc k) e go = absurd (let z : None ≡ Some c = e in cc)
 
-      by_datum : (j : ℕ) (d : Datum) (ws : List ℕ) (w : ℕ) → slice_get (all_data program.sections) j ≡ Some d → d.place ≡ b → d.words ≡ ws → slice_get ws i ≡ Some w → first_cells program first (b + i) ≡ Held Variable (Word w)
-      by_datum j d ws w at eb ew is = ap (λ y. first_cells program first (y + i)) (sym eb) ∙ datum_cell program first well j d i w at (ap (λ y. slice_get y i) ew ∙ is)
+      by_datum : (ws : List ℕ) (w : ℕ) → InData program b ws → slice_get ws i ≡ Some w → first_cells program first (b + i) ≡ Held Variable (Word w)
+      by_datum ws w h is = ap (λ y. first_cells program first (y + i)) (sym h.placed) ∙ datum_cell program first well h.number h.datum i w h.at (ap (λ y. slice_get y i) h.is ∙ is)
 
       by_entry : (g : Option ℕ) → HoldsEntry program first codes g o b → slice_get (entry_cells g o) i ≡ Some c → CellIs codes c (first_cells program first (b + i))
-      by_entry None h e = only_one i e (λ (is : i ≡ 0). by_datum h.0 h.1 (codes.procedure o ∷ []) (codes.procedure o) h.2 h.3 h.4 (ap (λ y. slice_get (codes.procedure o ∷ []) y) is))
+      by_entry None h e = only_one i e (λ (is : i ≡ 0). by_datum (codes.procedure o ∷ []) (codes.procedure o) h (ap (λ y. slice_get (codes.procedure o ∷ []) y) is))
       by_entry (Some g) h e = absurd (let z : None ≡ Some c = e in cc)
 
       by_one : (x : Lasting) → HoldsOne program first codes x o b → slice_get (one_cells p o x) i ≡ Some c → CellIs codes c (first_cells program first (b + i))
@@ -371,7 +375,7 @@ module _ (program : Program) (first : ℕ) (well : IsWellPlaced program first FR
           ∙ ap (λ (f : ℕ → Cell). f (16 + i)) (fold_append (unset_cells (all_data program.sections) first program.home) library_globals (all_globals program.sections))
           ∙ ap (λ s. fold with_global (fold with_global (unset_cells (all_data program.sections) first program.home) library_globals) s (16 + i)) lasts.globals))
           (globals_hold codes known (unset_cells (all_data program.sections) first program.home) (λ k lt. global_unset program first well k lt) p i c e)
-      by_one (words ws) h e = let w = number_at ws i c e in subst (λ y. CellIs codes y (first_cells program first (b + i))) (sym w.2) (by_datum h.0 h.1 ws w.0 h.2 h.3 h.4 w.1)
+      by_one (words ws) h e = let w = number_at ws i c e in subst (λ y. CellIs codes y (first_cells program first (b + i))) (sym w.2) (by_datum ws w.0 h w.1)
       by_one (code f) h e = by_entry f.global h e
 
   below_of : (o n b : ℕ) → Region program first p o n b → (16 ≤ b) × (b + n ≤ first)

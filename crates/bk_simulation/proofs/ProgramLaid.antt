@@ -1,6 +1,6 @@
 -- A program whose sections stand for accepted ones is laid.
-use Rattle.bk_simulation.proofs.Words.{◌≡◌, ℕ, zero, suc, ◌+◌, ◌<◌, ◌≤◌, ◌^◌, List, [], ◌∷◌, ◌++◌, length, Option, Some, None, refl, sym, ap, ◌∙◌, subst, arith, slice_get, append_assoc, FRAME_WORDS, Declarations, Placed, Program, AreFaultless, IsWellPlaced, scheme_is_accepted, stop, Lasting, Procedure, global_vector, words, code, of_sections, program_of, procedure_of, procedure_in, AreAccepted, StandFor}
-use Rattle.bk_simulation.proofs.Forms.{all_at, each_at, one_more, each_itself, Codes, BaseOf, one_base, Setting, HeldWord, HeldOne, HeldList, IsProcedure, library_word, IsSized, HoldsEntry, HoldsOne, all_set_same, FollowWords, AreBelow, AreSet}
+use Rattle.bk_simulation.proofs.Words.{◌≡◌, ℕ, zero, suc, ◌+◌, ◌<◌, ◌≤◌, ◌^◌, List, [], ◌∷◌, ◌++◌, length, Option, Some, None, refl, sym, ap, subst, arith, slice_get, append_assoc, FRAME_WORDS, Declarations, Placed, Program, AreFaultless, IsWellPlaced, scheme_is_accepted, stop, Lasting, Procedure, global_vector, words, code, of_sections, program_of, procedure_of, procedure_in, AreAccepted, StandFor}
+use Rattle.bk_simulation.proofs.Forms.{all_at, each_at, one_more, each_itself, Codes, BaseOf, one_base, Setting, HeldWord, HeldOne, HeldList, IsProcedure, library_word, IsSized, HoldsEntry, HoldsOne, InData, all_set_same, FollowWords, AreBelow, AreSet}
 use Rattle.bk_meaning.specs.Values as value
 use Rattle.bk_simulation.proofs.LaidPrograms.{setting, AreLaid}
 use Rattle.bk_simulation.proofs.SectionsLie.{SectionsLie, weights, sections_lie, all_bases, all_entries, all_counted, all_placed, HasAll, all_held, sections_set}
@@ -41,12 +41,12 @@ words_self front (w ∷ ws) = (
 -- ---- what is held
 
 entry_holds : (setting : Setting) (global : Option ℕ) (o b : ℕ) → BaseOf setting.lasting o b → HeldWord setting o global → HoldsEntry setting.program setting.first setting.codes global o b
-entry_holds setting None o b base h = let d = h.2 in (d.number, d.datum, d.at, d.placed ∙ one_base setting.lasting o h.0 b h.1 base, d.is)
+entry_holds setting None o b base h = subst (λ y. InData setting.program y (setting.codes.procedure o ∷ [])) (one_base setting.lasting o h.0 b h.1 base) h.2
 entry_holds setting (Some k) o b base h = let e = one_base setting.lasting o h.0 b h.1 base in (subst (λ y. 16 ≤ y) e h.2, subst (λ y. y ≤ setting.first) e h.3)
 
 held_holds : (setting : Setting) (o b : ℕ) (x : Lasting) → BaseOf setting.lasting o b → HeldOne setting o x → HoldsOne setting.program setting.first setting.codes x o b
 held_holds setting o b global_vector base h = absurd h
-held_holds setting o b (words ws) base h = let d = h.2 in (d.number, d.datum, d.at, d.placed ∙ one_base setting.lasting o h.0 b h.1 base, d.is)
+held_holds setting o b (words ws) base h = subst (λ y. InData setting.program y ws) (one_base setting.lasting o h.0 b h.1 base) h.2
 held_holds setting o b (code f) base h = entry_holds setting f.global o b base h.1
 
 -- ---- the program
