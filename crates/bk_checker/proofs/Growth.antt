@@ -1,11 +1,10 @@
 -- What was written begins what is written then, whatever is still to be done.
-use Rattle.bk_checker.proofs.Terms.{ℕ, suc, Bool, not, Option, List, [], ◌∷◌, ◌++◌, map, arith, Expression, Expressions, Action, Actions, Declarations, Starts, expression, expressions_in, action, actions_in, declarations_in, definitions_in, starts_in, Value, unset, World, Exit, break, loop, result, Outcome, gives, leaves, ends, undefined, going, with, given, either, Done, done, Environment, past, past_action, Program, Target, at, byte_at, call, History, history, Grows, After, full, stays, earlier, Adds, adds, with_after, each_way_after, given_after, either_after, Ties, ties, ties_add, AllTied, done_ties, fetch_ties, combined_ties, operate_prefix_ties, judged_ties, address_in_ties, values_ties, call_ties, assigned_ties, store_ties, choose_case_ties, rounds_of_ties, for_loop_ties, for_test_ties, for_step_ties, where_truth_ties, turn_ties, in_order_ties, landing_ties, result_ties, return_ties, case_exit_ties, starts_ties, let_values_ties, bind_variables_ties, declare_all_ties, scope_ties, library_ties, means_tied, value_in, routine_in, Continuation, Next, letters_in, mode_in, start_in, Given, a_value, a_truth, a_target, is_done, done_tag, tag, resumed, resume_given, resume_left, value_goes, truth_goes, target_goes, done_goes, done_left, next_round, next_for, bound_then, defined_then, started_then, starting_then, declared_then, outcome_next, thing_in, exit_in, assigned_to, OnValue, OnValue as v, OnTruth, OnTruth as o, OnTarget, OnTarget as a, OnDone, OnDone as d, Continuation as f, Next as n}
+use Rattle.bk_checker.proofs.Terms.{ℕ, suc, Bool, not, Option, List, [], ◌∷◌, ◌++◌, map, arith, Expression, Expressions, Action, Starts, expression, expressions_in, action, actions_in, declarations_in, definitions_in, starts_in, Value, unset, World, Exit, break, loop, result, Outcome, gives, leaves, undefined, with, given, either, Done, done, Environment, past, past_action, Program, Target, at, byte_at, call, History, history, Grows, After, full, stays, earlier, Adds, adds, with_after, each_way_after, given_after, either_after, Ties, ties, ties_add, AllTied, done_ties, fetch_ties, combined_ties, operate_prefix_ties, judged_ties, address_in_ties, values_ties, call_ties, assigned_ties, store_ties, choose_case_ties, rounds_of_ties, for_loop_ties, for_test_ties, for_step_ties, where_truth_ties, turn_ties, in_order_ties, landing_ties, result_ties, return_ties, case_exit_ties, starts_ties, let_values_ties, bind_variables_ties, declare_all_ties, scope_ties, library_ties, means_tied, value_in, routine_in, Continuation, Next, letters_in, mode_in, start_in, Given, a_value, a_truth, a_target, is_done, done_tag, tag, resumed, resume_given, resume_left, value_goes, truth_goes, target_goes, done_goes, done_left, next_round, next_for, bound_then, defined_then, started_then, starting_then, declared_then, outcome_next, thing_in, exit_in, assigned_to, OnValue, OnValue as v, OnTruth, OnTruth as o, OnTarget, OnTarget as a, OnDone, OnDone as d, Continuation as f, Next as n}
 use Rattle.bk_tree.specs.Tree as t
 use Rattle.bk_meaning.specs.Operators.{sum}
 use Rattle.bk_meaning.specs.Seeking.{the_label, Mode, forwards, seeking}
 use Rattle.bk_meaning.specs.Loops.{same_truth, for_loop, round_exit}
 use Rattle.bk_meaning.specs.Blocks as b
-use Rattle.bk_meaning.specs.Blocks.{make_vec}
 use Rattle.bk_meaning.specs.Scopes.{alone}
 use Rattle.bk_lasting.specs.Views.{env_in}
 use Rattle.bk_check.specs.declared.frame.For.{For}

@@ -1,6 +1,6 @@
 -- Runs over devices: steps one after another, and what the whole comes to.
 use Rattle.std.specs.Prelude.{IsErr}
-use Rattle.bk_checker.proofs.Terms.{◌≡◌, ℕ, ◌^◌, ◌-◌, Vec, map, Bool, true, false, IsTrue, Result, Ok, Err, IfOk, IfErr, OnOk, OnErr, is_err, arith, List, [], ◌∷◌, ◌++◌, Option, None, Some, refl, sym, ap, subst, ◌∙◌, append_assoc, append-nil, Consumes-nil, Consumes-kept, Consumes-trans, Appends-nil, Appends-trans, Appends-kept, Declarations, Value, address, number, World, End, Outcome, gives, leaves, ends, undefined, going, divide_by_zero, given, globals_object, remembering, Effect, fetch, value_in, routine_in, outcome_of, outcome_in, Program, program_of, first_memory, call, full, History, history, Grows, After, reads_from_the_front, full_call, Continuation, Next, CheckFault, Given, a_value, tag, resume, resumed, outcome_next, Comes, Told, Exchanged, Follows, Shows, Checks, over, verdict_of, run_given, Answered, Moves, Begun, Runs, ChecksPart, RunsPart, Reaches, Flushed, Worth, Worth as w, Effect as t, Computed, Computed as k, Thing as g, Next as n, Verdict, Verdict as v, CheckFault as x}
+use Rattle.bk_checker.proofs.Terms.{◌≡◌, ℕ, ◌^◌, ◌-◌, Vec, map, Bool, true, false, IsTrue, Result, Ok, Err, IfOk, IfErr, OnOk, OnErr, is_err, arith, List, [], ◌∷◌, ◌++◌, Option, None, Some, refl, sym, ap, subst, ◌∙◌, append_assoc, append-nil, Consumes-nil, Consumes-kept, Consumes-trans, Appends-nil, Appends-trans, Appends-kept, Declarations, Value, address, number, World, End, Outcome, gives, leaves, ends, undefined, going, divide_by_zero, given, globals_object, remembering, Effect, fetch, value_in, routine_in, outcome_of, outcome_in, Program, program_of, first_memory, call, full, History, history, Grows, After, reads_from_the_front, full_call, Continuation, Next, CheckFault, Given, a_value, tag, resume, resumed, outcome_next, Comes, Devices, Exchanged, Follows, Shows, Checks, over, verdict_of, run_given, Answered, Moves, Begun, Runs, ChecksPart, RunsPart, Reaches, Flushed, Worth, Worth as w, Effect as t, Computed, Computed as k, Thing as g, Next as n, Verdict, Verdict as v, CheckFault as x}
 use Rattle.std.specs.Io.KnownBytes.{Consumes, Appends, Keeps}
 use Rattle.bk_meaning.specs.Memory.{Memory, read}
 use Rattle.std.specs.Global.{Global}
@@ -56,13 +56,13 @@ run_given_value _ = refl
 
 -- ---- what is exchanged
 
-pub exchanged_none : (told : Told) → Exchanged told told [] []
+pub exchanged_none : (told : Devices) → Exchanged told told [] []
 exchanged_none told = record { delivered = Consumes-nil told.left; took = Appends-nil told.taken; stays = λ ended. (refl, ended) }
 
 both_none : (read more : List ℕ) → read ≡ [] → more ≡ [] → read ++ more ≡ []
 both_none read more none nothing = ap (λ l. l ++ more) none ∙ nothing
 
-pub exchanged_then : (old mid new : Told) (read more written further : List ℕ) → Exchanged old mid read written → Exchanged mid new more further → Exchanged old new (read ++ more) (written ++ further)
+pub exchanged_then : (old mid new : Devices) (read more written further : List ℕ) → Exchanged old mid read written → Exchanged mid new more further → Exchanged old new (read ++ more) (written ++ further)
 exchanged_then old mid new read more written further first second = record {
   delivered = Consumes-trans old.left mid.left new.left read more first.delivered second.delivered;
   took = Appends-trans old.taken mid.taken new.taken written further first.took second.took;
@@ -78,7 +78,7 @@ unwritten p fs next m rest before u comes =
     subst (λ (l : List ℕ). Comes p fs next (world m (record { input = rest; output = l })) u) (sym (append-nil before)) comes
 
 -- a step that the devices have no part in
-pub moves_still : (p : Program) (m : Evaluator) (next : Next) (m' : Evaluator) (next' : Next) (told : Told)
+pub moves_still : (p : Program) (m : Evaluator) (next : Next) (m' : Evaluator) (next' : Next) (told : Devices)
     → ((b : Bytes) → Comes p m'.frames.items next' (world m' b) (resumed p m.frames.items (outcome_next p next (world m b))))
     → Moves p m next m' next' told told
 moves_still p m next m' next' told comes = record {
@@ -88,13 +88,13 @@ moves_still p m next m' next' told comes = record {
   comes = λ rest before follows. unwritten p m'.frames.items next' m' rest before _ (comes (record { input = rest; output = before }));
 }
 
-pub moves_none : (p : Program) (m : Evaluator) (next : Next) (told : Told) → Moves p m next m next told told
+pub moves_none : (p : Program) (m : Evaluator) (next : Next) (told : Devices) → Moves p m next m next told told
 moves_none p m next told = moves_still p m next m next told (λ b. refl)
 
-follows_both : (mid new : Told) (more further rest : List ℕ) → Exchanged mid new more further → Follows new rest → Follows mid (more ++ rest)
+follows_both : (mid new : Devices) (more further rest : List ℕ) → Exchanged mid new more further → Follows new rest → Follows mid (more ++ rest)
 follows_both mid new more further rest second follows = λ ended. let two = second.stays ended in both_none more rest two.0 (follows two.1)
 
-pub moves_then : (p : Program) (m : Evaluator) (next : Next) (m' : Evaluator) (next' : Next) (m'' : Evaluator) (next'' : Next) (old mid new : Told)
+pub moves_then : (p : Program) (m : Evaluator) (next : Next) (m' : Evaluator) (next' : Next) (m'' : Evaluator) (next'' : Next) (old mid new : Devices)
     → Moves p m next m' next' old mid → Moves p m' next' m'' next'' mid new → Moves p m next m'' next'' old new
 moves_then p m next m' next' m'' next'' old mid new first second = record {
   read = first.read ++ second.read;
@@ -122,7 +122,7 @@ no_frames : (p : Program) (fs : List Continuation) (u : Outcome Given) → fs �
 unfolding resumed
 no_frames p fs u none = ap (λ (gs : List Continuation). resumed p gs u) none
 
-pub run_shows : (p : Program) (start : Value) (turns : ℕ) (m m' m'' : Evaluator) (first last : Next) (verdict : Verdict) (old new : Told)
+pub run_shows : (p : Program) (start : Value) (turns : ℕ) (m m' m'' : Evaluator) (first last : Next) (verdict : Verdict) (old new : Devices)
     → Begun p turns m
     → ((b : Bytes) → Comes p m'.frames.items first (world m' b) (resumed p m.frames.items (tag a_value (call p (full p) start [] (world m b)))))
     → Moves p m' first m'' last old new → over m''.frames.items last ≡ true
@@ -169,7 +169,7 @@ module _ (sections : List Declarations) (p : Program) (turns : ℕ) (is : p ≡ 
   pub means_so : (input : List ℕ) (start : Option Value) → read (first_memory p) (address globals_object 1) ≡ start → starting input start ≡ meaning sections input turns
   means_so input start found = sym (ap (starting input) found) ∙ ap (λ (q : Program). started q (read (first_memory q) (address globals_object 1)) (first_world q input turns) turns) is
 
-  pub checks_start : (start : Value) (verdict : Verdict) (old new : Told) → read (first_memory p) (address globals_object 1) ≡ Some start → Runs p start turns verdict old new → Checks sections turns verdict old new
+  pub checks_start : (start : Value) (verdict : Verdict) (old new : Devices) → read (first_memory p) (address globals_object 1) ≡ Some start → Runs p start turns verdict old new → Checks sections turns verdict old new
   checks_start start verdict old new found runs = record {
     read = runs.read;
     written = runs.written;
@@ -177,7 +177,7 @@ module _ (sections : List Declarations) (p : Program) (turns : ℕ) (is : p ≡ 
     shows = λ rest follows. subst (λ (r : Run). Shows verdict r rest runs.written) (means_so (runs.read ++ rest) (Some start) found) (runs.shows rest follows);
   }
 
-  pub checks_none : (verdict : Verdict) (old new : Told) → read (first_memory p) (address globals_object 1) ≡ None → verdict ≡ v.NoStart
+  pub checks_none : (verdict : Verdict) (old new : Devices) → read (first_memory p) (address globals_object 1) ≡ None → verdict ≡ v.NoStart
       → Exchanged old new [] [] → Checks sections turns verdict old new
   checks_none verdict old new found none exchanged = record {
     read = [];
@@ -188,11 +188,11 @@ module _ (sections : List Declarations) (p : Program) (turns : ℕ) (is : p ≡ 
 
 -- ---- calls of the library
 
-taken_none : (old new : Told) → Keeps old.taken new.taken → Appends old.taken new.taken []
+taken_none : (old new : Devices) → Keeps old.taken new.taken → Appends old.taken new.taken []
 taken_none old new keeps = Appends-kept old.taken old.taken new.taken [] (Appends-nil old.taken) keeps
 
 -- the input is at its end
-pub answered_end : (old new : Told) → Consumes old.left new.left [] → Keeps old.taken new.taken → new.ended ≡ true → Answered (2 ^ 32 - 1) old new
+pub answered_end : (old new : Devices) → Consumes old.left new.left [] → Keeps old.taken new.taken → new.ended ≡ true → Answered (2 ^ 32 - 1) old new
 answered_end old new delivered keeps ended = record {
   read = [];
   exchanged = record { delivered = delivered; took = taken_none old new keeps; stays = λ told. (refl, ended) };
@@ -201,7 +201,7 @@ answered_end old new delivered keeps ended = record {
 }
 
 -- the input gives a byte
-pub answered_byte : (old new : Told) (b : ℕ) → Consumes old.left new.left (b ∷ []) → Keeps old.taken new.taken → (IsTrue old.ended → ⊥) → Answered b old new
+pub answered_byte : (old new : Devices) (b : ℕ) → Consumes old.left new.left (b ∷ []) → Keeps old.taken new.taken → (IsTrue old.ended → ⊥) → Answered b old new
 answered_byte old new b delivered keeps open_ = record {
   read = b ∷ [];
   exchanged = record { delivered = delivered; took = taken_none old new keeps; stays = λ told. absurd (open_ told) };
@@ -218,11 +218,11 @@ module _ (p : Program) (m m' : Evaluator) (line : ℕ) (r : Routine) (vs : Vec W
   framed u v is = ap (λ (fs : List Continuation). resumed p fs u) frames ∙ ap (resumed p m.frames.items) is
 
   -- it needs no device
-  pub library_still : (next : Next) (told : Told) → ((w : World) → outcome_next p next w ≡ tag a_value (outcome_in e w)) → Moves p m (n.Library line r vs) m' next told told
+  pub library_still : (next : Next) (told : Devices) → ((w : World) → outcome_next p next w ≡ tag a_value (outcome_in e w)) → Moves p m (n.Library line r vs) m' next told told
   library_still next told does = moves_still p m (n.Library line r vs) m' next told (λ b. framed _ _ (does (world m' b) ∙ called b))
 
   -- it takes a byte
-  pub library_takes : (word : ℕ) (old new : Told) → e ≡ t.TakesByte → Answered word old new → Moves p m (n.Library line r vs) m' (n.Gives (g.Value (w.Number word))) old new
+  pub library_takes : (word : ℕ) (old new : Devices) → e ≡ t.TakesByte → Answered word old new → Moves p m (n.Library line r vs) m' (n.Gives (g.Value (w.Number word))) old new
   library_takes word old new is answered = record {
     read = answered.read;
     written = [];
@@ -235,7 +235,7 @@ module _ (p : Program) (m m' : Evaluator) (line : ℕ) (r : Routine) (vs : Vec W
   }
 
   -- it writes a text
-  pub library_writes : (text : Vec ℕ Global) (old new : Told) → e ≡ t.Writes text → Exchanged old new [] text.items → Moves p m (n.Library line r vs) m' (n.Gives (g.Value w.Unset)) old new
+  pub library_writes : (text : Vec ℕ Global) (old new : Devices) → e ≡ t.Writes text → Exchanged old new [] text.items → Moves p m (n.Library line r vs) m' (n.Gives (g.Value w.Unset)) old new
   library_writes text old new is exchanged = record {
     read = [];
     written = text.items;
@@ -246,7 +246,7 @@ module _ (p : Program) (m m' : Evaluator) (line : ℕ) (r : Routine) (vs : Vec W
   }
 
 -- nothing was delivered or taken
-pub exchanged_still : (old new : Told) → Keeps old.left new.left → new.ended ≡ old.ended → Keeps old.taken new.taken → Exchanged old new [] []
+pub exchanged_still : (old new : Devices) → Keeps old.left new.left → new.ended ≡ old.ended → Keeps old.taken new.taken → Exchanged old new [] []
 exchanged_still old new left ended taken = record {
   delivered = Consumes-kept old.left old.left new.left [] (Consumes-nil old.left) left;
   took = taken_none old new taken;
@@ -270,7 +270,7 @@ still_grows before rest w wrote left = record {
 }
 
 -- nothing was exchanged
-pub reaches_still : (p : Program) (m : Evaluator) (next : Next) (old new : Told) → Exchanged old new [] [] → Reaches p m next old new
+pub reaches_still : (p : Program) (m : Evaluator) (next : Next) (old new : Devices) → Exchanged old new [] [] → Reaches p m next old new
 reaches_still p m next old new exchanged = record {
   read = [];
   written = [];
@@ -279,7 +279,7 @@ reaches_still p m next old new exchanged = record {
 }
 
 -- after a step
-pub reaches_after : (p : Program) (m : Evaluator) (next : Next) (m' : Evaluator) (next' : Next) (old mid new : Told)
+pub reaches_after : (p : Program) (m : Evaluator) (next : Next) (m' : Evaluator) (next' : Next) (old mid new : Devices)
     → Moves p m next m' next' old mid → Reaches p m' next' mid new → Reaches p m next old new
 reaches_after p m next m' next' old mid new first second = record {
   read = first.read ++ second.read;
@@ -295,7 +295,7 @@ reaches_after p m next m' next' old mid new first second = record {
 }
 
 -- whether the run went on to its end or not
-pub reaches_either : {E : Type 0} (p : Program) (m : Evaluator) (next : Next) (m' : Evaluator) (old new : Told) (r : Result Next E)
+pub reaches_either : {E : Type 0} (p : Program) (m : Evaluator) (next : Next) (m' : Evaluator) (old new : Devices) (r : Result Next E)
     → IfOk r (λ last. Moves p m next m' last old new) → IfErr r (λ _. Reaches p m next old new) → Reaches p m next old new
 reaches_either p m next m' old new (Ok last) moves part = reaches_after p m next m' last old new new moves (reaches_still p m' last new new (exchanged_none new))
 reaches_either p m next m' old new (Err e) moves part = part
@@ -310,7 +310,7 @@ part_grows before part others text w whole = record {
   most_calls = omega arith;
 }
 
-pub reaches_part : (p : Program) (m : Evaluator) (line : ℕ) (r : Routine) (vs : Vec Worth Global) (s : Memory) (text : Vec ℕ Global) (old new : Told) (part others : List ℕ)
+pub reaches_part : (p : Program) (m : Evaluator) (line : ℕ) (r : Routine) (vs : Vec Worth Global) (s : Memory) (text : Vec ℕ Global) (old new : Devices) (part others : List ℕ)
     → ((w : World) → w.memory ≡ m.store → outcome_in (t.Writes text) (remembering s w) ≡ library (routine_in r) (map value_in vs.items) w)
     → text.items ≡ part ++ others → Exchanged old new [] part → Reaches p m (n.Library line r vs) old new
 reaches_part p m line r vs s text old new part others law whole exchanged = record {
@@ -328,7 +328,7 @@ run_goes_on h (leaves x w) g = tt
 run_goes_on h undefined g = tt
 run_goes_on h y g = g
 
-pub run_part : (p : Program) (start : Value) (turns : ℕ) (m m' : Evaluator) (first : Next) (old new : Told)
+pub run_part : (p : Program) (start : Value) (turns : ℕ) (m m' : Evaluator) (first : Next) (old new : Devices)
     → Begun p turns m
     → ((b : Bytes) → Comes p m'.frames.items first (world m' b) (resumed p m.frames.items (tag a_value (call p (full p) start [] (world m b)))))
     → Reaches p m' first old new → RunsPart p start turns old new
@@ -348,7 +348,7 @@ run_part p start turns m m' first old new begun calls reaches = record {
 }
 
 module _ (sections : List Declarations) (p : Program) (turns : ℕ) (is : p ≡ program_of sections) where
-  pub checks_part : (start : Value) (old new : Told) → read (first_memory p) (address globals_object 1) ≡ Some start → RunsPart p start turns old new → ChecksPart sections turns old new
+  pub checks_part : (start : Value) (old new : Devices) → read (first_memory p) (address globals_object 1) ≡ Some start → RunsPart p start turns old new → ChecksPart sections turns old new
   checks_part start old new found runs = record {
     read = runs.read;
     written = runs.written;
@@ -357,7 +357,7 @@ module _ (sections : List Declarations) (p : Program) (turns : ℕ) (is : p ≡ 
   }
 
 -- nothing was exchanged
-pub nothing_yet : (sections : List Declarations) (turns : ℕ) (old new : Told) → Exchanged old new [] [] → ChecksPart sections turns old new
+pub nothing_yet : (sections : List Declarations) (turns : ℕ) (old new : Devices) → Exchanged old new [] [] → ChecksPart sections turns old new
 nothing_yet sections turns old new exchanged = record {
   read = [];
   written = [];
@@ -365,7 +365,7 @@ nothing_yet sections turns old new exchanged = record {
   goes_on = λ rest follows. reads_from_the_front sections rest turns;
 }
 
-pub nothing_run : (p : Program) (start : Value) (turns : ℕ) (old new : Told) → Exchanged old new [] [] → RunsPart p start turns old new
+pub nothing_run : (p : Program) (start : Value) (turns : ℕ) (old new : Devices) → Exchanged old new [] [] → RunsPart p start turns old new
 nothing_run p start turns old new exchanged = record {
   read = [];
   written = [];
@@ -396,14 +396,14 @@ of_ok (Err e) is h = absurd (cc is)
 
 -- ---- a flush after a run
 
-exchanged_kept : (old mid : Told) (taken : Option (List ℕ)) (read written : List ℕ) → Keeps mid.taken taken → Exchanged old mid read written → Exchanged old (record mid { taken = taken }) read written
+exchanged_kept : (old mid : Devices) (taken : Option (List ℕ)) (read written : List ℕ) → Keeps mid.taken taken → Exchanged old mid read written → Exchanged old (record mid { taken = taken }) read written
 exchanged_kept old mid taken read written keeps exchanged = record {
   delivered = exchanged.delivered;
   took = Appends-kept old.taken mid.taken taken written exchanged.took keeps;
   stays = exchanged.stays;
 }
 
-pub runs_kept : (p : Program) (start : Value) (turns : ℕ) (verdict : Verdict) (old mid : Told) (taken : Option (List ℕ)) → Keeps mid.taken taken → Runs p start turns verdict old mid → Runs p start turns verdict old (record mid { taken = taken })
+pub runs_kept : (p : Program) (start : Value) (turns : ℕ) (verdict : Verdict) (old mid : Devices) (taken : Option (List ℕ)) → Keeps mid.taken taken → Runs p start turns verdict old mid → Runs p start turns verdict old (record mid { taken = taken })
 runs_kept p start turns verdict old mid taken keeps runs = record {
   read = runs.read;
   written = runs.written;
@@ -411,7 +411,7 @@ runs_kept p start turns verdict old mid taken keeps runs = record {
   shows = runs.shows;
 }
 
-pub part_kept : (p : Program) (start : Value) (turns : ℕ) (old mid : Told) (taken : Option (List ℕ)) → Keeps mid.taken taken → RunsPart p start turns old mid → RunsPart p start turns old (record mid { taken = taken })
+pub part_kept : (p : Program) (start : Value) (turns : ℕ) (old mid : Devices) (taken : Option (List ℕ)) → Keeps mid.taken taken → RunsPart p start turns old mid → RunsPart p start turns old (record mid { taken = taken })
 part_kept p start turns old mid taken keeps runs = record {
   read = runs.read;
   written = runs.written;

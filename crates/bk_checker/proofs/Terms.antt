@@ -19,8 +19,8 @@ pub use Rattle.bk_meaning.specs.World.{World, remembering, Exit, break, loop, re
 pub use Rattle.bk_objects.specs.Texts.{outcome_in}
 pub use Rattle.bk_objects.specs.Views.{value_in, routine_in, outcome_of}
 pub use Rattle.bk_objects.specs.declared.library.Effect.{Effect}
-pub use Rattle.bk_tree.specs.Tree.{Expression, Expressions, Action, Actions, Declarations, Starts, expression, expressions_in, action, actions_in, declarations_in, definitions_in, starts_in}
-pub use Rattle.bk_checker.specs.Checks.{Blames, Moves, Told, Exchanged, Follows, Shows, Checks, over, verdict_of, run_given, Answered, Begun, Runs, ChecksPart, RunsPart, Reaches, Flushed}
+pub use Rattle.bk_tree.specs.Tree.{Expression, Expressions, Action, Declarations, Starts, expression, expressions_in, action, actions_in, declarations_in, definitions_in, starts_in}
+pub use Rattle.bk_checker.specs.Checks.{Blames, Moves, Devices, Exchanged, Follows, Shows, Checks, over, verdict_of, run_given, Answered, Begun, Runs, ChecksPart, RunsPart, Reaches, Flushed}
 pub use Rattle.bk_checker.specs.declared.report.CheckFault.{CheckFault}
 pub use Rattle.bk_check.specs.declared.frame.OnDone.{OnDone}
 pub use Rattle.bk_check.specs.declared.frame.OnTarget.{OnTarget}

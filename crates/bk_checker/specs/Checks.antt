@@ -1,6 +1,8 @@
 -- What a check answers: the verdict of the meaning, with the bytes that it reads and writes.
 use Rattle.std.specs.Prelude.{◌≡◌, ℕ, ⊤, Bool, true, false, IsTrue, List, [], ◌++◌, Option}
 use Rattle.std.specs.Io.KnownBytes.{Consumes, Appends}
+use Rattle.bk_base.specs.declared.device.ByteIn as reader
+use Rattle.bk_base.specs.declared.device.ByteOut as writer
 use Rattle.bk_tree.specs.Tree.{Declarations}
 use Rattle.bk_meaning.specs.World.{World, Outcome, gives, leaves, ends, undefined, going, status, divide_by_zero, no_start}
 use Rattle.bk_meaning.specs.Values.{number}
@@ -24,19 +26,22 @@ use Rattle.bk_check.specs.Worlds.{world}
 use Rattle.bk_check.specs.Resume.{Given, a_value, Comes, resumed, outcome_next}
 
 -- What the devices report at a moment: the bytes left of the input and whether its end was reported; the bytes that the output took.
-pub record Told : Type 0 where
+pub record Devices : Type 0 where
   pub left : Option (List ℕ)
   pub ended : Bool
   pub taken : Option (List ℕ)
 
+abbrev pub devices : {I O : Type 0} → reader.Ghosts I → writer.Ghosts O → I → O → Devices
+devices i o input out = record { left = i.left input; ended = i.ended input; taken = o.taken out }
+
 -- Between two moments the input delivered these bytes, and the output took these. After the end nothing is delivered.
-pub record Exchanged (old new : Told) (read written : List ℕ) : Type 0 where
+pub record Exchanged (old new : Devices) (read written : List ℕ) : Type 0 where
   pub delivered : Consumes old.left new.left read
   pub took : Appends old.taken new.taken written
   pub stays : IsTrue old.ended → (read ≡ []) × IsTrue new.ended
 
 -- Whatever may follow the bytes delivered: nothing, where the end was reported.
-abbrev pub Follows : Told → List ℕ → Type 0
+abbrev pub Follows : Devices → List ℕ → Type 0
 Follows new rest = IsTrue new.ended → rest ≡ []
 
 -- The verdict is that of a run, which left this input and wrote these bytes.
@@ -49,7 +54,7 @@ Shows v.Turns run left bytes = (calls : ℕ) × (run ≡ Going bytes left calls)
 
 -- THE CHECK. With so many turns the meaning of these sections has this verdict: whatever follows the bytes that were read, it reads
 -- just these bytes and writes just those that were written.
-pub record Checks (sections : List Declarations) (turns : ℕ) (verdict : Verdict) (old new : Told) : Type 0 where
+pub record Checks (sections : List Declarations) (turns : ℕ) (verdict : Verdict) (old new : Devices) : Type 0 where
   pub read : List ℕ
   pub written : List ℕ
   pub exchanged : Exchanged old new read written
@@ -100,13 +105,13 @@ run_given undefined = Undefined
 run_given (going w) = Going w.output w.input w.most_calls
 
 -- an answer to RDCH
-pub record Answered (word : ℕ) (old new : Told) : Type 0 where
+pub record Answered (word : ℕ) (old new : Devices) : Type 0 where
   pub read : List ℕ
   pub exchanged : Exchanged old new read []
   pub takes : (rest : List ℕ) (w : World) → Follows new rest → w.input ≡ read ++ rest → takes_byte w.input w ≡ gives (number word) (record w { input = rest })
 
 -- From one moment to another nothing changed of what the whole comes to, but that these bytes were read and written.
-pub record Moves (p : Program) (m : Evaluator) (next : Next) (m' : Evaluator) (next' : Next) (old new : Told) : Type 0 where
+pub record Moves (p : Program) (m : Evaluator) (next : Next) (m' : Evaluator) (next' : Next) (old new : Devices) : Type 0 where
   pub read : List ℕ
   pub written : List ℕ
   pub exchanged : Exchanged old new read written
@@ -123,7 +128,7 @@ pub record Begun (p : Program) (turns : ℕ) (m : Evaluator) : Type 0 where
   pub has_turns : m.turns ≡ turns
 
 -- the verdict is that of the call of START
-pub record Runs (p : Program) (start : Value) (turns : ℕ) (verdict : Verdict) (old new : Told) : Type 0 where
+pub record Runs (p : Program) (start : Value) (turns : ℕ) (verdict : Verdict) (old new : Devices) : Type 0 where
   pub read : List ℕ
   pub written : List ℕ
   pub exchanged : Exchanged old new read written
@@ -132,21 +137,21 @@ pub record Runs (p : Program) (start : Value) (turns : ℕ) (verdict : Verdict) 
 -- ---- a check that was given up
 
 -- What was read and written begins what the meaning reads and writes, whatever follows, where the meaning does nothing undefined.
-pub record ChecksPart (sections : List Declarations) (turns : ℕ) (old new : Told) : Type 0 where
+pub record ChecksPart (sections : List Declarations) (turns : ℕ) (old new : Devices) : Type 0 where
   pub read : List ℕ
   pub written : List ℕ
   pub exchanged : Exchanged old new read written
   pub goes_on : (rest : List ℕ) → Follows new rest → RunGoesOn (shown written rest 0) (meaning sections (read ++ rest) turns)
 
 -- the same of the call of START
-pub record RunsPart (p : Program) (start : Value) (turns : ℕ) (old new : Told) : Type 0 where
+pub record RunsPart (p : Program) (start : Value) (turns : ℕ) (old new : Devices) : Type 0 where
   pub read : List ℕ
   pub written : List ℕ
   pub exchanged : Exchanged old new read written
   pub goes_on : (rest : List ℕ) → Follows new rest → RunGoesOn (shown written rest 0) (run_of (call p (means p turns) start [] (first_world p (read ++ rest) turns)))
 
 -- and of what the whole comes to
-pub record Reaches (p : Program) (m : Evaluator) (next : Next) (old new : Told) : Type 0 where
+pub record Reaches (p : Program) (m : Evaluator) (next : Next) (old new : Devices) : Type 0 where
   pub read : List ℕ
   pub written : List ℕ
   pub exchanged : Exchanged old new read written

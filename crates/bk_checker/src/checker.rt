@@ -9,7 +9,7 @@ ghost use Rattle.bk_checker.specs.declared.report.Verdict.TheVariants.{NoStart};
 ghost use Rattle.bk_checker.specs.declared.report.CheckFault.TheVariants.{Write};
 ghost use Rattle.bk_objects.specs.Views.{value_in};
 ghost use Rattle.bk_check.specs.Views.{program_in};
-ghost use Rattle.bk_checker.specs.Checks.{Checks, Blames, Flushed, Begun, Runs, ChecksPart, RunsPart};
+ghost use Rattle.bk_checker.specs.Checks.{Checks, Blames, Flushed, Begun, Runs, ChecksPart, RunsPart, devices};
 
 use crate::explain::{explain, given_up};
 use crate::remarks::remarks_on;
@@ -50,14 +50,12 @@ fn check_start<'a, I: ByteIn, O: ByteOut>(
 ) -> Result<Report, GivenUp>
     ensures shows { IfOk result (λ report. (turns : ℕ) → Begun (program_in program.now) turns m.old
         → Runs (program_in program.now) (value_in start) turns report.verdict
-        (record { left = I.left input.old; ended = I.ended input.old; taken = O.taken out.old })
-        (record { left = I.left input.new; ended = I.ended input.new; taken = O.taken out.new })) }
+        (devices I.ByteIn O.ByteOut input.old out.old) (devices I.ByteIn O.ByteOut input.new out.new)) }
     ensures flushed { OnOk result (O.passed out.new ≡ O.taken out.new) }
     ensures flushed_where_given_up { IfErr result (λ stop. Flushed stop.fault (O.passed out.new) (O.taken out.new)) }
     ensures part { IfErr result (λ _. (turns : ℕ) → Begun (program_in program.now) turns m.old
         → RunsPart (program_in program.now) (value_in start) turns
-        (record { left = I.left input.old; ended = I.ended input.old; taken = O.taken out.old })
-        (record { left = I.left input.new; ended = I.ended input.new; taken = O.taken out.new })) }
+        (devices I.ByteIn O.ByteOut input.old out.old) (devices I.ByteIn O.ByteOut input.new out.new)) }
     ensures passes { Begins (O.passed out.old) (O.passed out.new) }
     ensures sound { OnOk result ((I.faults input.new ≡ I.faults input.old) × (O.faults out.new ≡ O.faults out.old)) }
     ensures cause { IfErr result (λ stop. Blames stop.fault (I.faults input.old) (I.faults input.new) (O.faults out.old) (O.faults out.new)) }
@@ -101,13 +99,11 @@ fn check_program<'a, I: ByteIn, O: ByteOut>(
 ) -> Result<Report, GivenUp>
     ensures checks { IfOk result (λ report. (sections : List Declarations) → program_in program.now ≡ program_in_sections sections
         → Checks sections turns report.verdict
-        (record { left = I.left input.old; ended = I.ended input.old; taken = O.taken out.old })
-        (record { left = I.left input.new; ended = I.ended input.new; taken = O.taken out.new })) }
+        (devices I.ByteIn O.ByteOut input.old out.old) (devices I.ByteIn O.ByteOut input.new out.new)) }
     ensures flushed { OnOk result (O.passed out.new ≡ O.taken out.new) }
     ensures flushed_where_given_up { IfErr result (λ stop. Flushed stop.fault (O.passed out.new) (O.taken out.new)) }
     ensures part { IfErr result (λ _. (sections : List Declarations) → program_in program.now ≡ program_in_sections sections → ChecksPart sections turns
-        (record { left = I.left input.old; ended = I.ended input.old; taken = O.taken out.old })
-        (record { left = I.left input.new; ended = I.ended input.new; taken = O.taken out.new })) }
+        (devices I.ByteIn O.ByteOut input.old out.old) (devices I.ByteIn O.ByteOut input.new out.new)) }
     ensures passes { Begins (O.passed out.old) (O.passed out.new) }
     ensures sound { OnOk result ((I.faults input.new ≡ I.faults input.old) × (O.faults out.new ≡ O.faults out.old)) }
     ensures cause { IfErr result (λ stop. Blames stop.fault (I.faults input.old) (I.faults input.new) (O.faults out.old) (O.faults out.new)) }
@@ -132,13 +128,11 @@ pub fn check<I: ByteIn, O: ByteOut>(
     out: &mut O,
 ) -> Result<Report, GivenUp>
     ensures checks { IfOk result (λ report. Checks (map declarations_of sections.now) turns report.verdict
-        (record { left = I.left input.old; ended = I.ended input.old; taken = O.taken out.old })
-        (record { left = I.left input.new; ended = I.ended input.new; taken = O.taken out.new })) }
+        (devices I.ByteIn O.ByteOut input.old out.old) (devices I.ByteIn O.ByteOut input.new out.new)) }
     ensures flushed { OnOk result (O.passed out.new ≡ O.taken out.new) }
     ensures flushed_where_given_up { IfErr result (λ stop. Flushed stop.fault (O.passed out.new) (O.taken out.new)) }
     ensures part { IfErr result (λ _. ChecksPart (map declarations_of sections.now) turns
-        (record { left = I.left input.old; ended = I.ended input.old; taken = O.taken out.old })
-        (record { left = I.left input.new; ended = I.ended input.new; taken = O.taken out.new })) }
+        (devices I.ByteIn O.ByteOut input.old out.old) (devices I.ByteIn O.ByteOut input.new out.new)) }
     ensures passes { Begins (O.passed out.old) (O.passed out.new) }
     ensures sound { OnOk result ((I.faults input.new ≡ I.faults input.old) × (O.faults out.new ≡ O.faults out.old)) }
     ensures cause { IfErr result (λ stop. Blames stop.fault (I.faults input.old) (I.faults input.new) (O.faults out.old) (O.faults out.new)) }

@@ -9,7 +9,7 @@ ghost use Rattle.bk_check.specs.declared.frame.Next.TheVariants as n;
 ghost use Rattle.bk_check.specs.Views.{program_in};
 ghost use Rattle.bk_check.specs.Resume.{outcome_next};
 ghost use Rattle.bk_checker.specs.declared.report.CheckFault.TheVariants.{Write};
-ghost use Rattle.bk_checker.specs.Checks.{Blames, over, verdict_of, Answered, Moves, Reaches};
+ghost use Rattle.bk_checker.specs.Checks.{Blames, over, verdict_of, Answered, Moves, Reaches, devices};
 
 use crate::report::{CheckFault, Verdict};
 use bk_base::{ByteIn, ByteOut, Line, put_all};
@@ -43,8 +43,7 @@ pub fn flush<O: ByteOut>(out: &mut O) -> Result<(), CheckFault>
 #[inline(never)]
 fn ask<I: ByteIn, O: ByteOut>(input: &mut I, out: &mut O) -> Result<u32, CheckFault>
     ensures answered { IfOk result (λ word. Answered word
-        (record { left = I.left input.old; ended = I.ended input.old; taken = O.taken out.old })
-        (record { left = I.left input.new; ended = I.ended input.new; taken = O.taken out.new })) }
+        (devices I.ByteIn O.ByteOut input.old out.old) (devices I.ByteIn O.ByteOut input.new out.new)) }
     ensures still { OnErr result (Keeps (I.left input.old) (I.left input.new) × (I.ended input.new ≡ I.ended input.old)
         × Keeps (O.taken out.old) (O.taken out.new)) }
     ensures passes { Begins (O.passed out.old) (O.passed out.new) }
@@ -71,11 +70,9 @@ fn library<'a, I: ByteIn, O: ByteOut>(
     out: &mut O,
 ) -> Result<Next<'a>, CheckFault>
     ensures moves { IfOk result (λ after. (p : Program) → Moves p m.old (n.Library line routine values.now) m.new after
-        (record { left = I.left input.old; ended = I.ended input.old; taken = O.taken out.old })
-        (record { left = I.left input.new; ended = I.ended input.new; taken = O.taken out.new })) }
+        (devices I.ByteIn O.ByteOut input.old out.old) (devices I.ByteIn O.ByteOut input.new out.new)) }
     ensures part { IfErr result (λ _. (p : Program) → Reaches p m.old (n.Library line routine values.now)
-        (record { left = I.left input.old; ended = I.ended input.old; taken = O.taken out.old })
-        (record { left = I.left input.new; ended = I.ended input.new; taken = O.taken out.new })) }
+        (devices I.ByteIn O.ByteOut input.old out.old) (devices I.ByteIn O.ByteOut input.new out.new)) }
     ensures passes { Begins (O.passed out.old) (O.passed out.new) }
     ensures sound { OnOk result ((I.faults input.new ≡ I.faults input.old) × (O.faults out.new ≡ O.faults out.old)) }
     ensures cause { IfErr result (λ fault. Blames fault (I.faults input.old) (I.faults input.new) (O.faults out.old) (O.faults out.new)) }
@@ -106,11 +103,9 @@ fn turn<'a, I: ByteIn, O: ByteOut>(
     out: &mut O,
 ) -> Result<Next<'a>, CheckFault>
     ensures moves { IfOk result (λ after. Moves (program_in program.now) m.old next.entry m.new after
-        (record { left = I.left input.old; ended = I.ended input.old; taken = O.taken out.old })
-        (record { left = I.left input.new; ended = I.ended input.new; taken = O.taken out.new })) }
+        (devices I.ByteIn O.ByteOut input.old out.old) (devices I.ByteIn O.ByteOut input.new out.new)) }
     ensures part { IfErr result (λ _. Reaches (program_in program.now) m.old next.entry
-        (record { left = I.left input.old; ended = I.ended input.old; taken = O.taken out.old })
-        (record { left = I.left input.new; ended = I.ended input.new; taken = O.taken out.new })) }
+        (devices I.ByteIn O.ByteOut input.old out.old) (devices I.ByteIn O.ByteOut input.new out.new)) }
     ensures passes { Begins (O.passed out.old) (O.passed out.new) }
     ensures sound { OnOk result ((I.faults input.new ≡ I.faults input.old) × (O.faults out.new ≡ O.faults out.old)) }
     ensures cause { IfErr result (λ fault. Blames fault (I.faults input.old) (I.faults input.new) (O.faults out.old) (O.faults out.new)) }
@@ -168,12 +163,10 @@ pub fn go<'a, I: ByteIn, O: ByteOut>(
     out: &mut O,
 ) -> Result<Next<'a>, CheckFault>
     ensures moves { IfOk result (λ last. Moves (program_in program.now) m.old first.entry m.new last
-        (record { left = I.left input.old; ended = I.ended input.old; taken = O.taken out.old })
-        (record { left = I.left input.new; ended = I.ended input.new; taken = O.taken out.new })) }
+        (devices I.ByteIn O.ByteOut input.old out.old) (devices I.ByteIn O.ByteOut input.new out.new)) }
     ensures ended { IfOk result (λ last. over m.new.frames.items last ≡ true) }
     ensures part { IfErr result (λ _. Reaches (program_in program.now) m.old first.entry
-        (record { left = I.left input.old; ended = I.ended input.old; taken = O.taken out.old })
-        (record { left = I.left input.new; ended = I.ended input.new; taken = O.taken out.new })) }
+        (devices I.ByteIn O.ByteOut input.old out.old) (devices I.ByteIn O.ByteOut input.new out.new)) }
     ensures passes { Begins (O.passed out.old) (O.passed out.new) }
     ensures sound { OnOk result ((I.faults input.new ≡ I.faults input.old) × (O.faults out.new ≡ O.faults out.old)) }
     ensures cause { IfErr result (λ fault. Blames fault (I.faults input.old) (I.faults input.new) (O.faults out.old) (O.faults out.new)) }

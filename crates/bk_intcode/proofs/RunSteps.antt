@@ -1,5 +1,5 @@
 -- How runs that exchange bytes with devices begin, go on and end.
-use Rattle.bk_intcode.proofs.Terms.{append_known, Consumes, Appends, Keeps, Consumes-nil, Appends-nil, Consumes-trans, Appends-trans, Consumes-kept, Appends-kept, Status, DivideByZero, StoreLimit, StepLimit, BadOperation, ReadFault, WriteFault, AppendsPart, Begins, Begins-trans, Text, output_text, Goes, Outputs, Asks, Ends, step, Going, Over, next_byte, behind_next, after, run, Told, Exchanged, Follows, Leads, NotAsked, SinceAsk, LeadsToAsk, FlushesFirst, Paused, Finished, Waiting, CutShort, FailedOnTheWay, Broken, Went, Ran, IsOwn, AskFails, CameBy, Answered, ◌≡◌, ◌≢◌, ℕ, zero, suc, ◌+◌, ◌-◌, ◌^◌, ◌⊎◌, inl, inr, arith, List, [], ◌∷◌, ◌++◌, Option, None, Some, IsTrue, Bool, true, false, refl, sym, ap, subst, ◌∙◌, append_assoc, append-nil, if◌then◌else◌}
+use Rattle.bk_intcode.proofs.Terms.{append_known, Consumes, Appends, Keeps, Consumes-nil, Appends-nil, Consumes-trans, Appends-trans, Consumes-kept, Appends-kept, Status, DivideByZero, StoreLimit, StepLimit, BadOperation, ReadFault, WriteFault, AppendsPart, Begins, Begins-trans, Text, output_text, Goes, Outputs, Asks, Ends, step, Going, Over, next_byte, behind_next, after, run, Devices, Exchanged, Follows, Leads, NotAsked, SinceAsk, LeadsToAsk, FlushesFirst, Paused, Finished, Waiting, CutShort, FailedOnTheWay, Broken, Went, Ran, IsOwn, AskFails, CameBy, Answered, ◌≡◌, ◌≢◌, ℕ, zero, suc, ◌+◌, ◌-◌, ◌^◌, ◌⊎◌, inl, inr, arith, List, [], ◌∷◌, ◌++◌, Option, None, Some, IsTrue, Bool, true, false, refl, sym, ap, subst, ◌∙◌, append_assoc, append-nil, if◌then◌else◌}
 use Rattle.bk_base.specs.declared.run_end.End.{End}
 use Rattle.bk_intcode.specs.declared.registers.Registers.{Registers}
 use Rattle.bk_intcode.specs.declared.output.Output.{Output}
@@ -8,31 +8,31 @@ use Rattle.bk_intcode.specs.RunLaws.{onwards, run-add}
 -- ---- what devices exchange
 
 -- the devices tell the same, but for what was passed on
-pub record Still (old new : Told) : Type 0 where
+pub record Still (old new : Devices) : Type 0 where
   pub left : Keeps old.left new.left
   pub held : new.held ≡ old.held
   pub ended : new.ended ≡ old.ended
   pub taken : Keeps old.taken new.taken
   pub passes : Begins old.passed new.passed
 
-pub exchanged_none : (told : Told) → Exchanged told told [] []
+pub exchanged_none : (told : Devices) → Exchanged told told [] []
 exchanged_none told = record { delivered = Consumes-nil told.left; took = Appends-nil told.taken; stays = λ ended. (refl, ended) }
 
-pub exchanged_on : (old mid new : Told) (r1 w1 r2 w2 : List ℕ) → Exchanged old mid r1 w1 → Exchanged mid new r2 w2 → Exchanged old new (r1 ++ r2) (w1 ++ w2)
+pub exchanged_on : (old mid new : Devices) (r1 w1 r2 w2 : List ℕ) → Exchanged old mid r1 w1 → Exchanged mid new r2 w2 → Exchanged old new (r1 ++ r2) (w1 ++ w2)
 exchanged_on old mid new r1 w1 r2 w2 p q = record {
   delivered = Consumes-trans old.left mid.left new.left r1 r2 p.delivered q.delivered;
   took = Appends-trans old.taken mid.taken new.taken w1 w2 p.took q.took;
   stays = λ ended. let first = p.stays ended in let second = q.stays first.1 in (ap (λ l. l ++ r2) first.0 ∙ second.0, second.1);
 }
 
-pub exchanged_still : (old mid new : Told) (r w : List ℕ) → Exchanged old mid r w → Still mid new → Exchanged old new r w
+pub exchanged_still : (old mid new : Devices) (r w : List ℕ) → Exchanged old mid r w → Still mid new → Exchanged old new r w
 exchanged_still old mid new r w p still = record {
   delivered = Consumes-kept old.left mid.left new.left r p.delivered still.left;
   took = Appends-kept old.taken mid.taken new.taken w p.took still.taken;
   stays = λ ended. let first = p.stays ended in (first.0, rw still.ended first.1);
 }
 
-follows_still : (mid new : Told) (rest : List ℕ) → Still mid new → Follows new rest → Follows mid rest
+follows_still : (mid new : Devices) (rest : List ℕ) → Still mid new → Follows new rest → Follows mid rest
 follows_still mid new rest still follows = λ ended. follows (rw still.ended ended)
 
 -- ---- what was passed on before the reader asked its device
@@ -71,7 +71,7 @@ unended_before true false on is = let other : false ≡ true = on refl in cc
 
 module _ (Holds : List ℕ → Type 0) where
   -- bytes that were held, behind those that came since the device was asked
-  asked_on : (mid new : Told) (since read : List ℕ) → SinceAsk Holds mid since → NotAsked mid new read → SinceAsk Holds new (since ++ read)
+  asked_on : (mid new : Devices) (since read : List ℕ) → SinceAsk Holds mid since → NotAsked mid new read → SinceAsk Holds new (since ++ read)
   asked_on mid new [] read asked none = nothing read (sym none.0 ∙ asked)
     where
       nothing : (read : List ℕ) → read ++ new.held ≡ [] → SinceAsk Holds new read
@@ -82,11 +82,11 @@ module _ (Holds : List ℕ → Type 0) where
     none.1 ∙ asked.1,
   )
 
-  asked_still : (mid new : Told) (since : List ℕ) → SinceAsk Holds mid since → Still mid new → SinceAsk Holds new since
+  asked_still : (mid new : Devices) (since : List ℕ) → SinceAsk Holds mid since → Still mid new → SinceAsk Holds new since
   asked_still mid new [] asked still = still.held ∙ asked
   asked_still mid new (byte ∷ others) asked still = (subst Holds (ap (λ l. others ++ l) (sym still.held)) asked.0, still.ended ∙ asked.1)
 
-  module _ (n : ℕ) (store : List ℕ) (r : Registers) (old mid new : Told) (read : List ℕ) where
+  module _ (n : ℕ) (store : List ℕ) (r : Registers) (old mid new : Devices) (read : List ℕ) where
     flushes_still : FlushesFirst Holds n store r old mid read → Still mid new → FlushesFirst Holds n store r old new read
     flushes_still (inl none) still = inl (none.0 ∙ ap (λ l. read ++ l) (sym still.held), still.ended ∙ none.1)
     flushes_still (inr ask) still = inr (record {
@@ -102,7 +102,7 @@ module _ (Holds : List ℕ → Type 0) where
 
 -- ---- what the reader's answer says of a step that asks
 
-module _ (Holds : List ℕ → Type 0) (old new : Told) (kept : Keeps old.taken new.taken) where
+module _ (Holds : List ℕ → Type 0) (old new : Devices) (kept : Keeps old.taken new.taken) where
   pub answered_end : Consumes old.left new.left [] → new.ended ≡ true → new.held ≡ [] → ((byte : ℕ) (rest : List ℕ) → old.held ≡ byte ∷ rest → ⊥)
       → Answered Holds (2 ^ 32 - 1) old new
   answered_end delivered told none empty = record {
@@ -145,7 +145,7 @@ module _ (Holds : List ℕ → Type 0) (old new : Told) (kept : Keeps old.taken 
 -- ---- one step
 
 module _ (Holds : List ℕ → Type 0) (store : List ℕ) (r : Registers) where
-  pub paused_none : (told : Told) → Paused Holds 0 store r store r told told
+  pub paused_none : (told : Devices) → Paused Holds 0 store r store r told told
   paused_none told = record {
     read = [];
     written = [];
@@ -154,7 +154,7 @@ module _ (Holds : List ℕ → Type 0) (store : List ℕ) (r : Registers) where
     leads = λ rest before follows. ap (λ o. Going store r rest o) (sym (append-nil before));
   }
 
-  pub paused_goes : (store' : List ℕ) (r' : Registers) (told : Told) → step store r ≡ Goes store' r' → Paused Holds 1 store r store' r' told told
+  pub paused_goes : (store' : List ℕ) (r' : Registers) (told : Devices) → step store r ≡ Goes store' r' → Paused Holds 1 store r store' r' told told
   paused_goes store' r' told is = record {
     read = [];
     written = [];
@@ -164,7 +164,7 @@ module _ (Holds : List ℕ → Type 0) (store : List ℕ) (r : Registers) where
   }
 
   -- the step asks, and all was passed on before
-  asked_here : (store' : List ℕ) (r' : Registers) (old new : Told) (read : List ℕ) → step store r ≡ Asks store' r' → Appends old.taken new.taken []
+  asked_here : (store' : List ℕ) (r' : Registers) (old new : Devices) (read : List ℕ) → step store r ≡ Asks store' r' → Appends old.taken new.taken []
       → new.passed ≡ new.taken → old.ended ≡ false → SinceAsk Holds new read → FlushesFirst Holds 1 store r old new read
   asked_here store' r' old new read is took passed unended asked = inr (record {
     earlier = [];
@@ -186,7 +186,7 @@ module _ (Holds : List ℕ → Type 0) (store : List ℕ) (r : Registers) where
     passed = all_passed old.taken new.taken new.passed took passed;
   })
 
-  pub paused_asks : (store' : List ℕ) (r' : Registers) (word : ℕ) (old new : Told) → step store r ≡ Asks store' r' → Answered Holds word old new
+  pub paused_asks : (store' : List ℕ) (r' : Registers) (word : ℕ) (old new : Devices) → step store r ≡ Asks store' r' → Answered Holds word old new
       → (old.held ≡ [] → old.ended ≡ false → new.passed ≡ new.taken) → Paused Holds 1 store r store' (record r' { a = word }) old new
   paused_asks store' r' word old new is answered flushed = record {
     read = answered.read;
@@ -215,7 +215,7 @@ module _ (Holds : List ℕ → Type 0) (store : List ℕ) (r : Registers) where
         ap (λ t. after (run 0) t rest before) is
         ∙ ap (λ w. if w then Going store' r' rest (before ++ text.bytes) else Over StoreLimit rest (before ++ text.bytes)) same
 
-    pub paused_outputs : (old new : Told) → (output_text store' what).whole ≡ true → Exchanged old new [] (output_text store' what).bytes
+    pub paused_outputs : (old new : Devices) → (output_text store' what).whole ≡ true → Exchanged old new [] (output_text store' what).bytes
         → NotAsked old new [] → Paused Holds 1 store r store' r' old new
     unfolding text
     paused_outputs old new whole exchanged none = record {
@@ -226,7 +226,7 @@ module _ (Holds : List ℕ → Type 0) (store : List ℕ) (r : Registers) where
       leads = λ rest before follows. told_step true rest before whole;
     }
 
-    pub finished_outputs : (old new : Told) → (output_text store' what).whole ≡ false → Exchanged old new [] (output_text store' what).bytes
+    pub finished_outputs : (old new : Devices) → (output_text store' what).whole ≡ false → Exchanged old new [] (output_text store' what).bytes
         → NotAsked old new [] → Finished Holds StoreLimit 1 store r old new
     unfolding text
     finished_outputs old new cut exchanged none = record {
@@ -237,7 +237,7 @@ module _ (Holds : List ℕ → Type 0) (store : List ℕ) (r : Registers) where
       ends = λ rest before follows. told_step false rest before cut;
     }
 
-    pub cut_short : (old new : Told) (begun left : List ℕ) → (output_text store' what).bytes ≡ begun ++ left → Exchanged old new [] begun → NotAsked old new []
+    pub cut_short : (old new : Devices) (begun left : List ℕ) → (output_text store' what).bytes ≡ begun ++ left → Exchanged old new [] begun → NotAsked old new []
         → CutShort Holds 1 store r old new
     cut_short old new begun left whole exchanged none = record {
       read = [];
@@ -258,7 +258,7 @@ module _ (Holds : List ℕ → Type 0) (store : List ℕ) (r : Registers) where
       begins = whole;
     }
 
-  pub finished_ends : (e : End) (told : Told) → step store r ≡ Ends e → Finished Holds e 1 store r told told
+  pub finished_ends : (e : End) (told : Devices) → step store r ≡ Ends e → Finished Holds e 1 store r told told
   finished_ends e told is = record {
     read = [];
     written = [];
@@ -268,7 +268,7 @@ module _ (Holds : List ℕ → Type 0) (store : List ℕ) (r : Registers) where
   }
 
   -- a step that asks, and a device that fails
-  pub waiting_asks : (store' : List ℕ) (r' : Registers) (old new : Told) → step store r ≡ Asks store' r' → Exchanged old new [] [] → FlushesFirst Holds 1 store r old new []
+  pub waiting_asks : (store' : List ℕ) (r' : Registers) (old new : Devices) → step store r ≡ Asks store' r' → Exchanged old new [] [] → FlushesFirst Holds 1 store r old new []
       → Waiting Holds 1 store r old new
   waiting_asks store' r' old new is exchanged flushes = record {
     read = [];
@@ -288,7 +288,7 @@ module _ (Holds : List ℕ → Type 0) (store : List ℕ) (r : Registers) where
 -- ---- a run, and what comes behind it
 
 -- a standing given by two runs
-joined : (k m : ℕ) (store : List ℕ) (r : Registers) (store' : List ℕ) (r' : Registers) (old mid new : Told) (r1 w1 r2 w2 : List ℕ)
+joined : (k m : ℕ) (store : List ℕ) (r : Registers) (store' : List ℕ) (r' : Registers) (old mid new : Devices) (r1 w1 r2 w2 : List ℕ)
     → Leads k store r store' r' mid r1 w1 → Exchanged mid new r2 w2 → (rest before : List ℕ) → Follows new rest
     → run (k + m) store r ((r1 ++ r2) ++ rest) before ≡ run m store' r' (r2 ++ rest) (before ++ w1)
 joined k m store r store' r' old mid new r1 w1 r2 w2 leads exchanged rest before follows =
@@ -297,7 +297,7 @@ joined k m store r store' r' old mid new r1 w1 r2 w2 leads exchanged rest before
     ∙ run-add k m store r (r1 ++ (r2 ++ rest)) before
     ∙ ap (λ s. onwards m s) (leads (r2 ++ rest) before bare)
 
-module _ (Holds : List ℕ → Type 0) (k m : ℕ) (store : List ℕ) (r : Registers) (store' : List ℕ) (r' : Registers) (old mid new : Told)
+module _ (Holds : List ℕ → Type 0) (k m : ℕ) (store : List ℕ) (r : Registers) (store' : List ℕ) (r' : Registers) (old mid new : Devices)
     (first : Paused Holds k store r store' r' old mid) (passes : Begins mid.passed new.passed) where
   -- where the next steps ask for nothing
   none_on : (read : List ℕ) → NotAsked mid new read → FlushesFirst Holds k store r old mid first.read
@@ -424,7 +424,7 @@ module _ (Holds : List ℕ → Type 0) (k m : ℕ) (store : List ℕ) (r : Regis
 
 -- ---- an end with more steps left
 
-module _ (Holds : List ℕ → Type 0) (m j : ℕ) (store : List ℕ) (r : Registers) (old new : Told) where
+module _ (Holds : List ℕ → Type 0) (m j : ℕ) (store : List ℕ) (r : Registers) (old new : Devices) where
   flushes_more : (read : List ℕ) → FlushesFirst Holds m store r old new read → FlushesFirst Holds (m + j) store r old new read
   flushes_more read (inl none) = inl none
   flushes_more read (inr ask) = inr (record {
@@ -495,7 +495,7 @@ module _ (Holds : List ℕ → Type 0) (m j : ℕ) (store : List ℕ) (r : Regis
 
 -- ---- the flush at the end
 
-module _ (Holds : List ℕ → Type 0) (n : ℕ) (store : List ℕ) (r : Registers) (store' : List ℕ) (r' : Registers) (old mid new : Told) (still : Still mid new) where
+module _ (Holds : List ℕ → Type 0) (n : ℕ) (store : List ℕ) (r : Registers) (store' : List ℕ) (r' : Registers) (old mid new : Devices) (still : Still mid new) where
   paused_still : Paused Holds n store r store' r' old mid → Paused Holds n store r store' r' old new
   paused_still p = record {
     read = p.read;
@@ -582,7 +582,7 @@ pub exchanged_took : (left : Option (List ℕ)) (held : List ℕ) (ended : Bool)
 exchanged_took left held ended a b p q bytes appends = record { delivered = Consumes-nil left; took = appends; stays = λ t. (refl, t) }
 
 module _ (Holds : List ℕ → Type 0) (store : List ℕ) (r : Registers) (store' : List ℕ) (r' : Registers) where
-  pub went_own : (e : End) (told : Told) → IsOwn e → step store r ≡ Ends e → Went Holds e 1 store r store' r' told told
+  pub went_own : (e : End) (told : Devices) → IsOwn e → step store r ≡ Ends e → Went Holds e 1 store r store' r' told told
   went_own (Status v) told own is = finished_ends Holds store r (Status v) told is
   went_own DivideByZero told own is = finished_ends Holds store r DivideByZero told is
   went_own StoreLimit told own is = finished_ends Holds store r StoreLimit told is
@@ -590,7 +590,7 @@ module _ (Holds : List ℕ → Type 0) (store : List ℕ) (r : Registers) (store
   went_own x told own is = absurd own
 
   -- a reader that did not fail before asked its device
-  module _ (reads reads' writes' : ℕ) (asked : List ℕ) (s : Registers) (old new : Told) (is : step store r ≡ Asks asked s) (still : Still old new)
+  module _ (reads reads' writes' : ℕ) (asked : List ℕ) (s : Registers) (old new : Devices) (is : step store r ≡ Asks asked s) (still : Still old new)
       (empty : old.held ≡ []) (unended : old.ended ≡ false) where
     waits : FlushesFirst Holds 1 store r old new [] → Waiting Holds 1 store r old new
     waits flushes = waiting_asks Holds store r asked s old new is (exchanged_still old old new [] [] (exchanged_none old) still) flushes
@@ -610,6 +610,6 @@ module _ (Holds : List ℕ → Type 0) (store : List ℕ) (r : Registers) (store
     went_ask_fails WriteFault fails flushed = inr (waits not_asked)
     went_ask_fails x fails flushed = absurd fails
 
-  pub went_part : (what : Output) (old new : Told) → step store r ≡ Outputs what store' r' → (p : AppendsPart old.taken new.taken (output_text store' what).bytes)
+  pub went_part : (what : Output) (old new : Devices) → step store r ≡ Outputs what store' r' → (p : AppendsPart old.taken new.taken (output_text store' what).bytes)
       → Exchanged old new [] p.part → NotAsked old new [] → FailedOnTheWay Holds 1 store r old new
   went_part what old new is p exchanged none = inl (cut_short Holds store r what store' r' is old new p.part p.rest p.whole exchanged none)

@@ -7,7 +7,7 @@ use Rattle.bk_intcode.specs.declared.registers.Registers.{Registers}
 use Rattle.bk_intcode.specs.Output.{Text, output_text}
 use Rattle.bk_intcode.specs.Step.{Turn, Goes, Outputs, Asks, Ends, step}
 use Rattle.bk_intcode.specs.declared.output.Output.{Output}
-use Rattle.bk_intcode.specs.Runs.{Standing, Going, Over, next_byte, behind_next, after, run, output_of, Told, Exchanged, Follows, Leads, FlushesFirst, Paused, Finished, Waiting, CutShort, Broken}
+use Rattle.bk_intcode.specs.Runs.{Standing, Going, Over, next_byte, behind_next, after, run, output_of, Devices, Exchanged, Follows, Leads, FlushesFirst, Paused, Finished, Waiting, CutShort, Broken}
 
 -- where a run is after m steps more
 abbrev pub onwards : ℕ → Standing → Standing
@@ -135,7 +135,7 @@ onwards-shrinks m (Going store r input written) = run-shrinks m store r input wr
 onwards-shrinks m (Over e input written) = omega arith
 
 -- What was written begins what the n steps write, whatever input follows the bytes that were read.
-pub record Beginning (Holds : List ℕ → Type 0) (n : ℕ) (store : List ℕ) (r : Registers) (old new : Told) : Type 0 where
+pub record Beginning (Holds : List ℕ → Type 0) (n : ℕ) (store : List ℕ) (r : Registers) (old new : Devices) : Type 0 where
   pub read : List ℕ
   pub written : List ℕ
   pub exchanged : Exchanged old new read written
@@ -143,7 +143,7 @@ pub record Beginning (Holds : List ℕ → Type 0) (n : ℕ) (store : List ℕ) 
   pub begins : (rest before : List ℕ) → Follows new rest
       → (more : List ℕ) × (output_of (run n store r (read ++ rest) before) ≡ (before ++ written) ++ more)
 
-module _ (Holds : List ℕ → Type 0) (n : ℕ) (store : List ℕ) (r : Registers) (old new : Told) where
+module _ (Holds : List ℕ → Type 0) (n : ℕ) (store : List ℕ) (r : Registers) (old new : Devices) where
   -- after the first steps of n
   behind_steps : (steps : ℕ) (store' : List ℕ) (r' : Registers) (read written : List ℕ) → steps ≤ n → Leads steps store r store' r' new read written
       → (rest before : List ℕ) → Follows new rest → run n store r (read ++ rest) before ≡ run (n - steps) store' r' rest (before ++ written)

@@ -2,6 +2,8 @@
 use Rattle.std.specs.Prelude.{◌≡◌, ℕ, zero, suc, ◌<◌, ◌≤◌, ◌⊎◌, ◌^◌, ◌-◌, List, [], ◌∷◌, ◌++◌, Option, Bool, false, IsTrue, ⊤, if◌then◌else◌}
 use Rattle.std.specs.Io.KnownBytes.{append_known, Consumes, Appends}
 use Rattle.bk_base.specs.Devices.{Begins}
+use Rattle.bk_base.specs.declared.device.ByteIn as reader
+use Rattle.bk_base.specs.declared.device.ByteOut as writer
 use Rattle.bk_base.specs.declared.run_end.End.{End}
 use Rattle.bk_base.specs.declared.run_end.End.TheVariants.{Status, DivideByZero, StoreLimit, StepLimit, BadOperation, ReadFault, WriteFault}
 use Rattle.bk_intcode.specs.declared.registers.Registers.{Registers}
@@ -44,25 +46,28 @@ output_of (Over e input written) = written
 
 -- What devices report at a moment: the bytes left, those of them that the reader holds, and whether the end was reported; the bytes
 -- taken, and those of them that were passed on.
-pub record Told : Type 0 where
+pub record Devices : Type 0 where
   pub left : Option (List ℕ)
   pub held : List ℕ
   pub ended : Bool
   pub taken : Option (List ℕ)
   pub passed : Option (List ℕ)
 
+abbrev pub devices : {I O : Type 0} → reader.Ghosts I → writer.Ghosts O → I → O → Devices
+devices i o input out = record { left = i.left input; held = i.held input; ended = i.ended input; taken = o.taken out; passed = o.passed out }
+
 -- Between two moments these bytes were delivered and these taken. Once the end was reported nothing more is delivered.
-pub record Exchanged (old new : Told) (read written : List ℕ) : Type 0 where
+pub record Exchanged (old new : Devices) (read written : List ℕ) : Type 0 where
   pub delivered : Consumes old.left new.left read
   pub took : Appends old.taken new.taken written
   pub stays : IsTrue old.ended → (read ≡ []) × IsTrue new.ended
 
 -- Whatever may follow the bytes delivered: nothing, where the end was reported.
-abbrev pub Follows : Told → List ℕ → Type 0
+abbrev pub Follows : Devices → List ℕ → Type 0
 Follows new rest = IsTrue new.ended → rest ≡ []
 
 -- n steps lead from one machine to another by these bytes, whatever input follows and whatever was written before
-abbrev pub Leads : ℕ → List ℕ → Registers → List ℕ → Registers → Told → List ℕ → List ℕ → Type 0
+abbrev pub Leads : ℕ → List ℕ → Registers → List ℕ → Registers → Devices → List ℕ → List ℕ → Type 0
 Leads n store r store' r' new read written =
     (rest before : List ℕ) → Follows new rest → run n store r (read ++ rest) before ≡ Going store' r' rest (before ++ written)
 
@@ -71,12 +76,12 @@ abbrev pub HeldBy : {I : Type 0} → (I → List ℕ) → List ℕ → Type 0
 HeldBy {I} held bytes = (reader : I) × (held reader ≡ bytes)
 
 -- These bytes were held, and the end was not reported anew, as where the reader did not ask its device.
-abbrev pub NotAsked : Told → Told → List ℕ → Type 0
+abbrev pub NotAsked : Devices → Devices → List ℕ → Type 0
 NotAsked old new read = (old.held ≡ read ++ new.held) × (new.ended ≡ old.ended)
 
 -- The reader asked its device, and these bytes were read since: none, where the device reported the end or failed; else the byte
 -- that was asked for, and then bytes that the reader held. Holds says what a reader can hold.
-abbrev pub SinceAsk : (List ℕ → Type 0) → Told → List ℕ → Type 0
+abbrev pub SinceAsk : (List ℕ → Type 0) → Devices → List ℕ → Type 0
 SinceAsk Holds new [] = new.held ≡ []
 SinceAsk Holds new (byte ∷ others) = Holds (others ++ new.held) × (new.ended ≡ false)
 
@@ -92,7 +97,7 @@ pub record LeadsToAsk (n : ℕ) (store : List ℕ) (r : Registers) (read written
   pub asks : step store' r' ≡ Asks store'' r''
 
 -- The reader last asked its device at this step, before the end was reported. All that was written before the step was passed on.
-pub record LastAsk (Holds : List ℕ → Type 0) (n : ℕ) (store : List ℕ) (r : Registers) (old new : Told) (read : List ℕ) : Type 0 where
+pub record LastAsk (Holds : List ℕ → Type 0) (n : ℕ) (store : List ℕ) (r : Registers) (old new : Devices) (read : List ℕ) : Type 0 where
   pub earlier : List ℕ
   pub since : List ℕ
   pub parts : read ≡ earlier ++ since
@@ -103,11 +108,11 @@ pub record LastAsk (Holds : List ℕ → Type 0) (n : ℕ) (store : List ℕ) (r
   pub passed : Begins (append_known old.taken written) new.passed
 
 -- All that was written before the reader last asked its device, and was given a byte or the end, was passed on.
-abbrev pub FlushesFirst : (List ℕ → Type 0) → ℕ → List ℕ → Registers → Told → Told → List ℕ → Type 0
+abbrev pub FlushesFirst : (List ℕ → Type 0) → ℕ → List ℕ → Registers → Devices → Devices → List ℕ → Type 0
 FlushesFirst Holds n store r old new read = NotAsked old new read ⊎ LastAsk Holds n store r old new read
 
 -- all steps were done
-pub record Paused (Holds : List ℕ → Type 0) (n : ℕ) (store : List ℕ) (r : Registers) (store' : List ℕ) (r' : Registers) (old new : Told) : Type 0 where
+pub record Paused (Holds : List ℕ → Type 0) (n : ℕ) (store : List ℕ) (r : Registers) (store' : List ℕ) (r' : Registers) (old new : Devices) : Type 0 where
   pub read : List ℕ
   pub written : List ℕ
   pub exchanged : Exchanged old new read written
@@ -115,7 +120,7 @@ pub record Paused (Holds : List ℕ → Type 0) (n : ℕ) (store : List ℕ) (r 
   pub leads : Leads n store r store' r' new read written
 
 -- the run ended of itself, within n steps
-pub record Finished (Holds : List ℕ → Type 0) (e : End) (n : ℕ) (store : List ℕ) (r : Registers) (old new : Told) : Type 0 where
+pub record Finished (Holds : List ℕ → Type 0) (e : End) (n : ℕ) (store : List ℕ) (r : Registers) (old new : Devices) : Type 0 where
   pub read : List ℕ
   pub written : List ℕ
   pub exchanged : Exchanged old new read written
@@ -123,7 +128,7 @@ pub record Finished (Holds : List ℕ → Type 0) (e : End) (n : ℕ) (store : L
   pub ends : (rest before : List ℕ) → Follows new rest → run n store r (read ++ rest) before ≡ Over e rest (before ++ written)
 
 -- The run came to a step that asks for a byte, by these bytes and no more.
-pub record Waiting (Holds : List ℕ → Type 0) (n : ℕ) (store : List ℕ) (r : Registers) (old new : Told) : Type 0 where
+pub record Waiting (Holds : List ℕ → Type 0) (n : ℕ) (store : List ℕ) (r : Registers) (old new : Devices) : Type 0 where
   pub read : List ℕ
   pub written : List ℕ
   pub exchanged : Exchanged old new read written
@@ -138,7 +143,7 @@ pub record Waiting (Holds : List ℕ → Type 0) (n : ℕ) (store : List ℕ) (r
   pub asks : step store' r' ≡ Asks store'' r''
 
 -- The run came to a step that writes a text, of which a beginning was taken.
-pub record CutShort (Holds : List ℕ → Type 0) (n : ℕ) (store : List ℕ) (r : Registers) (old new : Told) : Type 0 where
+pub record CutShort (Holds : List ℕ → Type 0) (n : ℕ) (store : List ℕ) (r : Registers) (old new : Devices) : Type 0 where
   pub read : List ℕ
   pub written : List ℕ
   pub begun : List ℕ
@@ -157,24 +162,24 @@ pub record CutShort (Holds : List ℕ → Type 0) (n : ℕ) (store : List ℕ) (
   pub begins : (output_text store'' what).bytes ≡ begun ++ left
 
 -- The output failed on the way: at a step that writes, or at the flush before a byte is asked for, which is not read then.
-abbrev pub FailedOnTheWay : (List ℕ → Type 0) → ℕ → List ℕ → Registers → Told → Told → Type 0
+abbrev pub FailedOnTheWay : (List ℕ → Type 0) → ℕ → List ℕ → Registers → Devices → Devices → Type 0
 FailedOnTheWay Holds n store r old new = CutShort Holds n store r old new ⊎ Waiting Holds n store r old new
 
 -- All steps were done, or the run had ended of itself, and the flush failed.
-abbrev pub FailedAtTheEnd : (List ℕ → Type 0) → ℕ → List ℕ → Registers → Told → Told → Type 0
+abbrev pub FailedAtTheEnd : (List ℕ → Type 0) → ℕ → List ℕ → Registers → Devices → Devices → Type 0
 FailedAtTheEnd Holds n store r old new =
     ((store' : List ℕ) × (r' : Registers) × Paused Holds n store r store' r' old new) ⊎ ((e : End) × Finished Holds e n store r old new)
 
 -- The output failed, or the flush after a read that had failed.
-abbrev pub Broken : (List ℕ → Type 0) → ℕ → List ℕ → Registers → Told → Told → Type 0
+abbrev pub Broken : (List ℕ → Type 0) → ℕ → List ℕ → Registers → Devices → Devices → Type 0
 Broken Holds n store r old new = FailedOnTheWay Holds n store r old new ⊎ FailedAtTheEnd Holds n store r old new
 
 -- one call delivered these bytes: they were held, or the reader asked its device
-abbrev pub CameBy : (List ℕ → Type 0) → Told → Told → List ℕ → Type 0
+abbrev pub CameBy : (List ℕ → Type 0) → Devices → Devices → List ℕ → Type 0
 CameBy Holds old new read = NotAsked old new read ⊎ ((old.held ≡ []) × (old.ended ≡ false) × SinceAsk Holds new read)
 
 -- an answer to a step that asks: a word for the bytes delivered and what follows them
-pub record Answered (Holds : List ℕ → Type 0) (word : ℕ) (old new : Told) : Type 0 where
+pub record Answered (Holds : List ℕ → Type 0) (word : ℕ) (old new : Devices) : Type 0 where
   pub read : List ℕ
   pub exchanged : Exchanged old new read []
   pub word_is : (rest : List ℕ) → Follows new rest → next_byte (read ++ rest) ≡ word
@@ -198,7 +203,7 @@ IsOwn ReadFault = ⊥
 IsOwn WriteFault = ⊥
 
 -- how a run of at most n steps went, by its end; a fault of the output is reported by what is passed along
-abbrev pub RanOr : (List ℕ → Type 0) → Type 0 → End → ℕ → List ℕ → Registers → List ℕ → Registers → Told → Told → Type 0
+abbrev pub RanOr : (List ℕ → Type 0) → Type 0 → End → ℕ → List ℕ → Registers → List ℕ → Registers → Devices → Devices → Type 0
 RanOr Holds fails StepLimit n store r store' r' old new = Paused Holds n store r store' r' old new
 RanOr Holds fails ReadFault n store r store' r' old new = Waiting Holds n store r old new
 RanOr Holds fails WriteFault n store r store' r' old new = fails
@@ -208,11 +213,11 @@ RanOr Holds fails StoreLimit n store r store' r' old new = Finished Holds StoreL
 RanOr Holds fails BadOperation n store r store' r' old new = Finished Holds BadOperation n store r old new
 
 -- a run before the flush at its end
-abbrev pub Went : (List ℕ → Type 0) → End → ℕ → List ℕ → Registers → List ℕ → Registers → Told → Told → Type 0
+abbrev pub Went : (List ℕ → Type 0) → End → ℕ → List ℕ → Registers → List ℕ → Registers → Devices → Devices → Type 0
 Went Holds e n store r store' r' old new = RanOr Holds (FailedOnTheWay Holds n store r old new) e n store r store' r' old new
 
 -- a run and the flush at its end
-abbrev pub Ran : (List ℕ → Type 0) → End → ℕ → List ℕ → Registers → List ℕ → Registers → Told → Told → Type 0
+abbrev pub Ran : (List ℕ → Type 0) → End → ℕ → List ℕ → Registers → List ℕ → Registers → Devices → Devices → Type 0
 Ran Holds e n store r store' r' old new = RanOr Holds (Broken Holds n store r old new) e n store r store' r' old new
 
 -- How often the devices failed, after a run and the flush at its end: the input in a run that ends with its fault alone, and

@@ -6,7 +6,7 @@ ghost use Rattle.bk_base.specs.declared.limit.TheConstants.{STORE_LEAST, STORE_M
 ghost use Rattle.bk_intcode.specs.declared.load_fault.LoadFault.TheVariants.{TooSmall, NoStart};
 ghost use Rattle.bk_intcode.specs.Placement.{SEGMENTS, stack_start, loaded_store, greatest_frame, any_starts};
 ghost use Rattle.bk_base.specs.Devices.{Begins};
-ghost use Rattle.bk_intcode.specs.Runs.{HeldBy, Ran, Went, Blames, BlamesBefore};
+ghost use Rattle.bk_intcode.specs.Runs.{HeldBy, Ran, Went, Blames, BlamesBefore, devices};
 
 use crate::load_fault::LoadFault;
 use crate::loader::load;
@@ -111,8 +111,7 @@ impl Machine {
 
         ensures ran { end_of self.old ≡ None → Ran (HeldBy I.held) result steps
             (store_of self.old) (registers_of self.old) (store_of self.new) (registers_of self.new)
-            (record { left = I.left input.old; held = I.held input.old; ended = I.ended input.old; taken = O.taken out.old; passed = O.passed out.old })
-            (record { left = I.left input.new; held = I.held input.new; ended = I.ended input.new; taken = O.taken out.new; passed = O.passed out.new }) }
+            (devices I.ByteIn O.ByteOut input.old out.old) (devices I.ByteIn O.ByteOut input.new out.new) }
         ensures flushed { end_of self.old ≡ None → result ≢ WriteFault → O.passed out.new ≡ O.taken out.new }
         ensures passes { Begins (O.passed out.old) (O.passed out.new) }
         ensures cause { end_of self.old ≡ None → Blames result (I.faults input.old) (I.faults input.new) (O.faults out.new) }
@@ -145,8 +144,7 @@ fn drive<I: ByteIn, O: ByteOut>(
 ) -> End
     ensures length { vec_len store.new ≡ vec_len store.old }
     ensures went { Went (HeldBy I.held) result steps store.old.items registers.old store.new.items registers.new
-        (record { left = I.left input.old; held = I.held input.old; ended = I.ended input.old; taken = O.taken out.old; passed = O.passed out.old })
-        (record { left = I.left input.new; held = I.held input.new; ended = I.ended input.new; taken = O.taken out.new; passed = O.passed out.new }) }
+        (devices I.ByteIn O.ByteOut input.old out.old) (devices I.ByteIn O.ByteOut input.new out.new) }
     ensures passes { Begins (O.passed out.old) (O.passed out.new) }
     ensures cause { BlamesBefore result (I.faults input.old) (I.faults input.new) (O.faults out.new) }
 {

@@ -4,7 +4,7 @@ ghost use Rattle.std.specs.Io.KnownBytes.{Keeps};
 ghost use Rattle.bk_base.specs.declared.run_end.End.TheVariants.{ReadFault, WriteFault, StepLimit};
 ghost use Rattle.bk_base.specs.Devices.{Begins};
 ghost use Rattle.bk_intcode.specs.Inner.Effects.{byte_or_end};
-ghost use Rattle.bk_intcode.specs.Runs.{HeldBy, Answered, AskFails, Went, BlamesBefore};
+ghost use Rattle.bk_intcode.specs.Runs.{HeldBy, Answered, AskFails, Went, BlamesBefore, devices};
 
 use crate::put_output::put_output;
 use crate::registers::Registers;
@@ -28,8 +28,7 @@ pub enum Answer {
 #[inline(never)]
 fn ask<I: ByteIn, O: ByteOut>(input: &mut I, out: &mut O) -> Answer
     ensures answered { IfOk (byte_or_end result) (λ word. Answered (HeldBy I.held) word
-        (record { left = I.left input.old; held = I.held input.old; ended = I.ended input.old; taken = O.taken out.old; passed = O.passed out.old })
-        (record { left = I.left input.new; held = I.held input.new; ended = I.ended input.new; taken = O.taken out.new; passed = O.passed out.new })) }
+        (devices I.ByteIn O.ByteOut input.old out.old) (devices I.ByteIn O.ByteOut input.new out.new)) }
     ensures still { OnErr (byte_or_end result) (Keeps (I.left input.old) (I.left input.new) × (I.ended input.new ≡ I.ended input.old)
         × (I.held input.new ≡ I.held input.old) × Keeps (O.taken out.old) (O.taken out.new)) }
     ensures unready { OnErr (byte_or_end result) ((I.held input.old ≡ []) × (I.ended input.old ≡ false)) }
@@ -61,8 +60,7 @@ fn turn<I: ByteIn, O: ByteOut>(
     out: &mut O,
 ) -> Option<End>
     ensures went { Went (HeldBy I.held) (unwrap_or result StepLimit) 1 store.old r.old store.new r.new
-        (record { left = I.left input.old; held = I.held input.old; ended = I.ended input.old; taken = O.taken out.old; passed = O.passed out.old })
-        (record { left = I.left input.new; held = I.held input.new; ended = I.ended input.new; taken = O.taken out.new; passed = O.passed out.new }) }
+        (devices I.ByteIn O.ByteOut input.old out.old) (devices I.ByteIn O.ByteOut input.new out.new) }
     ensures over { IfSome result (λ e. e ≢ StepLimit) }
     ensures passes { Begins (O.passed out.old) (O.passed out.new) }
     ensures cause { BlamesBefore (unwrap_or result StepLimit) (I.faults input.old) (I.faults input.new) (O.faults out.new) }
@@ -102,8 +100,7 @@ pub fn go<I: ByteIn, O: ByteOut>(
     out: &mut O,
 ) -> End
     ensures went { Went (HeldBy I.held) result steps store.old r.old store.new r.new
-        (record { left = I.left input.old; held = I.held input.old; ended = I.ended input.old; taken = O.taken out.old; passed = O.passed out.old })
-        (record { left = I.left input.new; held = I.held input.new; ended = I.ended input.new; taken = O.taken out.new; passed = O.passed out.new }) }
+        (devices I.ByteIn O.ByteOut input.old out.old) (devices I.ByteIn O.ByteOut input.new out.new) }
     ensures passes { Begins (O.passed out.old) (O.passed out.new) }
     ensures cause { BlamesBefore result (I.faults input.old) (I.faults input.new) (O.faults out.new) }
 {

@@ -1,5 +1,5 @@
 -- Parts that were read of a text, segments of INTCODE or sections of OCODE, and the bytes that were taken for them.
-use Rattle.bk_kit.proofs.Terms.{◌≡◌, ℕ, ◌++◌, Bool, true, false, IsTrue, List, [], ◌∷◌, Option, Result, Err, length, if◌then◌else◌, refl, sym, subst, ◌∙◌, append-nil, Consumes, NothingLeft, Consumes-trans, OcodeFault, Refused, Fault, Device, AtEnd, words_of, Stmt, ocode, ocode_refused, is_read, Format, Stands as Says, StopsInPart, parts, refused, part_number, OcodeRefused, Refused as refusals}
+use Rattle.bk_kit.proofs.Terms.{◌≡◌, ℕ, ◌++◌, Bool, true, false, IsTrue, List, [], ◌∷◌, Option, Err, length, if◌then◌else◌, refl, sym, subst, ◌∙◌, append-nil, Consumes, NothingLeft, Consumes-trans, OcodeFault, Refused, Fault, Device, AtEnd, words_of, Stmt, ocode, ocode_refused, is_read, Format, Stands as Says, StopsInPart, parts, refused, part_number, OcodeRefused, Refused as refusals}
 use Rattle.bk_ocode.specs.SectionAnswer.{Answers, StandsWhateverFollows, StopsAtDevice, is_device}
 use Rattle.bk_kit.proofs.TextLemmas as text
 use Rattle.bk_kit.proofs.TextLemmas.{read_more, says_refused, says_whole, says_all, nothing_taken}

@@ -1,7 +1,7 @@
 -- What the headline and the limits refuse, tried on a language of which each source goes on for ever and writes nothing, on one of which
 -- each writes an A before something undefined, and on a run of the machine.
 use Rattle.bk_kit.proofs.Terms.{◌≡◌, ℕ, inl, inr, List, [], ◌∷◌, None, Some, Bool, refl, sym, subst, arith, ◌∙◌, append-nil, ⊤, pos, End, Status, StepLimit, Registers, Streams, Language, OneBegins, Agrees, Runs}
-use Rattle.bk_intcode.specs.Runs.{Going, Over, run, Told, Follows, Finished, Ran}
+use Rattle.bk_intcode.specs.Runs.{Going, Over, run, Devices, Follows, Finished, Ran}
 
 abbrev endless : Language
 endless = record {
@@ -63,13 +63,13 @@ no_other_end source input steps words read agrees = let more = agrees.2 1 (65 �
 -- From one machine, with one input, a run that did all of its steps did not end of itself: neither limit stands for the other, nor the
 -- limit of steps for an end that comes within them.
 module _ (Holds : List ℕ → Type 0) (e : End) (n : ℕ) (store first second : List ℕ) (r p q : Registers) (input rest left taken one other : List ℕ) (was told over : Bool) where
-  abbrev before : Told
+  abbrev before : Devices
   before = record { left = Some input; held = []; ended = was; taken = Some taken; passed = None }
 
-  abbrev paused : Told
+  abbrev paused : Devices
   paused = record { left = Some rest; held = []; ended = told; taken = Some one; passed = None }
 
-  abbrev ended : Told
+  abbrev ended : Devices
   ended = record { left = Some left; held = []; ended = over; taken = Some other; passed = None }
 
   not_both : Follows paused rest → Follows ended left → Ran Holds StepLimit n store r first p before paused → Finished Holds e n store r before ended → ⊥

@@ -1,5 +1,5 @@
 -- A run of the machine is one of a source, where the machine does what the source means in a language.
-use Rattle.bk_kit.proofs.Terms.{◌≡◌, ◌≢◌, ℕ, ◌⊎◌, inl, inr, List, [], ◌∷◌, ◌++◌, refl, sym, ap, ap₂, ◌∙◌, subst, append_assoc, append-nil, append_cancel_right, Begins, End, Status, DivideByZero, StoreLimit, StepLimit, BadOperation, ReadFault, WriteFault, Registers, Standing, Going, Over, output_of, run, Finished, Ran, Blames, Streams, told_streams, Language, OneBegins, IsWhole, IsEnd, IsPart, NeverEnds, Reaches, Covers, TooFew, Agrees, Runs}
+use Rattle.bk_kit.proofs.Terms.{◌≡◌, ◌≢◌, ℕ, ◌⊎◌, inl, inr, List, [], ◌∷◌, ◌++◌, refl, sym, ap, ap₂, ◌∙◌, subst, append_assoc, append-nil, append_cancel_right, Begins, End, Status, DivideByZero, StoreLimit, StepLimit, BadOperation, ReadFault, WriteFault, Registers, Standing, Going, Over, output_of, run, Finished, Ran, Blames, Streams, devices_of, Language, OneBegins, IsWhole, IsEnd, IsPart, NeverEnds, Reaches, Covers, TooFew, Agrees, Runs}
 use Rattle.bk_intcode.specs.RunLaws.{Beginning, waiting-begins, broken-begins}
 
 -- A machine that is not over, or that the store stopped, with a beginning of these bytes.
@@ -154,7 +154,7 @@ module _ (language : Language) (source : List ℕ) (steps words : ℕ) (store : 
         shorter all (inr behind) = one_begins all bytes behind.0 more (sym behind.1 ∙ is)
 
     module _ (Holds : List ℕ → Type 0) (accepted : language.Accepted source) (starts : language.Startless source → ⊥) (store' : List ℕ) (registers : Registers) (before after : Streams) where
-      finished : (end : End) (ran : Finished Holds end steps store first (told_streams before) (told_streams after))
+      finished : (end : End) (ran : Finished Holds end steps store first (devices_of before) (devices_of after))
           → Begins before.passed after.passed → (end ≢ WriteFault → after.passed ≡ after.taken) → Blames end before.reads after.reads after.writes
           → ((rest : List ℕ) → stands (ran.read ++ rest) ≡ Over end rest ran.written → Agrees language source (ran.read ++ rest) steps words end ran.read ran.written)
           → Runs language source end steps words before after
@@ -170,7 +170,7 @@ module _ (language : Language) (source : List ℕ) (steps words : ℕ) (store : 
         blamed = blamed;
       }
 
-      broken : (end : End) (ran : Beginning Holds steps store first (told_streams before) (told_streams after))
+      broken : (end : End) (ran : Beginning Holds steps store first (devices_of before) (devices_of after))
           → Begins before.passed after.passed → (end ≢ WriteFault → after.passed ≡ after.taken) → Blames end before.reads after.reads after.writes
           → ((input : List ℕ) → IsPart language source input steps words ran.written → Agrees language source input steps words end ran.read ran.written)
           → Runs language source end steps words before after
@@ -188,7 +188,7 @@ module _ (language : Language) (source : List ℕ) (steps words : ℕ) (store : 
         blamed = blamed;
       }
 
-      pub runs : (end : End) → Ran Holds end steps store first store' registers (told_streams before) (told_streams after) → Begins before.passed after.passed
+      pub runs : (end : End) → Ran Holds end steps store first store' registers (devices_of before) (devices_of after) → Begins before.passed after.passed
           → (end ≢ WriteFault → after.passed ≡ after.taken) → Blames end before.reads after.reads after.writes → Runs language source end steps words before after
       runs (Status v) ran passes passed blamed =
           finished (Status v) ran passes passed blamed (λ rest over. is_end ran.read rest ran.written (Status v) (λ e. cc) over)
@@ -213,6 +213,6 @@ module _ (language : Language) (source : List ℕ) (steps words : ℕ) (store : 
         blamed = blamed;
       }
       runs ReadFault ran passes passed blamed =
-          broken ReadFault (waiting-begins Holds steps store first (told_streams before) (told_streams after) ran) passes passed blamed (λ input part. part)
+          broken ReadFault (waiting-begins Holds steps store first (devices_of before) (devices_of after) ran) passes passed blamed (λ input part. part)
       runs WriteFault ran passes passed blamed =
-          broken WriteFault (broken-begins Holds steps store first (told_streams before) (told_streams after) ran) passes passed blamed (λ input part. part)
+          broken WriteFault (broken-begins Holds steps store first (devices_of before) (devices_of after) ran) passes passed blamed (λ input part. part)

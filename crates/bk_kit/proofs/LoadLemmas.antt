@@ -1,5 +1,5 @@
 -- Why a text is refused.
-use Rattle.bk_kit.proofs.Terms.{ℕ, List, Bool, Option, KitFault, Source, Ocode, Intcode, TooSmall, NoStart, Read, Write, Memory, TextRefused, CodeRefused}
+use Rattle.bk_kit.proofs.Terms.{ℕ, List, Bool, Option, KitFault, TooSmall, NoStart, TextRefused, CodeRefused}
 
 -- a text that is refused as it is read is refused whatever the store
 pub refused_anyhow : (fault : KitFault) (words : ℕ) (old new : Option (List ℕ)) (ended : Bool) → TextRefused fault old new ended → CodeRefused fault words old new ended

@@ -1,5 +1,5 @@
 -- Runs of the machine with segments that stand for the sections of a source, and what the source means.
-use Rattle.bk_kit.proofs.Terms.{◌≡◌, ◌≢◌, ◌⊎◌, inl, inr, ℕ, zero, suc, ◌+◌, ◌*◌, ◌≤◌, ◌<◌, max, ◌==◌, Bool, true, false, List, [], ◌∷◌, ◌++◌, map, Option, Some, None, Err, if◌then◌else◌, refl, sym, ap, ◌∙◌, subst, arith, append_assoc, append-nil, option_map_or, STORE_MOST, FRAME_WORDS, End, StoreLimit, WriteFault, Begins, Registers, SEGMENTS, segment_size, stack_start, any_starts, loaded_store, Standing, Over, output_of, Ran, Blames, Cell, largest_depth, Declarations, Part, segments, image, depth_of, own_of, parts_at, program_of, start_of, machine_after, IsPartly, going, stopped, HoldsFrames, BackEnd, BackEndHolds, PartsAreWellPlaced, PartsWithoutStart, TooSmall, NoStart, AnyBytes, Streams, told_streams, first_registers, stmts_of_tree, codes_of_trees, HasTrees, HasParts, text_of, frame_of, HasWords, HasFramesOf, HasNoStart, MeaningEnds, MeaningGoesOn, EnoughToEnd, EnoughToGo, Placing, StepsToEnd, StepsToGo, image_of, meanings_with, MeaningRuns, MeaningTooSmall, MeaningStartless}
+use Rattle.bk_kit.proofs.Terms.{◌≡◌, ◌≢◌, ◌⊎◌, inl, inr, ℕ, zero, suc, ◌+◌, ◌*◌, ◌≤◌, ◌<◌, max, ◌==◌, Bool, true, false, List, [], ◌∷◌, ◌++◌, map, Option, Some, None, Err, if◌then◌else◌, refl, sym, ap, ◌∙◌, subst, arith, append_assoc, append-nil, option_map_or, STORE_MOST, FRAME_WORDS, End, StoreLimit, WriteFault, Begins, Registers, SEGMENTS, segment_size, stack_start, any_starts, loaded_store, Standing, Over, output_of, Ran, Blames, Cell, largest_depth, Declarations, Part, segments, image, depth_of, own_of, parts_at, program_of, start_of, machine_after, IsPartly, going, stopped, HoldsFrames, BackEnd, BackEndHolds, PartsAreWellPlaced, PartsWithoutStart, TooSmall, NoStart, AnyBytes, Streams, devices_of, first_registers, stmts_of_tree, codes_of_trees, HasTrees, HasParts, text_of, frame_of, HasWords, HasFramesOf, HasNoStart, MeaningEnds, MeaningGoesOn, EnoughToEnd, EnoughToGo, Placing, StepsToEnd, StepsToGo, image_of, meanings_with, MeaningRuns, MeaningTooSmall, MeaningStartless}
 use Rattle.bk_ocode.specs.Frames.{HasFrames, start, called, HasFramesAtMost}
 use Rattle.bk_ocode.specs.OcodeState.{Routine, Placed, Control, Inside, Behind, At, State}
 use Rattle.bk_ocode.specs.OcodeRun.{Program, Rest, resumed_by, resumed, label_rest, resumed_in, find_rest, rests_of}
@@ -7,7 +7,7 @@ use Rattle.bk_ocode.specs.SectionData.{text_size}
 use Rattle.bk_ocode.specs.WellPlaced.{IsWellPlaced}
 use Rattle.bk_meaning.specs.World as world
 use Rattle.bk_meaning.specs.Program as program
-use Rattle.bk_meaning.specs.Program.{Run, meaning}
+use Rattle.bk_meaning.specs.Program.{meaning}
 use Rattle.bk_simulation.specs.GoingOn.{settled_from}
 use Rattle.bk_simulation.specs.Placement.{AreAccepted, StandFor}
 use Rattle.bk_simulation.specs.Simulation.{Begin, end_of, EndsWithin, ComesWithin, RunsOut, DoesEnd, Does, DoesFrom, StillGoes, RunsOutOnTheWay, StepsDoWhatSourcesMean, StepsGoOnWithTheirSource, StartsWithTheirSource, IsWithoutEnd, StartsSo, with_start, without_start}
@@ -375,7 +375,7 @@ module _ (laws : RunLaws) (image_of : List Declarations → ℕ) (parts : List P
 
       -- a run of the machine is one of the source
       pub source_run : (store : List ℕ) (registers : Registers) (before after : Streams) (end : End)
-          → Ran AnyBytes end steps (loaded_store words (segments parts)) (first_registers (segments parts)) store registers (told_streams before) (told_streams after)
+          → Ran AnyBytes end steps (loaded_store words (segments parts)) (first_registers (segments parts)) store registers (devices_of before) (devices_of after)
           → Begins before.passed after.passed → (end ≢ WriteFault → after.passed ≡ after.taken) → Blames end before.reads after.reads after.writes
           → Runs language source end steps words before after
       source_run store registers before after end ran passes passed blamed =

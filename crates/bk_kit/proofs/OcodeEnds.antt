@@ -8,7 +8,7 @@ use Rattle.bk_ocode.specs.OcodeStep.{slot, on_number, on_some, operated, named_p
 use Rattle.bk_ocode.specs.OcodeRun.{Program, resumed, label_rest, resumed_in, program_step_from, program_step, then_run, run}
 use Rattle.bk_ocode.specs.Telling.{format_bytes}
 use Rattle.bk_ocode.specs.declared.stmt.Monadic.TheVariants.{Contents, Negate, Not}
-use Rattle.bk_ocode.specs.declared.stmt.Stmt.TheVariants.{Number, True, False, Query, Load, Address, Text, Monadic, Dyadic, LoadByte, Assign, AssignAt, AssignByte, Jump, JumpIf, Label, GiveResult, TakeResult, Stack, Store, Entry, Save, CallFunction, CallRoutine, ReturnItem, Return, EndProcedure, Switch, Finish, DataLabel, DataNumber, DataAddress, Globals}
+use Rattle.bk_ocode.specs.declared.stmt.Stmt.TheVariants.{Number, True, False, Query, Load, Address, Text, Monadic, Dyadic, LoadByte, Assign, AssignAt, AssignByte, Jump, JumpIf, GiveResult, Entry, CallFunction, CallRoutine, ReturnItem, Return, Switch, Finish, DataNumber}
 
 -- the end of a step, if it is one, is not for want of words
 abbrev OfItself : Next → Type 0

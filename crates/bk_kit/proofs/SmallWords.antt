@@ -6,7 +6,7 @@ use Rattle.bk_scope.specs.declared.role.Role.TheVariants.{Value, Truth, Address,
 use Rattle.bk_scope.specs.Wrong.{Wrong, not_assignable, no_result_or_return, global_out_of_range, vec_out_of_range}
 use Rattle.bk_scope.specs.Places.{kept, deeper, looping, switching, labelled, valued, called, outermost}
 use Rattle.bk_scope.specs.Spots.{Spot, procedures_in, onward, past, numbered, behind, behind_each, behind_done, behind_declared, behind_one_declared, behind_one_defined, behind_constant, symbols_each, beginning}
-use Rattle.bk_scope.specs.Points.{Point, meaning, word, depth, wrong, claim, at, deepest, without_depths, words_of}
+use Rattle.bk_scope.specs.Points.{Point, meaning, word, depth, at, deepest, without_depths, words_of}
 use Rattle.bk_scope.specs.Faults.{unless, used_at, gone_to, constant_name, constant_wrongs, constant_wrongs_each, its_word, constant, each_constant, at_most, assigned, addressed, prefixed, depth_named, pushed, chosen_at, defaulted_at, single_at, one_of, each_of, manifest_items, static_items, global_items, its_meaning, its_global, its_frame, inside_procedure, procedure, told, told_each, told_destinations, told_done, told_done_each, told_declared, told_one_declared, told_defined, told_one_defined, told_started, told_of, words}
 use Rattle.bk_kit.proofs.FitScopes.{Fit, fit_constant, fit_manifest, fit_labels, fit_formals, fit_procedures, fit_one, fit_declared}
 

@@ -1,5 +1,5 @@
 -- A source whose sections are assembled one after another, and then loaded and run.
-use Rattle.bk_kit.proofs.Terms.{◌≡◌, ◌≢◌, inl, inr, ◌⊎◌, ℕ, ◌+◌, ◌≤◌, ◌<◌, ◌++◌, Bool, true, false, List, [], ◌∷◌, Option, None, Some, Result, Ok, Err, IfErr, map, arith, refl, sym, ap, subst, ◌∙◌, append-nil, IsErr, map-append, Begins, INPUT_BYTES, STORE_MOST, End, WriteFault, stmts_of, AreBytes, Stmt, section_whole, Item, Registers, items_of, SEGMENTS, stack_start, any_starts, loaded_store, Ran, Blames, segment_whole, Part, segments, image, items_of_part, StandsFor, KitFault, Source, Ocode, Intcode, TooSmall, NoStart, Read, Write, Memory, CompiledSection, SectionCode, Declarations, AnyBytes, Streams, told_streams, first_registers, is_read_fault, is_read, IsUndecided, Settles, Follows, IsDelivered, EachSource, codes_in, trees_in, Compiled, Refuses, HasTrees, IsRefused, HasParts, Headline, meanings, MeaningRuns, MeaningTooSmall, MeaningStartless, LoadFault, LoadFault as load}
+use Rattle.bk_kit.proofs.Terms.{◌≡◌, ◌≢◌, inl, inr, ◌⊎◌, ℕ, ◌+◌, ◌≤◌, ◌<◌, ◌++◌, Bool, true, false, List, [], ◌∷◌, Option, None, Some, Result, Ok, Err, IfErr, map, arith, refl, sym, ap, subst, ◌∙◌, append-nil, IsErr, map-append, Begins, INPUT_BYTES, STORE_MOST, End, WriteFault, stmts_of, AreBytes, Stmt, section_whole, Item, Registers, items_of, SEGMENTS, stack_start, any_starts, loaded_store, Ran, Blames, segment_whole, Part, segments, image, items_of_part, StandsFor, KitFault, Source, Ocode, Intcode, TooSmall, NoStart, Read, Memory, CompiledSection, SectionCode, Declarations, AnyBytes, Streams, devices_of, first_registers, is_read_fault, is_read, IsUndecided, Settles, Follows, IsDelivered, EachSource, codes_in, trees_in, Compiled, Refuses, HasTrees, IsRefused, HasParts, Headline, meanings, MeaningRuns, MeaningTooSmall, MeaningStartless, LoadFault, LoadFault as load}
 use Rattle.bk_ocode.specs.declared.section.Ocode as o
 use Rattle.bk_intcode.specs.declared.segment.Intcode as i
 use Rattle.bk_kit.specs.Sources.{Accepted, Refused, bytes_of, trees_of, codes_of, stmts_of_tree}
@@ -226,7 +226,7 @@ module _ (words : ℕ) (old new : Option (List ℕ)) (ended : Bool) where
   -- of one that is run
   pub source_runs : MeaningRuns → (end : End) (steps : ℕ) (before after : Streams) (parts : List Part) (store : List ℕ) (registers : Registers)
       → EachSource old new ended (HasParts parts) → image parts + 16 ≤ words → words ≤ STORE_MOST → any_starts (segments parts) ≡ true
-      → Ran AnyBytes end steps (loaded_store words (segments parts)) (first_registers (segments parts)) store registers (told_streams before) (told_streams after)
+      → Ran AnyBytes end steps (loaded_store words (segments parts)) (first_registers (segments parts)) store registers (devices_of before) (devices_of after)
       → Begins before.passed after.passed → (end ≢ WriteFault → after.passed ≡ after.taken) → Blames end before.reads after.reads after.writes
       → Headline meanings (Ok end) steps words old new ended before after
   source_runs runs end steps before after parts store registers has room most starts ran passes passed blamed =

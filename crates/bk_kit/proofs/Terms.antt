@@ -1,5 +1,5 @@
 -- The names of the layers below that several of these proofs use.
-pub use Rattle.std.proofs.Common.{ℕ, suc, List, [], ◌∷◌, ◌++◌, refl, sym, subst, append_assoc, ◌≡◌, ◌⊎◌, ◌+◌, ◌≤◌, length, ◌∙◌, map, ap, rules, inl, inr, ◌<◌, Bool, IsTrue, Option, None, Some, arith, append-nil, length-append, ◌^◌, true, false, cond, ◌≢◌, max, Result, Ok, Err, OnOk, take, drop, get_or, Bor, ◌-◌, IfErr, ap₂, OnErr, is_ok, is_err, if◌then◌else◌, zero, ◌==◌, nat_lt, codes, ◌*◌, IfSome, IsSome, IfOk, slice_get, eqb-true, option_map, ◌%◌, ◌||◌}
+pub use Rattle.std.proofs.Common.{ℕ, suc, List, [], ◌∷◌, ◌++◌, refl, sym, subst, append_assoc, ◌≡◌, ◌⊎◌, ◌+◌, ◌≤◌, length, ◌∙◌, map, ap, rules, inl, inr, ◌<◌, Bool, IsTrue, Option, None, Some, arith, append-nil, length-append, ◌^◌, true, false, cond, ◌≢◌, max, Result, Ok, Err, OnOk, take, drop, get_or, Bor, ◌-◌, IfErr, ap₂, if◌then◌else◌, zero, ◌==◌, nat_lt, codes, ◌*◌, IfSome, IsSome, IfOk, slice_get, eqb-true, option_map, ◌%◌, ◌||◌}
 pub use Rattle.std.proofs.lemmas.Bool.{cases_lt, ltb-true, and_parts}
 pub use Rattle.std.proofs.lemmas.List.{map-append, length-map, append_cancel_left, take_more, take-append-drop, append_cancel_right}
 pub use Rattle.std.specs.Io.KnownBytes.{Consumes, Appends, Keeps}
@@ -21,7 +21,7 @@ pub use Rattle.bk_gen.specs.StandsFor.{frame_words, StandsFor, EndsWithFrame}
 pub use Rattle.bk_grammar.specs.Rows.{inner, left, behind, is_relation, leaf}
 pub use Rattle.bk_grammar.specs.SyntaxFault.{IsSection}
 pub use Rattle.bk_intcode.specs.Placement.{SEGMENTS, stack_start, any_starts, greatest_frame, loaded_store, segment_size}
-pub use Rattle.bk_intcode.specs.Runs.{Ran, Blames, HeldBy, Paused, Standing, Over, output_of, Going, run, Finished, Told, Went}
+pub use Rattle.bk_intcode.specs.Runs.{Ran, Blames, HeldBy, Paused, Standing, Over, output_of, Going, run, Finished, Devices, Went}
 pub use Rattle.bk_intcode.specs.SegmentItems.{items_of}
 pub use Rattle.bk_intcode.specs.SegmentLaws.{segment_whole}
 pub use Rattle.bk_intcode.specs.State.{store_of, registers_of, end_of}
@@ -69,7 +69,7 @@ pub use Rattle.bk_kit.specs.CompilingSection.{codes_in, trees_in, Compiled, Refu
 pub use Rattle.bk_kit.specs.Filters.{Written, Puts, Breaks, Ends}
 pub use Rattle.bk_kit.specs.Generating.{ocode, Generated, IsGenerated, AreGenerated, sections_of, Generates, ocode_refused}
 pub use Rattle.bk_kit.specs.Headline.{Headline, Language, OneBegins, IsWhole, IsEnd, IsPart, NeverEnds, Reaches, Covers, TooFew, Agrees, Runs}
-pub use Rattle.bk_kit.specs.Interpreting.{AnyBytes, Streams, Interpreted, told_streams, first_registers, is_read_fault, is_read, TextRefused, CodeRefused}
+pub use Rattle.bk_kit.specs.Interpreting.{AnyBytes, Streams, Interpreted, devices_of, first_registers, is_read_fault, is_read, TextRefused, CodeRefused}
 pub use Rattle.bk_kit.specs.Pieces.{joined}
 pub use Rattle.bk_kit.specs.ReadingSource.{Asked, Follows, IsUndecided, Settles, IsDelivered, EachSource}
 pub use Rattle.bk_kit.specs.RunningSource.{NotAssembled, ReadsSource, Assembled}
@@ -78,7 +78,7 @@ pub use Rattle.bk_kit.specs.SourceCode.{IsCodeOf, ReportsFrames, InterpretsSourc
 pub use Rattle.bk_kit.specs.SourceMeaning.{meanings_with, meanings, MeaningRuns, MeaningTooSmall, MeaningStartless, text_of, frame_of, HasWords, HasFramesOf, HasNoStart, MeaningEnds, MeaningGoesOn, EnoughToEnd, EnoughToGo, Placing, StepsToEnd, StepsToGo, image_of, MeaningRefuses}
 pub use Rattle.bk_kit.specs.SourceSections.{HasTrees, IsRefused, HasParts}
 pub use Rattle.bk_kit.specs.Sources.{IsTree, Means, Accepted, WholeSection, bytes_of, trees_of, AreAccepted, stmts_of_tree, codes_of_trees, codes_of, texts_of, line_behind}
-pub use Rattle.bk_kit.specs.Telling.{Output, ReportsLine}
+pub use Rattle.bk_kit.specs.Telling.{Output}
 pub use Rattle.bk_kit.specs.Texts.{part_number, Format, parts, refused, all_words, AreWhole, SaysWhateverFollows, Stands, StopsInPart}
 pub use Rattle.bk_kit.specs.Tracing.{OcodeRefused, FileRead, RefusesNames}
 pub use Rattle.bk_kit.specs.declared.kit_fault.KitFault.{KitFault}

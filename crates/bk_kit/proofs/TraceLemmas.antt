@@ -1,5 +1,5 @@
 -- A run that is made of runs of one step.
-use Rattle.bk_kit.proofs.Terms.{◌≡◌, ◌≢◌, ℕ, ◌+◌, List, Result, Ok, Err, IfErr, if◌then◌else◌, refl, sym, subst, IsErr, Begins, End, Status, DivideByZero, StoreLimit, StepLimit, BadOperation, ReadFault, WriteFault, Registers, Told, Paused, Went, Ran, Blames, KitFault, Streams, is_read_fault, FileRead, OcodeRefused, RefusesNames}
+use Rattle.bk_kit.proofs.Terms.{◌≡◌, ◌≢◌, ℕ, ◌+◌, List, Result, Ok, Err, IfErr, if◌then◌else◌, refl, sym, subst, IsErr, Begins, End, StepLimit, WriteFault, Registers, Devices, Paused, Went, Ran, KitFault, Streams, is_read_fault, FileRead, OcodeRefused, RefusesNames}
 use Rattle.bk_intcode.proofs.Lemmas.{went_on, went_more}
 
 -- an answer that is a fault of the OCODE
@@ -12,17 +12,17 @@ names_refused (Err other) fault names code before after is same refuses fails un
 
 module _ (Holds : List ℕ → Type 0) where
   -- unless the output fails, the flush at the end changes nothing
-  went_so : (e : End) (n : ℕ) (store : List ℕ) (r : Registers) (store' : List ℕ) (r' : Registers) (old new : Told) → e ≢ WriteFault
+  went_so : (e : End) (n : ℕ) (store : List ℕ) (r : Registers) (store' : List ℕ) (r' : Registers) (old new : Devices) → e ≢ WriteFault
       → Ran Holds e n store r store' r' old new → Went Holds e n store r store' r' old new
   went_so WriteFault n store r store' r' old new sound ran = absurd (sound refl)
   went_so x n store r store' r' old new sound ran = ran
 
-  ran_so : (e : End) (n : ℕ) (store : List ℕ) (r : Registers) (store' : List ℕ) (r' : Registers) (old new : Told) → e ≢ WriteFault
+  ran_so : (e : End) (n : ℕ) (store : List ℕ) (r : Registers) (store' : List ℕ) (r' : Registers) (old new : Devices) → e ≢ WriteFault
       → Went Holds e n store r store' r' old new → Ran Holds e n store r store' r' old new
   ran_so WriteFault n store r store' r' old new sound went = absurd (sound refl)
   ran_so x n store r store' r' old new sound went = went
 
-  module _ (k j : ℕ) (store : List ℕ) (r : Registers) (store' : List ℕ) (r' : Registers) (store'' : List ℕ) (r'' : Registers) (old mid new : Told)
+  module _ (k j : ℕ) (store : List ℕ) (r : Registers) (store' : List ℕ) (r' : Registers) (store'' : List ℕ) (r'' : Registers) (old mid new : Devices)
       (first : Paused Holds k store r store' r' old mid) (passes : Begins mid.passed new.passed) where
     -- one step more, and the run goes on
     pub paused_more : Ran Holds StepLimit 1 store' r' store'' r'' mid new → Paused Holds (k + 1) store r store'' r'' old new

@@ -3,16 +3,16 @@ use Rattle.std.proofs.Common.{ℕ, inl, inr, List, [], ◌∷◌, Option, Bool, 
 use Rattle.bk_base.specs.declared.run_end.End.{End}
 use Rattle.bk_base.specs.declared.run_end.End.TheVariants.{Status, DivideByZero, StoreLimit, StepLimit, BadOperation, ReadFault, WriteFault}
 use Rattle.bk_intcode.specs.declared.registers.Registers.{Registers}
-use Rattle.bk_intcode.specs.Runs.{Told, SinceAsk, FlushesFirst, Paused, Finished, Waiting, CutShort, Broken, Ran}
+use Rattle.bk_intcode.specs.Runs.{Devices, SinceAsk, FlushesFirst, Paused, Finished, Waiting, CutShort, Broken, Ran}
 use Rattle.bk_kit.specs.declared.kit_fault.KitFault.{KitFault}
-use Rattle.bk_kit.specs.Interpreting.{AnyBytes, Streams, told_streams, Interpreted}
+use Rattle.bk_kit.specs.Interpreting.{AnyBytes, Streams, devices_of, Interpreted}
 
 module _ (Holds : List ℕ → Type 0) where
-  since : (new : Told) (read : List ℕ) → SinceAsk Holds new read → SinceAsk AnyBytes new read
+  since : (new : Devices) (read : List ℕ) → SinceAsk Holds new read → SinceAsk AnyBytes new read
   since new [] asked = asked
   since new (byte ∷ others) asked = (tt, asked.1)
 
-  module _ (n : ℕ) (store : List ℕ) (r : Registers) (old new : Told) where
+  module _ (n : ℕ) (store : List ℕ) (r : Registers) (old new : Devices) where
     flushes : (read : List ℕ) → FlushesFirst Holds n store r old new read → FlushesFirst AnyBytes n store r old new read
     flushes read (inl still) = inl still
     flushes read (inr last) = inr (record {
@@ -88,5 +88,5 @@ module _ (Holds : List ℕ → Type 0) where
       → Interpreted Holds answer steps words old new ended before after → Interpreted AnyBytes answer steps words old new ended before after
   interpreted_with_any (Ok end) steps words old new ended before after said =
       let i = said.0 in
-      (record { all = i.all; loadable = i.loadable; store = i.store; registers = i.registers; ran = ran_with_any steps _ _ (told_streams before) (told_streams after) i.store i.registers end i.ran }, said.1, said.2, said.3)
+      (record { all = i.all; loadable = i.loadable; store = i.store; registers = i.registers; ran = ran_with_any steps _ _ (devices_of before) (devices_of after) i.store i.registers end i.ran }, said.1, said.2, said.3)
   interpreted_with_any (Err fault) steps words old new ended before after said = said

@@ -7,7 +7,7 @@ use Rattle.bk_checker.specs.declared.report.CheckFault.{CheckFault}
 use Rattle.bk_checker.specs.declared.report.CheckFault.TheVariants as x
 use Rattle.bk_checker.specs.declared.report.Report.{Report}
 use Rattle.bk_checker.specs.declared.remarks.Remark.{Remark}
-use Rattle.bk_checker.specs.Checks.{Told, Checks, ChecksPart, Blames, Flushed}
+use Rattle.bk_checker.specs.Checks.{Devices, Checks, ChecksPart, Blames, Flushed}
 use Rattle.bk_kit.specs.declared.kit_fault.KitFault.{KitFault}
 use Rattle.bk_kit.specs.declared.checker.Refusal.{Refusal}
 use Rattle.bk_kit.specs.declared.checker.NotChecked.{NotChecked}
@@ -34,14 +34,14 @@ fails_check (Err (n.Run stop)) = false
 abbrev pub HasTheseTrees : List Declarations → Option (List ℕ) → Option (List ℕ) → Bool → Type 0
 HasTheseTrees trees old new ended = EachSource old new ended (λ source. HasTrees source trees)
 
-abbrev pub told_of : Streams → Told
-told_of streams = record { left = streams.left; ended = streams.ended; taken = streams.taken }
+abbrev pub checked_devices : Streams → Devices
+checked_devices streams = record { left = streams.left; ended = streams.ended; taken = streams.taken }
 
 -- The source is accepted, and this is the verdict of its meaning.
 pub record ChecksTrees (verdict : Verdict) (turns : ℕ) (old new : Option (List ℕ)) (ended : Bool) (before after : Streams) : Type 0 where
   pub trees : List Declarations
   pub has : HasTheseTrees trees old new ended
-  pub checks : Checks trees turns verdict (told_of before) (told_of after)
+  pub checks : Checks trees turns verdict (checked_devices before) (checked_devices after)
 
 -- THE CHECK. Nothing is done of a source that is refused.
 abbrev pub ChecksSource : Result Report NotChecked → ℕ → Option (List ℕ) → Option (List ℕ) → Bool → Streams → Streams → Type 0
@@ -49,7 +49,7 @@ ChecksSource (Ok report) turns old new ended before after =
     ChecksTrees report.verdict turns old new ended before after × (after.passed ≡ after.taken) × (after.reads ≡ before.reads) × (after.writes ≡ before.writes)
 ChecksSource (Err (n.Text refusal)) turns old new ended before after = NotAssembled refusal.fault old new ended × (after ≡ before)
 ChecksSource (Err (n.Run stop)) turns old new ended before after =
-    ((trees : List Declarations) × HasTheseTrees trees old new ended × ChecksPart trees turns (told_of before) (told_of after))
+    ((trees : List Declarations) × HasTheseTrees trees old new ended × ChecksPart trees turns (checked_devices before) (checked_devices after))
     × Blames stop.fault before.reads after.reads before.writes after.writes × Flushed stop.fault after.passed after.taken
 
 -- ---- statuses and lines

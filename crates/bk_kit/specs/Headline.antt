@@ -8,7 +8,7 @@ use Rattle.bk_base.specs.declared.source_fault.SourceFault.{SourceFault}
 use Rattle.bk_intcode.specs.Runs.{Exchanged, Follows, Blames}
 use Rattle.bk_kit.specs.declared.kit_fault.KitFault.{KitFault}
 use Rattle.bk_kit.specs.declared.kit_fault.KitFault.TheVariants.{Source, Ocode, Intcode, TooSmall, NoStart, Read, Write, Memory}
-use Rattle.bk_kit.specs.Interpreting.{Streams, told_streams}
+use Rattle.bk_kit.specs.Interpreting.{Streams, devices_of}
 use Rattle.bk_kit.specs.ReadingSource.{EachSource}
 
 -- What sources mean, and how much is enough to run them.
@@ -88,8 +88,8 @@ pub record Runs (language : Language) (source : List ℕ) (end : End) (steps wor
   pub starts : language.Startless source → ⊥
   pub read : List ℕ
   pub written : List ℕ
-  pub exchanged : Exchanged (told_streams before) (told_streams after) read written
-  pub agrees : (rest : List ℕ) → Follows (told_streams after) rest → Agrees language source (read ++ rest) steps words end read written
+  pub exchanged : Exchanged (devices_of before) (devices_of after) read written
+  pub agrees : (rest : List ℕ) → Follows (devices_of after) rest → Agrees language source (read ++ rest) steps words end read written
   -- what was passed on before begins what is passed on; each end flushes, unless the output failed
   pub passes : Begins before.passed after.passed
   pub passed : end ≢ WriteFault → after.passed ≡ after.taken

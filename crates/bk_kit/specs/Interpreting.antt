@@ -1,6 +1,8 @@
 -- What interpreting a text of segments comes to.
 use Rattle.std.specs.Prelude.{◌≡◌, ◌≢◌, ℕ, ◌+◌, ◌<◌, ◌≤◌, Bool, true, false, ⊤, List, Option, None, Result, Ok, Err}
 use Rattle.bk_base.specs.declared.run_end.End.{End}
+use Rattle.bk_base.specs.declared.device.ByteIn as reader
+use Rattle.bk_base.specs.declared.device.ByteOut as writer
 use Rattle.bk_base.specs.Devices.{Begins}
 use Rattle.bk_intcode.specs.declared.item.Item.{Item}
 use Rattle.bk_intcode.specs.declared.registers.Registers.{Registers}
@@ -8,7 +10,7 @@ use Rattle.bk_intcode.specs.declared.machine.Machine.{Machine}
 use Rattle.bk_intcode.specs.State.{store_of, registers_of, end_of, sizes_of}
 use Rattle.bk_intcode.specs.Placement.{SEGMENTS, stack_start, loaded_store, greatest_frame, any_starts}
 use Rattle.bk_base.specs.declared.run_end.End.TheVariants.{WriteFault}
-use Rattle.bk_intcode.specs.Runs.{Told, Ran, Blames}
+use Rattle.bk_intcode.specs.Runs.{Devices, Ran, Blames}
 use Rattle.bk_intcode_text.specs.SegmentReading.{StopsAtDevice}
 use Rattle.bk_kit.specs.declared.kit_fault.KitFault.{KitFault}
 use Rattle.bk_kit.specs.declared.kit_fault.KitFault.TheVariants.{Source, Ocode, Intcode, TooSmall, NoStart, Read, Write, Memory}
@@ -62,7 +64,7 @@ abbrev pub AnyBytes : List ℕ → Type 0
 AnyBytes bytes = ⊤
 
 -- The segments of the text were loaded and run, and the run ended so. Holds says what the reader of the input can hold.
-pub record Interprets (Holds : List ℕ → Type 0) (end : End) (steps words : ℕ) (old new : Option (List ℕ)) (ended : Bool) (before after : Told) : Type 0 where
+pub record Interprets (Holds : List ℕ → Type 0) (end : End) (steps words : ℕ) (old new : Option (List ℕ)) (ended : Bool) (before after : Devices) : Type 0 where
   pub all : List (List Item)
   pub loadable : Loadable all words old new ended
   pub store : List ℕ
@@ -80,14 +82,26 @@ pub record Streams : Type 0 where
   pub reads : ℕ
   pub writes : ℕ
 
-abbrev pub told_streams : Streams → Told
-told_streams streams = record { left = streams.left; held = streams.held; ended = streams.ended; taken = streams.taken; passed = streams.passed }
+abbrev pub streams : {I O : Type 0} → reader.Ghosts I → writer.Ghosts O → I → O → Streams
+streams i o input out =
+    record {
+      left = i.left input;
+      held = i.held input;
+      ended = i.ended input;
+      taken = o.taken out;
+      passed = o.passed out;
+      reads = i.faults input;
+      writes = o.faults out;
+    }
+
+abbrev pub devices_of : Streams → Devices
+devices_of streams = record { left = streams.left; held = streams.held; ended = streams.ended; taken = streams.taken; passed = streams.passed }
 
 -- What interpreting answers: the end of the run, after which what was passed on before is still the beginning of what was
 -- passed on, and is all that was taken unless the output failed; or the fault of a text of which nothing was run.
 abbrev pub Interpreted : (List ℕ → Type 0) → Result End KitFault → ℕ → ℕ → Option (List ℕ) → Option (List ℕ) → Bool → Streams → Streams → Type 0
 Interpreted Holds (Ok end) steps words old new ended before after =
-    Interprets Holds end steps words old new ended (told_streams before) (told_streams after)
+    Interprets Holds end steps words old new ended (devices_of before) (devices_of after)
     × Begins before.passed after.passed × (end ≢ WriteFault → after.passed ≡ after.taken) × Blames end before.reads after.reads after.writes
 Interpreted Holds (Err fault) steps words old new ended before after = CodeRefused fault words old new ended × (after ≡ before)
 

@@ -11,7 +11,7 @@ use Rattle.bk_ocode.specs.declared.stmt.Stmt.{Stmt}
 use Rattle.bk_gen.specs.BackEnd.{Part, segments, image}
 use Rattle.bk_kit.specs.declared.kit_fault.KitFault.{KitFault}
 use Rattle.bk_kit.specs.declared.kit_fault.KitFault.TheVariants.{Source, Ocode, Intcode, TooSmall, NoStart, Read, Write, Memory}
-use Rattle.bk_kit.specs.Interpreting.{Streams, told_streams, HasRoom, first_registers}
+use Rattle.bk_kit.specs.Interpreting.{Streams, devices_of, HasRoom, first_registers}
 use Rattle.bk_kit.specs.Headline.{Headline}
 use Rattle.bk_kit.specs.ReadingSource.{IsUndecided, EachSource}
 use Rattle.bk_kit.specs.Compiling.{Delivered}
@@ -80,7 +80,7 @@ pub record RunsSegments (Holds : List ℕ → Type 0) (end : End) (steps words :
   pub starts : any_starts all ≡ true
   pub store : List ℕ
   pub registers : Registers
-  pub ran : Ran Holds end steps (loaded_store words all) (first_registers all) store registers (told_streams before) (told_streams after)
+  pub ran : Ran Holds end steps (loaded_store words all) (first_registers all) store registers (devices_of before) (devices_of after)
 
 -- Why such segments are not loaded: they leave less than 16 words for the stack; or else, none sets START.
 abbrev pub NotLoaded : KitFault → ℕ → Option (List ℕ) → Option (List ℕ) → Bool → Type 0

@@ -26,7 +26,7 @@ use Rattle.bk_meaning.specs.Program.{meaning}
 use Rattle.bk_simulation.specs.Placement.{StandFor}
 use Rattle.bk_simulation.specs.Simulation.{end_of, EndsWithin, ComesWithin}
 use Rattle.bk_kit.specs.declared.kit_fault.KitFault.TheVariants.{Source, TooSmall, NoStart}
-use Rattle.bk_kit.specs.Interpreting.{AnyBytes, Streams, told_streams, first_registers}
+use Rattle.bk_kit.specs.Interpreting.{AnyBytes, Streams, devices_of, first_registers}
 use Rattle.bk_kit.specs.Headline.{Language, Runs, Keeps}
 use Rattle.bk_kit.specs.Sources.{stmts_of_tree}
 use Rattle.bk_kit.specs.SourceSections.{HasTrees, HasParts, IsRefused}
@@ -166,7 +166,7 @@ meanings = meanings_with image_of
 abbrev pub MeaningRuns : Type 0
 MeaningRuns = (parts : List Part) (source : List ℕ) (end : End) (steps words : ℕ) (store : List ℕ) (registers : Registers) (before after : Streams)
     → HasParts parts source → image parts + 16 ≤ words → words ≤ STORE_MOST → any_starts (segments parts) ≡ true
-    → Ran AnyBytes end steps (loaded_store words (segments parts)) (first_registers (segments parts)) store registers (told_streams before) (told_streams after)
+    → Ran AnyBytes end steps (loaded_store words (segments parts)) (first_registers (segments parts)) store registers (devices_of before) (devices_of after)
     → Begins before.passed after.passed → (end ≢ WriteFault → after.passed ≡ after.taken) → Blames end before.reads after.reads after.writes
     → Runs meanings source end steps words before after
 

@@ -1,5 +1,6 @@
 -- What a run with a line for each step comes to.
 use Rattle.std.specs.Prelude.{◌≡◌, ◌≢◌, ◌⊎◌, ℕ, Bool, ⊤, List, Option, Result, Ok, Err, if◌then◌else◌}
+use Rattle.bk_base.specs.declared.device.ByteIn as reader
 use Rattle.bk_base.specs.declared.run_end.End.{End}
 use Rattle.bk_base.specs.declared.run_end.End.TheVariants.{WriteFault}
 use Rattle.bk_base.specs.Devices.{Begins}
@@ -9,7 +10,7 @@ use Rattle.bk_ocode.specs.declared.stmt.Stmt.{Stmt}
 use Rattle.bk_kit.specs.declared.kit_fault.KitFault.{KitFault}
 use Rattle.bk_kit.specs.declared.kit_fault.KitFault.TheVariants.{Source, Ocode, Intcode, TooSmall, NoStart, Read, Write, Memory}
 use Rattle.bk_kit.specs.Generating.{ocode}
-use Rattle.bk_kit.specs.Interpreting.{Streams, told_streams, CodeRefused, Interprets, is_read_fault, is_read}
+use Rattle.bk_kit.specs.Interpreting.{Streams, devices_of, CodeRefused, Interprets, is_read_fault, is_read}
 use Rattle.bk_kit.specs.Texts.{Stands, StopsInPart, parts, refused}
 use Rattle.bk_kit.specs.Telling.{Output, Tells}
 
@@ -17,7 +18,7 @@ use Rattle.bk_kit.specs.Telling.{Output, Tells}
 -- that its failure may show at an earlier one.
 abbrev pub Traced : (List ℕ → Type 0) → Result End KitFault → (steps words : ℕ) → Option (List ℕ) → Option (List ℕ) → Bool → Streams → Streams → Type 0
 Traced Holds (Ok end) steps words old new ended before after =
-    (end ≢ WriteFault → Interprets Holds end steps words old new ended (told_streams before) (told_streams after))
+    (end ≢ WriteFault → Interprets Holds end steps words old new ended (devices_of before) (devices_of after))
     × Begins before.passed after.passed × (end ≢ WriteFault → after.passed ≡ after.taken) × Blames end before.reads after.reads after.writes
 Traced Holds (Err fault) steps words old new ended before after = CodeRefused fault words old new ended × (after ≡ before)
 
@@ -29,6 +30,9 @@ pub record FileRead : Type 0 where
   pub new : Option (List ℕ)
   pub ended : Bool
   pub faults : ℕ
+
+abbrev pub file_read : {F : Type 0} → reader.Ghosts F → (before after : F) → FileRead
+file_read f before after = record { old = f.left before; new = f.left after; ended = f.ended after; faults = f.faults after }
 
 -- What refuses a text of OCODE as it is read.
 abbrev pub OcodeRefused : KitFault → Option (List ℕ) → Option (List ℕ) → Bool → Type 0

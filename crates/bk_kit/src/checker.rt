@@ -5,6 +5,7 @@ ghost use Rattle.bk_tree.specs.Section.{declarations_of};
 ghost use Rattle.bk_kit.specs.CompilingSection.{trees_in};
 ghost use Rattle.bk_kit.specs.RunningSource.{NotAssembled, ReadsSource};
 ghost use Rattle.bk_kit.specs.Checking.{fails_reading, fails_check, HasTheseTrees, ChecksSource, Untouched};
+ghost use Rattle.bk_kit.specs.Interpreting.{streams};
 
 use crate::kit_fault::KitFault;
 use crate::reading::read_source_section;
@@ -110,24 +111,7 @@ pub fn check_source<C: ByteIn, I: ByteIn, O: ByteOut>(
     out: &mut O,
 ) -> Result<Report, NotChecked>
     ensures checks { ChecksSource result turns (C.left source.old) (C.left source.new) (C.ended source.new)
-        (record {
-          left = I.left input.old;
-          held = I.held input.old;
-          ended = I.ended input.old;
-          taken = O.taken out.old;
-          passed = O.passed out.old;
-          reads = I.faults input.old;
-          writes = O.faults out.old;
-        })
-        (record {
-          left = I.left input.new;
-          held = I.held input.new;
-          ended = I.ended input.new;
-          taken = O.taken out.new;
-          passed = O.passed out.new;
-          reads = I.faults input.new;
-          writes = O.faults out.new;
-        }) }
+        (streams I.ByteIn O.ByteOut input.old out.old) (streams I.ByteIn O.ByteOut input.new out.new) }
     ensures untouched { IfErr result (λ stopped. Untouched stopped input.old input.new out.old out.new) }
     ensures passes { Begins (O.passed out.old) (O.passed out.new) }
     ensures delivered { ReadsSource (fails_check result) (C.left source.old) (C.left source.new) }

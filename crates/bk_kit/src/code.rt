@@ -45,7 +45,12 @@ pub fn read_code<C: ByteIn>(alloc: Global, code: &mut C) -> Result<Vec<Intcode>,
     }
 }
 
-/// Reads all segments of a text and loads them into a store of so many words.
+/// Reads a text of INTCODE to its end and loads its segments, in their order, into a store of `words` words of 32 bits. Nothing is
+/// run: C is 1 and P is the first word after the segments.
+///
+/// A fault of the text is `Intcode`, with the number of the segment and of the item in it, both from 1. Where the text has none,
+/// `TooSmall` says that fewer than 16 words would be left for the stack, and after that `NoStart` that no segment sets global 1.
+/// `Read` says that the device failed. These rules are this project's own.
 pub fn load_code<C: ByteIn>(alloc: Global, code: &mut C, words: u32) -> Result<Machine, KitFault>
     requires least { STORE_LEAST ≤ words }
     requires most { words ≤ STORE_MOST }

@@ -5,6 +5,7 @@ ghost use Rattle.bk_base.specs.Devices.{Begins, AppendsPart};
 ghost use Rattle.bk_kit.specs.Sources.{texts_of};
 ghost use Rattle.bk_kit.specs.CompilingSection.{codes_in};
 ghost use Rattle.bk_kit.specs.Compiling.{Compiles, PutsSections};
+ghost use Rattle.bk_kit.specs.Telling.{output};
 
 use crate::kit_fault::KitFault;
 use crate::reading::read_source_section;
@@ -34,8 +35,7 @@ fn put_sections<C: ByteIn, O: ByteOut>(
     out: &mut O,
 ) -> Result<(), KitFault>
     ensures puts { PutsSections result (C.left source.old) (C.left source.new) (C.ended source.new) (C.faults source.new)
-        (record { taken = O.taken out.old; passed = O.passed out.old; faults = O.faults out.old })
-        (record { taken = O.taken out.new; passed = O.passed out.new; faults = O.faults out.new }) }
+        (output O.ByteOut out.old) (output O.ByteOut out.new) }
 {
     let mut taken = 0;
     let mut line = Line::first();
@@ -64,8 +64,7 @@ pub fn compile<C: ByteIn, O: ByteOut>(
     out: &mut O,
 ) -> Result<(), KitFault>
     ensures compiles { Compiles result (C.left source.old) (C.left source.new) (C.ended source.new) (C.faults source.new)
-        (record { taken = O.taken out.old; passed = O.passed out.old; faults = O.faults out.old })
-        (record { taken = O.taken out.new; passed = O.passed out.new; faults = O.faults out.new }) }
+        (output O.ByteOut out.old) (output O.ByteOut out.new) }
 {
     let answer = put_sections(alloc, source, out);
     let Ok(()) = out.flush() else {

@@ -1,6 +1,7 @@
 //! The second filter: OCODE in, INTCODE out.
 ghost use Rattle.std.specs.Prelude.{◌≡◌};
 ghost use Rattle.bk_kit.specs.Generating.{Generates, PutsSegments, ocode_refused};
+ghost use Rattle.bk_kit.specs.Telling.{output};
 
 use crate::code::number_behind;
 use crate::kit_fault::KitFault;
@@ -29,8 +30,7 @@ fn put_segments<I: ByteIn, O: ByteOut>(
     out: &mut O,
 ) -> Result<(), KitFault>
     ensures puts { PutsSegments result (I.left input.old) (I.left input.new) (I.ended input.new) (I.faults input.new)
-        (record { taken = O.taken out.old; passed = O.passed out.old; faults = O.faults out.old })
-        (record { taken = O.taken out.new; passed = O.passed out.new; faults = O.faults out.new }) }
+        (output O.ByteOut out.old) (output O.ByteOut out.new) }
 {
     for before in 0..usize::MAX {
         let section = match read_section(alloc, input) {
@@ -57,8 +57,7 @@ pub fn generate_all<I: ByteIn, O: ByteOut>(
     out: &mut O,
 ) -> Result<(), KitFault>
     ensures generates { Generates result (I.left input.old) (I.left input.new) (I.ended input.new) (I.faults input.new)
-        (record { taken = O.taken out.old; passed = O.passed out.old; faults = O.faults out.old })
-        (record { taken = O.taken out.new; passed = O.passed out.new; faults = O.faults out.new }) }
+        (output O.ByteOut out.old) (output O.ByteOut out.new) }
 {
     let answer = put_segments(alloc, input, out);
     let Ok(()) = out.flush() else {

@@ -3,8 +3,9 @@ ghost use Rattle.std.specs.Prelude.{◌≡◌, OnErr, OnOk, if◌then◌else◌}
 ghost use Rattle.std.specs.Io.KnownBytes.{Appends};
 ghost use Rattle.bk_base.specs.Devices.{AppendsPart};
 ghost use Rattle.bk_intcode.specs.Runs.{HeldBy};
-ghost use Rattle.bk_kit.specs.Interpreting.{Interpreted, is_read};
+ghost use Rattle.bk_kit.specs.Interpreting.{Interpreted, is_read, streams};
 ghost use Rattle.bk_kit.specs.Sizes.{sizes_line, store_words, Reports};
+ghost use Rattle.bk_kit.specs.Telling.{output};
 
 use crate::code::load_code;
 use crate::kit_fault::KitFault;
@@ -26,24 +27,7 @@ pub fn interpret<C: ByteIn, I: ByteIn, O: ByteOut>(
     out: &mut O,
 ) -> Result<End, KitFault>
     ensures interpreted { Interpreted (HeldBy I.held) result limits.steps limits.words (C.left code.old) (C.left code.new) (C.ended code.new)
-        (record {
-          left = I.left input.old;
-          held = I.held input.old;
-          ended = I.ended input.old;
-          taken = O.taken out.old;
-          passed = O.passed out.old;
-          reads = I.faults input.old;
-          writes = O.faults out.old;
-        })
-        (record {
-          left = I.left input.new;
-          held = I.held input.new;
-          ended = I.ended input.new;
-          taken = O.taken out.new;
-          passed = O.passed out.new;
-          reads = I.faults input.new;
-          writes = O.faults out.new;
-        }) }
+        (streams I.ByteIn O.ByteOut input.old out.old) (streams I.ByteIn O.ByteOut input.new out.new) }
     ensures runs_nothing { OnErr result ((input.new ≡ input.old) × (out.new ≡ out.old)) }
     ensures read_fails { C.faults code.new ≡ (if is_read result then 1 else 0) }
 {
@@ -91,8 +75,7 @@ pub fn sizes<C: ByteIn, O: ByteOut>(
     out: &mut O,
 ) -> Result<(), KitFault>
     ensures reports { Reports result (store_words words) (C.left code.old) (C.left code.new) (C.ended code.new)
-        (record { taken = O.taken out.old; passed = O.passed out.old; faults = O.faults out.old })
-        (record { taken = O.taken out.new; passed = O.passed out.new; faults = O.faults out.new }) }
+        (output O.ByteOut out.old) (output O.ByteOut out.new) }
     ensures read_fails { C.faults code.new ≡ (if is_read result then 1 else 0) }
 {
     let machine = load_code(alloc, code, words.max(STORE_LEAST).min(STORE_MOST))?;

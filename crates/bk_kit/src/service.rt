@@ -3,7 +3,9 @@ ghost use Rattle.std.specs.Prelude.{◌≡◌};
 ghost use Rattle.bk_intcode.specs.Runs.{HeldBy};
 ghost use Rattle.bk_kit.specs.Serving.{Serves, LeavesFile, LeavesNames, LeavesInput};
 ghost use Rattle.bk_kit.specs.Statuses.{refusal_status, refusal_line};
-ghost use Rattle.bk_kit.specs.Telling.{Tells};
+ghost use Rattle.bk_kit.specs.Telling.{Tells, output};
+ghost use Rattle.bk_kit.specs.Interpreting.{streams};
+ghost use Rattle.bk_kit.specs.Tracing.{file_read};
 
 use crate::checker::check_source;
 use crate::command_line::LineFault;
@@ -33,28 +35,10 @@ pub fn serve<F: ByteIn, N: ByteIn, I: ByteIn, O: ByteOut, E: ByteOut>(
     err: &mut E,
 ) -> u8
     ensures serves { Serves (HeldBy I.held) order.now result
-        (record { old = F.left file.old; new = F.left file.new; ended = F.ended file.new; faults = F.faults file.new })
-        (record { old = N.left names.old; new = N.left names.new; ended = N.ended names.new; faults = N.faults names.new })
-        (record {
-          left = I.left input.old;
-          held = I.held input.old;
-          ended = I.ended input.old;
-          taken = O.taken out.old;
-          passed = O.passed out.old;
-          reads = I.faults input.old;
-          writes = O.faults out.old;
-        })
-        (record {
-          left = I.left input.new;
-          held = I.held input.new;
-          ended = I.ended input.new;
-          taken = O.taken out.new;
-          passed = O.passed out.new;
-          reads = I.faults input.new;
-          writes = O.faults out.new;
-        })
-        (record { taken = E.taken err.old; passed = E.passed err.old; faults = E.faults err.old })
-        (record { taken = E.taken err.new; passed = E.passed err.new; faults = E.faults err.new }) }
+        (file_read F.ByteIn file.old file.new)
+        (file_read N.ByteIn names.old names.new)
+        (streams I.ByteIn O.ByteOut input.old out.old) (streams I.ByteIn O.ByteOut input.new out.new)
+        (output E.ByteOut err.old) (output E.ByteOut err.new) }
     ensures leaves_file { LeavesFile order.now file.old file.new }
     ensures leaves_names { LeavesNames order.now names.old names.new }
     ensures leaves_input { LeavesInput order.now input.old input.new }
@@ -101,9 +85,7 @@ pub fn serve<F: ByteIn, N: ByteIn, I: ByteIn, O: ByteOut, E: ByteOut>(
 /// that goes to the output.
 pub fn refuse<E: ByteOut>(fault: &LineFault, err: &mut E) -> u8
     ensures status { result ≡ refusal_status fault.now }
-    ensures line { Tells (refusal_line fault.now)
-        (record { taken = E.taken err.old; passed = E.passed err.old; faults = E.faults err.old })
-        (record { taken = E.taken err.new; passed = E.passed err.new; faults = E.faults err.new }) }
+    ensures line { Tells (refusal_line fault.now) (output E.ByteOut err.old) (output E.ByteOut err.new) }
 {
     match fault {
         LineFault::Help(_) => 0,

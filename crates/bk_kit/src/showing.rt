@@ -2,6 +2,7 @@
 ghost use Rattle.std.specs.Prelude.{IfOk, IfErr};
 ghost use Rattle.bk_kit.specs.CompilingSection.{Compiled};
 ghost use Rattle.bk_kit.specs.Showing.{PutsSection, NotPut, ShowsSections, ShowsSource};
+ghost use Rattle.bk_kit.specs.Telling.{output};
 
 use crate::kit_fault::KitFault;
 use crate::reading::read_source_section;
@@ -87,8 +88,7 @@ pub fn show_source<C: ByteIn, O: ByteOut>(
     out: &mut O,
 ) -> Result<(), KitFault>
     ensures shows { ShowsSource result (C.left source.old) (C.left source.new) (C.ended source.new) (C.faults source.new)
-        (record { taken = O.taken out.old; passed = O.passed out.old; faults = O.faults out.old })
-        (record { taken = O.taken out.new; passed = O.passed out.new; faults = O.faults out.new }) }
+        (output O.ByteOut out.old) (output O.ByteOut out.new) }
 {
     let answer = show_sections(alloc, source, &asked, out);
     let Ok(()) = out.flush() else {

@@ -3,7 +3,7 @@ ghost use Rattle.std.specs.Prelude.{◌≡◌, ◌≤◌, IfOk, IfErr, OnOk, OnE
 ghost use Rattle.bk_base.specs.declared.limit.TheConstants.{STORE_LEAST, STORE_MOST};
 ghost use Rattle.bk_intcode.specs.Runs.{HeldBy};
 ghost use Rattle.bk_intcode.specs.SegmentItems.{items_of};
-ghost use Rattle.bk_kit.specs.Interpreting.{is_read};
+ghost use Rattle.bk_kit.specs.Interpreting.{is_read, streams};
 ghost use Rattle.bk_kit.specs.CompilingSection.{codes_in};
 ghost use Rattle.bk_kit.specs.RunningSource.{Generated, Assembled, NotAssembled, LoadsSource, RefusesSource, ReadsSource, NotLoaded, KeepsLimits};
 ghost use Rattle.bk_kit.specs.Headline.{Headline};
@@ -92,43 +92,9 @@ pub fn run_source<C: ByteIn, I: ByteIn, O: ByteOut>(
     out: &mut O,
 ) -> Result<End, KitFault>
     ensures headline { Headline meanings result limits.steps limits.words (C.left source.old) (C.left source.new) (C.ended source.new)
-        (record {
-          left = I.left input.old;
-          held = I.held input.old;
-          ended = I.ended input.old;
-          taken = O.taken out.old;
-          passed = O.passed out.old;
-          reads = I.faults input.old;
-          writes = O.faults out.old;
-        })
-        (record {
-          left = I.left input.new;
-          held = I.held input.new;
-          ended = I.ended input.new;
-          taken = O.taken out.new;
-          passed = O.passed out.new;
-          reads = I.faults input.new;
-          writes = O.faults out.new;
-        }) }
+        (streams I.ByteIn O.ByteOut input.old out.old) (streams I.ByteIn O.ByteOut input.new out.new) }
     ensures keeps_limits { KeepsLimits (HeldBy I.held) result limits.steps limits.words (C.left source.old) (C.left source.new) (C.ended source.new)
-        (record {
-          left = I.left input.old;
-          held = I.held input.old;
-          ended = I.ended input.old;
-          taken = O.taken out.old;
-          passed = O.passed out.old;
-          reads = I.faults input.old;
-          writes = O.faults out.old;
-        })
-        (record {
-          left = I.left input.new;
-          held = I.held input.new;
-          ended = I.ended input.new;
-          taken = O.taken out.new;
-          passed = O.passed out.new;
-          reads = I.faults input.new;
-          writes = O.faults out.new;
-        }) }
+        (streams I.ByteIn O.ByteOut input.old out.old) (streams I.ByteIn O.ByteOut input.new out.new) }
     ensures delivered { ReadsSource (is_read result) (C.left source.old) (C.left source.new) }
     ensures runs_nothing { OnErr result ((input.new ≡ input.old) × (out.new ≡ out.old)) }
     ensures read_fails { C.faults source.new ≡ (if is_read result then 1 else 0) }

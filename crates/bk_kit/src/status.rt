@@ -2,7 +2,7 @@
 ghost use Rattle.std.specs.Prelude.{◌≡◌};
 ghost use Rattle.bk_kit.specs.FaultLine.{fault_text, line_of};
 ghost use Rattle.bk_kit.specs.Statuses.{stop_status, end_status, end_line, fault_status, run_status, run_line, done_status, done_line};
-ghost use Rattle.bk_kit.specs.Telling.{ReportsLine, Tells};
+ghost use Rattle.bk_kit.specs.Telling.{ReportsLine, Tells, output};
 ghost use Rattle.bk_kit.specs.Pieces.{joined};
 ghost use Rattle.bk_kit.specs.Checking.{verdict_status, check_fault_status, check_fault_text, check_status, ReportsText, ReportsRemarks, ReportsVerdict, ReportsCheck};
 
@@ -24,7 +24,8 @@ fn status_of_stop(number: i32) -> u8
     }
 }
 
-/// The exit status for the end of a run.
+/// The exit status for the end of a run: for STOP(n) it is n from 0 to 99, and 100 for another n; the other ends have numbers from
+/// 104. The numbers are this project's own; `docs/FAULTS.md` lists them.
 pub fn status_of_end(end: End) -> u8
     ensures { result ≡ end_status end }
 {
@@ -39,7 +40,7 @@ pub fn status_of_end(end: End) -> u8
     }
 }
 
-/// The exit status for a fault.
+/// The exit status for a fault, from 101 to 111, as `docs/FAULTS.md` lists them.
 pub fn status_of_fault(fault: &KitFault) -> u8
     ensures { result ≡ fault_status fault.now }
 {
@@ -57,9 +58,7 @@ pub fn status_of_fault(fault: &KitFault) -> u8
 
 /// Writes a line on the error stream and passes it on. A failure of that stream changes nothing.
 fn report_line<E: ByteOut>(text: &str, err: &mut E)
-    ensures { ReportsLine (line_of text.now)
-        (record { taken = E.taken err.old; passed = E.passed err.old; faults = E.faults err.old })
-        (record { taken = E.taken err.new; passed = E.passed err.new; faults = E.faults err.new }) }
+    ensures { ReportsLine (line_of text.now) (output E.ByteOut err.old) (output E.ByteOut err.new) }
 {
     if put_text(text, err).is_ok() {
         let _passed = err.flush();
@@ -69,9 +68,7 @@ fn report_line<E: ByteOut>(text: &str, err: &mut E)
 /// Writes a line on the error stream, and answers the status.
 pub fn report_text<E: ByteOut>(text: &str, status: u8, err: &mut E) -> u8
     ensures status { result ≡ status }
-    ensures line { ReportsLine (line_of text.now)
-        (record { taken = E.taken err.old; passed = E.passed err.old; faults = E.faults err.old })
-        (record { taken = E.taken err.new; passed = E.passed err.new; faults = E.faults err.new }) }
+    ensures line { ReportsLine (line_of text.now) (output E.ByteOut err.old) (output E.ByteOut err.new) }
 {
     report_line(text, err);
     status
@@ -79,9 +76,7 @@ pub fn report_text<E: ByteOut>(text: &str, status: u8, err: &mut E) -> u8
 
 /// Writes the line of a fault on the error stream and passes it on.
 fn report_fault_line<E: ByteOut>(fault: &KitFault, err: &mut E)
-    ensures { ReportsLine (line_of (fault_text fault.now))
-        (record { taken = E.taken err.old; passed = E.passed err.old; faults = E.faults err.old })
-        (record { taken = E.taken err.new; passed = E.passed err.new; faults = E.faults err.new }) }
+    ensures { ReportsLine (line_of (fault_text fault.now)) (output E.ByteOut err.old) (output E.ByteOut err.new) }
 {
     if fault.put_line(err).is_ok() {
         let _passed = err.flush();
@@ -91,9 +86,7 @@ fn report_fault_line<E: ByteOut>(fault: &KitFault, err: &mut E)
 /// Writes the line of a fault on the error stream, and answers the status.
 fn report_fault<E: ByteOut>(fault: &KitFault, err: &mut E) -> u8
     ensures status { result ≡ fault_status fault.now }
-    ensures line { ReportsLine (line_of (fault_text fault.now))
-        (record { taken = E.taken err.old; passed = E.passed err.old; faults = E.faults err.old })
-        (record { taken = E.taken err.new; passed = E.passed err.new; faults = E.faults err.new }) }
+    ensures line { ReportsLine (line_of (fault_text fault.now)) (output E.ByteOut err.old) (output E.ByteOut err.new) }
 {
     report_fault_line(fault, err);
     status_of_fault(fault)
@@ -102,9 +95,7 @@ fn report_fault<E: ByteOut>(fault: &KitFault, err: &mut E) -> u8
 /// Writes the line of an end on the error stream if it has one, and answers the status.
 fn report_end<E: ByteOut>(end: End, err: &mut E) -> u8
     ensures status { result ≡ end_status end }
-    ensures line { Tells (end_line end)
-        (record { taken = E.taken err.old; passed = E.passed err.old; faults = E.faults err.old })
-        (record { taken = E.taken err.new; passed = E.passed err.new; faults = E.faults err.new }) }
+    ensures line { Tells (end_line end) (output E.ByteOut err.old) (output E.ByteOut err.new) }
 {
     let status = status_of_end(end);
     match end {
@@ -121,9 +112,7 @@ fn report_end<E: ByteOut>(end: End, err: &mut E) -> u8
 /// Writes the line for the answer of a run on the error stream if it has one, and answers the status.
 pub fn report_run<E: ByteOut>(answer: &Result<End, KitFault>, err: &mut E) -> u8
     ensures status { result ≡ run_status answer.now }
-    ensures line { Tells (run_line answer.now)
-        (record { taken = E.taken err.old; passed = E.passed err.old; faults = E.faults err.old })
-        (record { taken = E.taken err.new; passed = E.passed err.new; faults = E.faults err.new }) }
+    ensures line { Tells (run_line answer.now) (output E.ByteOut err.old) (output E.ByteOut err.new) }
 {
     match answer {
         Ok(end) => report_end(*end, err),
@@ -134,9 +123,7 @@ pub fn report_run<E: ByteOut>(answer: &Result<End, KitFault>, err: &mut E) -> u8
 /// Writes the line for the answer of a call that only writes on the error stream if it has one, and answers the status.
 pub fn report_done<E: ByteOut>(answer: &Result<(), KitFault>, err: &mut E) -> u8
     ensures status { result ≡ done_status answer.now }
-    ensures line { Tells (done_line answer.now)
-        (record { taken = E.taken err.old; passed = E.passed err.old; faults = E.faults err.old })
-        (record { taken = E.taken err.new; passed = E.passed err.new; faults = E.faults err.new }) }
+    ensures line { Tells (done_line answer.now) (output E.ByteOut err.old) (output E.ByteOut err.new) }
 {
     match answer {
         Ok(()) => 0,
@@ -146,9 +133,7 @@ pub fn report_done<E: ByteOut>(answer: &Result<(), KitFault>, err: &mut E) -> u8
 
 /// Writes pieces of text on the error stream and passes them on. A failure of that stream changes nothing.
 fn report_pieces<E: ByteOut>(pieces: &[&[u8]], err: &mut E)
-    ensures { ReportsLine (joined pieces.now)
-        (record { taken = E.taken err.old; passed = E.passed err.old; faults = E.faults err.old })
-        (record { taken = E.taken err.new; passed = E.passed err.new; faults = E.faults err.new }) }
+    ensures { ReportsLine (joined pieces.now) (output E.ByteOut err.old) (output E.ByteOut err.new) }
 {
     if put_pieces(err, pieces).is_ok() {
         let _passed = err.flush();
@@ -165,9 +150,7 @@ fn report_parts<'a, E: ByteOut>(
     calls: &'a [u8],
     err: &mut E,
 )
-    ensures { ReportsText
-        (record { taken = E.taken err.old; passed = E.passed err.old; faults = E.faults err.old })
-        (record { taken = E.taken err.new; passed = E.passed err.new; faults = E.faults err.new }) }
+    ensures { ReportsText (output E.ByteOut err.old) (output E.ByteOut err.new) }
 {
     report_pieces(&[file, b":", line, b": ", kind, what, b"\n", calls], err)
 }
@@ -181,9 +164,7 @@ fn report_at<E: ByteOut>(
     file: &str,
     err: &mut E,
 )
-    ensures { ReportsText
-        (record { taken = E.taken err.old; passed = E.passed err.old; faults = E.faults err.old })
-        (record { taken = E.taken err.new; passed = E.passed err.new; faults = E.faults err.new }) }
+    ensures { ReportsText (output E.ByteOut err.old) (output E.ByteOut err.new) }
 {
     let mut number = Buffer::new();
     report_parts(
@@ -198,18 +179,14 @@ fn report_at<E: ByteOut>(
 
 /// Writes what went wrong in a check.
 fn report_stop<E: ByteOut>(report: &Report, kind: &str, file: &str, err: &mut E)
-    ensures { ReportsText
-        (record { taken = E.taken err.old; passed = E.passed err.old; faults = E.faults err.old })
-        (record { taken = E.taken err.new; passed = E.passed err.new; faults = E.faults err.new }) }
+    ensures { ReportsText (output E.ByteOut err.old) (output E.ByteOut err.new) }
 {
     report_at(report.line, kind, &report.what, &report.calls, file, err)
 }
 
 /// Writes what is suspicious in the source, a line for each thing.
 fn report_remarks<E: ByteOut>(remarks: &[Remark], file: &str, err: &mut E)
-    ensures { ReportsRemarks remarks.now
-        (record { taken = E.taken err.old; passed = E.passed err.old; faults = E.faults err.old })
-        (record { taken = E.taken err.new; passed = E.passed err.new; faults = E.faults err.new }) }
+    ensures { ReportsRemarks remarks.now (output E.ByteOut err.old) (output E.ByteOut err.new) }
 {
     match remarks.split_first() {
         None => {}
@@ -235,9 +212,7 @@ fn status_of_verdict(verdict: Verdict) -> u8
 
 /// Writes what is reported of a verdict on the error stream.
 fn report_verdict<E: ByteOut>(report: &Report, file: &str, err: &mut E)
-    ensures { ReportsVerdict report.now.verdict
-        (record { taken = E.taken err.old; passed = E.passed err.old; faults = E.faults err.old })
-        (record { taken = E.taken err.new; passed = E.passed err.new; faults = E.faults err.new }) }
+    ensures { ReportsVerdict report.now.verdict (output E.ByteOut err.old) (output E.ByteOut err.new) }
 {
     match report.verdict {
         Verdict::Status(_) => {}
@@ -250,9 +225,7 @@ fn report_verdict<E: ByteOut>(report: &Report, file: &str, err: &mut E)
 /// Writes the line for a check that was given up, and answers the status.
 fn report_check_fault<E: ByteOut>(fault: CheckFault, err: &mut E) -> u8
     ensures status { result ≡ check_fault_status fault }
-    ensures line { ReportsLine (line_of (check_fault_text fault))
-        (record { taken = E.taken err.old; passed = E.passed err.old; faults = E.faults err.old })
-        (record { taken = E.taken err.new; passed = E.passed err.new; faults = E.faults err.new }) }
+    ensures line { ReportsLine (line_of (check_fault_text fault)) (output E.ByteOut err.old) (output E.ByteOut err.new) }
 {
     match fault {
         CheckFault::Memory => report_text("no memory", 111, err),
@@ -273,9 +246,7 @@ fn calls_of(stop: &GivenUp) -> &[u8] {
 /// Writes what is reported of the answer of a check on the error stream, and answers the status. `file` is the name of FILE.
 pub fn report_check<E: ByteOut>(answer: &Result<Report, NotChecked>, file: &str, err: &mut E) -> u8
     ensures status { result ≡ check_status answer.now }
-    ensures told { ReportsCheck answer.now
-        (record { taken = E.taken err.old; passed = E.passed err.old; faults = E.faults err.old })
-        (record { taken = E.taken err.new; passed = E.passed err.new; faults = E.faults err.new }) }
+    ensures told { ReportsCheck answer.now (output E.ByteOut err.old) (output E.ByteOut err.new) }
 {
     match answer {
         Ok(report) => {

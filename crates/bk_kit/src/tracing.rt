@@ -2,10 +2,10 @@
 ghost use Rattle.std.specs.Prelude.{◌≡◌, ◌≢◌, ◌≤◌, None, if◌then◌else◌};
 ghost use Rattle.bk_base.specs.declared.run_end.End.TheVariants.{StepLimit, WriteFault};
 ghost use Rattle.bk_base.specs.Devices.{Begins};
-ghost use Rattle.bk_intcode.specs.Runs.{HeldBy, Ran, Blames};
+ghost use Rattle.bk_intcode.specs.Runs.{HeldBy, Ran, Blames, devices};
 ghost use Rattle.bk_intcode.specs.State.{store_of, registers_of, end_of};
-ghost use Rattle.bk_kit.specs.Interpreting.{is_read};
-ghost use Rattle.bk_kit.specs.Tracing.{Traced, TracedNamed};
+ghost use Rattle.bk_kit.specs.Interpreting.{is_read, streams};
+ghost use Rattle.bk_kit.specs.Tracing.{Traced, TracedNamed, file_read};
 
 use crate::code::load_code;
 use crate::kit_fault::KitFault;
@@ -98,8 +98,7 @@ fn run_step<I: ByteIn, O: ByteOut, E: ByteOut>(
     requires fresh { end_of machine.old ≡ None }
     ensures ran { Ran (HeldBy I.held) result 1
         (store_of machine.old) (registers_of machine.old) (store_of machine.new) (registers_of machine.new)
-        (record { left = I.left input.old; held = I.held input.old; ended = I.ended input.old; taken = O.taken out.old; passed = O.passed out.old })
-        (record { left = I.left input.new; held = I.held input.new; ended = I.ended input.new; taken = O.taken out.new; passed = O.passed out.new }) }
+        (devices I.ByteIn O.ByteOut input.old out.old) (devices I.ByteIn O.ByteOut input.new out.new) }
     ensures flushed { result ≢ WriteFault → O.passed out.new ≡ O.taken out.new }
     ensures passes { Begins (O.passed out.old) (O.passed out.new) }
     ensures cause { Blames result (I.faults input.old) (I.faults input.new) (O.faults out.new) }
@@ -130,8 +129,7 @@ fn run_steps<I: ByteIn, O: ByteOut, E: ByteOut>(
     requires some { 1 ≤ steps }
     ensures ran { result ≢ WriteFault → Ran (HeldBy I.held) result steps
         (store_of machine.old) (registers_of machine.old) (store_of machine.new) (registers_of machine.new)
-        (record { left = I.left input.old; held = I.held input.old; ended = I.ended input.old; taken = O.taken out.old; passed = O.passed out.old })
-        (record { left = I.left input.new; held = I.held input.new; ended = I.ended input.new; taken = O.taken out.new; passed = O.passed out.new }) }
+        (devices I.ByteIn O.ByteOut input.old out.old) (devices I.ByteIn O.ByteOut input.new out.new) }
     ensures flushed { result ≢ WriteFault → O.passed out.new ≡ O.taken out.new }
     ensures passes { Begins (O.passed out.old) (O.passed out.new) }
     ensures cause { Blames result (I.faults input.old) (I.faults input.new) (O.faults out.new) }
@@ -185,24 +183,7 @@ fn trace_with<C: ByteIn, I: ByteIn, O: ByteOut, E: ByteOut>(
     err: &mut E,
 ) -> Result<End, KitFault>
     ensures traced { Traced (HeldBy I.held) result limits.steps limits.words (C.left code.old) (C.left code.new) (C.ended code.new)
-        (record {
-          left = I.left input.old;
-          held = I.held input.old;
-          ended = I.ended input.old;
-          taken = O.taken out.old;
-          passed = O.passed out.old;
-          reads = I.faults input.old;
-          writes = O.faults out.old;
-        })
-        (record {
-          left = I.left input.new;
-          held = I.held input.new;
-          ended = I.ended input.new;
-          taken = O.taken out.new;
-          passed = O.passed out.new;
-          reads = I.faults input.new;
-          writes = O.faults out.new;
-        }) }
+        (streams I.ByteIn O.ByteOut input.old out.old) (streams I.ByteIn O.ByteOut input.new out.new) }
     ensures read_fails { C.faults code.new ≡ (if is_read result then 1 else 0) }
     ensures told { Begins (E.taken err.old) (E.taken err.new) × Begins (E.passed err.old) (E.passed err.new) }
 {
@@ -223,24 +204,7 @@ pub fn trace<C: ByteIn, I: ByteIn, O: ByteOut, E: ByteOut>(
     err: &mut E,
 ) -> Result<End, KitFault>
     ensures traced { Traced (HeldBy I.held) result limits.steps limits.words (C.left code.old) (C.left code.new) (C.ended code.new)
-        (record {
-          left = I.left input.old;
-          held = I.held input.old;
-          ended = I.ended input.old;
-          taken = O.taken out.old;
-          passed = O.passed out.old;
-          reads = I.faults input.old;
-          writes = O.faults out.old;
-        })
-        (record {
-          left = I.left input.new;
-          held = I.held input.new;
-          ended = I.ended input.new;
-          taken = O.taken out.new;
-          passed = O.passed out.new;
-          reads = I.faults input.new;
-          writes = O.faults out.new;
-        }) }
+        (streams I.ByteIn O.ByteOut input.old out.old) (streams I.ByteIn O.ByteOut input.new out.new) }
     ensures read_fails { C.faults code.new ≡ (if is_read result then 1 else 0) }
     ensures told { Begins (E.taken err.old) (E.taken err.new) × Begins (E.passed err.old) (E.passed err.new) }
 {
@@ -260,26 +224,9 @@ pub fn trace_named<N: ByteIn, C: ByteIn, I: ByteIn, O: ByteOut, E: ByteOut>(
     err: &mut E,
 ) -> Result<End, KitFault>
     ensures traced { TracedNamed (HeldBy I.held) result limits.steps limits.words
-        (record { old = N.left ocode.old; new = N.left ocode.new; ended = N.ended ocode.new; faults = N.faults ocode.new })
-        (record { old = C.left code.old; new = C.left code.new; ended = C.ended code.new; faults = C.faults code.new })
-        (record {
-          left = I.left input.old;
-          held = I.held input.old;
-          ended = I.ended input.old;
-          taken = O.taken out.old;
-          passed = O.passed out.old;
-          reads = I.faults input.old;
-          writes = O.faults out.old;
-        })
-        (record {
-          left = I.left input.new;
-          held = I.held input.new;
-          ended = I.ended input.new;
-          taken = O.taken out.new;
-          passed = O.passed out.new;
-          reads = I.faults input.new;
-          writes = O.faults out.new;
-        }) }
+        (file_read N.ByteIn ocode.old ocode.new)
+        (file_read C.ByteIn code.old code.new)
+        (streams I.ByteIn O.ByteOut input.old out.old) (streams I.ByteIn O.ByteOut input.new out.new) }
     ensures told { Begins (E.taken err.old) (E.taken err.new) × Begins (E.passed err.old) (E.passed err.new) }
 {
     let sections = read_sections(alloc, ocode)?;

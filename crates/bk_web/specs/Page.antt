@@ -10,13 +10,13 @@ use Rattle.bk_intcode.specs.declared.machine.Machine.{Machine}
 use Rattle.bk_intcode.specs.declared.registers.Registers.{Registers}
 use Rattle.bk_intcode.specs.Placement.{SEGMENTS, stack_start, loaded_store}
 use Rattle.bk_intcode.specs.State.{words_of}
-use Rattle.bk_intcode.specs.Runs.{Told, Ran}
+use Rattle.bk_intcode.specs.Runs.{Devices, Ran}
 use Rattle.bk_kit.specs.declared.command_line.LineFault.{LineFault}
 use Rattle.bk_kit.specs.declared.command_line.LineFault.TheVariants.{Help, Bad, Memory}
 use Rattle.bk_kit.specs.declared.kit_fault.KitFault.{KitFault}
 use Rattle.bk_kit.specs.declared.orders.Order.{Order}
 use Rattle.bk_kit.specs.CommandLine.{kit_command, Reads, Refuses}
-use Rattle.bk_kit.specs.Interpreting.{Streams, CodeRefused, Loads, Loadable, first_registers, told_streams}
+use Rattle.bk_kit.specs.Interpreting.{Streams, CodeRefused, Loads, Loadable, first_registers, devices_of}
 use Rattle.bk_kit.specs.Serving.{Serves}
 use Rattle.bk_kit.specs.Statuses.{refusal_status, refusal_line, fault_status, end_status}
 use Rattle.bk_kit.specs.Telling.{Output, Tells}
@@ -106,8 +106,8 @@ pub record Steps (Holds : List ℕ → Type 0) (code input : List ℕ) (steps wo
   pub end : End
   pub store : List ℕ
   pub registers : Registers
-  pub after : Told
-  pub ran : Ran Holds end steps (loaded_store words all) (first_registers all) store registers (told_streams (streams_before input)) after
+  pub after : Devices
+  pub ran : Ran Holds end steps (loaded_store words all) (first_registers all) store registers (devices_of (streams_before input)) after
   pub status_is : standing.status ≡ end_status end
   pub registers_are : registers ≡ record { c = standing.c; p = standing.p; a = standing.a; b = standing.b }
   pub stack_is : standing.stack ≡ stack_start SEGMENTS all

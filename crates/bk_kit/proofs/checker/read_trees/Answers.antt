@@ -1,4 +1,4 @@
-use Rattle.bk_kit.proofs.Terms.{◌≡◌, ◌++◌, sym, subst, arith, ℕ, List, map, rules, Declarations, declarations_of, KitFault, trees_in, Compiled, Refuses, HasTheseTrees, is_read_fault, NotAssembled, ReadsSource}
+use Rattle.bk_kit.proofs.Terms.{◌≡◌, ◌++◌, sym, subst, arith, List, map, rules, Declarations, declarations_of, KitFault, trees_in, Compiled, Refuses, HasTheseTrees, is_read_fault, NotAssembled, ReadsSource}
 use Rattle.bk_kit.proofs.PassedSections.{some_taken}
 use Rattle.bk_kit.proofs.SourceLemmas.{WithTrees, trees_none, not_read, no_memory, not_compiled, trees_go_on, trees_end, stops_reading, has_read}
 use Rattle.bk_kit.proofs.checker.read_trees.Goals as goal

@@ -1,4 +1,4 @@
-use Rattle.bk_kit.proofs.Terms.{◌≡◌, ◌∙◌, ℕ, Option, None, Some, IfSome, IsSome, refl, sym, arith, codes, ParsesUnsigned, ExplainsUnsignedError, HasUnsignedDigitsIfOk, rows_of, found_of, one_of, one_text-rows, ReadsNumber}
+use Rattle.bk_kit.proofs.Terms.{◌≡◌, ℕ, Option, None, Some, IfSome, refl, arith, codes, ParsesUnsigned, ExplainsUnsignedError, HasUnsignedDigitsIfOk, rows_of, found_of, one_of, one_text-rows, ReadsNumber}
 use Rattle.bk_kit.proofs.LineLemmas.{number_of, number_given, some_given}
 use Rattle.bk_kit.proofs.command_line.turns_of.Goals as goal
 

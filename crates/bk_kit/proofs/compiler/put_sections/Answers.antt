@@ -1,4 +1,4 @@
-use Rattle.bk_kit.proofs.Terms.{subst, arith, inl, ℕ, List, Err, IfErr, rules, PutsSections, Compiled, Refuses}
+use Rattle.bk_kit.proofs.Terms.{subst, arith, inl, Err, IfErr, rules, PutsSections, Compiled, Refuses}
 use Rattle.bk_kit.proofs.CompileLemmas.{front_empty, not_read, not_compiled, not_put, is_last, goes_on, puts_fault}
 use Rattle.bk_kit.proofs.PassedSections.{some_taken}
 use Rattle.bk_kit.proofs.compiler.put_sections.Goals as goal

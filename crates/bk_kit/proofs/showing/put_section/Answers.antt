@@ -1,4 +1,4 @@
-use Rattle.bk_kit.proofs.Terms.{inr, refl, sym, ap, symbols_of, declarations_of}
+use Rattle.bk_kit.proofs.Terms.{inr, refl, ap, symbols_of, declarations_of}
 use Rattle.bk_kit.proofs.ShowLemmas.{section_put, if_ok_map, if_err_map}
 use Rattle.bk_kit.proofs.showing.put_section.Goals as goal
 

@@ -1,4 +1,4 @@
-use Rattle.bk_kit.proofs.Terms.{subst, arith, ℕ, Err, IfErr, rules, Compiled, Refuses}
+use Rattle.bk_kit.proofs.Terms.{subst, arith, Err, IfErr, rules, Compiled, Refuses}
 use Rattle.bk_kit.specs.Showing.{ShowsSections}
 use Rattle.bk_kit.proofs.ShowLemmas.{showing_none, section_not_read, section_not_compiled, section_without_memory, section_not_put, section_is_last, section_goes_on, shows_err}
 use Rattle.bk_kit.proofs.PassedSections.{some_taken}

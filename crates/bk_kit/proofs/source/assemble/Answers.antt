@@ -1,4 +1,4 @@
-use Rattle.bk_kit.proofs.Terms.{◌≡◌, subst, arith, ℕ, List, IfErr, rules, Compiled, Refuses}
+use Rattle.bk_kit.proofs.Terms.{◌≡◌, subst, arith, IfErr, rules, Compiled, Refuses}
 use Rattle.bk_kit.proofs.PassedSections.{some_taken}
 use Rattle.bk_kit.proofs.SourceLemmas.{gathered_none, not_read, no_memory, not_compiled, goes_on, is_last, stops_reading, has_read, fails_as}
 use Rattle.bk_kit.proofs.source.assemble.Goals as goal

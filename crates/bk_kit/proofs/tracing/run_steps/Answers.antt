@@ -1,4 +1,4 @@
-use Rattle.bk_kit.proofs.Terms.{rules, ◌≡◌, ◌≢◌, ◌+◌, ◌-◌, ℕ, arith, Begins-trans, StepLimit, HeldBy, Ran}
+use Rattle.bk_kit.proofs.Terms.{rules, ◌≡◌, ◌≢◌, ◌+◌, ◌-◌, arith, Begins-trans, StepLimit, HeldBy}
 use Rattle.bk_kit.proofs.TraceLemmas.{paused_more, ran_more}
 use Rattle.bk_kit.proofs.tracing.run_steps.Goals as goal
 

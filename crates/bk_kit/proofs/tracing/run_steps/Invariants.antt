@@ -1,11 +1,11 @@
 use Rattle.bk_kit.proofs.Terms.{◌≡◌, ◌≤◌, None, Begins, HeldBy, Paused, store_of, registers_of, end_of}
+use Rattle.bk_intcode.specs.Runs.{devices}
 use Rattle.bk_kit.proofs.tracing.run_steps.Given as goal
 
 abbrev pub invariant-loop-i : goal.invariant-loop-i
 invariant-loop-i g l = record {
   paused : Paused (HeldBy g.I.ByteIn.held) l.i (store_of l.initial.machine) (registers_of l.initial.machine) (store_of l.machine) (registers_of l.machine)
-      (record { left = g.I.ByteIn.left l.initial.input; held = g.I.ByteIn.held l.initial.input; ended = g.I.ByteIn.ended l.initial.input; taken = g.O.ByteOut.taken l.initial.out; passed = g.O.ByteOut.passed l.initial.out })
-      (record { left = g.I.ByteIn.left l.input; held = g.I.ByteIn.held l.input; ended = g.I.ByteIn.ended l.input; taken = g.O.ByteOut.taken l.out; passed = g.O.ByteOut.passed l.out });
+      (devices g.I.ByteIn g.O.ByteOut l.initial.input l.initial.out) (devices g.I.ByteIn g.O.ByteOut l.input l.out);
   passes : Begins (g.O.ByteOut.passed l.initial.out) (g.O.ByteOut.passed l.out);
   fresh : end_of l.machine ≡ None;
   unblamed : g.I.ByteIn.faults l.input ≡ g.I.ByteIn.faults l.initial.input;
