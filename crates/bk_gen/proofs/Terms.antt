@@ -17,7 +17,7 @@ pub use Rattle.bk_intcode.specs.declared.item.Operand.{Operand}
 pub use Rattle.bk_intcode.specs.declared.registers.Registers.{Registers}
 pub use Rattle.bk_ocode.specs.Cells.{Content, Variable, Cell, Free, Held, content_of, Word, Temporary, write, Unset, below, Partly, byte_in, four_bytes, with_byte, settle, Kind, kind_of, Link}
 pub use Rattle.bk_ocode.specs.OcodeState.{State, Placed, Inside, Callables, Control, At, Goes, Wild, Behind, global_place, Routine, Next, Ends, rest_place, Placement, Stop, Rdch, Wrch, Newline, Writes, Writen, Writed, Getbyte, Putbyte, Writef}
-pub use Rattle.bk_ocode.specs.OcodeStep.{on, dyadic_word, push, on_number, on_some, from_label, step, step_by, case_label, return, tells, read_byte, routine_step, operated, is_label, named_place, has_word, step_in, step_from, can_be_called, call, jump}
+pub use Rattle.bk_ocode.specs.OcodeStep.{on, dyadic_word, push, on_number, on_some, from_label, step, step_by, case_label, routine_step, operated, is_label, named_place, has_word, step_in, step_from, can_be_called, call, jump}
 pub use Rattle.bk_ocode.specs.declared.stmt.Stmt.{Stmt}
 pub use Rattle.bk_ocode.specs.declared.stmt.Stmt.TheVariants.{Label, Entry, CallFunction, CallRoutine, Text, EndProcedure, DataLabel, DataNumber, DataAddress, Save, ReturnItem, Return, Finish, Globals, Jump, JumpIf, Switch, Query, LoadByte, AssignByte, Stack, Store, Number, Load, Address, Assign, GiveResult, TakeResult, True, False, Monadic, AssignAt}
 pub use Rattle.bk_gen.specs.Accumulator.{kept_if, knows, comparison, evaluated_so, flushed_so, flushed, put_in, filled, evaluate, take, taken, evaluated, reads_below, fill, saved, with_item, IsLow, flush, HasLowSlot, is, unknown, word_is_below, is_other, keeps_through, with_loaded, compare, release, put, forget}
