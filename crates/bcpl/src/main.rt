@@ -5,7 +5,7 @@ mod by_lines;
 mod opened;
 
 use bk_base::{ByteOut, Reader512, Writer512};
-use bk_kit::{LineFault, Order, order, refuse, serve};
+use bk_kit::{Files, LineFault, Order, order, refuse, serve_named};
 use by_lines::ByLines;
 use opened::{Opened, Source, open};
 use std::fs::File;
@@ -20,19 +20,14 @@ fn opened_at(rt: &HostRuntime, name: Option<&str>) -> Option<File> {
 
 /// Does what is ordered, with these streams for output and lines, and answers the status.
 fn done<O: ByteOut, E: ByteOut>(rt: &HostRuntime, order: &Order, out: &mut O, err: &mut E) -> u8 {
-    let mut file = Reader512::new(Opened::new(opened_at(rt, order.file())));
-    let named = Opened::new(opened_at(rt, order.ocode()));
-    let mut names = Reader512::new(Source::File(named));
+    let file = Opened::new(opened_at(rt, order.file()));
+    let ocode = Opened::new(opened_at(rt, order.ocode()));
+    let mut files = Files {
+        file: Reader512::new(file),
+        ocode: Reader512::new(Source::File(ocode)),
+    };
     let mut input = Reader512::new(Source::Input(rt.stdin()));
-    serve(
-        rt.alloc(),
-        order,
-        &mut file,
-        &mut names,
-        &mut input,
-        out,
-        err,
-    )
+    serve_named(rt.alloc(), order, &mut files, &mut input, out, err)
 }
 
 /// What is reported where the words of the command line can't be had: memory was refused, or one of them is not UTF-8.

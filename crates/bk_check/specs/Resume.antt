@@ -1,5 +1,5 @@
 -- What is still to be done: of what the parts inside give, an outcome of the whole.
-use Rattle.std.specs.Prelude.{◌≡◌, ℕ, Bool, true, false, not, map, Option, Some, None, Result, Ok, Err, List, [], ◌∷◌, ◌++◌}
+use Rattle.std.specs.Prelude.{◌≡◌, ℕ, Bool, true, false, not, map, Option, List, [], ◌∷◌, ◌++◌}
 use Rattle.bk_tree.specs.Tree as t
 use Rattle.bk_tree.specs.Tree.{Expression, Expressions, Action, Actions, Declarations, Starts, expression, expressions_in, action, actions_in, declarations_in, definitions_in, starts_in}
 use Rattle.bk_meaning.specs.Values.{Value, unset}
@@ -243,10 +243,6 @@ outcome_next p (n.Status k) w = ends (status k) w
 outcome_next p (n.DivideByZero s) w = ends divide_by_zero w
 outcome_next p (n.Undefined s why) w = undefined
 outcome_next p (n.Going line) w = going w
-
-abbrev pub ok_of : {A E : Type 0} → Result A E → Option A
-ok_of (Ok v) = Some v
-ok_of (Err e) = None
 
 abbrev pub list_value : List Worth → List Value
 list_value vs = map value_in vs

@@ -1,5 +1,5 @@
 -- The laws of the layers below: those of sections and of formats, on which the plain code rests, and those of the states of a run.
-use Rattle.bk_intcode.specs.FormatLaws.{FormatIsOfParts}
+use Rattle.bk_machine.specs.FormatLaws.{FormatIsOfParts}
 use Rattle.bk_ocode.specs.StepLaws.{StepKeepsBelow}
 use Rattle.bk_ocode.specs.SoundRuns.{FirstStateIsSound, StepsAreSound, ResumingIsSound, StepsGrow, EndsKeepBytes, StepsComeNearer}
 use Rattle.bk_ocode.specs.SectionLaws.{LabelsAreSetOnce, LabelHasOnePlace, JumpFindsItsLabel, JumpHasItsLabelsDepth, DepthsSuffice, ResultFindsItsLabel, DataFindsItsLabel, ItemFindsItsLabel, GlobalFindsItsEntry, TextIsShort}

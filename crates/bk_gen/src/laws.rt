@@ -2,7 +2,7 @@
 ghost use Rattle.bk_gen.specs.BackEnd.{BackEndHolds, PartsAreWellPlaced, PartsWithoutStart};
 ghost use Rattle.bk_gen.specs.Laws.{Laws, RunLaws};
 
-use bk_intcode::format_is_of_parts;
+use bk_machine::format_is_of_parts;
 use bk_ocode::{
     data_finds_its_label, depths_suffice, ends_keep_bytes, first_state_is_sound,
     global_finds_its_entry, item_finds_its_label, jump_finds_its_label, jump_has_its_labels_depth,

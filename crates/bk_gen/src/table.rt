@@ -2,7 +2,7 @@
 ghost use Rattle.std.specs.Prelude.{◌≡◌, ◌<◌, ◌^◌, ◌++◌, ◌∷◌, [], OnOk, length, take};
 ghost use Rattle.bk_gen.specs.PlainCode.{pairs, table};
 
-use bk_intcode::Item;
+use bk_machine::Item;
 use bk_ocode::Case;
 use std::alloc::AllocError;
 

@@ -1,2 +1,2 @@
 -- The lemmas of this crate that the proofs of the crates above cite. They import no other file of this folder.
-pub use Rattle.bk_intcode.proofs.RunSteps.{went_more, went_on}
+pub use Rattle.bk_intcode.proofs.PrintedLemmas.{words_of-printed}

@@ -1,12 +1,17 @@
 mod Terms
-mod Blaming
-mod Bytes
-mod Formats
-mod Growing
-mod Places
-mod Reaching
-mod Routines
-mod RunSteps
-mod Settings
-mod TellSteps
+mod Parts
+mod SegmentLemmas
+mod OperandLemmas
+mod WordLemmas
+mod ItemLengths
+mod DraftLemmas
+mod PartialLemmas
+mod ReadingLemmas
+mod ItemSame
+mod PrintedLemmas
+mod OneSaying
+mod CutSegments
+mod AnswerLemmas
+mod Rows
+mod ReadAgain
 pub mod Lemmas

@@ -1,34 +1,40 @@
 -- The names of the layers below that several of these proofs use.
-pub use Rattle.std.proofs.Common.{ℕ, List, Some, Err, ◌≡◌, ◌≢◌, refl, sym, ◌∙◌, ap, ◌+◌, ◌-◌, ◌≤◌, eqb, arith, take, unwrap_or, map, drop, length, zero, suc, ◌<◌, ◌^◌, ◌%◌, ◌==◌, nat_lt, nat_le, Bool, true, false, ◌&&◌, [], ◌∷◌, Option, None, slice_get, subst, if◌then◌else◌, rules, nat_eq, ◌++◌, Result, Ok, OnOk, OnErr, append_assoc, ◌||◌, ◌*◌, get_or, replicate, set, add-zero, length-append, cond, inl, inr, ◌⊎◌, IsTrue}
-pub use Rattle.std.proofs.KnownBytes.{Consumes-nil, Appends-nil, Consumes-trans, Appends-trans, Consumes-kept, Appends-kept, Keeps-refl}
-pub use Rattle.std.proofs.lemmas.Bool.{eqb-true, cases_Bool, eqb-false, eq-eqb, ne_eqb, or_cases, or_parts, or_right, false_from_ne_true}
-pub use Rattle.std.proofs.lemmas.Bool.Decides.{nat_tests}
-pub use Rattle.std.proofs.lemmas.List.{length-drop, length-set, replicate-append-replicate, get_or_read, get_or-set_same, take-append-drop, take_all, drop_all, take_more, drop_more, map_more, append-nil, set-append_left}
-pub use Rattle.std.proofs.lemmas.List.Sums.{fold_more, fold-append, fold_push}
-pub use Rattle.std.specs.BTreeMap.{get}
-pub use Rattle.std.specs.Io.KnownBytes.{append_known, Consumes, Appends, Keeps}
-pub use Rattle.std.specs.Ordering.{nat_cmp}
-pub use Rattle.std.specs.Prelude.{fold, ⊤, option_and_then, slice_set, max}
-pub use Rattle.bk_base.specs.DeviceLaws.{Begins-trans, Begins-refl}
-pub use Rattle.bk_base.specs.Devices.{Begins, AppendsPart}
-pub use Rattle.bk_base.specs.Word.{word_sum, word_of, signed}
-pub use Rattle.bk_base.specs.declared.limit.TheConstants.{STORE_MOST}
-pub use Rattle.bk_base.specs.declared.run_end.End.TheVariants.{StoreLimit, ReadFault, WriteFault, Status, DivideByZero, StepLimit, BadOperation}
-pub use Rattle.bk_intcode.specs.Inner.LabelNumbers.{number_of}
-pub use Rattle.bk_intcode.specs.Inner.Packing.{IsFilled}
-pub use Rattle.bk_intcode.specs.Inner.Placed.{placed}
-pub use Rattle.bk_intcode.specs.Inner.Reach.{reached_all, address_size, operand_size, item_size, reached}
-pub use Rattle.bk_intcode.specs.Inner.Telling.{Telling, PutsBytes}
-pub use Rattle.bk_intcode.specs.ItemWords.{grown_behind, words_behind}
-pub use Rattle.bk_intcode.specs.LoadedWords.{AreSegments, AreBounded, settings_joined, items_bounded, segments_bounded, library_bounded, settings_length, below, below_length, stack_more}
-pub use Rattle.bk_intcode.specs.Output.{format_rest, string_rest, Text, output_text, whole_text, cut_text, text_then, byte_of, piece_text, plain, with_argument, aligning, lettered, directive, format_text}
-pub use Rattle.bk_intcode.specs.Placement.{Growth, segment_size, SEGMENTS, stack_start, library_settings, with_setting, starts, Setting, library_words, routine_words, operation_word, item_words, grown, growth, label_place, label_number, segment_settings, item_settings, all_settings, all_words, segment_words, loaded_store, any_starts, greatest_frame}
-pub use Rattle.bk_intcode.specs.Runs.{Going, Over, next_byte, behind_next, after, run, Devices, Exchanged, Follows, Leads, NotAsked, SinceAsk, LeadsToAsk, FlushesFirst, Paused, Finished, Waiting, CutShort, FailedOnTheWay, Broken, Went, Ran, IsOwn, AskFails, CameBy, Answered, HeldBy, Blames, BlamesBefore}
-pub use Rattle.bk_intcode.specs.Segment.{frame_of, IsSegment, item_sets, sets}
-pub use Rattle.bk_intcode.specs.SegmentItems.{items_of}
-pub use Rattle.bk_intcode.specs.Step.{Goes, Outputs, Asks, Ends, step, matched}
-pub use Rattle.bk_intcode.specs.declared.item.Item.{Item}
-pub use Rattle.bk_intcode.specs.declared.item.Item.TheVariants.{Instruction, SetLabel, Byte, Word, LabelWord, SetGlobal}
-pub use Rattle.bk_intcode.specs.declared.output.Directive.{Directive}
-pub use Rattle.bk_intcode.specs.declared.output.Piece.{Piece}
-pub use Rattle.bk_intcode.specs.declared.run.Answer.{Answer}
+pub use Rattle.std.proofs.Common.{◌≡◌, ◌+◌, ◌++◌, ◌∷◌, [], List, length, Err, sym, subst, ap, ◌∙◌, arith, rules, None, length-append, ℕ, ◌≢◌, ◌⊎◌, inl, inr, zero, suc, ◌-◌, ◌<◌, ◌≤◌, ◌^◌, ◌||◌, ◌&&◌, ◌==◌, nat_lt, Bool, true, false, IsTrue, if◌then◌else◌, pos, Some, take, get_or, map, slice_get, refl, append_assoc, append-nil, length-take, eq-eqb, lt-ltb, w32, ℤ, Option, nat_eq, FitsSigned, drop, length-drop, Ok, Result, negsuc}
+pub use Rattle.std.proofs.Math.Seq.{take-append_seam, drop-append-add}
+pub use Rattle.std.proofs.lemmas.Bool.{cases_lt, false_from_ne_true, or_cases}
+pub use Rattle.std.proofs.lemmas.Fmt.{decimal_injective, length-decimal-le, signed_decimal_injective}
+pub use Rattle.std.proofs.lemmas.List.{length-map, get_or_append_left, take_all, take_more, take-append-drop, map-append, take-append-le}
+pub use Rattle.std.specs.Int.{IsInRange}
+pub use Rattle.std.specs.Io.KnownBytes.{Consumes, Appends, Keeps}
+pub use Rattle.std.specs.List.{list_all}
+pub use Rattle.bk_base.specs.Decimal.{spelling}
+pub use Rattle.bk_base.specs.DeviceLaws.{Consumes-trans, Begins-trans, Appends-trans, AppendsPart-behind, AppendsPart-front, AppendsPart-kept}
+pub use Rattle.bk_base.specs.Devices.{AppendsPart, NothingLeft, Begins}
+pub use Rattle.bk_base.specs.declared.intcode_fault.IntcodeFault.{IntcodeFault}
+pub use Rattle.bk_base.specs.declared.intcode_fault.IntcodeKind.{IntcodeKind}
+pub use Rattle.bk_base.specs.declared.intcode_fault.IntcodeKind.TheVariants.{BadLetter, BadNumber, ByteOver255, LabelNotSet, LabelSetTwice, Truncated, TooLong, FrameGivenTwice}
+pub use Rattle.bk_base.specs.declared.limit.TheConstants.{INTCODE_ITEMS, INPUT_BYTES}
+pub use Rattle.bk_base.specs.declared.refused.Refused.{Refused}
+pub use Rattle.bk_base.specs.declared.refused.Refused.TheVariants.{Fault, Memory, Device}
+pub use Rattle.bk_machine.specs.Segment.{sets, item_uses, operand_uses, IsSegment, IsItem, AreItems, operand_is_set, use_is_set, gives_frame, IsOperand, IsLabel, item_sets, is_frame}
+pub use Rattle.bk_machine.specs.SegmentItems.{items_of}
+pub use Rattle.bk_machine.specs.declared.item.Function.{Function}
+pub use Rattle.bk_machine.specs.declared.item.Function.TheVariants.{Load, Store, Add, Jump, JumpTrue, JumpFalse, Call, Operate}
+pub use Rattle.bk_machine.specs.declared.item.Item.{Item}
+pub use Rattle.bk_machine.specs.declared.item.Item.TheVariants.{End, Instruction, SetLabel, Byte, Word, LabelWord, SetGlobal, Frame}
+pub use Rattle.bk_machine.specs.declared.item.Operand.{Operand}
+pub use Rattle.bk_machine.specs.declared.item.Operand.TheVariants.{Number, Local, Global, Label}
+pub use Rattle.bk_words.specs.Gathering.{Holds, BeginsWord, TakesWord}
+pub use Rattle.bk_words.specs.Numerals.{rest_same, first-numeral, numeral-inside, spelling-inside, length-global, length-word, fits-pos, digit-at, at_seam, no_spelling, spelling-some, apart, mag-fits}
+pub use Rattle.bk_words.specs.TextEnd.{AtEnd}
+pub use Rattle.bk_words.specs.WordLaws.{words_of-word, AreInWord-append, words_of-more_blanks, EndsInBlank-append, IsParted, IsParted-word, EndsInBlank-word, TakesWords-word, words_of-last, words_of-all, words_of-ended, known, nothing_left_at}
+pub use Rattle.bk_words.specs.Words.{is_blank, words_of, AreInWord, EndsInBlank}
+pub use Rattle.bk_intcode.specs.FirstSaying.{segment, nothing, fault, Says, SayOneThing, texts_of, words_of_all, PrintedIsParted, PrintedAreParted, PrintedSaysAgain, Saying}
+pub use Rattle.bk_intcode.specs.ItemFault.{item_fault, all_set, label_not_set, label_set_twice, too_long, frame_given_twice}
+pub use Rattle.bk_intcode.specs.ItemText.{letter, item_text, indirect_text, operand_text}
+pub use Rattle.bk_intcode.specs.Next.{IsNext}
+pub use Rattle.bk_intcode.specs.SegmentAnswer.{Answers, Takes, NoSegmentPassed, PrintedIsReadAgain, AnswersWords, Stands, StandsWhateverFollows}
+pub use Rattle.bk_intcode.specs.SegmentReading.{GivesSegment, IsPartial, FaultBehind, FaultAt, CutAt, StopsAtDevice, GivesNothing, GivesFault, StopsAtWord}
+pub use Rattle.bk_intcode.specs.SegmentText.{segment_text}
+pub use Rattle.bk_intcode.specs.WordMeaning.{MeansNothing, Means, WordFault, begins_item, IsByteOver255, is_digit, is_function}
+pub use Rattle.bk_intcode.specs.declared.words.Found.{Found}

@@ -1,32 +1,17 @@
-//! INTCODE: items, segments, the loader, and the machine that executes them.
+//! INTCODE: texts of segments, printed and read; and again the segments and the machine of `bk_machine`.
 #![tactic(auto)]
 
-mod extent;
-mod item;
-mod labels;
+mod draft;
+mod item_word;
 mod laws;
-mod library;
-mod load_fault;
-mod loader;
-mod machine;
-mod operation;
-mod output;
-mod packing;
-mod put_output;
-mod registers;
-mod run;
-mod segment;
-mod step;
-mod store;
+mod meaning;
+mod printing;
+mod reading;
+mod words;
 
-pub use item::{Function, Item, Operand};
+pub use bk_machine::{Function, Intcode, Item, LoadFault, Machine, Operand, Registers, Sizes};
 pub use laws::{
-    format_is_of_parts, items_are_joined, labels_lie_within, labels_stand_at_their_items,
-    loaded_store_holds, runs_depend_on_what_they_read, runs_in_shorter_stores, runs_keep_length,
-    runs_read_the_front, runs_that_leave_input, segments_lie_apart, segments_lie_in_order,
-    sizes_are_added, sizes_ignore_labels, words_of_bytes, words_of_item,
+    no_segment_passed, one_saying, printed_again, printed_are_parted, printed_is_parted, read_again,
 };
-pub use load_fault::LoadFault;
-pub use machine::{Machine, Sizes};
-pub use registers::Registers;
-pub use segment::Intcode;
+pub use printing::print;
+pub use reading::read_segment;

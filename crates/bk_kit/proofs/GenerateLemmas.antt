@@ -3,8 +3,8 @@ use Rattle.bk_kit.proofs.Terms.{◌≡◌, inl, inr, ℕ, ◌+◌, ◌≤◌, �
 use Rattle.bk_words.specs.WordLaws.{words_of-all}
 use Rattle.bk_ocode.specs.declared.section.Ocode as o
 use Rattle.bk_ocode.specs.SectionAnswer.{Answers, StandsWhateverFollows, is_device}
-use Rattle.bk_intcode.specs.declared.segment.Intcode as i
-use Rattle.bk_intcode_text.specs.SegmentText.{segment_text}
+use Rattle.bk_machine.specs.declared.segment.Intcode as i
+use Rattle.bk_intcode.specs.SegmentText.{segment_text}
 use Rattle.bk_kit.specs.Generating.{ocode, ocode_refused, Generated, IsRead, IsGenerated, AreGenerated, bytes_of, sections_of, texts_of, Comes, Takes, Delivers, Generates, PutsSegments}
 use Rattle.bk_kit.proofs.FilterLemmas.{flushed, stuck}
 use Rattle.bk_kit.proofs.TextLemmas as text

@@ -1,7 +1,7 @@
 -- What the headline and the limits refuse, tried on a language of which each source goes on for ever and writes nothing, on one of which
 -- each writes an A before something undefined, and on a run of the machine.
 use Rattle.bk_kit.proofs.Terms.{◌≡◌, ℕ, inl, inr, List, [], ◌∷◌, None, Some, Bool, refl, sym, subst, arith, ◌∙◌, append-nil, ⊤, pos, End, Status, StepLimit, Registers, Streams, Language, OneBegins, Agrees, Runs}
-use Rattle.bk_intcode.specs.Runs.{Going, Over, run, Devices, Follows, Finished, Ran}
+use Rattle.bk_machine.specs.Runs.{Going, Over, run, Devices, Follows, Finished, Ran}
 
 abbrev endless : Language
 endless = record {

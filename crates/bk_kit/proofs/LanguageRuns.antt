@@ -1,6 +1,6 @@
 -- A run of the machine is one of a source, where the machine does what the source means in a language.
-use Rattle.bk_kit.proofs.Terms.{◌≡◌, ◌≢◌, ℕ, ◌⊎◌, inl, inr, List, [], ◌∷◌, ◌++◌, refl, sym, ap, ap₂, ◌∙◌, subst, append_assoc, append-nil, append_cancel_right, Begins, End, Status, DivideByZero, StoreLimit, StepLimit, BadOperation, ReadFault, WriteFault, Registers, Standing, Going, Over, output_of, run, Finished, Ran, Blames, Streams, devices_of, Language, OneBegins, IsWhole, IsEnd, IsPart, NeverEnds, Reaches, Covers, TooFew, Agrees, Runs}
-use Rattle.bk_intcode.specs.RunLaws.{Beginning, waiting-begins, broken-begins}
+use Rattle.bk_kit.proofs.Terms.{◌≡◌, ◌≢◌, ℕ, ◌⊎◌, inl, inr, List, [], ◌∷◌, ◌++◌, refl, sym, ap, ap₂, ◌∙◌, subst, append_assoc, append-nil, append_cancel_right, Begins, End, Status, DivideByZero, StoreLimit, StepLimit, BadOperation, ReadFault, WriteFault, Registers, Standing, Going, Over, output_of, run, Ran, Blames, Streams, devices_of, Language, OneBegins, IsWhole, IsEnd, IsPart, NeverEnds, Reaches, Covers, TooFew, Agrees, Runs}
+use Rattle.bk_kit.proofs.StandingLemmas.{StandsSo, stood}
 
 -- A machine that is not over, or that the store stopped, with a beginning of these bytes.
 pub data BeginsOf (bytes : List ℕ) : Standing → Type 0 where
@@ -153,66 +153,29 @@ module _ (language : Language) (source : List ℕ) (steps words : ℕ) (store : 
         shorter all (inl behind) = inl (more ++ behind.0, further all behind.0 behind.1)
         shorter all (inr behind) = one_begins all bytes behind.0 more (sym behind.1 ∙ is)
 
-    module _ (Holds : List ℕ → Type 0) (accepted : language.Accepted source) (starts : language.Startless source → ⊥) (store' : List ℕ) (registers : Registers) (before after : Streams) where
-      finished : (end : End) (ran : Finished Holds end steps store first (devices_of before) (devices_of after))
-          → Begins before.passed after.passed → (end ≢ WriteFault → after.passed ≡ after.taken) → Blames end before.reads after.reads after.writes
-          → ((rest : List ℕ) → stands (ran.read ++ rest) ≡ Over end rest ran.written → Agrees language source (ran.read ++ rest) steps words end ran.read ran.written)
-          → Runs language source end steps words before after
-      finished end ran passes passed blamed agree = record {
-        accepted = accepted;
-        starts = starts;
-        read = ran.read;
-        written = ran.written;
-        exchanged = ran.exchanged;
-        agrees = λ rest follows. agree rest (ran.ends rest [] follows);
-        passes = passes;
-        passed = passed;
-        blamed = blamed;
-      }
+    -- what the end says of the meaning
+    agrees : (end : End) (read rest written : List ℕ) → StandsSo end (stands (read ++ rest)) rest written → Agrees language source (read ++ rest) steps words end read written
+    agrees (Status v) read rest written over = is_end read rest written (Status v) (λ e. cc) over
+    agrees DivideByZero read rest written over = is_end read rest written DivideByZero (λ e. cc) over
+    agrees BadOperation read rest written over = is_end read rest written BadOperation (λ e. cc) over
+    agrees StoreLimit read rest written over = paused (read ++ rest) written (ap output_of over) (few_where_stopped (read ++ rest) rest written over)
+    agrees StepLimit read rest written goes = paused (read ++ rest) written (ap output_of goes.2) (few_where_going (read ++ rest) goes.0 rest written goes.1 goes.2)
+    agrees ReadFault read rest written begins = begins_part (read ++ rest) written begins.0 begins.1
+    agrees WriteFault read rest written begins = begins_part (read ++ rest) written begins.0 begins.1
 
-      broken : (end : End) (ran : Beginning Holds steps store first (devices_of before) (devices_of after))
-          → Begins before.passed after.passed → (end ≢ WriteFault → after.passed ≡ after.taken) → Blames end before.reads after.reads after.writes
-          → ((input : List ℕ) → IsPart language source input steps words ran.written → Agrees language source input steps words end ran.read ran.written)
-          → Runs language source end steps words before after
-      broken end ran passes passed blamed agree = record {
-        accepted = accepted;
-        starts = starts;
-        read = ran.read;
-        written = ran.written;
-        exchanged = ran.exchanged;
-        agrees = λ rest follows.
-            let begins = ran.begins rest [] follows in
-            agree (ran.read ++ rest) (begins_part (ran.read ++ rest) ran.written begins.0 begins.1);
-        passes = passes;
-        passed = passed;
-        blamed = blamed;
-      }
-
-      pub runs : (end : End) → Ran Holds end steps store first store' registers (devices_of before) (devices_of after) → Begins before.passed after.passed
-          → (end ≢ WriteFault → after.passed ≡ after.taken) → Blames end before.reads after.reads after.writes → Runs language source end steps words before after
-      runs (Status v) ran passes passed blamed =
-          finished (Status v) ran passes passed blamed (λ rest over. is_end ran.read rest ran.written (Status v) (λ e. cc) over)
-      runs DivideByZero ran passes passed blamed =
-          finished DivideByZero ran passes passed blamed (λ rest over. is_end ran.read rest ran.written DivideByZero (λ e. cc) over)
-      runs BadOperation ran passes passed blamed =
-          finished BadOperation ran passes passed blamed (λ rest over. is_end ran.read rest ran.written BadOperation (λ e. cc) over)
-      runs StoreLimit ran passes passed blamed =
-          finished StoreLimit ran passes passed blamed (λ rest over.
-          paused (ran.read ++ rest) ran.written (ap output_of over) (few_where_stopped (ran.read ++ rest) rest ran.written over))
-      runs StepLimit ran passes passed blamed = record {
-        accepted = accepted;
-        starts = starts;
-        read = ran.read;
-        written = ran.written;
-        exchanged = ran.exchanged;
-        agrees = λ rest follows.
-            let goes = ran.leads rest [] follows in
-            paused (ran.read ++ rest) ran.written (ap output_of goes) (few_where_going (ran.read ++ rest) store' rest ran.written registers goes);
-        passes = passes;
-        passed = passed;
-        blamed = blamed;
-      }
-      runs ReadFault ran passes passed blamed =
-          broken ReadFault (waiting-begins Holds steps store first (devices_of before) (devices_of after) ran) passes passed blamed (λ input part. part)
-      runs WriteFault ran passes passed blamed =
-          broken WriteFault (broken-begins Holds steps store first (devices_of before) (devices_of after) ran) passes passed blamed (λ input part. part)
+    pub runs : (Holds : List ℕ → Type 0) → language.Accepted source → (language.Startless source → ⊥) → (store' : List ℕ) (registers : Registers) (before after : Streams) (end : End)
+        → Ran Holds end steps store first store' registers (devices_of before) (devices_of after) → Begins before.passed after.passed
+        → (end ≢ WriteFault → after.passed ≡ after.taken) → Blames end before.reads after.reads after.writes → Runs language source end steps words before after
+    runs Holds accepted starts store' registers before after end ran passes passed blamed =
+        let s = stood Holds steps store first store' registers (devices_of before) (devices_of after) end ran in
+        record {
+          accepted = accepted;
+          starts = starts;
+          read = s.read;
+          written = s.written;
+          exchanged = s.exchanged;
+          agrees = λ rest follows. agrees end s.read rest s.written (s.stands rest follows);
+          passes = passes;
+          passed = passed;
+          blamed = blamed;
+        }

@@ -19,10 +19,15 @@ mod AcceptedTrees
 mod GenerateLemmas
 mod SourceLemmas
 mod OcodeEnds
+mod StandingLemmas
+mod SameParts
+mod CodeOfParts
+mod GeneratedParts
+mod OcodeSteps
+mod OcodeRows
 mod LanguageRuns
 mod MeaningLemmas
 mod SourceLaws
-mod SameParts
 mod CodeOfSources
 mod FilterCode
 mod ReportLemmas

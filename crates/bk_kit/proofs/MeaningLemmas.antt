@@ -1,9 +1,8 @@
 -- Runs of the machine with segments that stand for the sections of a source, and what the source means.
-use Rattle.bk_kit.proofs.Terms.{◌≡◌, ◌≢◌, ◌⊎◌, inl, inr, ℕ, zero, suc, ◌+◌, ◌*◌, ◌≤◌, ◌<◌, max, ◌==◌, Bool, true, false, List, [], ◌∷◌, ◌++◌, map, Option, Some, None, Err, if◌then◌else◌, refl, sym, ap, ◌∙◌, subst, arith, append_assoc, append-nil, option_map_or, STORE_MOST, FRAME_WORDS, End, StoreLimit, WriteFault, Begins, Registers, SEGMENTS, segment_size, stack_start, any_starts, loaded_store, Standing, Over, output_of, Ran, Blames, Cell, largest_depth, Declarations, Part, segments, image, depth_of, own_of, parts_at, program_of, start_of, machine_after, IsPartly, going, stopped, HoldsFrames, BackEnd, BackEndHolds, PartsAreWellPlaced, PartsWithoutStart, TooSmall, NoStart, AnyBytes, Streams, devices_of, first_registers, stmts_of_tree, codes_of_trees, HasTrees, HasParts, text_of, frame_of, HasWords, HasFramesOf, HasNoStart, MeaningEnds, MeaningGoesOn, EnoughToEnd, EnoughToGo, Placing, StepsToEnd, StepsToGo, image_of, meanings_with, MeaningRuns, MeaningTooSmall, MeaningStartless}
+use Rattle.bk_kit.proofs.Terms.{◌≡◌, ◌≢◌, ◌⊎◌, inl, inr, ℕ, zero, suc, ◌+◌, ◌*◌, ◌≤◌, ◌<◌, max, ◌==◌, Bool, true, false, List, [], ◌∷◌, ◌++◌, map, Option, Some, None, Err, if◌then◌else◌, refl, sym, ap, ◌∙◌, subst, arith, append_assoc, append-nil, option_map_or, STORE_MOST, FRAME_WORDS, End, StoreLimit, WriteFault, Begins, Registers, SEGMENTS, segment_size, any_starts, loaded_store, Standing, Over, output_of, Ran, Blames, Cell, largest_depth, Declarations, Part, segments, image, depth_of, own_of, parts_at, program_of, start_of, machine_after, IsPartly, going, stopped, HoldsFrames, BackEnd, BackEndHolds, PartsAreWellPlaced, PartsWithoutStart, TooSmall, NoStart, AnyBytes, Streams, devices_of, first_registers, stmts_of_tree, codes_of_trees, HasTrees, HasParts, frame_of, HasWords, HasFramesOf, HasNoStart, MeaningEnds, MeaningGoesOn, EnoughToEnd, EnoughToGo, Placing, StepsToEnd, StepsToGo, image_of, meanings_with, MeaningRuns, MeaningTooSmall, MeaningStartless, stmts_of_parts, Stmt}
 use Rattle.bk_ocode.specs.Frames.{HasFrames, start, called, HasFramesAtMost}
 use Rattle.bk_ocode.specs.OcodeState.{Routine, Placed, Control, Inside, Behind, At, State}
 use Rattle.bk_ocode.specs.OcodeRun.{Program, Rest, resumed_by, resumed, label_rest, resumed_in, find_rest, rests_of}
-use Rattle.bk_ocode.specs.SectionData.{text_size}
 use Rattle.bk_ocode.specs.WellPlaced.{IsWellPlaced}
 use Rattle.bk_meaning.specs.World as world
 use Rattle.bk_meaning.specs.Program as program
@@ -13,7 +12,9 @@ use Rattle.bk_simulation.specs.Placement.{AreAccepted, StandFor}
 use Rattle.bk_simulation.specs.Simulation.{Begin, end_of, EndsWithin, ComesWithin, RunsOut, DoesEnd, Does, DoesFrom, StillGoes, RunsOutOnTheWay, StepsDoWhatSourcesMean, StepsGoOnWithTheirSource, StartsWithTheirSource, IsWithoutEnd, StartsSo, with_start, without_start}
 use Rattle.bk_gen.specs.BackEnd as back_end
 use Rattle.bk_kit.specs.Headline.{Language, Runs, Keeps}
+use Rattle.bk_kit.specs.SectionNumbers as numbers
 use Rattle.bk_kit.specs.SourceMeaning as of_trees
+use Rattle.bk_kit.proofs.CodeOfParts as of_parts
 use Rattle.bk_kit.proofs.LanguageRuns.{BeginsOf, Meant, runs}
 use Rattle.bk_kit.proofs.LanguageRuns as language_runs
 use Rattle.bk_kit.proofs.OcodeEnds.{ends_of_itself}
@@ -21,48 +22,33 @@ use Rattle.bk_kit.proofs.OcodeEnds.{ends_of_itself}
 -- ---- numbers of the parts, and of the trees
 
 -- these parts have the sections of these trees
-abbrev pub AreOf : List Part → List Declarations → Type 0
-AreOf parts trees = map (λ (p : Part). p.stmts) parts ≡ codes_of_trees trees
-
-first_of : (p : Part) (parts : List Part) (tree : Declarations) (trees : List Declarations) → AreOf (p ∷ parts) (tree ∷ trees) → (p.stmts ≡ stmts_of_tree tree) × AreOf parts trees
-first_of p parts tree trees e = let h : p.stmts ∷ map (λ (q : Part). q.stmts) parts ≡ stmts_of_tree tree ∷ codes_of_trees trees = e in (cc, cc)
-
--- what holds of none holds of all, if each part and its tree keep it
-along : (P : List Part → List Declarations → Type 0) → P [] []
-    → ((p : Part) (parts : List Part) (tree : Declarations) (trees : List Declarations) → p.stmts ≡ stmts_of_tree tree → P parts trees → P (p ∷ parts) (tree ∷ trees))
-    → (parts : List Part) (trees : List Declarations) → AreOf parts trees → P parts trees
-along P none more [] [] e = none
-along P none more [] (tree ∷ trees) e = absurd (let h : [] ≡ stmts_of_tree tree ∷ codes_of_trees trees = e in cc)
-along P none more (p ∷ parts) [] e = absurd (let h : p.stmts ∷ map (λ (q : Part). q.stmts) parts ≡ [] = e in cc)
-along P none more (p ∷ parts) (tree ∷ trees) e = let h = first_of p parts tree trees e in more p parts tree trees h.0 (along P none more parts trees h.1)
+abbrev AreOf : List Part → List Declarations → Type 0
+AreOf parts trees = stmts_of_parts parts ≡ codes_of_trees trees
 
 -- the image is within its number
-sums : (b s t u m : ℕ) → s ≤ 8 * t → m ≤ b + s + 8 * u → m ≤ b + 8 * (t + u)
-sums b s t u m low rest = omega arith
+pub image_within : (parts : List Part) (trees : List Declarations) → AreOf parts trees → image parts ≤ image_of trees
+image_within parts trees e = subst (λ c. image parts ≤ SEGMENTS + 8 * numbers.text_of c) e (of_parts.image_within SEGMENTS parts)
 
-pub image_within : (base : ℕ) (parts : List Part) (trees : List Declarations) → AreOf parts trees → stack_start base (segments parts) ≤ base + 8 * text_of trees
-image_within base parts trees e = along (λ ps ts. (b : ℕ) → stack_start b (segments ps) ≤ b + 8 * text_of ts) (λ b. omega arith)
-    (λ p ps tree ts same rest b.
-    let low : segment_size p.items ≤ 8 * text_size (stmts_of_tree tree) = subst (λ stmts. segment_size p.items ≤ 8 * text_size stmts) same p.stands.size in
-    sums b (segment_size p.items) (text_size (stmts_of_tree tree)) (text_of ts) (stack_start (b + segment_size p.items) (segments ps)) low (rest (b + segment_size p.items)))
-    parts trees e base
+-- and the largest depth is its own, which has a floor
+same_depth : (parts : List Part) (trees : List Declarations) → AreOf parts trees → depth_of parts ≡ of_trees.depth_of trees
+same_depth parts trees e = of_parts.deepest parts ∙ ap numbers.depth_of e
 
--- and the largest depth within its own
-larger : (a b m n : ℕ) → a ≡ b → m ≤ n → max a m ≤ max b n
-larger a b m n e le = omega arith
-
-pub depth_within : (parts : List Part) (trees : List Declarations) → AreOf parts trees → depth_of parts ≤ frame_of trees
-depth_within parts trees e = along (λ ps ts. depth_of ps ≤ frame_of ts) (omega arith)
-    (λ p ps tree ts same rest. larger (largest_depth p.stmts) (largest_depth (stmts_of_tree tree)) (depth_of ps) (frame_of ts) (ap largest_depth same) rest) parts trees e
-
--- which has a floor
-own_depth_within : (parts : List Part) (trees : List Declarations) → AreOf parts trees → depth_of parts ≤ of_trees.depth_of trees
-own_depth_within parts trees e = along (λ ps ts. depth_of ps ≤ of_trees.depth_of ts) (omega arith)
-    (λ p ps tree ts same rest. larger (largest_depth p.stmts) (largest_depth (stmts_of_tree tree)) (depth_of ps) (of_trees.depth_of ts) (ap largest_depth same) rest) parts trees e
+depth_within : (codes : List (List Stmt)) → numbers.depth_of codes ≤ numbers.frame_of codes
+depth_within [] = omega arith
+depth_within (stmts ∷ codes) = larger (largest_depth stmts) (numbers.depth_of codes) (numbers.frame_of codes) (depth_within codes)
+  where
+    larger : (a m n : ℕ) → m ≤ n → max a m ≤ max a n
+    larger a m n le = omega arith
 
 stand_for : (base : ℕ) (parts : List Part) (trees : List Declarations) → AreOf parts trees → StandFor trees (map own_of (parts_at base parts))
-stand_for base parts trees e = along (λ ps ts. (b : ℕ) → StandFor ts (map own_of (parts_at b ps))) (λ b. tt)
-    (λ p ps tree ts same rest b. (same, rest (b + segment_size p.items))) parts trees e base
+stand_for base [] [] e = tt
+stand_for base [] (tree ∷ trees) e = absurd (let h : [] ≡ stmts_of_tree tree ∷ codes_of_trees trees = e in cc)
+stand_for base (p ∷ parts) [] e = absurd (let h : p.stmts ∷ stmts_of_parts parts ≡ [] = e in cc)
+stand_for base (p ∷ parts) (tree ∷ trees) e =
+    let h : p.stmts ∷ stmts_of_parts parts ≡ stmts_of_tree tree ∷ codes_of_trees trees = e in
+    let here : p.stmts ≡ stmts_of_tree tree = cc in
+    let others : AreOf parts trees = cc in
+    (here, stand_for (base + segment_size p.items) parts trees others)
 
 -- products
 more_frames : (d a b : ℕ) → a ≤ b → d * a ≤ d * b
@@ -144,13 +130,14 @@ module _ (laws : RunLaws) (image_of : List Declarations → ℕ) (parts : List P
   -- words for so many calls hold so many frames
   holds_frames : (calls : ℕ) → HasWords (image_of trees) trees calls words → HoldsFrames parts words calls
   holds_frames calls has =
-      let d = depth_within parts trees taken.2 in
-      let m = more_frames (calls + 1) (depth_of parts + 16) (frame_of trees + 16) (omega (arith, d)) in
+      let d = same_depth parts trees taken.2 in
+      let e = depth_within (codes_of_trees trees) in
+      let m = more_frames (calls + 1) (depth_of parts + 16) (frame_of trees + 16) (omega (arith, d, e)) in
       omega (arith, fits, m, has)
 
   holds_frames_of : (d : ℕ) → HasFramesOf (image_of trees) trees d words → HoldsFrames parts words d
   holds_frames_of d has =
-      let low = own_depth_within parts trees taken.2 in
+      let low = same_depth parts trees taken.2 in
       let m = more_frames (d + 1) (depth_of parts + 16) (of_trees.depth_of trees + 16) (omega (arith, low)) in
       omega (arith, fits, m, has)
 
@@ -385,7 +372,7 @@ module _ (laws : RunLaws) (image_of : List Declarations → ℕ) (parts : List P
 -- The laws, from those below.
 module _ (laws : RunLaws) where
   image_fits : (parts : List Part) (source : List ℕ) (has : HasParts parts source) → image parts ≤ image_of has.0
-  image_fits parts source has = image_within SEGMENTS parts has.0 has.2
+  image_fits parts source has = image_within parts has.0 has.2
 
   pub meanings_run : MeaningRuns
   meanings_run parts source end steps words store registers before after has room most starts ran passes passed blamed =

@@ -1,10 +1,10 @@
 -- A source whose sections are assembled one after another, and then loaded and run.
-use Rattle.bk_kit.proofs.Terms.{◌≡◌, ◌≢◌, inl, inr, ◌⊎◌, ℕ, ◌+◌, ◌≤◌, ◌<◌, ◌++◌, Bool, true, false, List, [], ◌∷◌, Option, None, Some, Result, Ok, Err, IfErr, map, arith, refl, sym, ap, subst, ◌∙◌, append-nil, IsErr, map-append, Begins, INPUT_BYTES, STORE_MOST, End, WriteFault, stmts_of, AreBytes, Stmt, section_whole, Item, Registers, items_of, SEGMENTS, stack_start, any_starts, loaded_store, Ran, Blames, segment_whole, Part, segments, image, items_of_part, StandsFor, KitFault, Source, Ocode, Intcode, TooSmall, NoStart, Read, Memory, CompiledSection, SectionCode, Declarations, AnyBytes, Streams, devices_of, first_registers, is_read_fault, is_read, IsUndecided, Settles, Follows, IsDelivered, EachSource, codes_in, trees_in, Compiled, Refuses, HasTrees, IsRefused, HasParts, Headline, meanings, MeaningRuns, MeaningTooSmall, MeaningStartless, LoadFault, LoadFault as load}
+use Rattle.bk_kit.proofs.Terms.{◌≡◌, ◌≢◌, inl, inr, ◌⊎◌, ℕ, ◌+◌, ◌≤◌, ◌<◌, ◌++◌, Bool, true, false, List, [], ◌∷◌, Option, None, Some, Result, Ok, Err, IfErr, map, arith, refl, sym, ap, subst, ◌∙◌, append-nil, IsErr, map-append, Begins, INPUT_BYTES, STORE_MOST, End, WriteFault, stmts_of, stmts_of_parts, AreBytes, Stmt, section_whole, Item, Registers, items_of, SEGMENTS, stack_start, any_starts, loaded_store, Ran, Blames, segment_whole, Part, segments, image, items_of_part, StandsFor, KitFault, Source, Ocode, Intcode, TooSmall, NoStart, Read, Memory, CompiledSection, SectionCode, Declarations, AnyBytes, Streams, devices_of, first_registers, is_read_fault, is_read, IsUndecided, Settles, Follows, IsDelivered, EachSource, codes_in, trees_in, Compiled, Refuses, HasTrees, IsRefused, HasParts, Headline, meanings, MeaningRuns, MeaningTooSmall, MeaningStartless, LoadFault, LoadFault as load}
 use Rattle.bk_ocode.specs.declared.section.Ocode as o
-use Rattle.bk_intcode.specs.declared.segment.Intcode as i
+use Rattle.bk_machine.specs.declared.segment.Intcode as i
 use Rattle.bk_kit.specs.Sources.{Accepted, Refused, bytes_of, trees_of, codes_of, stmts_of_tree}
 use Rattle.bk_kit.specs.Loading.{load_refused}
-use Rattle.bk_kit.specs.RunningSource.{stmts_of_parts, Stand, Generated, Assembled, NotAssembled, RefusesSource, ReadsSource, NotLoaded}
+use Rattle.bk_kit.specs.RunningSource.{Stand, Generated, Assembled, NotAssembled, RefusesSource, ReadsSource, NotLoaded}
 use Rattle.bk_kit.proofs.SourceSectionLemmas.{meaning_refuses, has_delivered, refused_delivered}
 use Rattle.bk_kit.proofs.ReadingLemmas.{ends_with_source}
 use Rattle.bk_kit.proofs.PassedSections.{bytes_both, refused_as, refuses_behind, takes_as, not_ended, Passed, passed_none, all_delivered, all_counted, passed_and_part, passed_on}

@@ -20,14 +20,14 @@ pub use Rattle.bk_gen.specs.BackEnd.{Part, segments, image, items_of_part, depth
 pub use Rattle.bk_gen.specs.StandsFor.{frame_words, StandsFor, EndsWithFrame}
 pub use Rattle.bk_grammar.specs.Rows.{inner, left, behind, is_relation, leaf}
 pub use Rattle.bk_grammar.specs.SyntaxFault.{IsSection}
-pub use Rattle.bk_intcode.specs.Placement.{SEGMENTS, stack_start, any_starts, greatest_frame, loaded_store, segment_size}
-pub use Rattle.bk_intcode.specs.Runs.{Ran, Blames, HeldBy, Paused, Standing, Over, output_of, Going, run, Finished, Devices, Went}
-pub use Rattle.bk_intcode.specs.SegmentItems.{items_of}
-pub use Rattle.bk_intcode.specs.SegmentLaws.{segment_whole}
-pub use Rattle.bk_intcode.specs.State.{store_of, registers_of, end_of}
-pub use Rattle.bk_intcode.specs.declared.item.Item.{Item}
-pub use Rattle.bk_intcode.specs.declared.registers.Registers.{Registers}
-pub use Rattle.bk_intcode_text.specs.ItemText.{item_text}
+pub use Rattle.bk_machine.specs.Placement.{SEGMENTS, stack_start, any_starts, greatest_frame, loaded_store, segment_size}
+pub use Rattle.bk_machine.specs.Runs.{Ran, Blames, HeldBy, Paused, Standing, Over, output_of, Going, run, Finished, Devices, Went}
+pub use Rattle.bk_machine.specs.SegmentItems.{items_of}
+pub use Rattle.bk_machine.specs.SegmentLaws.{segment_whole}
+pub use Rattle.bk_machine.specs.State.{store_of, registers_of, end_of}
+pub use Rattle.bk_machine.specs.declared.item.Item.{Item}
+pub use Rattle.bk_machine.specs.declared.registers.Registers.{Registers}
+pub use Rattle.bk_intcode.specs.ItemText.{item_text}
 pub use Rattle.bk_lex.proofs.Lemmas.{more_undecided, means_as, lexed_has_fault, lexed_told, lexed_is_section, section_is_lexed}
 pub use Rattle.bk_lex.specs.Counting.{Step, start, step_of, finished, ◌>>=◌}
 pub use Rattle.bk_lex.specs.Cutting.{goes_on_from, then_on, cut_as, NotEnded, Settled}
@@ -70,12 +70,14 @@ pub use Rattle.bk_kit.specs.Filters.{Written, Puts, Breaks, Ends}
 pub use Rattle.bk_kit.specs.Generating.{ocode, Generated, IsGenerated, AreGenerated, sections_of, Generates, ocode_refused}
 pub use Rattle.bk_kit.specs.Headline.{Headline, Language, OneBegins, IsWhole, IsEnd, IsPart, NeverEnds, Reaches, Covers, TooFew, Agrees, Runs}
 pub use Rattle.bk_kit.specs.Interpreting.{AnyBytes, Streams, Interpreted, devices_of, first_registers, is_read_fault, is_read, TextRefused, CodeRefused}
+pub use Rattle.bk_kit.specs.OcodeRuns.{ReportsFrames, IsNotRefused, FindsNoFault, RunsAsSteps, OcodeRuns}
 pub use Rattle.bk_kit.specs.Pieces.{joined}
 pub use Rattle.bk_kit.specs.ReadingSource.{Asked, Follows, IsUndecided, Settles, IsDelivered, EachSource}
 pub use Rattle.bk_kit.specs.RunningSource.{NotAssembled, ReadsSource, Assembled}
+pub use Rattle.bk_kit.specs.SectionNumbers.{stmts_of_parts}
 pub use Rattle.bk_kit.specs.Sizes.{sizes_line, Reports}
-pub use Rattle.bk_kit.specs.SourceCode.{IsCodeOf, ReportsFrames, InterpretsSources, FramesAreOfSources, FindsNoFault, RunsAs, FiltersWriteCode, IsNotRefused, GeneratesAs, OneAfterAnother}
-pub use Rattle.bk_kit.specs.SourceMeaning.{meanings_with, meanings, MeaningRuns, MeaningTooSmall, MeaningStartless, text_of, frame_of, HasWords, HasFramesOf, HasNoStart, MeaningEnds, MeaningGoesOn, EnoughToEnd, EnoughToGo, Placing, StepsToEnd, StepsToGo, image_of, MeaningRefuses}
+pub use Rattle.bk_kit.specs.SourceCode.{IsCodeOf, InterpretsSources, FramesAreOfSources, RunsAs, FiltersWriteCode, GeneratesAs, OneAfterAnother}
+pub use Rattle.bk_kit.specs.SourceMeaning.{meanings_with, meanings, MeaningRuns, MeaningTooSmall, MeaningStartless, frame_of, HasWords, HasFramesOf, HasNoStart, MeaningEnds, MeaningGoesOn, EnoughToEnd, EnoughToGo, Placing, StepsToEnd, StepsToGo, image_of, MeaningRefuses}
 pub use Rattle.bk_kit.specs.SourceSections.{HasTrees, IsRefused, HasParts}
 pub use Rattle.bk_kit.specs.Sources.{IsTree, Means, Accepted, WholeSection, bytes_of, trees_of, AreAccepted, stmts_of_tree, codes_of_trees, codes_of, texts_of, line_behind}
 pub use Rattle.bk_kit.specs.Telling.{Output}
@@ -85,7 +87,7 @@ pub use Rattle.bk_kit.specs.declared.kit_fault.KitFault.{KitFault}
 pub use Rattle.bk_kit.specs.declared.kit_fault.KitFault.TheVariants.{Source, Ocode, Intcode, TooSmall, NoStart, Read, Write, Memory}
 pub use Rattle.bk_kit.specs.declared.section.CompiledSection.{CompiledSection}
 pub use Rattle.bk_kit.specs.declared.section.SectionCode.{SectionCode}
-pub use Rattle.bk_intcode.specs.declared.load_fault.LoadFault.{LoadFault}
+pub use Rattle.bk_machine.specs.declared.load_fault.LoadFault.{LoadFault}
 pub use Rattle.bk_lex.specs.declared.counting.Act.{Act}
 pub use Rattle.bk_lex.specs.declared.reserved.What.{What}
 pub use Rattle.bk_lex.specs.declared.token.Kind.{Kind}

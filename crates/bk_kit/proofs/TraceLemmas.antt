@@ -1,6 +1,6 @@
 -- A run that is made of runs of one step.
 use Rattle.bk_kit.proofs.Terms.{◌≡◌, ◌≢◌, ℕ, ◌+◌, List, Result, Ok, Err, IfErr, if◌then◌else◌, refl, sym, subst, IsErr, Begins, End, StepLimit, WriteFault, Registers, Devices, Paused, Went, Ran, KitFault, Streams, is_read_fault, FileRead, OcodeRefused, RefusesNames}
-use Rattle.bk_intcode.proofs.Lemmas.{went_on, went_more}
+use Rattle.bk_machine.proofs.Lemmas.{went_on, went_more}
 
 -- an answer that is a fault of the OCODE
 pub names_refused : (answer : Result End KitFault) (fault : KitFault) (names code : FileRead) (before after : Streams) → IsErr answer → IfErr answer (λ f. f ≡ fault)

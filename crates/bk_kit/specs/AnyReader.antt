@@ -2,8 +2,8 @@
 use Rattle.std.proofs.Common.{ℕ, inl, inr, List, [], ◌∷◌, Option, Bool, Result, Ok, Err}
 use Rattle.bk_base.specs.declared.run_end.End.{End}
 use Rattle.bk_base.specs.declared.run_end.End.TheVariants.{Status, DivideByZero, StoreLimit, StepLimit, BadOperation, ReadFault, WriteFault}
-use Rattle.bk_intcode.specs.declared.registers.Registers.{Registers}
-use Rattle.bk_intcode.specs.Runs.{Devices, SinceAsk, FlushesFirst, Paused, Finished, Waiting, CutShort, Broken, Ran}
+use Rattle.bk_machine.specs.declared.registers.Registers.{Registers}
+use Rattle.bk_machine.specs.Runs.{Devices, SinceAsk, FlushesFirst, Paused, Finished, Waiting, CutShort, Broken, Ran}
 use Rattle.bk_kit.specs.declared.kit_fault.KitFault.{KitFault}
 use Rattle.bk_kit.specs.Interpreting.{AnyBytes, Streams, devices_of, Interpreted}
 

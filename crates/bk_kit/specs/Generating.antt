@@ -17,9 +17,9 @@ use Rattle.bk_ocode.specs.SectionAnswer.{GivesNothing, GivesFault, StopsAtWord, 
 use Rattle.bk_ocode.specs.SectionAnswer as answers
 use Rattle.bk_ocode.specs.FirstFault as first
 use Rattle.bk_ocode.specs.declared.stmt.Stmt.{Stmt}
-use Rattle.bk_intcode.specs.declared.item.Item.{Item}
-use Rattle.bk_intcode.specs.Segment.{IsSegment}
-use Rattle.bk_intcode_text.specs.SegmentText.{segment_text}
+use Rattle.bk_machine.specs.declared.item.Item.{Item}
+use Rattle.bk_machine.specs.Segment.{IsSegment}
+use Rattle.bk_intcode.specs.SegmentText.{segment_text}
 use Rattle.bk_gen.specs.StandsFor.{StandsFor, EndsWithFrame, frame_words}
 use Rattle.bk_kit.specs.declared.kit_fault.KitFault.{KitFault}
 use Rattle.bk_kit.specs.declared.kit_fault.KitFault.TheVariants.{Source, Ocode, Intcode, TooSmall, NoStart, Read, Write, Memory}

@@ -4,14 +4,14 @@ use Rattle.bk_base.specs.declared.run_end.End.{End}
 use Rattle.bk_base.specs.declared.device.ByteIn as reader
 use Rattle.bk_base.specs.declared.device.ByteOut as writer
 use Rattle.bk_base.specs.Devices.{Begins}
-use Rattle.bk_intcode.specs.declared.item.Item.{Item}
-use Rattle.bk_intcode.specs.declared.registers.Registers.{Registers}
-use Rattle.bk_intcode.specs.declared.machine.Machine.{Machine}
-use Rattle.bk_intcode.specs.State.{store_of, registers_of, end_of, sizes_of}
-use Rattle.bk_intcode.specs.Placement.{SEGMENTS, stack_start, loaded_store, greatest_frame, any_starts}
+use Rattle.bk_machine.specs.declared.item.Item.{Item}
+use Rattle.bk_machine.specs.declared.registers.Registers.{Registers}
+use Rattle.bk_machine.specs.declared.machine.Machine.{Machine}
+use Rattle.bk_machine.specs.State.{store_of, registers_of, end_of, sizes_of}
+use Rattle.bk_machine.specs.Placement.{SEGMENTS, stack_start, loaded_store, greatest_frame, any_starts}
 use Rattle.bk_base.specs.declared.run_end.End.TheVariants.{WriteFault}
-use Rattle.bk_intcode.specs.Runs.{Devices, Ran, Blames}
-use Rattle.bk_intcode_text.specs.SegmentReading.{StopsAtDevice}
+use Rattle.bk_machine.specs.Runs.{Devices, Ran, Blames}
+use Rattle.bk_intcode.specs.SegmentReading.{StopsAtDevice}
 use Rattle.bk_kit.specs.declared.kit_fault.KitFault.{KitFault}
 use Rattle.bk_kit.specs.declared.kit_fault.KitFault.TheVariants.{Source, Ocode, Intcode, TooSmall, NoStart, Read, Write, Memory}
 use Rattle.bk_kit.specs.Texts.{Stands, StopsInPart, parts, refused}

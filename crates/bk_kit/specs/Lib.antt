@@ -14,11 +14,13 @@ pub mod ReadingSource
 pub mod Sources
 pub mod CompilingSection
 pub mod Compiling
+pub mod SectionNumbers
 pub mod SourceSections
 pub mod SourceMeaning
-pub mod SourceCode
 pub mod Generating
 pub mod Sizes
+pub mod OcodeRuns
+pub mod SourceCode
 pub mod Checking
 pub mod Showing
 pub mod Tracing

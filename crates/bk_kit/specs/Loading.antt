@@ -1,6 +1,6 @@
 -- What the kit answers where segments are not loaded.
-use Rattle.bk_intcode.specs.declared.load_fault.LoadFault.{LoadFault}
-use Rattle.bk_intcode.specs.declared.load_fault.LoadFault.TheVariants as load
+use Rattle.bk_machine.specs.declared.load_fault.LoadFault.{LoadFault}
+use Rattle.bk_machine.specs.declared.load_fault.LoadFault.TheVariants as load
 use Rattle.bk_kit.specs.declared.kit_fault.KitFault.{KitFault}
 use Rattle.bk_kit.specs.declared.kit_fault.KitFault.TheVariants.{TooSmall, NoStart, Memory}
 

@@ -1,12 +1,12 @@
 -- What running a source comes to on the way: its segments, a machine that holds them, and what refuses it.
-use Rattle.std.specs.Prelude.{◌≡◌, ℕ, ◌+◌, ◌<◌, ◌≤◌, Bool, true, false, ⊤, List, ◌++◌, Option, None, Result, Ok, Err, map}
+use Rattle.std.specs.Prelude.{◌≡◌, ℕ, ◌+◌, ◌<◌, ◌≤◌, Bool, true, false, ⊤, List, ◌++◌, Option, None, Result, Ok, Err}
 use Rattle.bk_base.specs.declared.run_end.End.{End}
-use Rattle.bk_intcode.specs.declared.item.Item.{Item}
-use Rattle.bk_intcode.specs.declared.machine.Machine.{Machine}
-use Rattle.bk_intcode.specs.declared.registers.Registers.{Registers}
-use Rattle.bk_intcode.specs.State.{store_of, registers_of, end_of}
-use Rattle.bk_intcode.specs.Placement.{SEGMENTS, stack_start, any_starts, loaded_store}
-use Rattle.bk_intcode.specs.Runs.{Ran}
+use Rattle.bk_machine.specs.declared.item.Item.{Item}
+use Rattle.bk_machine.specs.declared.machine.Machine.{Machine}
+use Rattle.bk_machine.specs.declared.registers.Registers.{Registers}
+use Rattle.bk_machine.specs.State.{store_of, registers_of, end_of}
+use Rattle.bk_machine.specs.Placement.{SEGMENTS, stack_start, any_starts, loaded_store}
+use Rattle.bk_machine.specs.Runs.{Ran}
 use Rattle.bk_ocode.specs.declared.stmt.Stmt.{Stmt}
 use Rattle.bk_gen.specs.BackEnd.{Part, segments, image}
 use Rattle.bk_kit.specs.declared.kit_fault.KitFault.{KitFault}
@@ -14,12 +14,10 @@ use Rattle.bk_kit.specs.declared.kit_fault.KitFault.TheVariants.{Source, Ocode, 
 use Rattle.bk_kit.specs.Interpreting.{Streams, devices_of, HasRoom, first_registers}
 use Rattle.bk_kit.specs.Headline.{Headline}
 use Rattle.bk_kit.specs.ReadingSource.{IsUndecided, EachSource}
+use Rattle.bk_kit.specs.SectionNumbers.{stmts_of_parts}
 use Rattle.bk_kit.specs.Compiling.{Delivered}
 use Rattle.bk_kit.specs.SourceSections.{IsRefused, HasParts}
 use Rattle.bk_kit.specs.SourceMeaning.{meanings}
-
-abbrev pub stmts_of_parts : List Part → List (List Stmt)
-stmts_of_parts parts = map (λ (p : Part). p.stmts) parts
 
 -- Segments that stand for some sections.
 pub record Stand (all : List (List Item)) (codes : List (List Stmt)) : Type 0 where

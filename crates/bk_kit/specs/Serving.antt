@@ -28,42 +28,46 @@ output_of streams = record { taken = streams.taken; passed = streams.passed; fau
 abbrev pub Fails : {T : Type 0} → Result T KitFault → ℕ → Type 0
 Fails answer faults = faults ≡ (if is_read answer then 1 else 0)
 
--- `file` is what was read of FILE, `names` what was read of the OCODE that gives names; Holds says what the reader of the input can hold.
-abbrev pub Serves : (List ℕ → Type 0) → Order → ℕ → (file names : FileRead) → Streams → Streams → Output → Output → Type 0
+-- `file` is what was read of FILE; Holds says what the reader of the input can hold.
+abbrev pub Serves : (List ℕ → Type 0) → Order → ℕ → (file : FileRead) → Streams → Streams → Output → Output → Type 0
 -- the filters go from the input to the output
-Serves Holds Compile status file names before after err_before err_after =
+Serves Holds Compile status file before after err_before err_after =
     (answer : Result (Unit {0}) KitFault) × Compiles answer before.left after.left after.ended after.reads (output_of before) (output_of after)
     × (status ≡ done_status answer) × Tells (done_line answer) err_before err_after
-Serves Holds Generate status file names before after err_before err_after =
+Serves Holds Generate status file before after err_before err_after =
     (answer : Result (Unit {0}) KitFault) × Generates answer before.left after.left after.ended after.reads (output_of before) (output_of after)
     × (status ≡ done_status answer) × Tells (done_line answer) err_before err_after
-Serves Holds (Run limits name) status file names before after err_before err_after =
+Serves Holds (Run limits name) status file before after err_before err_after =
     (answer : Result End KitFault) × Headline meanings answer limits.steps limits.words file.old file.new file.ended before after
     × KeepsLimits Holds answer limits.steps limits.words file.old file.new file.ended before after
     × ReadsSource (is_read answer) file.old file.new × Fails answer file.faults
     × (status ≡ run_status answer) × Tells (run_line answer) err_before err_after
-Serves Holds (Check turns name) status file names before after err_before err_after =
+Serves Holds (Check turns name) status file before after err_before err_after =
     (answer : Result Report NotChecked) × ChecksSource answer turns file.old file.new file.ended before after × Begins before.passed after.passed
     × ReadsSource (fails_check answer) file.old file.new × (file.faults ≡ (if fails_check answer then 1 else 0))
     × (status ≡ check_status answer) × ReportsCheck answer err_before err_after
-Serves Holds (Show part name) status file names before after err_before err_after =
+Serves Holds (Show part name) status file before after err_before err_after =
     (answer : Result (Unit {0}) KitFault) × ShowsSource answer file.old file.new file.ended file.faults (output_of before) (output_of after)
     × (status ≡ done_status answer) × Tells (done_line answer) err_before err_after
-Serves Holds (ShowInput part) status file names before after err_before err_after =
+Serves Holds (ShowInput part) status file before after err_before err_after =
     (answer : Result (Unit {0}) KitFault) × ShowsSource answer before.left after.left after.ended after.reads (output_of before) (output_of after)
     × (status ≡ done_status answer) × Tells (done_line answer) err_before err_after
-Serves Holds (Interpret limits name) status file names before after err_before err_after =
+Serves Holds (Interpret limits name) status file before after err_before err_after =
     (answer : Result End KitFault) × Interpreted Holds answer limits.steps limits.words file.old file.new file.ended before after × Fails answer file.faults
     × (status ≡ run_status answer) × Tells (run_line answer) err_before err_after
-Serves Holds (Trace limits name None) status file names before after err_before err_after =
+Serves Holds (Trace limits name ocode) status file before after err_before err_after =
     (answer : Result End KitFault) × Traced Holds answer limits.steps limits.words file.old file.new file.ended before after × Fails answer file.faults
     × (status ≡ run_status answer) × ReportsTrace (run_line answer) err_before err_after
-Serves Holds (Trace limits name (Some ocode)) status file names before after err_before err_after =
-    (answer : Result End KitFault) × TracedNamed Holds answer limits.steps limits.words names file before after
-    × (status ≡ run_status answer) × ReportsTrace (run_line answer) err_before err_after
-Serves Holds (Sizes words name) status file names before after err_before err_after =
+Serves Holds (Sizes words name) status file before after err_before err_after =
     (answer : Result (Unit {0}) KitFault) × Reports answer (store_words words) file.old file.new file.ended (output_of before) (output_of after) × Fails answer file.faults
     × (status ≡ done_status answer) × Tells (done_line answer) err_before err_after
+
+-- The same with `names`, what was read of the OCODE that gives names.
+abbrev pub ServesNamed : (List ℕ → Type 0) → Order → ℕ → (file names : FileRead) → Streams → Streams → Output → Output → Type 0
+ServesNamed Holds (Trace limits name (Some ocode)) status file names before after err_before err_after =
+    (answer : Result End KitFault) × TracedNamed Holds answer limits.steps limits.words names file before after
+    × (status ≡ run_status answer) × ReportsTrace (run_line answer) err_before err_after
+ServesNamed Holds order status file names before after err_before err_after = Serves Holds order status file before after err_before err_after
 
 -- The filters, and `show` of the input, ask nothing of FILE; `show` of FILE and `--sizes` ask nothing of the input.
 abbrev pub LeavesFile : {F : Type 0} → Order → F → F → Type 0

@@ -3,9 +3,9 @@ use Rattle.std.specs.Prelude.{◌≡◌, ℕ, min, max, List, ◌++◌, Option, 
 use Rattle.std.specs.Io.KnownBytes.{Appends}
 use Rattle.bk_base.specs.Devices.{AppendsPart}
 use Rattle.bk_base.specs.declared.limit.TheConstants.{STORE_LEAST, STORE_MOST}
-use Rattle.bk_intcode.specs.declared.item.Item.{Item}
-use Rattle.bk_intcode.specs.declared.machine.Sizes.{Sizes}
-use Rattle.bk_intcode.specs.Placement.{SEGMENTS, stack_start, greatest_frame}
+use Rattle.bk_machine.specs.declared.item.Item.{Item}
+use Rattle.bk_machine.specs.declared.machine.Sizes.{Sizes}
+use Rattle.bk_machine.specs.Placement.{SEGMENTS, stack_start, greatest_frame}
 use Rattle.bk_kit.specs.declared.kit_fault.KitFault.{KitFault}
 use Rattle.bk_kit.specs.declared.kit_fault.KitFault.TheVariants.{Write}
 use Rattle.bk_kit.specs.FaultLine.{line_of}

@@ -1,15 +1,13 @@
 -- The code of a source: texts of segments that stand for its sections, what interpreting it comes to, and that the filters write it.
-use Rattle.std.specs.Prelude.{◌≡◌, ◌≢◌, ℕ, ◌<◌, ◌≤◌, Bool, IsTrue, ⊤, List, [], ◌∷◌, Option, Some, Result, Ok, Err, OnOk, length}
+use Rattle.std.specs.Prelude.{◌≡◌, ◌≢◌, ℕ, ◌<◌, ◌≤◌, Bool, IsTrue, List, [], Option, Some, Result, Ok, OnOk, length}
 use Rattle.std.specs.Io.KnownBytes.{Appends}
 use Rattle.bk_base.specs.declared.limit.TheConstants.{INPUT_BYTES, STORE_MOST}
 use Rattle.bk_base.specs.declared.run_end.End.{End}
 use Rattle.bk_words.specs.Words.{words_of}
-use Rattle.bk_intcode.specs.Placement.{greatest_frame}
+use Rattle.bk_machine.specs.Placement.{greatest_frame}
 use Rattle.bk_gen.specs.BackEnd.{Part, segments, image}
-use Rattle.bk_gen.specs.StandsFor.{EndsWithFrame, frame_words}
 use Rattle.bk_tree.specs.Tree.{Declarations}
 use Rattle.bk_kit.specs.declared.kit_fault.KitFault.{KitFault}
-use Rattle.bk_kit.specs.declared.kit_fault.KitFault.TheVariants.{TooSmall, NoStart, Read, Write, Memory}
 use Rattle.bk_kit.specs.Headline.{Keeps}
 use Rattle.bk_kit.specs.Telling.{Output}
 use Rattle.bk_kit.specs.ReadingSource.{EachSource}
@@ -17,6 +15,7 @@ use Rattle.bk_kit.specs.Texts.{all_words}
 use Rattle.bk_kit.specs.Code.{intcode}
 use Rattle.bk_kit.specs.Compiling.{Compiles}
 use Rattle.bk_kit.specs.Generating.{Generates}
+use Rattle.bk_kit.specs.OcodeRuns.{ReportsFrames, IsNotRefused, FindsNoFault}
 use Rattle.bk_kit.specs.Interpreting.{AnyBytes, Streams, Interpreted}
 use Rattle.bk_kit.specs.Sizes.{sizes_line, Reports}
 use Rattle.bk_kit.specs.SourceSections.{HasTrees, HasParts}
@@ -27,11 +26,6 @@ pub record IsCodeOf (source code : List ℕ) : Type 0 where
   pub parts : List Part
   pub has : HasParts parts source
   pub words : words_of code ≡ all_words intcode (segments parts)
-
--- Each segment states the largest depth of its section.
-abbrev pub ReportsFrames : List Part → Type 0
-ReportsFrames [] = ⊤
-ReportsFrames (p ∷ rest) = EndsWithFrame p.items (frame_words p.stmts) × ReportsFrames rest
 
 -- generating from this text writes the code of this source, which reports its frames
 abbrev pub WritesCode : List ℕ → List ℕ → Type 0
@@ -59,20 +53,6 @@ abbrev pub FramesAreOfSources : Type 0
 FramesAreOfSources = (source code : List ℕ) (is : IsCodeOf source code) → ReportsFrames is.parts → is.has.0 ≢ [] → greatest_frame (segments is.parts) ≡ frame_of is.has.0
 
 -- ---- one after another
-
--- nothing is refused: the answer is Ok, or reports a device or of memory
-abbrev pub IsNotRefused : {T : Type 0} → Result T KitFault → Type 0
-IsNotRefused (Ok done) = ⊤
-IsNotRefused (Err Read) = ⊤
-IsNotRefused (Err Write) = ⊤
-IsNotRefused (Err Memory) = ⊤
-IsNotRefused (Err fault) = ⊥
-
--- no segment is refused: the answer may be that none sets START, or that the store is too small
-abbrev pub FindsNoFault : {T : Type 0} → Result T KitFault → Type 0
-FindsNoFault (Err TooSmall) = ⊤
-FindsNoFault (Err NoStart) = ⊤
-FindsNoFault answer = IsNotRefused answer
 
 -- An accepted source with its trees. Each call finds a device that holds just what the call before it wrote.
 module _ (source : List ℕ) (trees : List Declarations) where

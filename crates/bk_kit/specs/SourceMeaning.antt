@@ -1,16 +1,14 @@
 -- What accepted sources mean, and which steps and words are enough to run them, by the numbers of the sources alone.
-use Rattle.std.specs.Prelude.{◌≡◌, ◌≢◌, ◌⊎◌, ℕ, ◌+◌, ◌*◌, ◌<◌, ◌≤◌, max, true, false, List, [], ◌∷◌, ◌++◌, Some, None, Err}
+use Rattle.std.specs.Prelude.{◌≡◌, ◌≢◌, ◌⊎◌, ℕ, ◌+◌, ◌*◌, ◌<◌, ◌≤◌, true, false, List, ◌++◌, Some, None, Err}
 use Rattle.bk_base.specs.Devices.{Begins}
-use Rattle.bk_base.specs.declared.limit.TheConstants.{FRAME_WORDS, FRAME_WORDS_LEAST, STORE_MOST}
+use Rattle.bk_base.specs.declared.limit.TheConstants.{FRAME_WORDS, STORE_MOST}
 use Rattle.bk_base.specs.declared.run_end.End.{End}
 use Rattle.bk_base.specs.declared.run_end.End.TheVariants.{WriteFault}
 use Rattle.bk_base.specs.declared.source_fault.SourceFault.{SourceFault}
-use Rattle.bk_intcode.specs.declared.registers.Registers.{Registers}
-use Rattle.bk_intcode.specs.Placement.{SEGMENTS, any_starts, loaded_store}
-use Rattle.bk_intcode.specs.Runs.{Ran, Blames}
+use Rattle.bk_machine.specs.declared.registers.Registers.{Registers}
+use Rattle.bk_machine.specs.Placement.{SEGMENTS, any_starts, loaded_store}
+use Rattle.bk_machine.specs.Runs.{Ran, Blames}
 use Rattle.bk_gen.specs.BackEnd.{Part, segments, image}
-use Rattle.bk_ocode.specs.Depth.{largest_depth}
-use Rattle.bk_ocode.specs.SectionData.{text_size}
 use Rattle.bk_ocode.specs.OcodeState.{State}
 use Rattle.bk_ocode.specs.OcodeRun.{Program}
 use Rattle.bk_ocode.specs.ProgramStart.{first_state}
@@ -28,25 +26,23 @@ use Rattle.bk_simulation.specs.Simulation.{end_of, EndsWithin, ComesWithin}
 use Rattle.bk_kit.specs.declared.kit_fault.KitFault.TheVariants.{Source, TooSmall, NoStart}
 use Rattle.bk_kit.specs.Interpreting.{AnyBytes, Streams, devices_of, first_registers}
 use Rattle.bk_kit.specs.Headline.{Language, Runs, Keeps}
-use Rattle.bk_kit.specs.Sources.{stmts_of_tree}
+use Rattle.bk_kit.specs.SectionNumbers as numbers
+use Rattle.bk_kit.specs.Sources.{codes_of_trees}
 use Rattle.bk_kit.specs.SourceSections.{HasTrees, HasParts, IsRefused}
 
 -- ---- numbers of a source
 
 -- the words of the texts in OCODE that the scheme gives to its sections
 abbrev pub text_of : List Declarations → ℕ
-text_of [] = 0
-text_of (tree ∷ trees) = text_size (stmts_of_tree tree) + text_of trees
+text_of trees = numbers.text_of (codes_of_trees trees)
 
 -- the largest depth in them
 abbrev pub depth_of : List Declarations → ℕ
-depth_of [] = 0
-depth_of (tree ∷ trees) = max (largest_depth (stmts_of_tree tree)) (depth_of trees)
+depth_of trees = numbers.depth_of (codes_of_trees trees)
 
 -- the same, and 16 where all are less
 abbrev pub frame_of : List Declarations → ℕ
-frame_of [] = FRAME_WORDS_LEAST
-frame_of (tree ∷ trees) = max (largest_depth (stmts_of_tree tree)) (frame_of trees)
+frame_of trees = numbers.frame_of (codes_of_trees trees)
 
 -- the words before the stack: those that each program has, and at most 8 for each word of the texts
 abbrev pub image_of : List Declarations → ℕ

@@ -1,10 +1,11 @@
 -- Which sections a whole source has, and which sources are refused.
-use Rattle.std.specs.Prelude.{◌≡◌, ℕ, false, List, ◌++◌, map}
+use Rattle.std.specs.Prelude.{◌≡◌, ℕ, false, List, ◌++◌}
 use Rattle.bk_base.specs.declared.source_fault.SourceFault.{SourceFault}
 use Rattle.bk_lex.specs.Lexing.{Section}
 use Rattle.bk_tree.specs.Tree.{Declarations}
 use Rattle.bk_ocode.specs.StmtRange.{AreBytes}
 use Rattle.bk_gen.specs.BackEnd.{Part}
+use Rattle.bk_kit.specs.SectionNumbers.{stmts_of_parts}
 use Rattle.bk_kit.specs.Sources.{Accepted, Refused, WholeSection, bytes_of, trees_of, codes_of_trees, line_behind, AreAccepted}
 
 -- Accepted sections, each with its `.`, and after them an accepted one that the source's end ends; these are the trees of all.
@@ -31,4 +32,4 @@ pub record IsRefused (source : List ℕ) (fault : SourceFault) : Type 0 where
 
 -- the statements of the source's sections are those of the parts
 abbrev pub HasParts : List Part → List ℕ → Type 0
-HasParts parts source = (trees : List Declarations) × HasTrees source trees × (map (λ (p : Part). p.stmts) parts ≡ codes_of_trees trees)
+HasParts parts source = (trees : List Declarations) × HasTrees source trees × (stmts_of_parts parts ≡ codes_of_trees trees)

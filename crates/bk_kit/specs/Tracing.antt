@@ -4,7 +4,7 @@ use Rattle.bk_base.specs.declared.device.ByteIn as reader
 use Rattle.bk_base.specs.declared.run_end.End.{End}
 use Rattle.bk_base.specs.declared.run_end.End.TheVariants.{WriteFault}
 use Rattle.bk_base.specs.Devices.{Begins}
-use Rattle.bk_intcode.specs.Runs.{Blames}
+use Rattle.bk_machine.specs.Runs.{Blames}
 use Rattle.bk_ocode.specs.SectionAnswer.{StopsAtDevice}
 use Rattle.bk_ocode.specs.declared.stmt.Stmt.{Stmt}
 use Rattle.bk_kit.specs.declared.kit_fault.KitFault.{KitFault}

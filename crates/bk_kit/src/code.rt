@@ -1,8 +1,8 @@
 //! Reading and loading texts of segments.
 ghost use Rattle.std.specs.Prelude.{◌≡◌, ◌≤◌, IfOk, IfErr, map, if◌then◌else◌};
 ghost use Rattle.bk_base.specs.declared.limit.TheConstants.{STORE_LEAST, STORE_MOST};
-ghost use Rattle.bk_intcode.specs.SegmentItems.{items_of};
-ghost use Rattle.bk_intcode.specs.State.{words_of};
+ghost use Rattle.bk_machine.specs.SegmentItems.{items_of};
+ghost use Rattle.bk_machine.specs.State.{words_of};
 ghost use Rattle.bk_kit.specs.Texts.{part_number, parts, Stands};
 ghost use Rattle.bk_kit.specs.Code.{intcode};
 ghost use Rattle.bk_kit.specs.Interpreting.{TextRefused, CodeRefused, Loads, is_read};
@@ -10,8 +10,8 @@ ghost use Rattle.bk_kit.specs.Interpreting.{TextRefused, CodeRefused, Loads, is_
 use crate::kit_fault::KitFault;
 use bk_base::limit::{STORE_LEAST, STORE_MOST};
 use bk_base::{ByteIn, Refused};
-use bk_intcode::{Intcode, Machine};
-use bk_intcode_text::read_segment;
+use bk_intcode::read_segment;
+use bk_machine::{Intcode, Machine};
 use std::alloc::Global;
 
 /// The number of the segment or section after so many others.

@@ -7,7 +7,7 @@ use crate::code::number_behind;
 use crate::kit_fault::KitFault;
 use bk_base::{ByteIn, ByteOut, OcodeFault, Refused};
 use bk_gen::generate;
-use bk_intcode_text::print;
+use bk_intcode::print;
 use bk_ocode::read_section;
 use std::alloc::Global;
 

@@ -6,7 +6,7 @@ ghost use Rattle.bk_kit.specs.FaultLine.{fault_text, line_of};
 
 use crate::pieces::put_pieces;
 use bk_base::{ByteOut, Failed, IntcodeFault, OcodeFault, Refused, SourceFault};
-use bk_intcode::LoadFault;
+use bk_machine::LoadFault;
 use itoa::Buffer;
 use std::alloc::AllocError;
 use thiserror::Error;

@@ -1,5 +1,6 @@
-//! The laws of running sources.
+//! The laws of running sources, and of running OCODE.
 ghost use Rattle.bk_kit.specs.SourceMeaning.{MeaningRuns, MeaningTooSmall, MeaningStartless, MeaningRefuses};
+ghost use Rattle.bk_kit.specs.OcodeRuns.{OcodeRuns};
 ghost use Rattle.bk_kit.specs.SourceCode.{FiltersWriteCode, InterpretsSources, FramesAreOfSources, OneAfterAnother};
 
 use bk_gen::{back_end, parts_are_well_placed, parts_without_start};
@@ -39,7 +40,7 @@ pub fn codes_run()
     ensures interprets { InterpretsSources }
     ensures frames { FramesAreOfSources }
 {
-    bk_intcode_text::one_saying();
+    bk_intcode::one_saying();
     back_end();
     parts_are_well_placed();
     parts_without_start();
@@ -55,11 +56,25 @@ pub fn one_after_another()
 {
     scheme_is_accepted();
     bk_ocode::one_saying();
-    bk_intcode_text::one_saying();
+    bk_intcode::one_saying();
     back_end();
     parts_are_well_placed();
     parts_without_start();
     steps_do_what_sources_mean();
     steps_go_on_with_their_source();
     programs_start_with_their_source();
+}
+
+/// Texts of OCODE, whatever wrote them: `generate_all` does not refuse a text of accepted sections, and `interpret` does with what it writes
+/// what the steps of OCODE do for these sections in the loader's placement, up to the first that is wild. With q steps and at most d
+/// frames at once, 16 q + 16 steps of the machine are enough, and d + 1 frames of the largest depth and 16 words each after the image.
+/// For a compiler to OCODE this leaves its own part: that it writes such a text, and that the steps of OCODE do what its source means.
+pub fn ocode_runs()
+    ensures { OcodeRuns }
+{
+    bk_ocode::one_saying();
+    bk_intcode::one_saying();
+    back_end();
+    parts_are_well_placed();
+    parts_without_start();
 }

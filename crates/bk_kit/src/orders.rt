@@ -58,3 +58,12 @@ impl Order {
         }
     }
 }
+
+/// The files that an order names.
+#[derive(Drop)]
+pub struct Files<F, N> {
+    /// The bytes of FILE.
+    pub file: F,
+    /// Those of the OCODE that gives a trace the names of procedures.
+    pub ocode: N,
+}

@@ -2,7 +2,7 @@
 ghost use Rattle.std.specs.Prelude.{◌≡◌, OnErr, OnOk, if◌then◌else◌};
 ghost use Rattle.std.specs.Io.KnownBytes.{Appends};
 ghost use Rattle.bk_base.specs.Devices.{AppendsPart};
-ghost use Rattle.bk_intcode.specs.Runs.{HeldBy};
+ghost use Rattle.bk_machine.specs.Runs.{HeldBy};
 ghost use Rattle.bk_kit.specs.Interpreting.{Interpreted, is_read, streams};
 ghost use Rattle.bk_kit.specs.Sizes.{sizes_line, store_words, Reports};
 ghost use Rattle.bk_kit.specs.Telling.{output};
@@ -12,7 +12,7 @@ use crate::kit_fault::KitFault;
 use crate::pieces::put_pieces;
 use bk_base::limit::{STORE_LEAST, STORE_MOST};
 use bk_base::{ByteIn, ByteOut, End, Failed, Limits};
-use bk_intcode::Sizes;
+use bk_machine::Sizes;
 use itoa::Buffer;
 use std::alloc::Global;
 

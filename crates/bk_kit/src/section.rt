@@ -10,8 +10,9 @@ use crate::kit_fault::KitFault;
 use bk_base::Line;
 use bk_lex::{Lexed, Lexer, Token};
 use bk_ocode::Ocode;
-use bk_scope::resolve;
+use bk_scope::resolve_keyed;
 use bk_syntax::parse;
+use bk_tables::{KeyMaker, KeyedHashers};
 use bk_trans::translate;
 use bk_tree::Section;
 use std::alloc::Global;
@@ -34,8 +35,20 @@ pub struct CompiledSection {
     pub next: Option<Line>,
 }
 
+/// The hashers for tables of what a section names. Their key is made from its whole text.
+pub(crate) fn hashers_of(lexer: &Lexer) -> KeyedHashers {
+    let mut key = KeyMaker::new();
+    key.add_bytes(lexer.bytes());
+    key.hashers()
+}
+
 /// The tree and the code of the tokens of a section, the end of which is on line `end`. The tokens are dropped after the parser.
-fn code_of(alloc: Global, tokens: Vec<Token>, end: Line) -> Result<SectionCode, KitFault>
+fn code_of(
+    alloc: Global,
+    tokens: Vec<Token>,
+    end: Line,
+    hashers: KeyedHashers,
+) -> Result<SectionCode, KitFault>
     ensures translates { IfOk result (λ section. Translates (symbols_of tokens.entry.items) (stmts_of section.code) (declarations_of section.tree)) }
     ensures refuses { IfErr result (λ fault. RefusesSymbols fault (symbols_of tokens.entry.items) end) }
 {
@@ -44,7 +57,7 @@ fn code_of(alloc: Global, tokens: Vec<Token>, end: Line) -> Result<SectionCode, 
         parse(alloc, tokens.as_slice(), end)?
     };
     let code = {
-        let resolved = resolve(alloc, &tree)?;
+        let resolved = resolve_keyed(alloc, &tree, hashers)?;
         translate(alloc, &resolved)?
     };
     Ok(SectionCode { tree, code })
@@ -72,7 +85,7 @@ pub fn compile_section(alloc: Global, lexer: &Lexer) -> Result<CompiledSection, 
     let code = if tokens.as_slice().is_empty() {
         None
     } else {
-        Some(code_of(alloc, tokens, line)?)
+        Some(code_of(alloc, tokens, line, hashers_of(lexer))?)
     };
     Ok(CompiledSection { code, next })
 }

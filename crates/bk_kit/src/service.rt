@@ -1,7 +1,7 @@
 //! Serving an order.
 ghost use Rattle.std.specs.Prelude.{◌≡◌};
-ghost use Rattle.bk_intcode.specs.Runs.{HeldBy};
-ghost use Rattle.bk_kit.specs.Serving.{Serves, LeavesFile, LeavesNames, LeavesInput};
+ghost use Rattle.bk_machine.specs.Runs.{HeldBy};
+ghost use Rattle.bk_kit.specs.Serving.{Serves, ServesNamed, LeavesFile, LeavesNames, LeavesInput};
 ghost use Rattle.bk_kit.specs.Statuses.{refusal_status, refusal_line};
 ghost use Rattle.bk_kit.specs.Telling.{Tells, output};
 ghost use Rattle.bk_kit.specs.Interpreting.{streams};
@@ -11,7 +11,7 @@ use crate::checker::check_source;
 use crate::command_line::LineFault;
 use crate::compiler::compile;
 use crate::generator::generate_all;
-use crate::orders::Order;
+use crate::orders::{Files, Order};
 use crate::runner::{interpret, sizes};
 use crate::showing::show_source;
 use crate::source::run_source;
@@ -20,27 +20,24 @@ use crate::tracing::{trace, trace_named};
 use bk_base::{ByteIn, ByteOut};
 use std::alloc::Global;
 
-/// Does what an order asks for, and answers the exit status. `file` gives the bytes of FILE if the order has one, and `names` those of
-/// the OCODE from which a trace takes the names of procedures.
+/// Does what an order asks for, and answers the exit status. `file` gives the bytes of FILE if the order has one. A trace writes no
+/// names of procedures: `serve_named` does.
 ///
 /// A fault or an abnormal end writes one line on the error stream, which is passed on; a failure of that stream changes
 /// nothing.
-pub fn serve<F: ByteIn, N: ByteIn, I: ByteIn, O: ByteOut, E: ByteOut>(
+pub fn serve<F: ByteIn, I: ByteIn, O: ByteOut, E: ByteOut>(
     alloc: Global,
     order: &Order,
     file: &mut F,
-    names: &mut N,
     input: &mut I,
     out: &mut O,
     err: &mut E,
 ) -> u8
     ensures serves { Serves (HeldBy I.held) order.now result
         (file_read F.ByteIn file.old file.new)
-        (file_read N.ByteIn names.old names.new)
         (streams I.ByteIn O.ByteOut input.old out.old) (streams I.ByteIn O.ByteOut input.new out.new)
         (output E.ByteOut err.old) (output E.ByteOut err.new) }
     ensures leaves_file { LeavesFile order.now file.old file.new }
-    ensures leaves_names { LeavesNames order.now names.old names.new }
     ensures leaves_input { LeavesInput order.now input.old input.new }
 {
     match order {
@@ -66,18 +63,42 @@ pub fn serve<F: ByteIn, N: ByteIn, I: ByteIn, O: ByteOut, E: ByteOut>(
             let answer = interpret(alloc, file, *limits, input, out);
             report_run(&answer, err)
         }
-        Order::Trace(limits, _, None) => {
+        Order::Trace(limits, _, _) => {
             let answer = trace(alloc, file, *limits, input, out, err);
-            report_run(&answer, err)
-        }
-        Order::Trace(limits, _, Some(_)) => {
-            let answer = trace_named(alloc, names, file, *limits, input, out, err);
             report_run(&answer, err)
         }
         Order::Sizes(words, _) => {
             let answer = sizes(alloc, file, *words, out);
             report_done(&answer, err)
         }
+    }
+}
+
+/// Does the same, with the OCODE that the order names if it has one: a trace reads it first, and takes the names of procedures from it. Its
+/// fault is reported as one of FILE, of which nothing is read then.
+pub fn serve_named<F: ByteIn, N: ByteIn, I: ByteIn, O: ByteOut, E: ByteOut>(
+    alloc: Global,
+    order: &Order,
+    files: &mut Files<F, N>,
+    input: &mut I,
+    out: &mut O,
+    err: &mut E,
+) -> u8
+    ensures serves { ServesNamed (HeldBy I.held) order.now result
+        (file_read F.ByteIn files.old.file files.new.file)
+        (file_read N.ByteIn files.old.ocode files.new.ocode)
+        (streams I.ByteIn O.ByteOut input.old out.old) (streams I.ByteIn O.ByteOut input.new out.new)
+        (output E.ByteOut err.old) (output E.ByteOut err.new) }
+    ensures leaves_file { LeavesFile order.now files.old.file files.new.file }
+    ensures leaves_names { LeavesNames order.now files.old.ocode files.new.ocode }
+    ensures leaves_input { LeavesInput order.now input.old input.new }
+{
+    match order {
+        Order::Trace(limits, _, Some(_)) => {
+            let answer = trace_named(alloc, files, *limits, input, out, err);
+            report_run(&answer, err)
+        }
+        _ => serve(alloc, order, &mut files.file, input, out, err),
     }
 }
 

@@ -6,11 +6,11 @@ ghost use Rattle.bk_kit.specs.Telling.{output};
 
 use crate::kit_fault::KitFault;
 use crate::reading::read_source_section;
-use crate::section::{CompiledSection, compile_section};
+use crate::section::{CompiledSection, compile_section, hashers_of};
 use bk_base::{ByteIn, ByteOut, Line};
 use bk_gen::generate;
 use bk_lex::Lexer;
-use bk_scope::resolve;
+use bk_scope::resolve_keyed;
 use bk_show::{Layout, NotShown, Part, Shown};
 use std::alloc::Global;
 
@@ -34,7 +34,7 @@ fn put_section<O, L: Layout<O>>(
     let Ok(lexed) = lexer.lexed(alloc) else {
         return Err(NotShown::Memory);
     };
-    let Ok(resolved) = resolve(alloc, &section.tree) else {
+    let Ok(resolved) = resolve_keyed(alloc, &section.tree, hashers_of(lexer)) else {
         return Err(NotShown::Memory);
     };
     let segment = generate(alloc, &section.code)?;

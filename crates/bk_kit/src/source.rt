@@ -1,8 +1,8 @@
 //! Running a source.
 ghost use Rattle.std.specs.Prelude.{◌≡◌, ◌≤◌, IfOk, IfErr, OnOk, OnErr, map, if◌then◌else◌};
 ghost use Rattle.bk_base.specs.declared.limit.TheConstants.{STORE_LEAST, STORE_MOST};
-ghost use Rattle.bk_intcode.specs.Runs.{HeldBy};
-ghost use Rattle.bk_intcode.specs.SegmentItems.{items_of};
+ghost use Rattle.bk_machine.specs.Runs.{HeldBy};
+ghost use Rattle.bk_machine.specs.SegmentItems.{items_of};
 ghost use Rattle.bk_kit.specs.Interpreting.{is_read, streams};
 ghost use Rattle.bk_kit.specs.CompilingSection.{codes_in};
 ghost use Rattle.bk_kit.specs.RunningSource.{Generated, Assembled, NotAssembled, LoadsSource, RefusesSource, ReadsSource, NotLoaded, KeepsLimits};
@@ -15,7 +15,7 @@ use crate::reading::read_source_section;
 use crate::section::{SectionCode, compile_section};
 use bk_base::{ByteIn, ByteOut, End, Limits, Line};
 use bk_gen::generate;
-use bk_intcode::{Intcode, Machine};
+use bk_machine::{Intcode, Machine};
 use std::alloc::{AllocError, Global};
 
 /// Generates the segment of a section's code, if it has any, after those of the sections before.

@@ -2,18 +2,34 @@
 ghost use Rattle.std.specs.Prelude.{◌≡◌, ◌≢◌, ◌≤◌, None, if◌then◌else◌};
 ghost use Rattle.bk_base.specs.declared.run_end.End.TheVariants.{StepLimit, WriteFault};
 ghost use Rattle.bk_base.specs.Devices.{Begins};
-ghost use Rattle.bk_intcode.specs.Runs.{HeldBy, Ran, Blames, devices};
-ghost use Rattle.bk_intcode.specs.State.{store_of, registers_of, end_of};
+ghost use Rattle.bk_machine.specs.Runs.{HeldBy, Ran, Blames, devices};
+ghost use Rattle.bk_machine.specs.State.{store_of, registers_of, end_of};
 ghost use Rattle.bk_kit.specs.Interpreting.{is_read, streams};
 ghost use Rattle.bk_kit.specs.Tracing.{Traced, TracedNamed, file_read};
 
 use crate::code::load_code;
 use crate::kit_fault::KitFault;
+use crate::orders::Files;
 use crate::procedures::{procedures_of, read_sections};
 use bk_base::{ByteIn, ByteOut, End, Limits};
-use bk_intcode::Machine;
+use bk_machine::Machine;
 use bk_show::{Procedures, Step, put_heading, put_other, put_procedure, put_step};
 use std::alloc::Global;
+
+/// How a run is traced: its limits, and the procedures whose names are written, if they are known.
+#[derive(Drop)]
+struct Tracing<'p> {
+    limits: Limits,
+    procedures: Option<&'p Procedures>,
+}
+
+/// What was traced so far: how many steps, and the procedure whose steps came last.
+#[derive(Drop)]
+struct Progress<'p> {
+    steps: u64,
+    procedures: Option<&'p Procedures>,
+    current: Option<usize>,
+}
 
 /// Writes the line above the steps on the error stream, and passes it on. A failure of that stream, or refused memory, changes nothing.
 fn report_heading<E: ByteOut>(alloc: Global, err: &mut E)
@@ -47,26 +63,20 @@ fn report_step<E: ByteOut>(alloc: Global, step: &Step, err: &mut E)
 
 /// Writes the line above the steps of a procedure in the same way, where the code at an address belongs to another procedure than the
 /// steps before it.
-fn report_procedure<E: ByteOut>(
-    alloc: Global,
-    procedures: Option<&Procedures>,
-    at: u32,
-    current: &mut Option<usize>,
-    err: &mut E,
-)
+fn report_procedure<E: ByteOut>(alloc: Global, progress: &mut Progress, at: u32, err: &mut E)
     ensures grows { Begins (E.taken err.old) (E.taken err.new) }
     ensures passes { Begins (E.passed err.old) (E.passed err.new) }
 {
-    let Some(procedures) = procedures else {
+    let Some(procedures) = progress.procedures else {
         return;
     };
     let Some(number) = procedures.holding(at) else {
         return;
     };
-    if *current == Some(number) {
+    if progress.current == Some(number) {
         return;
     }
-    *current = Some(number);
+    progress.current = Some(number);
     if put_procedure(alloc, procedures.name(number), err).is_ok() {
         let _passed = err.flush();
     }
@@ -88,9 +98,7 @@ fn next_step(machine: &Machine, number: u64) -> Step {
 fn run_step<I: ByteIn, O: ByteOut, E: ByteOut>(
     alloc: Global,
     machine: &mut Machine,
-    number: u64,
-    procedures: Option<&Procedures>,
-    current: &mut Option<usize>,
+    progress: &mut Progress,
     input: &mut I,
     out: &mut O,
     err: &mut E,
@@ -105,12 +113,12 @@ fn run_step<I: ByteIn, O: ByteOut, E: ByteOut>(
     ensures paused { result ≡ StepLimit → end_of machine.new ≡ None }
     ensures told { Begins (E.taken err.old) (E.taken err.new) × Begins (E.passed err.old) (E.passed err.new) }
 {
-    let mut step = next_step(machine, number);
+    let mut step = next_step(machine, progress.steps);
     let end = machine.run(1, input, out);
     if end == End::StepLimit {
         step.after = Some(machine.registers());
     }
-    report_procedure(alloc, procedures, step.at, current, err);
+    report_procedure(alloc, progress, step.at, err);
     report_step(alloc, &step, err);
     end
 }
@@ -119,15 +127,13 @@ fn run_step<I: ByteIn, O: ByteOut, E: ByteOut>(
 fn run_steps<I: ByteIn, O: ByteOut, E: ByteOut>(
     alloc: Global,
     machine: &mut Machine,
-    steps: u64,
-    procedures: Option<&Procedures>,
+    tracing: &Tracing,
     input: &mut I,
     out: &mut O,
     err: &mut E,
 ) -> End
     requires fresh { end_of machine.old ≡ None }
-    requires some { 1 ≤ steps }
-    ensures ran { result ≢ WriteFault → Ran (HeldBy I.held) result steps
+    ensures ran { result ≢ WriteFault → Ran (HeldBy I.held) result tracing.now.limits.steps
         (store_of machine.old) (registers_of machine.old) (store_of machine.new) (registers_of machine.new)
         (devices I.ByteIn O.ByteOut input.old out.old) (devices I.ByteIn O.ByteOut input.new out.new) }
     ensures flushed { result ≢ WriteFault → O.passed out.new ≡ O.taken out.new }
@@ -135,18 +141,14 @@ fn run_steps<I: ByteIn, O: ByteOut, E: ByteOut>(
     ensures cause { Blames result (I.faults input.old) (I.faults input.new) (O.faults out.new) }
     ensures told { Begins (E.taken err.old) (E.taken err.new) × Begins (E.passed err.old) (E.passed err.new) }
 {
-    let mut current = None;
-    for i in 0..steps {
-        let end = run_step(
-            alloc,
-            machine,
-            i + 1,
-            procedures,
-            &mut current,
-            input,
-            out,
-            err,
-        );
+    let mut progress = Progress {
+        steps: 0,
+        procedures: tracing.procedures,
+        current: None,
+    };
+    for i in 0..tracing.limits.steps() {
+        progress.steps = i + 1;
+        let end = run_step(alloc, machine, &mut progress, input, out, err);
         if end != End::StepLimit {
             return end;
         }
@@ -172,25 +174,27 @@ fn known_procedures<'p, E: ByteOut>(
     None
 }
 
-/// The run of `trace`, where the names of these procedures are known.
+/// The run of `trace`, where the names of procedures may be known.
 fn trace_with<C: ByteIn, I: ByteIn, O: ByteOut, E: ByteOut>(
     alloc: Global,
     code: &mut C,
-    limits: Limits,
-    procedures: Option<&Procedures>,
+    tracing: &Tracing,
     input: &mut I,
     out: &mut O,
     err: &mut E,
 ) -> Result<End, KitFault>
-    ensures traced { Traced (HeldBy I.held) result limits.steps limits.words (C.left code.old) (C.left code.new) (C.ended code.new)
+    ensures traced { Traced (HeldBy I.held) result tracing.now.limits.steps tracing.now.limits.words (C.left code.old) (C.left code.new) (C.ended code.new)
         (streams I.ByteIn O.ByteOut input.old out.old) (streams I.ByteIn O.ByteOut input.new out.new) }
     ensures read_fails { C.faults code.new ≡ (if is_read result then 1 else 0) }
     ensures told { Begins (E.taken err.old) (E.taken err.new) × Begins (E.passed err.old) (E.passed err.new) }
 {
-    let mut machine = load_code(alloc, code, limits.words())?;
-    let known = known_procedures(alloc, procedures, machine.sizes().image, err);
+    let mut machine = load_code(alloc, code, tracing.limits.words())?;
+    let known = Tracing {
+        limits: tracing.limits,
+        procedures: known_procedures(alloc, tracing.procedures, machine.sizes().image, err),
+    };
     report_heading(alloc, err);
-    Ok(run_steps(alloc, &mut machine, limits.steps(), known, input, out, err))
+    Ok(run_steps(alloc, &mut machine, &known, input, out, err))
 }
 
 /// Reads all segments of a text of INTCODE, loads them and runs them as `interpret` does, with a line on the error stream for each
@@ -208,28 +212,35 @@ pub fn trace<C: ByteIn, I: ByteIn, O: ByteOut, E: ByteOut>(
     ensures read_fails { C.faults code.new ≡ (if is_read result then 1 else 0) }
     ensures told { Begins (E.taken err.old) (E.taken err.new) × Begins (E.passed err.old) (E.passed err.new) }
 {
-    trace_with(alloc, code, limits, None, input, out, err)
+    let tracing = Tracing {
+        limits,
+        procedures: None,
+    };
+    trace_with(alloc, code, &tracing, input, out, err)
 }
 
 /// The same, with the names of the procedures. The text of OCODE is read first: where it is refused or can't be read, nothing is read of
 /// the INTCODE and nothing is run. Names are written if it is the OCODE from which the INTCODE was generated; else one line tells that
 /// it is of another program.
-pub fn trace_named<N: ByteIn, C: ByteIn, I: ByteIn, O: ByteOut, E: ByteOut>(
+pub fn trace_named<C: ByteIn, N: ByteIn, I: ByteIn, O: ByteOut, E: ByteOut>(
     alloc: Global,
-    ocode: &mut N,
-    code: &mut C,
+    files: &mut Files<C, N>,
     limits: Limits,
     input: &mut I,
     out: &mut O,
     err: &mut E,
 ) -> Result<End, KitFault>
     ensures traced { TracedNamed (HeldBy I.held) result limits.steps limits.words
-        (file_read N.ByteIn ocode.old ocode.new)
-        (file_read C.ByteIn code.old code.new)
+        (file_read N.ByteIn files.old.ocode files.new.ocode)
+        (file_read C.ByteIn files.old.file files.new.file)
         (streams I.ByteIn O.ByteOut input.old out.old) (streams I.ByteIn O.ByteOut input.new out.new) }
     ensures told { Begins (E.taken err.old) (E.taken err.new) × Begins (E.passed err.old) (E.passed err.new) }
 {
-    let sections = read_sections(alloc, ocode)?;
+    let sections = read_sections(alloc, &mut files.ocode)?;
     let procedures = procedures_of(alloc, sections.as_slice())?;
-    trace_with(alloc, code, limits, Some(&procedures), input, out, err)
+    let tracing = Tracing {
+        limits,
+        procedures: Some(&procedures),
+    };
+    trace_with(alloc, &mut files.file, &tracing, input, out, err)
 }

@@ -1,7 +1,7 @@
 -- The steps of a table of names: one binding more, one less, and what stands at a name's place.
-use Rattle.bk_scope.proofs.Terms.{◌≡◌, ℕ, ◌+◌, ◌-◌, ◌<◌, Bool, true, false, cond, Option, Some, None, List, [], ◌∷◌, ◌++◌, map, length, drop, get_or, refl, sym, ap, ◌∙◌, subst, ⊎_elim, arith, rules, IsSome, reverse, option_flatten, bytes_eq, get_by, UpdatesBy, lookup, cases_Bool, cond-true, cond-false, reverse-append, length-map, length-reverse, length-drop, drop-drop, reverse-reverse, get_or_at, get_or_append_left, bytes_eq-Decides, Binding, bound_in, NameKey, Entry, binding_of, scope_of, place_in, HaveHidden, mapped_place, IsTable, cmp-value}
+use Rattle.bk_scope.proofs.Terms.{◌≡◌, ℕ, ◌+◌, ◌-◌, ◌<◌, Bool, true, false, cond, Option, Some, None, List, [], ◌∷◌, ◌++◌, map, length, drop, get_or, refl, sym, ap, ◌∙◌, subst, ⊎_elim, arith, rules, IsSome, reverse, option_flatten, bytes_eq, get_by, UpdatesBy, lookup, cases_Bool, cond-true, cond-false, reverse-append, length-map, length-reverse, length-drop, drop-drop, reverse-reverse, get_or_at, get_or_append_left, bytes_eq-Decides, Binding, bound_in, NameKey, Entry, binding_of, scope_of, place_in, HaveHidden, mapped_place, IsTable, eq-value}
 use Rattle.bk_scope.specs.declared.table.Table.TheInside.{Inside}
-use Rattle.bk_scope.proofs.Keys.{found_by_letters, updates_letters}
+use Rattle.bk_scope.proofs.Keys.{updates_letters}
 
 scope_of-push : (es : List Entry) (e : Entry) → scope_of (es ++ e ∷ []) ≡ binding_of e ∷ scope_of es
 scope_of-push es e = ap (map binding_of) (reverse-append es (e ∷ []))
@@ -11,7 +11,7 @@ length-scope_of es = length-map (reverse es) binding_of ∙ length-reverse es
 
 -- the map's place for one name is changed
 abbrev pub Puts : Inside → NameKey → Option ℕ → Inside → Type 0
-Puts t k o u = UpdatesBy cmp-value.it (cmp-value.it k) t.innermost u.innermost (Some o)
+Puts t k o u = UpdatesBy eq-value.it (eq-value.it k) t.innermost u.innermost (Some o)
 
 flatten-cond : (b : Bool) (o : Option ℕ) (p : Option (Option ℕ)) → option_flatten (cond b (Some o) p) ≡ cond b o (option_flatten p)
 flatten-cond true o p = refl
@@ -21,10 +21,6 @@ mapped_place-put : (t u : Inside) (k : NameKey) (o : Option ℕ) → Puts t k o 
 mapped_place-put t u k o puts y =
     ap option_flatten (updates_letters k t.innermost u.innermost (Some o) puts y)
     ∙ flatten-cond (bytes_eq k.letters.now y) o (lookup (λ (l : NameKey). bytes_eq y l.letters.now) t.innermost.entries)
-
--- a key is looked up as its letters are
-pub found_place : (t : Inside) (k : NameKey) → option_flatten (get_by (cmp-value.it k) t.innermost) ≡ mapped_place t k.letters.now
-found_place t k = ap option_flatten (found_by_letters k t.innermost.entries)
 
 -- one binding more
 pub IsTable-push : (t u : Inside) (e : Entry) (i : ℕ) → IsTable t → u.bindings.items ≡ t.bindings.items ++ e ∷ [] → i ≡ length t.bindings.items
@@ -64,10 +60,10 @@ IsSome-flatten None i h = let f : ◌≡◌ {A = Option ℕ} None (Some i) = h i
 IsSome-flatten (Some p) i h = search rules
 
 -- the map has the name of the innermost binding
-pub IsSome-innermost : (t : Inside) (es : List Entry) (e : Entry) → IsTable t → t.bindings.items ≡ es ++ e ∷ [] → IsSome (get_by (cmp-value.it e.name) t.innermost)
+pub IsSome-innermost : (t : Inside) (es : List Entry) (e : Entry) → IsTable t → t.bindings.items ≡ es ++ e ∷ [] → IsSome (get_by (eq-value.it e.name) t.innermost)
 IsSome-innermost t es e before items =
-    IsSome-flatten (get_by (cmp-value.it e.name) t.innermost) (length (scope_of es))
-    (found_place t e.name ∙ before.places e.name.letters.now ∙ ap (λ bs. place_in bs e.name.letters.now) (ap scope_of items ∙ scope_of-push es e)
+    IsSome-flatten (get_by (eq-value.it e.name) t.innermost) (length (scope_of es))
+    (before.places e.name.letters.now ∙ ap (λ bs. place_in bs e.name.letters.now) (ap scope_of items ∙ scope_of-push es e)
     ∙ cond-true _ (Some (length (scope_of es))) (place_in (scope_of es) e.name.letters.now) ((bytes_eq-Decides e.name.letters.now e.name.letters.now).1 refl))
 
 -- what is left of a list, with one less, is what is left of the list
@@ -115,5 +111,5 @@ bound_at_place es x i d h = bound_at_reversed (reverse es) x i d h ∙ ap (λ l.
 
 -- what the map has at a key is the place of the name's innermost binding
 pub place_by_key : (t : Inside) (k : NameKey) (x : List ℕ) (bs : List Binding) → IsTable t → scope_of t.bindings.items ≡ bs → k.letters.now ≡ x
-    → option_flatten (get_by (cmp-value.it k) t.innermost) ≡ place_in bs x
-place_by_key t k x bs is view same = found_place t k ∙ is.places k.letters.now ∙ ap (place_in (scope_of t.bindings.items)) same ∙ ap (λ cs. place_in cs x) view
+    → option_flatten (get_by (eq-value.it k) t.innermost) ≡ place_in bs x
+place_by_key t k x bs is view same = is.places k.letters.now ∙ ap (place_in (scope_of t.bindings.items)) same ∙ ap (λ cs. place_in cs x) view

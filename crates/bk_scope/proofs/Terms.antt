@@ -1,4 +1,5 @@
 -- The names of the layers below that several of these proofs use.
+pub use Rattle.indexmap.specs.IndexMap.{IndexMap, UpdatesBy, get_by}
 pub use Rattle.std.proofs.Common.{◌≡◌, map, drop, List, [], ◌∷◌, ◌++◌, refl, ℕ, ◌+◌, ◌*◌, ◌≤◌, ◌==◌, Bool, true, false, cond, Option, Some, None, sym, ap, ◌∙◌, append_assoc, subst, arith, ◌^◌, ◌<◌, length, not, rules, IsSome, get_or, ◌-◌, length-append, Result, Ok, Err, OnOk, IfOk, string_bytes, slice_index_or, zero, suc, ap₂, take, ⊎_elim, reverse}
 pub use Rattle.std.proofs.lemmas.Bool.{eq-eqb, false≢true, le-ltb, ltb-true, eqb-true, eqb-false, lt-ltb, cases_Bool, cond-true, cond-false, ltb-false}
 pub use Rattle.std.proofs.lemmas.Cmp.{eq_by_cmp_equiv, nat_cmp_total, nat_list_eq_equiv}
@@ -6,13 +7,11 @@ pub use Rattle.std.proofs.lemmas.Grind.{common_steps}
 pub use Rattle.std.proofs.lemmas.List.{append-nil, at_drop_more, take_more, map-append, reverse-append, take_all, length-drop, drop_more, drop_all, length-map, length-reverse, drop-drop, reverse-reverse, get_or_at, get_or_append_left}
 pub use Rattle.std.proofs.lemmas.Option.{none-some}
 pub use Rattle.std.proofs.lemmas.Slice.Eq.{bytes_eq-Decides}
-pub use Rattle.std.specs.BTreeMap.{BTreeMap, is_at, UpdatesBy, get_by}
 pub use Rattle.std.specs.Char.{encode_utf8}
 pub use Rattle.std.specs.Cmp.{unsigned_tied}
 pub use Rattle.std.specs.Map.{lookup}
 unfoldable pub use Rattle.std.specs.Map.{KeepsOthers}
 pub use Rattle.std.specs.Option.{option_flatten, option_to_list, option_and_then}
-pub use Rattle.std.specs.Ordering.{is_eq, nat_cmp, ordering_then, eq_by_cmp}
 pub use Rattle.std.specs.Prelude.{nat_lt, max}
 pub use Rattle.std.specs.Str.{bytes_eq, encode_utf8_all}
 pub use Rattle.std.specs.Vec.{vec_len}
@@ -31,7 +30,7 @@ pub use Rattle.bk_tree.specs.declared.tree.Prefix.{Prefix}
 pub use Rattle.bk_tree.specs.declared.tree.Simple.{Simple}
 pub use Rattle.bk_tree.specs.declared.tree.Sort.{Sort}
 pub use Rattle.bk_scope.specs.Cases.{word_if_any, case_words, case_words_each, defaults, defaults_each, NoneOf, AllDiffer, CasesDiffer}
-pub use Rattle.bk_scope.specs.Claims.{has, claim_of, claims_in, HasClaims}
+pub use Rattle.bk_scope.specs.Claims.{claim_of, claims_in}
 pub use Rattle.bk_scope.specs.Constants.{named_word, constant_word, is_prefix_of_constants, is_infix_of_constants, divides, divides_by_zero, wrong_name, wrongs, prefix_word, infix_word}
 pub use Rattle.bk_scope.specs.Entering.{with_formals, Stage, with_labels, labels_of, labels_of_each, with_procedures, with_procedure}
 pub use Rattle.bk_scope.specs.Faults.{unless, constant_name, constant_wrongs, constant_wrongs_each, its_word, constant, each_constant, at_most, one_of, each_of, pushed, manifest_items, static_items, global_items, told, told_declared, told_one_declared, told_started, used_at, depth_named, addressed, assigned, told_destinations, told_each, told_done, told_of, faults, meanings, words, told_done_each, gone_to, prefixed, chosen_at, defaulted_at, single_at, its_meaning, told_defined, told_one_defined, its_global, its_frame, inside_procedure, procedure}
@@ -46,7 +45,7 @@ pub use Rattle.bk_scope.specs.Sound.{Usable, GoesTo, HasWord, HasWordUpTo, HaveW
 pub use Rattle.bk_scope.specs.Spots.{Spot, past, behind_constant, symbols, symbols_each, numbered, behind, behind_one_declared, numbers, numbers_items, numbers_declared, numbers_one_declared, numbers_started, numbers_each, symbols_done, numbers_done, onward, beginning, procedures_in, numbers_done_each, numbers_defined, behind_declared, symbols_done_each, symbols_declared, behind_each, behind_done, behind_one_defined, symbols_one_declared, symbols_items, symbols_defined, symbols_one_defined, symbols_started, numbers_one_defined}
 pub use Rattle.bk_scope.specs.TableView.{place_in, binding_of, scope_of, HaveHidden, mapped_place, IsTable}
 pub use Rattle.bk_scope.specs.Wrong.{Wrong, Breach, dynamic_name, not_constant, divided_by_zero, label_not_here, text_of, global_out_of_range, vec_out_of_range, not_assignable, not_declared, declared_twice, case_repeated, default_repeated, no_loop, no_switchon, no_result_or_return, frame_too_large, two_procedures, elsewhere}
-pub use Rattle.bk_scope.specs.contracts.name_key.NameKeyOrd.TheImpl.{cmp-value}
+pub use Rattle.bk_scope.specs.contracts.name_key.NameKeyPartialEq.TheImpl.{eq-value}
 pub use Rattle.bk_scope.specs.declared.bound.Bound.{Bound}
 pub use Rattle.bk_scope.specs.declared.bound.Bound.TheVariants.{Constant, Global, Static, Variable, Label}
 pub use Rattle.bk_scope.specs.declared.name_key.NameKey.{NameKey}

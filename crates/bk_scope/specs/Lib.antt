@@ -21,3 +21,4 @@ pub mod TableView
 pub mod FreshView
 pub mod FirstFault
 pub mod Claims
+pub mod ClaimInput

@@ -1,19 +1,21 @@
 //! What may be claimed once in a section.
-ghost use Rattle.std.specs.Prelude.{◌≡◌, not, cond, false, true, [], ◌∷◌, IfOk, OnOk, OnErr};
-ghost use Rattle.bk_scope.specs.declared.claims.Claim.{Claim};
-ghost use Rattle.bk_scope.specs.Found.{is_claimed, same_claim};
-ghost use Rattle.bk_scope.specs.Claims.{claim_of, has};
+ghost use Rattle.std.specs.Prelude.{◌≡◌, not, cond, false, [], ◌∷◌, IfOk, OnErr};
+ghost use Rattle.bk_scope.specs.Found.{is_claimed};
+ghost use Rattle.bk_scope.specs.Claims.{claim_of};
+ghost use Rattle.bk_scope.specs.ClaimInput.{input_of, same_input};
 
 use crate::name_key::NameKey;
+use bk_tables::KeyedHashers;
+use indexmap::IndexSet;
 use std::alloc::{AllocError, Global};
-use std::collections::BTreeSet;
+use std::hash::{Hash, Hasher};
 use std::marker::Model;
 
 /// The number of claims for which memory is reserved at first: those of a header, and of a few declarations.
 const FIRST_CLAIMS: usize = 48;
 
 /// What may be claimed once in a section.
-#[derive(Clone, Copy, PartialEq, Eq, PartialOrd, Ord)]
+#[derive(Clone, Copy, PartialEq, Eq)]
 pub enum Claim<'a> {
     /// A name, in the list of names of this number.
     Naming(u32, NameKey<'a>),
@@ -25,61 +27,25 @@ pub enum Claim<'a> {
     Setting(u32),
 }
 
-/// A name in a list of names. Names differ more often than the numbers of their lists, and are compared first.
-#[derive(Clone, Copy, PartialEq, Eq, PartialOrd, Ord)]
-struct Listed<'a> {
-    name: NameKey<'a>,
-    /// The number of the list.
-    list: u32,
-}
+impl<'a> Hash for Claim<'a> {
+    ghost hash_input = { input_of };
 
-/// A set of claims.
-#[derive(Drop)]
-struct ClaimSet<'a> {
-    /// The names in lists, by order. They are apart from the others, since a section has many.
-    listed: BTreeSet<Listed<'a>>,
-    /// The others, by order.
-    others: BTreeSet<Claim<'a>>,
-}
+    ghost respects_eq = { same_input };
 
-impl<'a> ClaimSet<'a> {
-    /// Without claims.
-    fn new(alloc: Global) -> ClaimSet<'a>
-        ensures { (c : Claim) → has result c ≡ false }
-    {
-        ClaimSet {
-            listed: BTreeSet::new(alloc),
-            others: BTreeSet::new(alloc),
-        }
-    }
-
-    /// Whether it has this claim.
-    fn contains(&self, claim: &Claim<'a>) -> bool
-        ensures { result ≡ has self.now claim.now }
-    {
-        match claim {
-            Claim::Naming(list, name) => self.listed.contains(&Listed {
-                name: *name,
-                list: *list,
-            }),
-            Claim::Choosing(_, _) | Claim::Defaulting(_) | Claim::Setting(_) => {
-                self.others.contains(claim)
+    /// The number of the variant is not hashed: most claims are of names, and few others have the same numbers.
+    #[inline(always)]
+    fn hash<H: Hasher>(&self, state: &mut H) {
+        match self {
+            Claim::Naming(list, name) => {
+                state.write_u64(u64::from(*list));
+                name.hash(state);
             }
-        }
-    }
-
-    /// Adds a claim; whether it had it not before.
-    fn insert(&mut self, claim: Claim<'a>) -> Result<bool, AllocError>
-        ensures new { IfOk result (λ new. new ≡ not (has self.old claim.entry)) }
-        ensures more { OnOk result ((c : Claim) → has self.new c ≡ cond (same_claim (claim_of claim.entry) (claim_of c)) true (has self.old c)) }
-        ensures kept { OnErr result ((c : Claim) → has self.new c ≡ has self.old c) }
-        ensures absent { OnErr result (has self.old claim.entry ≡ false) }
-    {
-        match claim {
-            Claim::Naming(list, name) => Ok(self.listed.insert(Listed { name, list })?),
-            Claim::Choosing(_, _) | Claim::Defaulting(_) | Claim::Setting(_) => {
-                Ok(self.others.insert(claim)?)
+            Claim::Choosing(switch, word) => {
+                state.write_u32(*switch);
+                state.write_u32(*word);
             }
+            Claim::Defaulting(switch) => state.write_u32(*switch),
+            Claim::Setting(global) => state.write_u32(*global),
         }
     }
 }
@@ -87,10 +53,8 @@ impl<'a> ClaimSet<'a> {
 /// What was claimed so far, which contracts see as the list of it, the newest first.
 #[derive(Drop)]
 pub struct Claims<'a> {
-    /// What was claimed, as a set.
-    claimed: ClaimSet<'a>,
-    /// The same, the newest last.
-    in_turn: Vec<Claim<'a>>,
+    /// The newest last.
+    in_turn: IndexSet<Claim<'a>, KeyedHashers>,
 }
 
 impl<'a> Model for Claims<'a> {
@@ -99,21 +63,18 @@ impl<'a> Model for Claims<'a> {
 
     ghost Value = { List Claim };
 
-    ghost use Rattle.bk_scope.specs.Claims.{claims_in, HasClaims};
+    ghost use Rattle.bk_scope.specs.Claims.{claims_in};
 
-    ghost view = { λ c. claims_in c.in_turn.items };
-
-    ghost invariant = { HasClaims };
+    ghost view = { λ c. claims_in c.in_turn.keys };
 }
 
 impl<'a> Claims<'a> {
     /// Nothing is claimed.
-    pub fn new(alloc: Global) -> Result<Claims<'a>, AllocError>
+    pub fn new(alloc: Global, hashers: KeyedHashers) -> Result<Claims<'a>, AllocError>
         ensures { IfOk result (λ claims. claims ≡ []) }
     {
         Ok(Claims {
-            claimed: ClaimSet::new(alloc),
-            in_turn: Vec::with_capacity(alloc, FIRST_CLAIMS)?,
+            in_turn: IndexSet::with_capacity_and_hasher(alloc, FIRST_CLAIMS, hashers)?,
         })
     }
 
@@ -124,17 +85,6 @@ impl<'a> Claims<'a> {
         ensures kept { OnErr result (self.new ≡ self.old) }
         ensures absent { OnErr result (is_claimed (claim_of claim.entry) self.old ≡ false) }
     {
-        if self.in_turn.reserve(1).is_err() {
-            // No memory is asked for where it was claimed before.
-            if self.claimed.contains(&claim) {
-                return Ok(false);
-            }
-            return Err(AllocError);
-        }
-        if !self.claimed.insert(claim)? {
-            return Ok(false);
-        }
-        self.in_turn.push(claim)?;
-        Ok(true)
+        Ok(self.in_turn.insert(claim)?)
     }
 }

@@ -17,6 +17,7 @@ use crate::place::kept_depth;
 use crate::table::Table;
 use bk_base::limit::FRAME_WORDS;
 use bk_base::{Line, SourceFault, SourceKind};
+use bk_tables::KeyedHashers;
 use bk_tree::Expr;
 use std::alloc::{AllocError, Global};
 use std::marker::Model;
@@ -77,13 +78,13 @@ impl<'a> Model for Findings<'a> {
 
 impl<'a> Findings<'a> {
     /// Nothing yet.
-    pub fn new(alloc: Global) -> Result<Findings<'a>, AllocError>
+    pub fn new(alloc: Global, hashers: KeyedHashers) -> Result<Findings<'a>, AllocError>
         ensures { IfOk result (λ findings. findings ≡ nothing) }
     {
         Ok(Findings {
             alloc,
             first: FirstFault::new(),
-            claims: Claims::new(alloc)?,
+            claims: Claims::new(alloc, hashers)?,
             meanings: Vec::with_capacity(alloc, FIRST_NAMES)?,
             words: Vec::with_capacity(alloc, FIRST_NAMES)?,
             next: 1,

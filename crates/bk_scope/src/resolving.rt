@@ -10,13 +10,28 @@ use crate::section_names::Resolved;
 use crate::table::Table;
 use crate::walk::Walk;
 use bk_base::{Refused, SourceFault};
+use bk_tables::{KeyMaker, KeyedHashers};
 use bk_tree::Section;
 use std::alloc::Global;
 
 /// What the names of a section mean and what its constants are, or the first of its faults: by place, and at one place by
-/// the number of the kind.
-#[tactic(auto, using(crate::proofs::Whole::first_found, crate::proofs::Whole::none_found, crate::proofs::Whole::meanings_found, crate::proofs::Whole::words_found, crate::proofs::Whole::numbers_fit))]
+/// the number of the kind. The tables of names have a fixed key: for a text that others choose there is `resolve_keyed`.
 pub fn resolve(alloc: Global, section: &Section) -> Result<Resolved<'_>, Refused<SourceFault>>
+    // The meanings and words are those of the section; else the first of its faults is returned.
+    ensures resolves { Resolves result (declarations_of section.now) }
+    // The result is of this section.
+    ensures section { IfOk result (λ resolved. resolved.section.now ≡ section.now) }
+{
+    resolve_keyed(alloc, section, KeyMaker::new().hashers())
+}
+
+/// What `resolve` answers. The key of the hashers, of the tables of names, is to be made from the whole text of the section.
+#[tactic(auto, using(crate::proofs::Whole::first_found, crate::proofs::Whole::none_found, crate::proofs::Whole::meanings_found, crate::proofs::Whole::words_found, crate::proofs::Whole::numbers_fit))]
+pub fn resolve_keyed(
+    alloc: Global,
+    section: &Section,
+    hashers: KeyedHashers,
+) -> Result<Resolved<'_>, Refused<SourceFault>>
     // The meanings and words are those of the section; else the first of its faults is returned.
     ensures resolves { Resolves result (declarations_of section.now) }
     // The result is of this section.
@@ -24,8 +39,8 @@ pub fn resolve(alloc: Global, section: &Section) -> Result<Resolved<'_>, Refused
 {
     let mut walk = Walk {
         alloc,
-        table: Table::new(alloc)?,
-        findings: Findings::new(alloc)?,
+        table: Table::new(alloc, hashers)?,
+        findings: Findings::new(alloc, hashers)?,
     };
     declare_each(&mut walk, Enclosing::outermost(), section.decls())?;
     let Walk { findings, .. } = walk;

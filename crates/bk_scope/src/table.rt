@@ -5,8 +5,9 @@ ghost use Rattle.bk_scope.specs.TableView.{place_in};
 
 use crate::bound::Bound;
 use crate::name_key::NameKey;
+use bk_tables::KeyedHashers;
+use indexmap::IndexMap;
 use std::alloc::{AllocError, Global};
-use std::collections::BTreeMap;
 use std::marker::Model;
 
 /// The number of bindings for which memory is reserved at first: those of a header, and of a few declarations.
@@ -16,7 +17,7 @@ const FIRST_BINDINGS: usize = 48;
 #[derive(Drop)]
 pub struct Table<'a> {
     /// Of each name that was bound, the place in `bindings` of the innermost binding that is in scope, if any.
-    innermost: BTreeMap<NameKey<'a>, Option<usize>>,
+    innermost: IndexMap<NameKey<'a>, Option<usize>, KeyedHashers>,
     /// The bindings in scope, the outermost first.
     bindings: Vec<Entry<'a>>,
 }
@@ -45,11 +46,11 @@ impl<'a> Model for Table<'a> {
 
 impl<'a> Table<'a> {
     /// Nothing is in scope.
-    pub fn new(alloc: Global) -> Result<Table<'a>, AllocError>
+    pub fn new(alloc: Global, hashers: KeyedHashers) -> Result<Table<'a>, AllocError>
         ensures { IfOk result (λ table. table ≡ []) }
     {
         Ok(Table {
-            innermost: BTreeMap::new(alloc),
+            innermost: IndexMap::with_capacity_and_hasher(alloc, FIRST_BINDINGS, hashers)?,
             bindings: Vec::with_capacity(alloc, FIRST_BINDINGS)?,
         })
     }

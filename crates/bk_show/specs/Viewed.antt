@@ -5,8 +5,8 @@ use Rattle.bk_tree.specs.Tree.{Declarations}
 use Rattle.bk_tree.specs.Section.{declarations_of}
 use Rattle.bk_ocode.specs.SectionStmts.{stmts_of}
 use Rattle.bk_ocode.specs.declared.stmt.Stmt.{Stmt}
-use Rattle.bk_intcode.specs.SegmentItems.{items_of}
-use Rattle.bk_intcode.specs.declared.item.Item.{Item}
+use Rattle.bk_machine.specs.SegmentItems.{items_of}
+use Rattle.bk_machine.specs.declared.item.Item.{Item}
 use Rattle.bk_show.specs.declared.section.Shown.{Shown}
 
 pub record Viewed : Type 0 where

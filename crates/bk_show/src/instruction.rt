@@ -1,7 +1,7 @@
 //! Instructions of INTCODE as text, and what each does, in the words of docs/INTCODE.md.
 
 use crate::text::Text;
-use bk_intcode::{Function, Operand};
+use bk_machine::{Function, Operand};
 use std::alloc::AllocError;
 
 /// An instruction.

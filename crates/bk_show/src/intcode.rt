@@ -4,7 +4,7 @@ use crate::entries::Entries;
 use crate::instruction::{Instruction, put_instruction, say_instruction};
 use crate::text::Text;
 use bk_base::Line;
-use bk_intcode::{Intcode, Item};
+use bk_machine::{Intcode, Item};
 use bk_ocode::Ocode;
 use std::alloc::{AllocError, Global};
 

@@ -1,7 +1,7 @@
 //! The procedures of a program in a store, by the addresses at which they begin.
 
 use crate::entries::Entries;
-use bk_intcode::{Intcode, Item, Operand};
+use bk_machine::{Intcode, Item, Operand};
 use bk_ocode::Ocode;
 use std::alloc::{AllocError, Global};
 

@@ -7,7 +7,7 @@ use crate::instruction::{Instruction, put_instruction, say_instruction};
 use crate::section::{NotShown, put_text};
 use crate::text::Text;
 use bk_base::ByteOut;
-use bk_intcode::{Function, Operand, Registers};
+use bk_machine::{Function, Operand, Registers};
 use std::alloc::{AllocError, Global};
 
 /// How many places a number of a step, an address, and a word have.

@@ -1,4 +1,4 @@
-//! The parser: the one tree of a section, or a fault.
+//! The parser: the one tree of a section, or a fault; and again the trees of `bk_tree`.
 #![tactic(auto)]
 
 mod commands;
@@ -9,6 +9,7 @@ mod expressions;
 mod laws;
 mod parser;
 
+pub use bk_tree::{Command, Decl, Def, Expr, Section};
 pub use laws::{
     begins_completes, completes_begins, end_fault_stands, goes_on_begins, have_one_tree,
     reads_the_grammar, symbol_fault_stands, tag_fault_stands,

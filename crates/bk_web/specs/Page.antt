@@ -5,19 +5,19 @@ use Rattle.std.specs.Str.{IsUtf8}
 use Rattle.clap.specs.Words.{Text, subcommand_of}
 use Rattle.bk_base.specs.declared.limit.TheConstants.{STORE_LEAST, STORE_MOST}
 use Rattle.bk_base.specs.declared.run_end.End.{End}
-use Rattle.bk_intcode.specs.declared.item.Item.{Item}
-use Rattle.bk_intcode.specs.declared.machine.Machine.{Machine}
-use Rattle.bk_intcode.specs.declared.registers.Registers.{Registers}
-use Rattle.bk_intcode.specs.Placement.{SEGMENTS, stack_start, loaded_store}
-use Rattle.bk_intcode.specs.State.{words_of}
-use Rattle.bk_intcode.specs.Runs.{Devices, Ran}
+use Rattle.bk_machine.specs.declared.item.Item.{Item}
+use Rattle.bk_machine.specs.declared.machine.Machine.{Machine}
+use Rattle.bk_machine.specs.declared.registers.Registers.{Registers}
+use Rattle.bk_machine.specs.Placement.{SEGMENTS, stack_start, loaded_store}
+use Rattle.bk_machine.specs.State.{words_of}
+use Rattle.bk_machine.specs.Runs.{Devices, Ran}
 use Rattle.bk_kit.specs.declared.command_line.LineFault.{LineFault}
 use Rattle.bk_kit.specs.declared.command_line.LineFault.TheVariants.{Help, Bad, Memory}
 use Rattle.bk_kit.specs.declared.kit_fault.KitFault.{KitFault}
 use Rattle.bk_kit.specs.declared.orders.Order.{Order}
 use Rattle.bk_kit.specs.CommandLine.{kit_command, Reads, Refuses}
 use Rattle.bk_kit.specs.Interpreting.{Streams, CodeRefused, Loads, Loadable, first_registers, devices_of}
-use Rattle.bk_kit.specs.Serving.{Serves}
+use Rattle.bk_kit.specs.Serving.{ServesNamed}
 use Rattle.bk_kit.specs.Statuses.{refusal_status, refusal_line, fault_status, end_status}
 use Rattle.bk_kit.specs.Telling.{Output, Tells}
 use Rattle.bk_kit.specs.Tracing.{FileRead}
@@ -56,7 +56,7 @@ pub record ServesOrder (Holds : List ℕ → Type 0) (words file ocode input : L
   pub names_are : names.old ≡ Some ocode
   pub after : Streams
   pub told : Output
-  pub serves : Serves Holds order status read names (streams_before input) after output_before told
+  pub serves : ServesNamed Holds order status read names (streams_before input) after output_before told
   pub output_is : after.taken ≡ Some output
   pub lines_are : told.taken ≡ Some lines
 

@@ -1,7 +1,7 @@
 //! A command line over bytes.
 ghost use Rattle.std.specs.Prelude.{◌≡◌, ◌⊎◌, IfOk, IfErr, length, map};
 ghost use Rattle.clap.specs.Words.{subcommand_of};
-ghost use Rattle.bk_intcode.specs.Runs.{HeldBy};
+ghost use Rattle.bk_machine.specs.Runs.{HeldBy};
 ghost use Rattle.bk_kit.specs.CommandLine.{kit_command, Reads};
 ghost use Rattle.bk_kit.specs.Statuses.{refusal_status, refusal_line};
 ghost use Rattle.bk_kit.specs.Telling.{Tells};
@@ -11,7 +11,7 @@ ghost use Rattle.bk_web.specs.Page.{texts_of, RefusesBytes, IsHelp, Commands, An
 use crate::answer::Answer;
 use crate::kept::{Kept, copy_front};
 use bk_base::{ByteIn, Reader512, put_all};
-use bk_kit::{LineFault, Order, order, refuse, serve};
+use bk_kit::{Files, LineFault, Order, order, refuse, serve_named};
 use std::alloc::{AllocError, Global};
 
 /// The words of a text, which line feeds separate.
@@ -78,10 +78,12 @@ fn serve_words<'a>(
 {
     match order_of(alloc, words) {
         Ok(order) => {
-            let mut file = Reader512::new(file);
-            let mut names = Reader512::new(ocode);
+            let mut files = Files {
+                file: Reader512::new(file),
+                ocode: Reader512::new(ocode),
+            };
             let mut input = Reader512::new(input);
-            serve(alloc, &order, &mut file, &mut names, &mut input, out, err)
+            serve_named(alloc, &order, &mut files, &mut input, out, err)
         }
         Err(fault) => refuse_words(alloc, &fault, out, err),
     }

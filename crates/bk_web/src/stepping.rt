@@ -1,16 +1,16 @@
 //! The machine after some steps.
 ghost use Rattle.std.specs.Prelude.{◌≡◌, ◌≤◌, ◌⊎◌, IfOk, IfErr, length, take, min};
 ghost use Rattle.bk_base.specs.declared.limit.TheConstants.{STORE_LEAST, STORE_MOST};
-ghost use Rattle.bk_intcode.specs.State.{store_of, words_of};
-ghost use Rattle.bk_intcode.specs.Runs.{HeldBy};
+ghost use Rattle.bk_machine.specs.State.{store_of, words_of};
+ghost use Rattle.bk_machine.specs.Runs.{HeldBy};
 ghost use Rattle.bk_web.specs.Page.{LoadsText, RefusesText, Steps, RunsNothing};
 
 use crate::answer::Standing;
 use crate::kept::{Kept, copy_front};
 use bk_base::limit::{STORE_LEAST, STORE_MOST};
 use bk_base::{ByteIn, End, Reader512};
-use bk_intcode::Machine;
 use bk_kit::{KitFault, load_code, status_of_end, status_of_fault};
+use bk_machine::Machine;
 use bk_show::{Step, put_step};
 use std::alloc::Global;
 

@@ -269,18 +269,3 @@ Reads-stops old a b e m words given reads unended begins gives = (
     in_word = begins.in_word;
   },
 )
-
--- whatever follows there, its words are those and then others
-pub words_of-stopped : (taken more : List ℕ) (words : List (List ℕ)) → (s : StopsInWord taken words) → words_of (taken ++ more) ≡ words ++ words_of (s.begun ++ more)
-words_of-stopped taken more words s =
-    ap (λ (t : List ℕ). words_of (t ++ more)) s.whole ∙ ap words_of (append_assoc s.front s.begun more) ∙ behind s.ends
-  where
-    behind : EndsInBlank s.front → words_of (s.front ++ (s.begun ++ more)) ≡ words ++ words_of (s.begun ++ more)
-    behind (inl none) = ap (λ (t : List ℕ). words_of (t ++ (s.begun ++ more))) none
-        ∙ ap (λ (w : List (List ℕ)). w ++ words_of (s.begun ++ more)) (sym (ap words_of none) ∙ s.are)
-    behind (inr blank) =
-        let front = s.begun ++ more in
-        let gap : (rest : List ℕ) → words_of (blank.0 ++ blank.1 ∷ rest) ≡ words_of blank.0 ++ words_of rest = λ rest.
-        words_parted blank.0 (blank.1 ∷ rest) blank.2 ∙ ap (λ (w : List (List ℕ)). words_of blank.0 ++ w) (chosen-true (is_blank blank.1) _ _ blank.2) in
-        ap (λ (t : List ℕ). words_of (t ++ front)) blank.3 ∙ ap words_of (append_assoc blank.0 (blank.1 ∷ []) front) ∙ gap front
-        ∙ ap (λ (w : List (List ℕ)). w ++ words_of front) (sym (append-nil (words_of blank.0)) ∙ sym (gap []) ∙ sym (ap words_of blank.3) ∙ s.are)

@@ -1,5 +1,5 @@
 use Rattle.bk_kit.proofs.Terms.{◌≡◌, ◌+◌, ◌≤◌, Bool, true, false, List, map, rules, sym, ◌∙◌, subst, refl, inl, inr, cases_lt, Item, items_of, SEGMENTS, stack_start, any_starts, parts, Stands, intcode}
-use Rattle.bk_intcode.specs.declared.segment.Intcode.{Intcode}
+use Rattle.bk_machine.specs.declared.segment.Intcode.{Intcode}
 use Rattle.bk_kit.proofs.LoadLemmas.{refused_anyhow}
 use Rattle.bk_kit.proofs.code.load_code.Goals as goal
 

@@ -1,5 +1,5 @@
 use Rattle.bk_kit.proofs.Terms.{◌≡◌, ◌∙◌, List, [], ◌∷◌, ◌++◌, length, map, ap, sym, subst, rules, map-append, length-map, Item, items_of, segment_whole, part_number, intcode}
-use Rattle.bk_intcode_text.specs.SegmentReading.{StopsAtDevice}
+use Rattle.bk_intcode.specs.SegmentReading.{StopsAtDevice}
 use Rattle.bk_kit.proofs.CodeLemmas.{Front, Front-push, Front-refused, Front-stops, Front-whole}
 use Rattle.bk_kit.proofs.code.read_code.Goals as goal
 

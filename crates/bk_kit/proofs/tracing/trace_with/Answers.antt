@@ -5,7 +5,7 @@ pub returns-clause-traced : goal.returns-clause-traced
 returns-clause-traced g c =
     let loads = c.in_ok-machine.ensures.loaded in (
       λ sound.
-          let ran = rw (loads.store, loads.registers, c.words.ensures.value, c.steps.ensures.value) at c.run_steps.ensures.ran sound in
+          let ran = rw (loads.store, loads.registers, c.words.ensures.value) at c.run_steps.ensures.ran sound in
           record {
             all = loads.all;
             loadable = rw c.words.ensures.value at loads.loadable;
@@ -20,6 +20,6 @@ returns-clause-traced g c =
 
 pub returns-clause-told : goal.returns-clause-told
 returns-clause-told g c = (
-  Begins-trans _ _ _ c.known_procedures-known.ensures.grows (Begins-trans _ _ _ c.report_heading.ensures.grows c.run_steps.ensures.told.0),
-  Begins-trans _ _ _ c.known_procedures-known.ensures.passes (Begins-trans _ _ _ c.report_heading.ensures.passes c.run_steps.ensures.told.1),
+  Begins-trans _ _ _ c.known_procedures.ensures.grows (Begins-trans _ _ _ c.report_heading.ensures.grows c.run_steps.ensures.told.0),
+  Begins-trans _ _ _ c.known_procedures.ensures.passes (Begins-trans _ _ _ c.report_heading.ensures.passes c.run_steps.ensures.told.1),
 )

@@ -1,5 +1,5 @@
 use Rattle.std.proofs.Common.{◌∙◌, ap, sym, refl, inl, length, min}
-use Rattle.bk_intcode.specs.State.{store_of, registers_of}
+use Rattle.bk_machine.specs.State.{store_of, registers_of}
 use Rattle.bk_web.specs.Kept.{kept_of}
 use Rattle.bk_web.proofs.stepping.bk_step.Goals as goal
 

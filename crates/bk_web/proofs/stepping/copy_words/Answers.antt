@@ -2,7 +2,7 @@ use Rattle.std.proofs.Common.{rules, arith, ◌≡◌, ◌∙◌, ℕ, ◌<◌, 
 use Rattle.std.proofs.lemmas.Grind.{common_steps}
 use Rattle.std.proofs.lemmas.List.{take_more, take_more_set}
 use Rattle.std.proofs.lemmas.Option.{slice_get_cases, get_or_from_slice_get}
-use Rattle.bk_intcode.specs.State.{store_of}
+use Rattle.bk_machine.specs.State.{store_of}
 use Rattle.bk_web.proofs.stepping.copy_words.Goals as goal
 use Rattle.bk_web.proofs.stepping.copy_words.Goals.{else-loop-at-test, then-loop-at-test+in_default}
 

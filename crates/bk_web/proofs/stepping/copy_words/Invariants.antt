@@ -1,5 +1,5 @@
 use Rattle.std.proofs.Common.{◌≡◌, ◌≤◌, ◌-◌, length, take}
-use Rattle.bk_intcode.specs.State.{store_of}
+use Rattle.bk_machine.specs.State.{store_of}
 use Rattle.bk_web.proofs.stepping.copy_words.Given as goal
 
 abbrev pub invariant-loop-at : goal.invariant-loop-at

@@ -1,6 +1,0 @@
--- Words that grow.
-use Rattle.bk_intcode.proofs.Terms.{ℕ, List, Growth}
-
--- words of which the last has as many bytes
-abbrev pub growth_of : List ℕ → ℕ → Growth
-growth_of words filled = record { words = words; filled = filled }

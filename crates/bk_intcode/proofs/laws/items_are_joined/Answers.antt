@@ -1,5 +1,0 @@
-use Rattle.bk_intcode.specs.ItemWords.{items_joined}
-use Rattle.bk_intcode.proofs.laws.items_are_joined.Goals as goal
-
-pub returns : goal.returns
-returns c = items_joined

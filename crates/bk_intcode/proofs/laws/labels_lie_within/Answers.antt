@@ -1,5 +1,0 @@
-use Rattle.bk_intcode.specs.SizeLaws.{number_within}
-use Rattle.bk_intcode.proofs.laws.labels_lie_within.Goals as goal
-
-pub returns : goal.returns
-returns c = number_within

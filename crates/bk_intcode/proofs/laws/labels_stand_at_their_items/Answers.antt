@@ -1,5 +1,0 @@
-use Rattle.bk_intcode.specs.SizeLaws.{number_there}
-use Rattle.bk_intcode.proofs.laws.labels_stand_at_their_items.Goals as goal
-
-pub returns : goal.returns
-returns c = number_there

@@ -1,5 +1,0 @@
-use Rattle.bk_intcode.specs.ItemWords.{words_of_bytes}
-use Rattle.bk_intcode.proofs.laws.words_of_bytes.Goals as goal
-
-pub returns : goal.returns
-returns c = words_of_bytes

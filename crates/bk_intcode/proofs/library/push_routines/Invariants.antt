@@ -1,6 +1,0 @@
-use Rattle.std.proofs.Common.{◌≡◌, ◌-◌, ◌++◌}
-use Rattle.bk_intcode.proofs.Routines.{routines}
-use Rattle.bk_intcode.proofs.library.push_routines.Given as goal
-
-abbrev pub invariant-loop-global : goal.invariant-loop-global
-invariant-loop-global l = l.words.items ≡ l.initial.words.items ++ routines (l.global - 2)

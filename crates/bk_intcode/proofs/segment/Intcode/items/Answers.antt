@@ -1,8 +1,0 @@
-use Rattle.std.proofs.Math.Logic.{∥∥₁_elim}
-use Rattle.bk_intcode.specs.SegmentLaws.{IsSegment-prop}
-use Rattle.bk_intcode.proofs.segment.Intcode.items.Goals as goal
-
-pub returns-clause-whole : goal.returns-clause-whole
-returns-clause-whole c =
-    rw c.as_slice.ensures.value
-    (∥∥₁_elim c.args.self.now.whole (IsSegment-prop c.args.self.now.items.items) (λ whole. whole))

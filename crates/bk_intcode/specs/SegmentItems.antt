@@ -1,7 +1,0 @@
--- What a segment shows.
-use Rattle.std.specs.Prelude.{List}
-use Rattle.bk_intcode.specs.declared.item.Item.{Item}
-use Rattle.bk_intcode.specs.declared.segment.Intcode.{Intcode}
-
-abbrev pub items_of : Intcode → List Item
-items_of segment = segment.items.items

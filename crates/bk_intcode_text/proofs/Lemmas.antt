@@ -1,2 +1,0 @@
--- The lemmas of this crate that the proofs of the crates above cite. They import no other file of this folder.
-pub use Rattle.bk_intcode_text.proofs.PrintedLemmas.{words_of-printed}

@@ -1,9 +1,0 @@
-pub mod ItemText
-pub mod SegmentText
-pub mod WordMeaning
-pub mod ItemFault
-pub mod SegmentReading
-pub mod Next
-pub mod Drafts
-pub mod SegmentAnswer
-pub mod FirstSaying

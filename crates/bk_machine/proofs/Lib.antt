@@ -1,0 +1,12 @@
+mod Terms
+mod Blaming
+mod Bytes
+mod Formats
+mod Growing
+mod Places
+mod Reaching
+mod Routines
+mod RunSteps
+mod Settings
+mod TellSteps
+pub mod Lemmas

@@ -1,0 +1,5 @@
+use Rattle.bk_machine.specs.SizeLaws.{number_there}
+use Rattle.bk_machine.proofs.laws.labels_stand_at_their_items.Goals as goal
+
+pub returns : goal.returns
+returns c = number_there
