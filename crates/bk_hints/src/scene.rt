@@ -4,7 +4,10 @@ use crate::lines::Lines;
 use crate::sentence::{Sentence, Told};
 use bk_base::{Line, Refused};
 use bk_lex::{Kind, Token};
+use bk_scope::resolve_keyed;
 use bk_syntax::parse;
+use bk_tables::KeyMaker;
+use bk_tree::Section;
 use std::alloc::{AllocError, Global};
 
 /// The number of a line that no symbol is on.
@@ -65,28 +68,40 @@ fn put_kinds<'a>(tokens: &mut Vec<Token<'a>>, kinds: &[Kind]) -> Result<(), Allo
     Ok(())
 }
 
-/// How many symbols come before a line.
-pub fn tokens_before(tokens: &[Token], line: Line) -> usize {
-    for (i, token) in tokens.iter().enumerate() {
-        if token.line.number() >= line.number() {
-            return i;
-        }
-    }
-    tokens.len()
-}
-
-/// The index of the first symbol that no section goes on with; or the number of the symbols, where the fault is at their end.
-/// A copy of the symbols has each on a line of its own, so that the line of its fault gives the index.
-pub fn refused_at(alloc: Global, tokens: &[Token]) -> Result<usize, AllocError> {
+/// A copy of the symbols with each on a line of its own, so that the line of a fault is the number of its symbol.
+fn numbered<'a>(alloc: Global, tokens: &[Token<'a>]) -> Result<Vec<Token<'a>>, AllocError> {
     let mut apart = Vec::new(alloc);
     let mut line = Line::first();
     for token in tokens {
         put_kind(&mut apart, token.kind, line, token.text)?;
         line = line.next();
     }
+    Ok(apart)
+}
+
+/// The index of the symbol of the first fault of the names of a section whose symbols are numbered.
+fn misnamed_at(
+    alloc: Global,
+    text: &[u8],
+    section: &Section,
+    count: usize,
+) -> Result<usize, AllocError> {
+    let mut key = KeyMaker::new();
+    key.add_bytes(text);
+    match resolve_keyed(alloc, section, key.hashers()) {
+        Err(Refused::Fault(fault)) => Ok(index_of(fault.line, count)),
+        Ok(_) => Ok(count),
+        Err(_) => Err(AllocError),
+    }
+}
+
+/// The index of the symbol at which a section is refused, for its syntax or else for its names; or the number of the symbols, where
+/// the fault is at their end. The text is that of the section.
+pub fn refused_at(alloc: Global, text: &[u8], tokens: &[Token]) -> Result<usize, AllocError> {
+    let apart = numbered(alloc, tokens)?;
     match parse(alloc, apart.as_slice(), Line::new(NO_LINE)) {
         Err(Refused::Fault(fault)) => Ok(index_of(fault.line, tokens.len())),
-        Ok(_) => Ok(tokens.len()),
+        Ok(section) => misnamed_at(alloc, text, &section, tokens.len()),
         Err(_) => Err(AllocError),
     }
 }

@@ -31,25 +31,19 @@ fn hint_section(
     fault: &SourceFault,
 ) -> Result<Told, AllocError> {
     let tokens = lexed.tokens.as_slice();
-    let of_syntax = is_of_syntax(&fault.kind);
-    let at = if of_syntax {
-        refused_at(alloc, tokens)?
-    } else {
-        tokens.len()
-    };
     let scene = Scene {
         alloc,
         text,
         lines,
         tokens,
-        at,
+        at: refused_at(alloc, text, tokens)?,
         dot: if lexed.ended {
             lexed.used.checked_sub(1)
         } else {
             None
         },
     };
-    if of_syntax {
+    if is_of_syntax(&fault.kind) {
         hint_syntax(&scene, &fault.kind)
     } else {
         hint_meaning(&scene, fault)
