@@ -1,7 +1,7 @@
 //! Checks of what results from words and sources, and a device that refuses each byte.
 use crate::devices::Short;
 use crate::outcome::{Outcome, outcome_of};
-use bk_base::{ByteIn, ByteOut, Failed, Reader512, Writer512};
+use bk_base::{ByteIn, ByteOut, Failed, Writer512};
 use bk_kit::{Order, order, serve};
 use std::alloc::Global;
 use std::process::Abort;
@@ -64,8 +64,7 @@ fn serve_short<F: ByteIn, I: ByteIn>(
         room,
     });
     let mut err = Writer512::new(line);
-    let mut names = Reader512::new(b"".as_slice());
-    serve(alloc, asked, file, &mut names, input, &mut out, &mut err)
+    serve(alloc, asked, file, input, &mut out, &mut err)
 }
 
 /// What results from an order whose output fails after so many bytes.

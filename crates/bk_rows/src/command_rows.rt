@@ -157,19 +157,10 @@ fn serve_nothing(
     room: usize,
 ) -> u8 {
     let mut nothing = Reader512::new(b"".as_slice());
-    let mut names = Reader512::new(b"".as_slice());
     let mut input = Reader512::new(b"".as_slice());
     let mut out = Writer512::new(output);
     let mut err = Writer512::new(Short { bytes: line, room });
-    serve(
-        alloc,
-        asked,
-        &mut nothing,
-        &mut names,
-        &mut input,
-        &mut out,
-        &mut err,
-    )
+    serve(alloc, asked, &mut nothing, &mut input, &mut out, &mut err)
 }
 
 #[test]

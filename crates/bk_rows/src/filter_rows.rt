@@ -74,7 +74,6 @@ fn no_more_is_read_than_the_program_asks_for(rt: HostRuntime) -> Result<(), Fail
         rt.alloc(),
         &asked,
         &mut Reader512::new(source),
-        &mut Reader512::new(b"".as_slice()),
         &mut input,
         &mut out,
         &mut err,

@@ -15,6 +15,8 @@ mod devices;
 #[cfg(test)]
 mod filter_rows;
 #[cfg(test)]
+mod generator_rows;
+#[cfg(test)]
 mod machine_rows;
 pub mod outcome;
 #[cfg(test)]

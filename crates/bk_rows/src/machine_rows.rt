@@ -1,7 +1,7 @@
 //! Runs of the machine that are gone on with, and runs whose devices fail.
 use bk_base::{ByteIn, ByteOut, End, Reader512, Writer512};
-use bk_intcode::{Intcode, Machine};
-use bk_intcode_text::read_segment;
+use bk_intcode::read_segment;
+use bk_machine::{Intcode, Machine};
 use std::alloc::Global;
 use std::cell::Cell;
 use std::io;

@@ -1,7 +1,7 @@
 //! What results from words, and of a source through the filters, with each of the generators.
 use bk_base::{ByteIn, ByteOut, Reader512, Writer512};
 use bk_gen::plain;
-use bk_intcode_text::print;
+use bk_intcode::print;
 use bk_kit::{LineFault, Order, order, refuse, serve};
 use bk_ocode::{Ocode, read_section};
 use std::alloc::{AllocError, Global};
@@ -37,16 +37,7 @@ fn serve_into<F: ByteIn, I: ByteIn>(
 ) -> u8 {
     let mut out = Writer512::new(output);
     let mut err = Writer512::new(line);
-    let nothing: &[u8] = b"";
-    serve(
-        alloc,
-        asked,
-        file,
-        &mut Reader512::new(nothing),
-        input,
-        &mut out,
-        &mut err,
-    )
+    serve(alloc, asked, file, input, &mut out, &mut err)
 }
 
 /// What results from an order.

@@ -1,8 +1,8 @@
 //! Texts of OCODE and INTCODE on devices that fail: reading and printing.
 use crate::devices::{Short, Slow};
 use bk_base::{ByteOut, Reader512, Refused, Writer512};
-use bk_intcode::Intcode;
-use bk_intcode_text::read_segment;
+use bk_intcode::read_segment;
+use bk_machine::Intcode;
 use bk_ocode::{Ocode, read_section};
 use std::test::Fail;
 
@@ -111,8 +111,8 @@ fn prints_segment(segment: &Intcode, passed: &mut Vec<u8>, room: usize) -> bool 
         bytes: passed,
         room,
     });
-    (bk_intcode_text::print(segment, &mut out).is_ok() && out.flush().is_ok())
-        || bk_intcode_text::print(segment, &mut out).is_ok()
+    (bk_intcode::print(segment, &mut out).is_ok() && out.flush().is_ok())
+        || bk_intcode::print(segment, &mut out).is_ok()
 }
 
 #[test]
