@@ -32,6 +32,8 @@ mod BesideGet
 mod Ranks
 mod Earliest
 mod Certain
+mod FaultPieces
+mod FaultLoop
 mod Decided
 mod LeastRooms
 mod Letters

@@ -17,4 +17,5 @@ pub mod Places
 pub mod Values
 pub mod TextFault
 pub mod Telling
+pub mod FaultPlaces
 pub mod LexLaws

@@ -2,11 +2,11 @@
 ghost use Rattle.std.specs.Prelude.{◌≡◌, ◌<◌, nat_lt, true, false, Ok, Err, OnErr, IfOk};
 ghost use Rattle.bk_lex.specs.Bytes.{is_blank};
 ghost use Rattle.bk_lex.specs.Insertion.{ends_operand, ends_command, begins_command, begins_statement, inserted};
-ghost use Rattle.bk_lex.specs.Machine.{next};
+ghost use Rattle.bk_lex.specs.Machine.{next, fresh, end_fault};
 ghost use Rattle.bk_lex.specs.declared.machine.Mode.TheVariants.{Blank};
 ghost use Rattle.bk_lex.specs.declared.reserved.What.TheVariants.{Gap, Get};
 ghost use Rattle.bk_lex.specs.declared.counting.Act.TheVariants.{Goes};
-ghost use Rattle.bk_lex.specs.Counting.{step_of, step_as, within, ended, ended_what, ended_symbol, ended_get_as, opened_by, begun, begun_as, finished, start, moved, header_rest, in_get, room_for, least_room, named, opened};
+ghost use Rattle.bk_lex.specs.Counting.{step_of, step_as, within, ended, ended_what, ended_symbol, ended_get_as, opened_by, begun, begun_as, finished, start, moved, header_rest, in_get, room_for, least_room, named, opened, faulty_first, faulty_after};
 
 use crate::machine::{Effect, Fault, Header, LONGEST, Mode, begin, end_fault, follow, what_of};
 use crate::reserved::{What, longer_code};
@@ -461,6 +461,27 @@ pub fn past(state: State, byte: u8) -> Fault
         Ok(_) | Err(Fault::HeaderTooLong | Fault::BadGet) => Fault::SectionTooLong,
         Err(fault) => fault,
     }
+}
+
+/// Whether the byte at which a fault is told is the first of the piece in which the fault is. Else that piece begins before it.
+#[cold]
+#[inline(never)]
+pub fn begins_fault(state: State, byte: u8) -> bool
+    ensures { result ≡ faulty_first (next state.mode byte) (nat_lt state.bytes 1) (fresh byte) (ended state) }
+{
+    match follow(state.mode, byte) {
+        Effect::Ends => state.bytes == 0 || begin(byte).is_none() || end_piece(state).is_ok(),
+        _ => false,
+    }
+}
+
+/// Whether the fault that a text's end makes certain is after its last piece, as of a GET that lacks its string.
+#[cold]
+#[inline(never)]
+pub fn lacks_piece(state: State) -> bool
+    ensures { result ≡ faulty_after (end_fault state.mode) (ended state) }
+{
+    end_fault(state.mode).is_none() && end_piece(state).is_ok()
 }
 
 /// The effect of a byte where the section may have one more. The state is changed in place, so that only the fields that the byte

@@ -19,6 +19,6 @@ pub use laws::{
     gives_each_section, has_one_section, has_section_without_fault, reserved_by_its_letters,
 };
 pub use lexer::Lexer;
-pub use scan::{Lexed, lex};
+pub use scan::{Lexed, LexicalFault, lex, lex_placed};
 pub use token::{Kind, Token};
 pub use values::{character_byte, number_word, string_bytes};
