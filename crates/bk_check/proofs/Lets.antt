@@ -1,6 +1,6 @@
 -- A LET, done in steps.
 use Rattle.std.specs.Global.{Global}
-use Rattle.bk_check.proofs.Terms.{◌≡◌, ℕ, zero, suc, Vec, List, [], ◌∷◌, ◌++◌, map, refl, ap, sym, ◌∙◌, Mention, Expression, Definition, Definitions, Starts, definitions_in, declarations_in, actions_in, Value, World, Outcome, gives, with, Done, turn, turn_of, Environment, past, past_definition, constant_in, letters, Program, Start, starts, make_vec, paired, let_values, bind_variables, full, env_in, Let, start_in, declared_then, started_then, starting_then}
+use Rattle.bk_check.proofs.Terms.{◌≡◌, ℕ, zero, suc, Vec, List, [], ◌∷◌, ◌++◌, map, refl, ap, sym, ◌∙◌, Mention, Expression, Definition, Definitions, Starts, definitions_in, declarations_in, commands_in, Value, World, Outcome, gives, with, Done, turn, turn_of, Environment, past, past_definition, constant_in, letters, Program, Start, starts, make_vec, paired, let_values, bind_variables, full, env_in, Let, start_in, declared_then, started_then, starting_then}
 use Rattle.bk_tree.specs.Tree as t
 use Rattle.bk_check.specs.declared.frame.Start as f
 use Rattle.bk_check.proofs.Outcomes.{with_with, with_each, with_turn}
@@ -56,7 +56,7 @@ pub named_then : (p : Program) (is : Starts) (here : Environment) (names others 
 named_then p is here names others x l l' more w same named is_more =
     with_each (starts (full p) is here w) _ _ (λ vs w.
     with_each (let_values (full p) (definitions_in l'.defs.now) (env_in l'.here) w) _ _ (λ ss w.
-    ap (λ (zs : List Start). with (bind_variables zs (env_in l'.behind) w) (λ env w. declared_then p (declarations_in l'.decls.now) (actions_in l'.commands.now) env w))
+    ap (λ (zs : List Start). with (bind_variables zs (env_in l'.behind) w) (λ env w. declared_then p (declarations_in l'.decls.now) (commands_in l'.commands.now) env w))
     (one_more l'.starts.items x more.items (paired others vs ++ ss) is_more))
     ∙ ap (λ (m : Let). started_then p m (x.name.now ∷ others) ((start_in x).value ∷ vs) w) same
     ∙ ap (λ (xs : List (List ℕ)). started_then p l xs ((start_in x).value ∷ vs) w) (sym named))

@@ -1,12 +1,12 @@
 -- What is still to be done: of what the parts inside give, an outcome of the whole.
 use Rattle.std.specs.Prelude.{◌≡◌, ℕ, Bool, true, false, not, map, Option, List, [], ◌∷◌, ◌++◌}
 use Rattle.bk_tree.specs.Tree as t
-use Rattle.bk_tree.specs.Tree.{Expression, Expressions, Action, Actions, Declarations, Starts, expression, expressions_in, action, actions_in, declarations_in, definitions_in, starts_in}
+use Rattle.bk_tree.specs.Tree.{Expression, Expressions, Command, Commands, Declarations, Starts, expression, expressions_in, command_in, commands_in, declarations_in, definitions_in, starts_in}
 use Rattle.bk_meaning.specs.Values.{Value, unset}
 use Rattle.bk_meaning.specs.World.{World, Exit, break, loop, endcase, goto, result, return, status, divide_by_zero, Outcome, gives, leaves, ends, undefined, going, each_way, with, either, given, Done, done, closing, calls_back, forgetting, turn}
 use Rattle.bk_meaning.specs.Operators.{sum, operate_prefix}
 use Rattle.bk_meaning.specs.Seeking.{the_label, Mode, forwards, seeking}
-use Rattle.bk_meaning.specs.Environment.{Environment, past, past_action}
+use Rattle.bk_meaning.specs.Environment.{Environment, past, past_command}
 use Rattle.bk_meaning.specs.Library.{library}
 use Rattle.bk_meaning.specs.Scopes.{in_order, landing, scope_of, alone}
 use Rattle.bk_meaning.specs.Calls.{values, call, return_exit}
@@ -79,31 +79,31 @@ assigned_to m v (t.more x xs) there es env w = with (m.target x there w) (λ a w
 assigned_to m v t.none there es env w = done w
 
 -- the rounds of a loop after one
-abbrev pub next_round : Program → Action → Environment → World → Outcome Done
+abbrev pub next_round : Program → Command → Environment → World → Outcome Done
 next_round p (t.while l b e c) env w = where_truth (full p) b e env (λ w. turn w (λ w. (full p).rounds (t.while l b e c) forwards env w)) w
 next_round p (t.repeat l c) env w = turn w (λ w. (full p).rounds (t.repeat l c) forwards env w)
-next_round p (t.repeat_while l b c e) env w = where_truth (full p) b e (past_action c env) (λ w. turn w (λ w. (full p).rounds (t.repeat_while l b c e) forwards env w)) w
+next_round p (t.repeat_while l b c e) env w = where_truth (full p) b e (past_command c env) (λ w. turn w (λ w. (full p).rounds (t.repeat_while l b c e) forwards env w)) w
 next_round p c env w = done w
 
 -- a WHILE: its condition first, where it is begun from its beginning
-abbrev pub begun_loop : Program → Bool → Expression → Action → Mode → Environment → World → Outcome Done
+abbrev pub begun_loop : Program → Bool → Expression → Command → Mode → Environment → World → Outcome Done
 begun_loop p b e c forwards env w = where_truth (full p) b e env (λ w. rounds_of (full p) c forwards env w) w
 begun_loop p b e c (seeking s) env w = rounds_of (full p) c (seeking s) env w
 
 -- and those of a FOR
 abbrev pub further_for : Program → For → World → Outcome Done
-further_for p f w = turn w (λ w. (full p).for_rounds (action f.body.now) f.object (value_in f.limit) f.step (env_in f.env) w)
+further_for p f w = turn w (λ w. (full p).for_rounds (command_in f.body.now) f.object (value_in f.limit) f.step (env_in f.env) w)
 
 abbrev pub next_for : Program → For → World → Outcome Done
 next_for p f w = with (for_step f.object f.step w) (λ _ w. for_test f.object (value_in f.limit) f.step (further_for p f) w)
 
 -- The declarations of a block, and its commands.
-abbrev pub declared_then : Program → Declarations → Actions → Environment → World → Outcome Done
+abbrev pub declared_then : Program → Declarations → Commands → Environment → World → Outcome Done
 declared_then p ds cs env w = with (declare_all (full p) ds env w) (λ env w. scope_of (full p) cs forwards env w)
 
 -- A LET: its variables, the definitions that are left, and the values of some names in front of those.
 abbrev pub bound_then : Program → Let → List b.Start → World → Outcome Done
-bound_then p l ss w = with (bind_variables (map start_in l.starts.items ++ ss) (env_in l.behind) w) (λ env w. declared_then p (declarations_in l.decls.now) (actions_in l.commands.now) env w)
+bound_then p l ss w = with (bind_variables (map start_in l.starts.items ++ ss) (env_in l.behind) w) (λ env w. declared_then p (declarations_in l.decls.now) (commands_in l.commands.now) env w)
 
 abbrev pub defined_then : Program → Let → World → Outcome Done
 defined_then p l w = with (let_values (full p) (definitions_in l.defs.now) (env_in l.here) w) (λ ss w. bound_then p l ss w)
@@ -133,16 +133,16 @@ value_goes p (v.Vector e b env) u = tag a_target (with u (λ x w. with ((full p)
 value_goes p (v.Offset e x) u = tag a_target (with u (λ y w. with (given (sum w.memory (value_in x) y) w) (λ a w. gives (at a) w)))
 value_goes p (v.String b env) u = tag a_target (with u (λ x w. with ((full p).value (expression b.now) (env_in env) w) (λ y w. gives (byte_at x y) w)))
 value_goes p (v.Byte x) u = tag a_target (with u (λ y w. gives (byte_at (value_in x) y) w))
-value_goes p (v.Argument line es here before callee env) u = tag a_value (with u (λ v w. with (values (full p) (expressions_in es.now) (env_in here) w) (λ vs w.
+value_goes p (v.Argument spot es here before callee env) u = tag a_value (with u (λ v w. with (values (full p) (expressions_in es.now) (env_in here) w) (λ vs w.
     with ((full p).value (expression callee.now) (env_in env) w) (λ g w. call p (full p) g (map value_in before.items ++ v ∷ vs) w))))
-value_goes p (v.Callee line e before) u = tag a_value (with u (λ g w. call p (full p) g (map value_in before.items) w))
+value_goes p (v.Callee spot e before) u = tag a_value (with u (λ g w. call p (full p) g (map value_in before.items) w))
 value_goes p v.Dropped u = tag done_tag (with u (λ _ w. done w))
 value_goes p v.Result u = tag done_tag (with u (λ v w. leaves (result v) w))
 value_goes p (v.Assigned xs there es env) u = tag done_tag (with u (λ v w. assigned_to (full p) v (expressions_in xs.now) (env_in there) (expressions_in es.now) (env_in env) w))
-value_goes p (v.Switch e c env) u = tag done_tag (with u (λ v w. choose_case (full p) v (action c.now) (env_in env) w))
+value_goes p (v.Switch e c env) u = tag done_tag (with u (λ v w. choose_case (full p) v (command_in c.now) (env_in env) w))
 value_goes p (v.ForStart x e env c step) u = tag done_tag (with u (λ v w. with ((full p).value (expression e.now) (env_in env) w) (λ h w. with (given step w) (λ n w.
-    for_loop (full p) x.now.letters.items (action c.now) v h n (past (expression e.now) (env_in env)) w))))
-value_goes p (v.ForLimit x env start c step) u = tag done_tag (with u (λ h w. with (given step w) (λ n w. for_loop (full p) x.now.letters.items (action c.now) (value_in start) h n (env_in env) w)))
+    for_loop (full p) x.now.letters.items (command_in c.now) v h n (past (expression e.now) (env_in env)) w))))
+value_goes p (v.ForLimit x env start c step) u = tag done_tag (with u (λ h w. with (given step w) (λ n w. for_loop (full p) x.now.letters.items (command_in c.now) (value_in start) h n (env_in env) w)))
 value_goes p (v.Starts is here names l) u = tag done_tag (with u (λ v w. with (with (b.starts (full p) (starts_in is.now) (env_in here) w) (λ vs w. gives (v ∷ vs) w)) (λ vs w. started_then p l.value (letters_in names.now) vs w)))
 
 abbrev pub truth_goes : Program → OnTruth → Outcome Bool → Outcome Given
@@ -150,26 +150,26 @@ truth_goes p (o.Choice a b env) u = tag a_value (with u (λ x w. either x (λ w.
 truth_goes p o.Not u = tag a_truth (with u (λ b w. gives (not b) w))
 truth_goes p (o.And b env) u = tag a_truth (with u (λ x w. either x (λ w. (full p).truth (expression b.now) (env_in env) w) (λ w. gives false w) w))
 truth_goes p (o.Or b env) u = tag a_truth (with u (λ x w. either x (λ w. gives true w) (λ w. (full p).truth (expression b.now) (env_in env) w) w))
-truth_goes p (o.When b c env) u = tag done_tag (with u (λ x w. either (same_truth b x) (λ w. (full p).act (action c.now) forwards (env_in env) w) done w))
-truth_goes p (o.Test a b env) u = tag done_tag (with u (λ x w. either x (λ w. (full p).act (action a.now) forwards (env_in env) w) (λ w. (full p).act (action b.now) forwards (past_action (action a.now) (env_in env)) w) w))
-truth_goes p (o.First b c env) u = tag done_tag (with u (λ x w. either (same_truth b x) (λ w. rounds_of (full p) (action c.now) forwards (env_in env) w) done w))
-truth_goes p (o.Further b c env) u = tag done_tag (with u (λ x w. either (same_truth b x) (λ w. turn w (λ w. (full p).rounds (action c.now) forwards (env_in env) w)) done w))
+truth_goes p (o.When b c env) u = tag done_tag (with u (λ x w. either (same_truth b x) (λ w. (full p).act (command_in c.now) forwards (env_in env) w) done w))
+truth_goes p (o.Test a b env) u = tag done_tag (with u (λ x w. either x (λ w. (full p).act (command_in a.now) forwards (env_in env) w) (λ w. (full p).act (command_in b.now) forwards (past_command (command_in a.now) (env_in env)) w) w))
+truth_goes p (o.First b c env) u = tag done_tag (with u (λ x w. either (same_truth b x) (λ w. rounds_of (full p) (command_in c.now) forwards (env_in env) w) done w))
+truth_goes p (o.Further b c env) u = tag done_tag (with u (λ x w. either (same_truth b x) (λ w. turn w (λ w. (full p).rounds (command_in c.now) forwards (env_in env) w)) done w))
 
 abbrev pub target_goes : Program → OnTarget → Outcome Target → Outcome Given
 target_goes p (a.Address e) u = tag a_value (with u address_in)
 target_goes p (a.Put e v xs there es env) u = tag done_tag (with u (λ a w. with (store a (value_in v) w) (λ _ w. assigned (full p) (expressions_in xs.now) (env_in there) (expressions_in es.now) (env_in env) w)))
 
-abbrev pub lands : Program → Actions → Environment → Exit → World → Outcome Done
+abbrev pub lands : Program → Commands → Environment → Exit → World → Outcome Done
 lands p cs env x w = landing cs env (λ x w. (full p).scope cs (seeking (the_label x)) env w) x w
 
 abbrev pub done_goes : Program → OnDone → Outcome Done → Outcome Given
-done_goes p (d.After cs env) u = tag done_tag (with u (λ _ w. in_order (full p) (actions_in cs.now) forwards (env_in env) w))
+done_goes p (d.After cs env) u = tag done_tag (with u (λ _ w. in_order (full p) (commands_in cs.now) forwards (env_in env) w))
 done_goes p d.Body u = tag a_value (each_way (λ _ w. gives unset w) return_exit u)
 done_goes p d.Valof u = tag a_value (result_of u)
-done_goes p (d.Scope cs env) u = tag done_tag (each_way (λ _ w. done w) (lands p (actions_in cs.now) (env_in env)) u)
-done_goes p (d.Alone c env) u = tag done_tag (each_way (λ _ w. done w) (lands p (alone (action c.now)) (env_in env)) u)
+done_goes p (d.Scope cs env) u = tag done_tag (each_way (λ _ w. done w) (lands p (commands_in cs.now) (env_in env)) u)
+done_goes p (d.Alone c env) u = tag done_tag (each_way (λ _ w. done w) (lands p (alone (command_in c.now)) (env_in env)) u)
 done_goes p d.Cases u = tag done_tag (ended_case u)
-done_goes p (d.Round c env) u = tag done_tag (again u (next_round p (action c.now) (env_in env)))
+done_goes p (d.Round c env) u = tag done_tag (again u (next_round p (command_in c.now) (env_in env)))
 done_goes p (d.ForRound f) u = tag done_tag (again u (next_for p f))
 
 -- where a part is left
@@ -177,10 +177,10 @@ abbrev pub done_left : Program → OnDone → Exit → World → Outcome Given
 done_left p (d.After cs env) x w = leaves x w
 done_left p d.Body x w = tag a_value (return_exit x w)
 done_left p d.Valof x w = tag a_value (result_exit x w)
-done_left p (d.Scope cs env) x w = tag done_tag (lands p (actions_in cs.now) (env_in env) x w)
-done_left p (d.Alone c env) x w = tag done_tag (lands p (alone (action c.now)) (env_in env) x w)
+done_left p (d.Scope cs env) x w = tag done_tag (lands p (commands_in cs.now) (env_in env) x w)
+done_left p (d.Alone c env) x w = tag done_tag (lands p (alone (command_in c.now)) (env_in env) x w)
 done_left p d.Cases x w = tag done_tag (case_exit x w)
-done_left p (d.Round c env) x w = tag done_tag (round_exit (next_round p (action c.now) (env_in env)) x w)
+done_left p (d.Round c env) x w = tag done_tag (round_exit (next_round p (command_in c.now) (env_in env)) x w)
 done_left p (d.ForRound f) x w = tag done_tag (round_exit (next_for p f) x w)
 
 abbrev pub resume_left : Program → Continuation → Exit → World → Outcome Given
@@ -231,18 +231,18 @@ abbrev pub outcome_next : Program → Next → World → Outcome Given
 outcome_next p (n.Value e env) w = tag a_value ((full p).value (expression e.now) (env_in env) w)
 outcome_next p (n.Truth e env) w = tag a_truth ((full p).truth (expression e.now) (env_in env) w)
 outcome_next p (n.Target e env) w = tag a_target ((full p).target (expression e.now) (env_in env) w)
-outcome_next p (n.Act c mode env) w = tag done_tag ((full p).act (action c.now) (mode_in mode) (env_in env) w)
-outcome_next p (n.InOrder cs mode env) w = tag done_tag (in_order (full p) (actions_in cs.now) (mode_in mode) (env_in env) w)
-outcome_next p (n.Declare ds cs env) w = tag done_tag (declared_then p (declarations_in ds.now) (actions_in cs.now) (env_in env) w)
+outcome_next p (n.Act c mode env) w = tag done_tag ((full p).act (command_in c.now) (mode_in mode) (env_in env) w)
+outcome_next p (n.InOrder cs mode env) w = tag done_tag (in_order (full p) (commands_in cs.now) (mode_in mode) (env_in env) w)
+outcome_next p (n.Declare ds cs env) w = tag done_tag (declared_then p (declarations_in ds.now) (commands_in cs.now) (env_in env) w)
 outcome_next p (n.Define l) w = tag done_tag (defined_then p l.value w)
 outcome_next p (n.Starts is here names l) w = tag done_tag (starting_then p (starts_in is.now) (env_in here) (letters_in names.now) l.value w)
 outcome_next p (n.Gives t) w = gives (thing_in t) w
 outcome_next p (n.Leaves x) w = leaves (exit_in x) w
-outcome_next p (n.Library line r vs) w = tag a_value (library (routine_in r) (map value_in vs.items) w)
+outcome_next p (n.Library spot r vs) w = tag a_value (library (routine_in r) (map value_in vs.items) w)
 outcome_next p (n.Status k) w = ends (status k) w
 outcome_next p (n.DivideByZero s) w = ends divide_by_zero w
 outcome_next p (n.Undefined s why) w = undefined
-outcome_next p (n.Going line) w = going w
+outcome_next p (n.Going spot) w = going w
 
 abbrev pub list_value : List Worth → List Value
 list_value vs = map value_in vs

@@ -1,7 +1,7 @@
 //! Blocks: what the declarations at the head of one do.
 ghost use Rattle.std.specs.Prelude.{◌≡◌, ℕ, IfOk, List, [], map, ◌∷◌};
 ghost use Rattle.bk_tree.specs.Tree as t;
-ghost use Rattle.bk_tree.specs.Tree.{declaration, declarations_in, definition, definitions_in, actions_in, items_in, starts_in, expression};
+ghost use Rattle.bk_tree.specs.Tree.{declaration, declarations_in, definition, definitions_in, commands_in, items_in, starts_in, expression};
 ghost use Rattle.bk_meaning.specs.World.{World, gives, with, turn, remembering};
 ghost use Rattle.bk_meaning.specs.Environment.{constant_in};
 ghost use Rattle.bk_meaning.specs.Lasting.{Program};
@@ -16,10 +16,9 @@ ghost use Rattle.bk_check.specs.Resume.{tag, done_tag, Comes, resumed, declared_
 use crate::commands::scope;
 use crate::frame::{Continuation, Let, Next, OnValue, Start, Subject};
 use crate::machine::Evaluator;
-use bk_base::Line;
 use bk_lasting::{Env, Sense, constant, constants, count, count_def, count_defs, within_let};
 use bk_objects::{Cell, Reason, Store, Worth};
-use bk_tree::{Command, ConstItem, Decl, Def, Expr, Init, Name, Sort};
+use bk_tree::{Command, ConstItem, Decl, Def, Expr, Init, Name, Position, Sort};
 use std::alloc::{AllocError, Global};
 use std::mem::replace;
 
@@ -33,7 +32,7 @@ pub fn declare<'a>(
 ) -> Result<Next<'a>, AllocError>
     ensures { IfOk result (λ next. (p : Program) (b : Bytes) →
         Comes p m.new.frames.items next (world m.new b)
-        (resumed p m.old.frames.items (tag done_tag (declared_then p (declarations_in decls.now) (actions_in commands.now)
+        (resumed p m.old.frames.items (tag done_tag (declared_then p (declarations_in decls.now) (commands_in commands.now)
         (env_in env.entry) (world m.old b))))) }
 {
     match decls.split_first() {
@@ -53,11 +52,13 @@ fn declare_one<'a>(
     ensures { IfOk result (λ next. (p : Program) (b : Bytes) →
         Comes p m.new.frames.items next (world m.new b)
         (resumed p m.old.frames.items (tag done_tag (declared_then p (t.declare (declaration first.now) (declarations_in rest.now))
-        (actions_in commands.now) (env_in env.entry) (world m.old b))))) }
+        (commands_in commands.now) (env_in env.entry) (world m.old b))))) }
 {
     match first {
-        Decl::Constants(_, sort, items) => declare_constants(m, *sort, items, rest, commands, env),
-        Decl::Let(_, defs) => declare_let(m, defs, rest, commands, env),
+        Decl::Constants { sort, items, .. } => declare_constants(
+            m, *sort, items, rest, commands, env,
+        ),
+        Decl::Let { defs, .. } => declare_let(m, defs, rest, commands, env),
     }
 }
 
@@ -74,7 +75,7 @@ fn declare_constants<'a>(
     ensures { IfOk result (λ next. (p : Program) (b : Bytes) (l : ℕ) →
         Comes p m.new.frames.items next (world m.new b)
         (resumed p m.old.frames.items (tag done_tag (declared_then p
-        (t.declare (t.constants l sort (items_in items.now)) (declarations_in rest.now)) (actions_in commands.now)
+        (t.declare (t.constants l sort (items_in items.now)) (declarations_in rest.now)) (commands_in commands.now)
         (env_in env.entry) (world m.old b))))) }
 {
     let inside = constants(m.alloc, sort, items, env)?;
@@ -93,7 +94,7 @@ fn declare_let<'a>(
     ensures { IfOk result (λ next. (p : Program) (b : Bytes) (l : ℕ) →
         Comes p m.new.frames.items next (world m.new b)
         (resumed p m.old.frames.items (tag done_tag (declared_then p
-        (t.declare (t.definitions l (definitions_in defs.now)) (declarations_in rest.now)) (actions_in commands.now)
+        (t.declare (t.definitions l (definitions_in defs.now)) (declarations_in rest.now)) (commands_in commands.now)
         (env_in env.entry) (world m.old b))))) }
 {
     let here = within_let(m.alloc, defs, env)?;
@@ -168,9 +169,9 @@ fn define_one<'a>(
     let count = count_def(first)?;
     let there = rest.here.again()?.behind(count)?;
     match first {
-        Def::Routine(_, _, _, _) => Ok(pass(there, rest)),
-        Def::Function(_, _, _, _) => Ok(pass(there, rest)),
-        Def::Variables(line, names, inits) => Ok(variables(m, *line, names, inits, there, rest)),
+        Def::Routine { .. } => Ok(pass(there, rest)),
+        Def::Function { .. } => Ok(pass(there, rest)),
+        Def::Variables { at, names, inits } => Ok(variables(m, *at, names, inits, there, rest)),
     }
 }
 
@@ -187,7 +188,7 @@ fn pass<'a>(there: Env<'a>, rest: Box<Let<'a>>) -> Next<'a>
 /// Variables, whose values take a turn.
 fn variables<'a>(
     m: &mut Evaluator<'a>,
-    line: Line,
+    at: Position,
     names: &'a [Name],
     inits: &'a [Init],
     there: Env<'a>,
@@ -197,7 +198,7 @@ fn variables<'a>(
         (turn (world m.old b) (variables_then p (starts_in inits.now) (letters_in names.now) (env_in there.entry) rest.entry.value)))) }
 {
     if m.turns == 0 {
-        return Next::Going(line);
+        return Next::Going(at);
     }
     m.turns -= 1;
     let mut rest = rest;
@@ -272,7 +273,7 @@ fn start_one<'a>(
 {
     match first {
         Init::Value(value) => start_value(m, value, others, here, names, rest),
-        Init::Vector(line, size) => vector(m, *line, size, others, here, names, rest),
+        Init::Vector { at, size } => vector(m, *at, size, others, here, names, rest),
     }
 }
 
@@ -298,7 +299,7 @@ fn start_value<'a>(
 /// A VEC, which takes a turn: its object is made.
 fn vector<'a>(
     m: &mut Evaluator<'a>,
-    line: Line,
+    at: Position,
     size: &'a Expr,
     others: &'a [Init],
     here: Env<'a>,
@@ -312,7 +313,7 @@ fn vector<'a>(
         (letters_in names.now) rest.entry.value))))) }
 {
     if m.turns == 0 {
-        return Ok(Next::Going(line));
+        return Ok(Next::Going(at));
     }
     m.turns -= 1;
     let last = constant(&here, size);

@@ -15,10 +15,9 @@ ghost use Rattle.bk_check.specs.Resume.{tag, a_value, Comes, resumed, outcome_ne
 
 use crate::frame::{Call, Continuation, Next, OnDone, Subject};
 use crate::machine::Evaluator;
-use bk_base::Line;
 use bk_lasting::{Body, Env, Lasting, Procedure, Sense};
 use bk_objects::{Cell, Reason, Worth};
-use bk_tree::{Expr, Name};
+use bk_tree::{Expr, Name, Position};
 use std::alloc::{AllocError, Global};
 
 /// The procedure of this number, if it is one.
@@ -108,11 +107,11 @@ fn enter<'a>(
 }
 
 /// A call of what is no procedure.
-fn no_procedure<'a>(line: Line, expr: Option<&'a Expr>, callee: Worth) -> Next<'a>
+fn no_procedure<'a>(at: Position, expr: Option<&'a Expr>, callee: Worth) -> Next<'a>
     ensures { (p : Program) (w : World) → outcome_next p result w ≡ undefined }
 {
     let subject = match expr {
-        Some(expr) => Subject::Call(line, expr),
+        Some(expr) => Subject::Call(at, expr),
         None => Subject::Nothing,
     };
     Next::Undefined(subject, Reason::NoProcedure(callee))
@@ -123,7 +122,7 @@ fn no_procedure<'a>(line: Line, expr: Option<&'a Expr>, callee: Worth) -> Next<'
 fn called<'a>(
     m: &mut Evaluator<'a>,
     program: &[Lasting<'a>],
-    line: Line,
+    at: Position,
     expr: Option<&'a Expr>,
     callee: Worth,
     values: Vec<Worth>,
@@ -135,14 +134,14 @@ fn called<'a>(
         (list_value values.items) (world m.old b))))) }
 {
     match callee {
-        Worth::Routine(routine) => Ok(Next::Library(line, routine, values)),
+        Worth::Routine(routine) => Ok(Next::Library(at, routine, values)),
         Worth::Procedure(number) => match procedure(program, number) {
             Some(procedure) => enter(m, procedure, values),
-            None => Ok(no_procedure(line, expr, callee)),
+            None => Ok(no_procedure(at, expr, callee)),
         },
-        Worth::Number(_) => Ok(no_procedure(line, expr, callee)),
-        Worth::Address(_, _) => Ok(no_procedure(line, expr, callee)),
-        Worth::Unset => Ok(no_procedure(line, expr, callee)),
+        Worth::Number(_) => Ok(no_procedure(at, expr, callee)),
+        Worth::Address(_, _) => Ok(no_procedure(at, expr, callee)),
+        Worth::Unset => Ok(no_procedure(at, expr, callee)),
     }
 }
 
@@ -151,7 +150,7 @@ fn called<'a>(
 pub fn call<'a>(
     m: &mut Evaluator<'a>,
     program: &[Lasting<'a>],
-    line: Line,
+    at: Position,
     expr: Option<&'a Expr>,
     callee: Worth,
     values: Vec<Worth>,
@@ -164,12 +163,12 @@ pub fn call<'a>(
 {
     let calls = m.calls;
     m.frames.push(Continuation::Returned(Call {
-        line,
+        at,
         callee,
         arguments: values.len(),
         calls,
     }))?;
     m.calls = calls.checked_add(1).ok_or(AllocError)?;
     m.most_calls = m.most_calls.max(m.calls);
-    called(m, program, line, expr, callee, values)
+    called(m, program, at, expr, callee, values)
 }

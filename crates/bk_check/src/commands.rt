@@ -1,7 +1,7 @@
 //! Commands: what a machine does for each, from its beginning or from a place in it that is sought.
 ghost use Rattle.std.specs.Prelude.{◌≡◌, ℕ, IfOk, List};
 ghost use Rattle.bk_tree.specs.Tree as t;
-ghost use Rattle.bk_tree.specs.Tree.{action, actions_in, expression, expressions_in, declarations_in, step_in, mention};
+ghost use Rattle.bk_tree.specs.Tree.{command_in, commands_in, expression, expressions_in, declarations_in, step_in, mention};
 ghost use Rattle.bk_meaning.specs.World.{World, with, done};
 ghost use Rattle.bk_meaning.specs.Environment.{past_each};
 ghost use Rattle.bk_meaning.specs.Lasting.{Program};
@@ -22,10 +22,9 @@ use crate::frame::{Continuation, Exit, Next, OnDone, OnTruth, OnValue, Sought, S
 use crate::loops::round;
 use crate::machine::Evaluator;
 use crate::seeking::{at_case, at_default, at_label, stands_in};
-use bk_base::Line;
 use bk_lasting::{Env, constant, count, count_command, count_each, labelled};
 use bk_objects::{Reason, Worth};
-use bk_tree::{Command, Decl, Expr, Name, Simple};
+use bk_tree::{Command, Decl, Expr, Name, Position, Simple};
 use std::alloc::AllocError;
 
 /// A command that is done.
@@ -38,13 +37,13 @@ pub fn act<'a>(
 ) -> Result<Next<'a>, AllocError>
     ensures { IfOk result (λ next. (p : Program) (b : Bytes) →
         Comes p m.new.frames.items next (world m.new b)
-        (resumed p m.old.frames.items (tag done_tag ((full p).act (action command.now) (mode_in mode.entry) (env_in env.entry) (world m.old b))))) }
+        (resumed p m.old.frames.items (tag done_tag ((full p).act (command_in command.now) (mode_in mode.entry) (env_in env.entry) (world m.old b))))) }
 {
     if is_empty(command) {
         return Ok(Next::Gives(Thing::Done));
     }
     if m.turns == 0 {
-        return Ok(Next::Going(line_of_command(command)));
+        return Ok(Next::Going(command.at()));
     }
     m.turns -= 1;
     act_inside(m, command, mode, env)
@@ -52,7 +51,7 @@ pub fn act<'a>(
 
 /// Whether a command is the empty one, which takes no turn.
 fn is_empty(command: &Command) -> bool
-    ensures { result ≡ takes_no_turn (action command.now) }
+    ensures { result ≡ takes_no_turn (command_in command.now) }
 {
     matches!(command, Command::Empty)
 }
@@ -66,31 +65,74 @@ fn act_inside<'a>(
 ) -> Result<Next<'a>, AllocError>
     ensures { IfOk result (λ next. (p : Program) (b : Bytes) →
         Comes p m.new.frames.items next (world m.new b)
-        (resumed p m.old.frames.items (tag done_tag (c.act_of p (full p) (action command.now) (mode_in mode.entry) (env_in env.entry) (world m.old b))))) }
+        (resumed p m.old.frames.items (tag done_tag (c.act_of p (full p) (command_in command.now) (mode_in mode.entry) (env_in env.entry) (world m.old b))))) }
 {
     match command {
         Command::Empty => Ok(Next::Gives(Thing::Done)),
-        Command::Assign(_, dests, values) => assign(m, dests, values, env),
-        Command::Call(line, callee, items) => call_command(m, *line, callee, items, env),
-        Command::Goto(_, name) => Ok(Next::Leaves(Exit::Goto(&name.letters))),
-        Command::Label(_, name, inside) => Ok(Next::Act(inside, at_label(mode, name), env)),
-        Command::Case(_, e, inside) => {
+        Command::Assign {
+            destinations: dests,
+            values,
+            ..
+        } => assign(m, dests, values, env),
+        Command::Call {
+            at,
+            callee,
+            arguments: items,
+        } => call_command(m, *at, callee, items, env),
+        Command::Goto { name, .. } => Ok(Next::Leaves(Exit::Goto(&name.letters))),
+        Command::Label {
+            letters: name,
+            body: inside,
+            ..
+        } => Ok(Next::Act(inside, at_label(mode, name), env)),
+        Command::Case {
+            value: e,
+            body: inside,
+            ..
+        } => {
             let word = constant(&env, e);
             Ok(Next::Act(inside, at_case(mode, word), env))
         }
-        Command::Default(_, inside) => Ok(Next::Act(inside, at_default(mode), env)),
-        Command::If(_, truth, condition, inside) => when(m, *truth, condition, inside, mode, env),
-        Command::Test(_, condition, a, b) => test(m, condition, a, b, mode, env),
-        Command::While(_, truth, condition, _) => while_command(
-            m, command, *truth, condition, mode, env,
-        ),
-        Command::Repeat(_, _) => round(m, command, mode, env),
-        Command::RepeatWhile(_, _, _, _) => round(m, command, mode, env),
-        Command::For(_, name, a, b, by, body) => for_command(m, name, a, b, by, body, env),
-        Command::SwitchOn(_, value, inside) => switch(m, value, inside, mode, env),
-        Command::ResultIs(_, value) => m.first_value(OnValue::Result, value, env),
-        Command::Simple(_, word) => Ok(simple(*word)),
-        Command::Block(_, decls, commands) => block(m, decls, commands, mode, env),
+        Command::Default { body: inside, .. } => Ok(Next::Act(inside, at_default(mode), env)),
+        Command::If {
+            truth,
+            condition,
+            body: inside,
+            ..
+        } => when(m, *truth, condition, inside, mode, env),
+        Command::Test {
+            condition,
+            yes: a,
+            no: b,
+            ..
+        } => test(m, condition, a, b, mode, env),
+        Command::While {
+            truth,
+            condition,
+            ..
+        } => while_command(m, command, *truth, condition, mode, env),
+        Command::Repeat { .. } => round(m, command, mode, env),
+        Command::RepeatWhile { .. } => round(m, command, mode, env),
+        Command::For {
+            name,
+            from: a,
+            to: b,
+            by,
+            body,
+            ..
+        } => for_command(m, name, a, b, by, body, env),
+        Command::SwitchOn {
+            value,
+            body: inside,
+            ..
+        } => switch(m, value, inside, mode, env),
+        Command::ResultIs { value, .. } => m.first_value(OnValue::Result, value, env),
+        Command::Simple { word, .. } => Ok(simple(*word)),
+        Command::Block {
+            decls,
+            commands,
+            ..
+        } => block(m, decls, commands, mode, env),
     }
 }
 
@@ -125,7 +167,7 @@ fn assign<'a>(
 #[inline(never)]
 fn call_command<'a>(
     m: &mut Evaluator<'a>,
-    line: Line,
+    at: Position,
     callee: &'a Expr,
     items: &'a [Expr],
     env: Env<'a>,
@@ -136,7 +178,7 @@ fn call_command<'a>(
         (env_in env.entry) (world m.old b)) (λ _ w. done w))))) }
 {
     m.frames.push(Continuation::Value(OnValue::Dropped))?;
-    m.apply(line, callee, items, env)
+    m.apply(at, callee, items, env)
 }
 
 /// FOR.
@@ -153,7 +195,7 @@ fn for_command<'a>(
     ensures { IfOk result (λ next. (p : Program) (bytes : Bytes) (l : ℕ) (mode : Mode) →
         Comes p m.new.frames.items next (world m.new bytes)
         (resumed p m.old.frames.items (tag done_tag (c.act_of p (full p)
-        (t.for_loop l (mention name.now) (expression first.now) (expression last.now) (step_in by.now) (action body.now)) mode
+        (t.for_loop l (mention name.now) (expression first.now) (expression last.now) (step_in by.now) (command_in body.now)) mode
         (env_in env.entry) (world m.old bytes))))) }
 {
     let behind = env.again()?.behind(count(first)?)?;
@@ -176,7 +218,7 @@ fn switch<'a>(
 ) -> Result<Next<'a>, AllocError>
     ensures { IfOk result (λ next. (p : Program) (bytes : Bytes) (l : ℕ) →
         Comes p m.new.frames.items next (world m.new bytes)
-        (resumed p m.old.frames.items (tag done_tag (c.act_of p (full p) (t.switch l (expression value.now) (action inside.now))
+        (resumed p m.old.frames.items (tag done_tag (c.act_of p (full p) (t.switch l (expression value.now) (command_in inside.now))
         (mode_in mode.entry) (env_in env.entry) (world m.old bytes))))) }
 {
     let behind = env.again()?.behind(count(value)?)?;
@@ -199,7 +241,7 @@ fn when<'a>(
     ensures { IfOk result (λ next. (p : Program) (bytes : Bytes) (l : ℕ) →
         Comes p m.new.frames.items next (world m.new bytes)
         (resumed p m.old.frames.items (tag done_tag (c.act_of p (full p)
-        (t.when l truth (expression condition.now) (action inside.now)) (mode_in mode.entry) (env_in env.entry)
+        (t.when l truth (expression condition.now) (command_in inside.now)) (mode_in mode.entry) (env_in env.entry)
         (world m.old bytes))))) }
 {
     let behind = env.again()?.behind(count(condition)?)?;
@@ -221,7 +263,7 @@ fn while_command<'a>(
 ) -> Result<Next<'a>, AllocError>
     ensures { IfOk result (λ next. (p : Program) (b : Bytes) →
         Comes p m.new.frames.items next (world m.new b)
-        (resumed p m.old.frames.items (tag done_tag (begun_loop p truth (expression condition.now) (action command.now)
+        (resumed p m.old.frames.items (tag done_tag (begun_loop p truth (expression condition.now) (command_in command.now)
         (mode_in mode.entry) (env_in env.entry) (world m.old b))))) }
 {
     match mode {
@@ -259,7 +301,7 @@ fn test<'a>(
     ensures { IfOk result (λ next. (p : Program) (bytes : Bytes) (l : ℕ) →
         Comes p m.new.frames.items next (world m.new bytes)
         (resumed p m.old.frames.items (tag done_tag (c.act_of p (full p)
-        (t.test l (expression condition.now) (action a.now) (action b.now)) (mode_in mode.entry) (env_in env.entry)
+        (t.test l (expression condition.now) (command_in a.now) (command_in b.now)) (mode_in mode.entry) (env_in env.entry)
         (world m.old bytes))))) }
 {
     let behind = env.again()?.behind(count(condition)?)?;
@@ -312,7 +354,7 @@ pub fn in_order<'a>(
 ) -> Result<Next<'a>, AllocError>
     ensures { IfOk result (λ next. (p : Program) (b : Bytes) →
         Comes p m.new.frames.items next (world m.new b)
-        (resumed p m.old.frames.items (tag done_tag (s.in_order (full p) (actions_in commands.now) (mode_in mode.entry) (env_in env.entry) (world m.old b))))) }
+        (resumed p m.old.frames.items (tag done_tag (s.in_order (full p) (commands_in commands.now) (mode_in mode.entry) (env_in env.entry) (world m.old b))))) }
 {
     match commands.split_first() {
         None => Ok(Next::Gives(Thing::Done)),
@@ -342,7 +384,7 @@ pub fn scope<'a>(
 ) -> Result<Next<'a>, AllocError>
     ensures { IfOk result (λ next. (p : Program) (b : Bytes) →
         Comes p m.new.frames.items next (world m.new b)
-        (resumed p m.old.frames.items (tag done_tag (s.scope_of (full p) (actions_in commands.now) (mode_in mode.entry) (env_in env.entry) (world m.old b))))) }
+        (resumed p m.old.frames.items (tag done_tag (s.scope_of (full p) (commands_in commands.now) (mode_in mode.entry) (env_in env.entry) (world m.old b))))) }
 {
     m.frames
         .push(Continuation::Done(OnDone::Scope(commands, env.again()?)))?;
@@ -362,7 +404,7 @@ fn block<'a>(
     ensures { IfOk result (λ next. (p : Program) (b : Bytes) (l : ℕ) →
         Comes p m.new.frames.items next (world m.new b)
         (resumed p m.old.frames.items (tag done_tag (c.act_of p (full p)
-        (t.block l (declarations_in decls.now) (actions_in commands.now)) (mode_in mode.entry) (env_in env.entry) (world m.old b))))) }
+        (t.block l (declarations_in decls.now) (commands_in commands.now)) (mode_in mode.entry) (env_in env.entry) (world m.old b))))) }
 {
     match decls.split_first() {
         None => Ok(Next::InOrder(commands, mode, env)),
@@ -384,7 +426,7 @@ pub fn choose_case<'a>(
 ) -> Result<Next<'a>, AllocError>
     ensures { IfOk result (λ next. (p : Program) (b : Bytes) →
         Comes p m.new.frames.items next (world m.new b)
-        (resumed p m.old.frames.items (tag done_tag (c.choose_case (full p) (value_in value) (action command.now) (env_in env.entry) (world m.old b))))) }
+        (resumed p m.old.frames.items (tag done_tag (c.choose_case (full p) (value_in value) (command_in command.now) (env_in env.entry) (world m.old b))))) }
 {
     match value {
         Worth::Number(n) => {
@@ -400,28 +442,5 @@ pub fn choose_case<'a>(
         Worth::Procedure(_) => Ok(Next::Undefined(Subject::Switch(expr), Reason::NoNumber(value))),
         Worth::Routine(_) => Ok(Next::Undefined(Subject::Switch(expr), Reason::NoNumber(value))),
         Worth::Unset => Ok(Next::Undefined(Subject::Switch(expr), Reason::NoNumber(value))),
-    }
-}
-
-/// The line of a command.
-pub fn line_of_command(command: &Command) -> Line {
-    match command {
-        Command::Empty => Line::first(),
-        Command::Assign(line, _, _)
-        | Command::Call(line, _, _)
-        | Command::Goto(line, _)
-        | Command::Label(line, _, _)
-        | Command::Case(line, _, _)
-        | Command::Default(line, _)
-        | Command::If(line, _, _, _)
-        | Command::Test(line, _, _, _)
-        | Command::While(line, _, _, _)
-        | Command::For(line, _, _, _, _, _)
-        | Command::SwitchOn(line, _, _)
-        | Command::ResultIs(line, _)
-        | Command::Simple(line, _)
-        | Command::Block(line, _, _)
-        | Command::Repeat(line, _)
-        | Command::RepeatWhile(line, _, _, _) => *line,
     }
 }

@@ -1,7 +1,7 @@
 //! FOR: the variable, which is an object, is compared with the limit, and the step is added to it.
 ghost use Rattle.std.specs.Prelude.{◌≡◌, IfOk, OnOk, ◌∷◌, []};
 ghost use Rattle.bk_meaning.specs.Memory.{made};
-ghost use Rattle.bk_tree.specs.Tree.{action};
+ghost use Rattle.bk_tree.specs.Tree.{command_in};
 ghost use Rattle.bk_meaning.specs.World.{World, Outcome, Done, with, given};
 ghost use Rattle.bk_meaning.specs.Lasting.{Program};
 ghost use Rattle.bk_meaning.specs.Values.{address, holds};
@@ -124,7 +124,7 @@ pub fn begin_for<'a>(
     ensures { IfOk result (λ next. (p : Program) (b : Bytes) →
         Comes p m.new.frames.items next (world m.new b)
         (resumed p m.old.frames.items (tag done_tag (with (given step (world m.old b))
-        (λ n w. for_loop (full p) name.now.letters.items (action body.now) (value_in start) (value_in limit) n
+        (λ n w. for_loop (full p) name.now.letters.items (command_in body.now) (value_in start) (value_in limit) n
         (env_in env.entry) w))))) }
 {
     match step {
@@ -145,7 +145,7 @@ fn begin_by<'a>(
 ) -> Result<Next<'a>, AllocError>
     ensures { IfOk result (λ next. (p : Program) (b : Bytes) →
         Comes p m.new.frames.items next (world m.new b)
-        (resumed p m.old.frames.items (tag done_tag (for_loop (full p) name.now.letters.items (action body.now) (value_in start)
+        (resumed p m.old.frames.items (tag done_tag (for_loop (full p) name.now.letters.items (command_in body.now) (value_in start)
         (value_in limit) step (env_in env.entry) (world m.old b))))) }
 {
     let object = m.store.made();
@@ -177,7 +177,7 @@ fn first_round<'a>(m: &mut Evaluator<'a>, run: For<'a>) -> Result<Next<'a>, Allo
     ensures { IfOk result (λ next. (p : Program) (b : Bytes) →
         Comes p m.new.frames.items next (world m.new b)
         (resumed p m.old.frames.items (tag done_tag (test_of run.entry.object (value_in run.entry.limit) run.entry.step
-        (λ w. for_rounds_of (full p) (action run.entry.body.now) run.entry.object (value_in run.entry.limit) run.entry.step
+        (λ w. for_rounds_of (full p) (command_in run.entry.body.now) run.entry.object (value_in run.entry.limit) run.entry.step
         (env_in run.entry.env) w) (world m.old b))))) }
 {
     match try_limit(&m.store, run.object, run.limit, run.step) {
@@ -196,7 +196,7 @@ fn first_round<'a>(m: &mut Evaluator<'a>, run: For<'a>) -> Result<Next<'a>, Allo
 fn for_round<'a>(m: &mut Evaluator<'a>, run: For<'a>) -> Result<Next<'a>, AllocError>
     ensures { IfOk result (λ next. (p : Program) (b : Bytes) →
         Comes p m.new.frames.items next (world m.new b)
-        (resumed p m.old.frames.items (tag done_tag (for_rounds_of (full p) (action run.entry.body.now) run.entry.object
+        (resumed p m.old.frames.items (tag done_tag (for_rounds_of (full p) (command_in run.entry.body.now) run.entry.object
         (value_in run.entry.limit) run.entry.step (env_in run.entry.env) (world m.old b))))) }
 {
     let body = run.body;
@@ -212,7 +212,7 @@ fn further_round<'a>(m: &mut Evaluator<'a>, run: For<'a>) -> Result<Next<'a>, Al
         (resumed p m.old.frames.items (tag done_tag (further_for p run.entry (world m.old b))))) }
 {
     if m.turns == 0 {
-        return Ok(Next::Going(run.name.line));
+        return Ok(Next::Going(run.name.at));
     }
     m.turns -= 1;
     for_round(m, run)

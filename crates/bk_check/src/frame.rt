@@ -1,9 +1,8 @@
 //! What is still to be done.
 
-use bk_base::Line;
 use bk_lasting::Env;
 use bk_objects::{Location, Reason, Routine, Worth};
-use bk_tree::{Command, Decl, Def, Expr, Init, Name, Operator, Prefix};
+use bk_tree::{Command, Decl, Def, Expr, Init, Name, Operator, Position, Prefix};
 
 /// What was given.
 #[derive(Clone, Copy, Debug)]
@@ -46,10 +45,10 @@ pub enum Subject<'a> {
     Switch(&'a Expr),
     /// The variable of a FOR.
     Variable(&'a Name),
-    /// A call on this line, and what is called.
-    Call(Line, &'a Expr),
-    /// A routine of the library, called on this line.
-    Library(Line, Routine),
+    /// A call at this position, and what is called.
+    Call(Position, &'a Expr),
+    /// A routine of the library, called at this position.
+    Library(Position, Routine),
     /// No part of the source.
     Nothing,
 }
@@ -57,8 +56,8 @@ pub enum Subject<'a> {
 /// A call that is active.
 #[derive(Clone, Copy)]
 pub struct Call {
-    /// The line of its parenthesis.
-    pub line: Line,
+    /// The position of its parenthesis.
+    pub at: Position,
     /// What is called.
     pub callee: Worth,
     /// How many arguments it has.
@@ -89,9 +88,9 @@ pub enum OnValue<'a> {
     String(&'a Expr, Env<'a>),
     Byte(Worth),
     /// An argument: those after it and what the names mean there; those before; the procedure.
-    Argument(Line, &'a [Expr], Env<'a>, Vec<Worth>, &'a Expr, Env<'a>),
+    Argument(Position, &'a [Expr], Env<'a>, Vec<Worth>, &'a Expr, Env<'a>),
     /// The procedure, with its arguments.
-    Callee(Line, &'a Expr, Vec<Worth>),
+    Callee(Position, &'a Expr, Vec<Worth>),
     /// The value of a command that is a call.
     Dropped,
     /// The value of RESULTIS.
@@ -221,11 +220,11 @@ pub enum Next<'a> {
     Gives(Thing),
     Leaves(Exit<'a>),
     /// A routine of the library is called.
-    Library(Line, Routine, Vec<Worth>),
+    Library(Position, Routine, Vec<Worth>),
     /// The program ends with this status.
     Status(u32),
     DivideByZero(Subject<'a>),
     Undefined(Subject<'a>, Reason),
-    /// No turn is left for what is on this line.
-    Going(Line),
+    /// No turn is left for what is at this position.
+    Going(Position),
 }

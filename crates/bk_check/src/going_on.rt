@@ -1,6 +1,6 @@
 //! Frames go on with what the parts inside gave.
 ghost use Rattle.std.specs.Prelude.{◌≡◌, IfOk, List};
-ghost use Rattle.bk_tree.specs.Tree.{action, actions_in, expressions_in};
+ghost use Rattle.bk_tree.specs.Tree.{command_in, commands_in, expressions_in};
 ghost use Rattle.bk_meaning.specs.World.{World, goto, gives, leaves, undefined, done};
 ghost use Rattle.bk_meaning.specs.Scopes.{alone};
 ghost use Rattle.bk_meaning.specs.Lasting.{Program};
@@ -49,12 +49,12 @@ fn with_value<'a>(
         OnValue::Offset(expr, first) => Ok(m.place_given(expr, first, x)),
         OnValue::String(b, env) => m.first_value(OnValue::Byte(x), b, env),
         OnValue::Byte(first) => Ok(Next::Gives(Thing::Target(Location::Byte(first, x)))),
-        OnValue::Argument(line, items, here, before, callee, env) => {
+        OnValue::Argument(at, items, here, before, callee, env) => {
             let mut before = before;
             before.push(x)?;
-            m.arguments(line, items, here, before, callee, env)
+            m.arguments(at, items, here, before, callee, env)
         }
-        OnValue::Callee(line, expr, values) => { call(m, program, line, Some(expr), x, values) },
+        OnValue::Callee(at, expr, values) => { call(m, program, at, Some(expr), x, values) },
         OnValue::Dropped => Ok(Next::Gives(Thing::Done)),
         OnValue::Result => Ok(Next::Leaves(Exit::Result(x))),
         OnValue::Assigned(dests, there, values, env) => put_first(m, x, dests, there, values, env),
@@ -278,7 +278,7 @@ fn lands<'a>(
 ) -> Result<Next<'a>, AllocError>
     ensures { IfOk result (λ next. (p : Program) (b : Bytes) →
         Comes p m.new.frames.items next (world m.new b)
-        (resumed p m.old.frames.items (tag done_tag (landing_in p (actions_in commands.now) (env_in env.entry) (goto label.now) (world m.old b))))) }
+        (resumed p m.old.frames.items (tag done_tag (landing_in p (commands_in commands.now) (env_in env.entry) (goto label.now) (world m.old b))))) }
 {
     if stands_in_one(Sought::Label(label), &env, commands) {
         scope(m, commands, Some(Sought::Label(label)), env)
@@ -296,7 +296,7 @@ fn lands_alone<'a>(
 ) -> Result<Next<'a>, AllocError>
     ensures { IfOk result (λ next. (p : Program) (b : Bytes) →
         Comes p m.new.frames.items next (world m.new b)
-        (resumed p m.old.frames.items (tag done_tag (landing_in p (alone (action command.now)) (env_in env.entry) (goto label.now) (world m.old b))))) }
+        (resumed p m.old.frames.items (tag done_tag (landing_in p (alone (command_in command.now)) (env_in env.entry) (goto label.now) (world m.old b))))) }
 {
     if stands_in(Sought::Label(label), &env, command) {
         m.alone(command, Some(Sought::Label(label)), env)

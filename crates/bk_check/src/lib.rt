@@ -14,5 +14,5 @@ mod steps;
 
 pub use calls::call;
 pub use frame::{Call, Continuation, Exit, Next, Subject, Thing};
-pub use machine::{Evaluator, line_of};
+pub use machine::{Evaluator, acts_at};
 pub use steps::step;

@@ -1,18 +1,17 @@
 //! Loops: WHILE, UNTIL, REPEAT, REPEATWHILE and REPEATUNTIL.
 ghost use Rattle.std.specs.Prelude.{◌≡◌, IfOk};
-ghost use Rattle.bk_tree.specs.Tree.{action, expression};
+ghost use Rattle.bk_tree.specs.Tree.{command_in, expression};
 ghost use Rattle.bk_meaning.specs.World.{turn};
 ghost use Rattle.bk_meaning.specs.Lasting.{Program};
 ghost use Rattle.bk_meaning.specs.Seeking.{forwards};
 ghost use Rattle.bk_meaning.specs.Loops.{rounds_of, again, where_truth};
-ghost use Rattle.bk_meaning.specs.Environment.{past, past_action};
+ghost use Rattle.bk_meaning.specs.Environment.{past, past_command};
 ghost use Rattle.bk_meaning.specs.Full.{full};
 ghost use Rattle.bk_check.specs.Views.{mode_in};
 ghost use Rattle.bk_lasting.specs.Views.{env_in};
 ghost use Rattle.bk_check.specs.Worlds.{Bytes, world};
 ghost use Rattle.bk_check.specs.Resume.{tag, done_tag, Comes, resumed, next_round as behind_round};
 
-use crate::commands::line_of_command;
 use crate::frame::{Next, OnDone, OnTruth, Sought, Thing};
 use crate::machine::Evaluator;
 use bk_lasting::{Env, count, count_command};
@@ -29,28 +28,30 @@ pub fn round<'a>(
 ) -> Result<Next<'a>, AllocError>
     ensures { IfOk result (λ next. (p : Program) (b : Bytes) →
         Comes p m.new.frames.items next (world m.new b)
-        (resumed p m.old.frames.items (tag done_tag (rounds_of (full p) (action command.now) (mode_in mode.entry) (env_in env.entry) (world m.old b))))) }
+        (resumed p m.old.frames.items (tag done_tag (rounds_of (full p) (command_in command.now) (mode_in mode.entry) (env_in env.entry) (world m.old b))))) }
 {
     match command {
-        Command::While(_, _, condition, inside) => while_round(
-            m, command, condition, inside, mode, env,
-        ),
-        Command::Repeat(_, inside) => repeat_round(m, command, inside, mode, env),
-        Command::RepeatWhile(_, _, inside, _) => repeat_round(m, command, inside, mode, env),
+        Command::While {
+            condition,
+            body: inside,
+            ..
+        } => while_round(m, command, condition, inside, mode, env),
+        Command::Repeat { body: inside, .. } => repeat_round(m, command, inside, mode, env),
+        Command::RepeatWhile { body: inside, .. } => repeat_round(m, command, inside, mode, env),
         Command::Empty
-        | Command::Assign(_, _, _)
-        | Command::Call(_, _, _)
-        | Command::Goto(_, _)
-        | Command::Label(_, _, _)
-        | Command::Case(_, _, _)
-        | Command::Default(_, _)
-        | Command::If(_, _, _, _)
-        | Command::Test(_, _, _, _)
-        | Command::For(_, _, _, _, _, _)
-        | Command::SwitchOn(_, _, _)
-        | Command::ResultIs(_, _)
-        | Command::Simple(_, _)
-        | Command::Block(_, _, _) => Ok(Next::Gives(Thing::Done)),
+        | Command::Assign { .. }
+        | Command::Call { .. }
+        | Command::Goto { .. }
+        | Command::Label { .. }
+        | Command::Case { .. }
+        | Command::Default { .. }
+        | Command::If { .. }
+        | Command::Test { .. }
+        | Command::For { .. }
+        | Command::SwitchOn { .. }
+        | Command::ResultIs { .. }
+        | Command::Simple { .. }
+        | Command::Block { .. } => Ok(Next::Gives(Thing::Done)),
     }
 }
 
@@ -65,9 +66,9 @@ fn while_round<'a>(
 ) -> Result<Next<'a>, AllocError>
     ensures { IfOk result (λ next. (p : Program) (b : Bytes) →
         Comes p m.new.frames.items next (world m.new b)
-        (resumed p m.old.frames.items (tag done_tag (again ((full p).act (action inside.now) (mode_in mode.entry)
+        (resumed p m.old.frames.items (tag done_tag (again ((full p).act (command_in inside.now) (mode_in mode.entry)
         (past (expression condition.now) (env_in env.entry)) (world m.old b))
-        (behind_round p (action command.now) (env_in env.entry)))))) }
+        (behind_round p (command_in command.now) (env_in env.entry)))))) }
 {
     let behind = env.again()?.behind(count(condition)?)?;
     m.first_act(OnDone::Round(command, env), inside, mode, behind)
@@ -83,8 +84,8 @@ fn repeat_round<'a>(
 ) -> Result<Next<'a>, AllocError>
     ensures { IfOk result (λ next. (p : Program) (b : Bytes) →
         Comes p m.new.frames.items next (world m.new b)
-        (resumed p m.old.frames.items (tag done_tag (again ((full p).act (action inside.now) (mode_in mode.entry) (env_in env.entry)
-        (world m.old b)) (behind_round p (action command.now) (env_in env.entry)))))) }
+        (resumed p m.old.frames.items (tag done_tag (again ((full p).act (command_in inside.now) (mode_in mode.entry) (env_in env.entry)
+        (world m.old b)) (behind_round p (command_in command.now) (env_in env.entry)))))) }
 {
     let outside = env.again()?;
     m.first_act(OnDone::Round(command, outside), inside, mode, env)
@@ -99,10 +100,10 @@ pub fn further_round<'a>(
 ) -> Result<Next<'a>, AllocError>
     ensures { IfOk result (λ next. (p : Program) (b : Bytes) →
         Comes p m.new.frames.items next (world m.new b)
-        (resumed p m.old.frames.items (tag done_tag (turn (world m.old b) (λ w. (full p).rounds (action command.now) forwards (env_in env.entry) w))))) }
+        (resumed p m.old.frames.items (tag done_tag (turn (world m.old b) (λ w. (full p).rounds (command_in command.now) forwards (env_in env.entry) w))))) }
 {
     if m.turns == 0 {
-        return Ok(Next::Going(line_of_command(command)));
+        return Ok(Next::Going(command.at()));
     }
     m.turns -= 1;
     round(m, command, None, env)
@@ -119,7 +120,7 @@ fn next_while<'a>(
     ensures { IfOk result (λ next. (p : Program) (b : Bytes) →
         Comes p m.new.frames.items next (world m.new b)
         (resumed p m.old.frames.items (tag done_tag (where_truth (full p) truth (expression condition.now) (env_in env.entry)
-        (λ w. turn w (λ w. (full p).rounds (action command.now) forwards (env_in env.entry) w)) (world m.old b))))) }
+        (λ w. turn w (λ w. (full p).rounds (command_in command.now) forwards (env_in env.entry) w)) (world m.old b))))) }
 {
     let outside = env.again()?;
     m.first_truth(OnTruth::Further(truth, command, outside), condition, env)
@@ -137,8 +138,8 @@ fn next_repeat_while<'a>(
     ensures { IfOk result (λ next. (p : Program) (b : Bytes) →
         Comes p m.new.frames.items next (world m.new b)
         (resumed p m.old.frames.items (tag done_tag (where_truth (full p) truth (expression condition.now)
-        (past_action (action inside.now) (env_in env.entry))
-        (λ w. turn w (λ w. (full p).rounds (action command.now) forwards (env_in env.entry) w)) (world m.old b))))) }
+        (past_command (command_in inside.now) (env_in env.entry))
+        (λ w. turn w (λ w. (full p).rounds (command_in command.now) forwards (env_in env.entry) w)) (world m.old b))))) }
 {
     let behind = env.again()?.behind(count_command(inside)?)?;
     m.first_truth(OnTruth::Further(truth, command, env), condition, behind)
@@ -153,27 +154,34 @@ pub fn next_round<'a>(
 ) -> Result<Next<'a>, AllocError>
     ensures { IfOk result (λ next. (p : Program) (b : Bytes) →
         Comes p m.new.frames.items next (world m.new b)
-        (resumed p m.old.frames.items (tag done_tag (behind_round p (action command.now) (env_in env.entry) (world m.old b))))) }
+        (resumed p m.old.frames.items (tag done_tag (behind_round p (command_in command.now) (env_in env.entry) (world m.old b))))) }
 {
     match command {
-        Command::While(_, truth, condition, _) => next_while(m, command, *truth, condition, env),
-        Command::Repeat(_, _) => further_round(m, command, env),
-        Command::RepeatWhile(_, truth, inside, condition) => next_repeat_while(
-            m, command, *truth, inside, condition, env,
-        ),
+        Command::While {
+            truth,
+            condition,
+            ..
+        } => next_while(m, command, *truth, condition, env),
+        Command::Repeat { .. } => further_round(m, command, env),
+        Command::RepeatWhile {
+            truth,
+            body: inside,
+            condition,
+            ..
+        } => next_repeat_while(m, command, *truth, inside, condition, env),
         Command::Empty
-        | Command::Assign(_, _, _)
-        | Command::Call(_, _, _)
-        | Command::Goto(_, _)
-        | Command::Label(_, _, _)
-        | Command::Case(_, _, _)
-        | Command::Default(_, _)
-        | Command::If(_, _, _, _)
-        | Command::Test(_, _, _, _)
-        | Command::For(_, _, _, _, _, _)
-        | Command::SwitchOn(_, _, _)
-        | Command::ResultIs(_, _)
-        | Command::Simple(_, _)
-        | Command::Block(_, _, _) => Ok(Next::Gives(Thing::Done)),
+        | Command::Assign { .. }
+        | Command::Call { .. }
+        | Command::Goto { .. }
+        | Command::Label { .. }
+        | Command::Case { .. }
+        | Command::Default { .. }
+        | Command::If { .. }
+        | Command::Test { .. }
+        | Command::For { .. }
+        | Command::SwitchOn { .. }
+        | Command::ResultIs { .. }
+        | Command::Simple { .. }
+        | Command::Block { .. } => Ok(Next::Gives(Thing::Done)),
     }
 }

@@ -1,7 +1,7 @@
 //! Expressions: what a machine does for a value, a truth or a place.
 ghost use Rattle.std.specs.Prelude.{◌≡◌, IfOk, IfSome, ◌<◌, ◌-◌, List};
 ghost use Rattle.std.specs.Option.{option_map};
-ghost use Rattle.bk_tree.specs.Tree.{expression, expressions_in, action};
+ghost use Rattle.bk_tree.specs.Tree.{expression, expressions_in, command_in};
 ghost use Rattle.bk_meaning.specs.World.{World, gives, given, with};
 ghost use Rattle.bk_meaning.specs.Lasting.{Program};
 ghost use Rattle.bk_meaning.specs.Parts;
@@ -23,10 +23,10 @@ use crate::frame::{
     Continuation, Next, OnDone, OnTarget, OnTruth, OnValue, Sought, Subject, Thing,
 };
 use crate::seeking::stands_in;
-use bk_base::{Line, word};
+use bk_base::word;
 use bk_lasting::{Env, Sense, count, in_scope};
 use bk_objects::{Computed, Location, Reason, Store, Worth, combine, read, sum, truth_of};
-use bk_tree::{Command, Expr, Operator, Prefix};
+use bk_tree::{Command, Expr, Operator, Position, Prefix};
 use std::alloc::{AllocError, Global};
 
 /// What is to be done, and the world.
@@ -74,8 +74,8 @@ fn known(store: &Store, expr: &Expr, env: &Env) -> Option<Worth>
     ensures lasting { IfSome result (λ _. objects (expression expr.now) ≡ 0) }
 {
     match expr {
-        Expr::Number(_, number) => Some(Worth::Number(*number)),
-        Expr::Name(_, name) => known_name(store, env.sense(name)),
+        Expr::Number { word: number, .. } => Some(Worth::Number(*number)),
+        Expr::Name { letters: name, .. } => known_name(store, env.sense(name)),
         _ => None,
     }
 }
@@ -216,7 +216,7 @@ impl<'a> Evaluator<'a> {
         ensures { IfOk result (λ next. (p : Program) (b : Bytes) →
             Comes p self.new.frames.items next (world self.new b)
             (resumed p self.old.frames.items (done_goes p frame.entry
-            ((full p).act (action command.now) (mode_in mode.entry) (env_in env.entry) (world self.old b))))) }
+            ((full p).act (command_in command.now) (mode_in mode.entry) (env_in env.entry) (world self.old b))))) }
     {
         self.frames.push(Continuation::Done(frame))?;
         Ok(Next::Act(command, mode, env))
@@ -229,17 +229,23 @@ impl<'a> Evaluator<'a> {
             (resumed p self.old.frames.items (tag a_value (value_of p (full p) (expression expr.now) (env_in env.entry) (world self.old b))))) }
     {
         match expr {
-            Expr::Name(_, name) => Ok(self.named(expr, env.sense(name))),
-            Expr::Number(_, number) => Ok(Next::Gives(Thing::Value(Worth::Number(*number)))),
-            Expr::Truth(_, truth) => Ok(Next::Gives(Thing::Value(Worth::Number(word::truth_of(
+            Expr::Name { letters: name, .. } => Ok(self.named(expr, env.sense(name))),
+            Expr::Number { word: number, .. } => Ok(Next::Gives(Thing::Value(Worth::Number(
+                *number,
+            )))),
+            Expr::Truth { truth, .. } => Ok(Next::Gives(Thing::Value(Worth::Number(word::truth_of(
                 *truth,
             ))))),
-            Expr::Query(_) => Ok(Next::Gives(Thing::Value(Worth::Unset))),
-            Expr::Text(_, _) | Expr::Table(_, _) => Ok(Next::Gives(Thing::Value(Worth::Address(
+            Expr::Query { .. } => Ok(Next::Gives(Thing::Value(Worth::Unset))),
+            Expr::Text { .. } | Expr::Table { .. } => Ok(Next::Gives(Thing::Value(Worth::Address(
                 env.next, 0,
             )))),
-            Expr::Parens(_, inside) => Ok(Next::Value(inside, env)),
-            Expr::Unary(_, prefix, operand) => match prefix {
+            Expr::Parens { inside, .. } => Ok(Next::Value(inside, env)),
+            Expr::Unary {
+                prefix,
+                operand,
+                ..
+            } => match prefix {
                 Prefix::Contents => self.first_value(OnValue::Contents(expr), operand, env),
                 Prefix::Address => self.first_target(OnTarget::Address(expr), operand, env),
                 Prefix::Plus => self.first_value(OnValue::Prefix(expr, Prefix::Plus), operand, env),
@@ -250,13 +256,28 @@ impl<'a> Evaluator<'a> {
                 ),
                 Prefix::Not => self.first_value(OnValue::Prefix(expr, Prefix::Not), operand, env),
             },
-            Expr::Binary(_, operator, _, a, b) => self.operands(expr, *operator, a, b, env),
-            Expr::Choice(_, _, c, a, b) => {
+            Expr::Binary {
+                operator,
+                left: a,
+                right: b,
+                ..
+            } => self.operands(expr, *operator, a, b, env),
+            Expr::Choice {
+                condition: c,
+                yes: a,
+                no: b,
+                ..
+            } => {
                 let behind = env.again()?.behind(count(c)?)?;
                 self.first_truth(OnTruth::Choice(a, b, behind), c, env)
             }
-            Expr::Apply(_, line, callee, items) => self.apply(*line, callee, items, env),
-            Expr::Valof(_, command) => self.valof(command, env),
+            Expr::Apply {
+                sign,
+                callee,
+                arguments: items,
+                ..
+            } => self.apply(*sign, callee, items, env),
+            Expr::Valof { command, .. } => self.valof(command, env),
         }
     }
 
@@ -319,7 +340,7 @@ impl<'a> Evaluator<'a> {
     #[inline(never)]
     pub fn apply(
         &mut self,
-        line: Line,
+        at: Position,
         callee: &'a Expr,
         items: &'a [Expr],
         env: Env<'a>,
@@ -330,14 +351,14 @@ impl<'a> Evaluator<'a> {
             (env_in env.entry) (world self.old b))))) }
     {
         let here = env.again()?.behind(count(callee)?)?;
-        self.arguments(line, items, here, Vec::new(self.alloc), callee, env)
+        self.arguments(at, items, here, Vec::new(self.alloc), callee, env)
     }
 
     /// The arguments that are left, after those before.
     #[inline(never)]
     pub fn arguments(
         &mut self,
-        line: Line,
+        at: Position,
         items: &'a [Expr],
         here: Env<'a>,
         before: Vec<Worth>,
@@ -353,12 +374,12 @@ impl<'a> Evaluator<'a> {
             Some((first, rest)) => {
                 let behind = here.again()?.behind(count(first)?)?;
                 self.first_value(
-                    OnValue::Argument(line, rest, behind, before, callee, env),
+                    OnValue::Argument(at, rest, behind, before, callee, env),
                     first,
                     here,
                 )
             }
-            None => self.first_value(OnValue::Callee(line, callee, before), callee, env),
+            None => self.first_value(OnValue::Callee(at, callee, before), callee, env),
         }
     }
 
@@ -368,7 +389,7 @@ impl<'a> Evaluator<'a> {
         ensures { IfOk result (λ next. (p : Program) (b : Bytes) →
             Comes p self.new.frames.items next (world self.new b)
             (resumed p self.old.frames.items (tag a_value (result_of
-            (scope_of (full p) (alone (action command.now)) forwards (env_in env.entry) (world self.old b)))))) }
+            (scope_of (full p) (alone (command_in command.now)) forwards (env_in env.entry) (world self.old b)))))) }
     {
         self.frames.push(Continuation::Done(OnDone::Valof))?;
         self.alone(command, None, env)
@@ -384,7 +405,7 @@ impl<'a> Evaluator<'a> {
     ) -> Result<Next<'a>, AllocError>
         ensures { IfOk result (λ next. (p : Program) (b : Bytes) →
             Comes p self.new.frames.items next (world self.new b)
-            (resumed p self.old.frames.items (tag done_tag (scope_of (full p) (alone (action command.now)) (mode_in mode.entry)
+            (resumed p self.old.frames.items (tag done_tag (scope_of (full p) (alone (command_in command.now)) (mode_in mode.entry)
             (env_in env.entry) (world self.old b))))) }
     {
         self.frames
@@ -412,7 +433,7 @@ impl<'a> Evaluator<'a> {
             (resumed p self.old.frames.items (tag a_value ((full p).value (expression expr.now) (env_in env.entry) (world self.old b))))) }
     {
         if self.turns == 0 {
-            return Ok(Next::Going(line_of(expr)));
+            return Ok(Next::Going(acts_at(expr)));
         }
         self.turns -= 1;
         self.value_inside(expr, env)
@@ -426,7 +447,7 @@ impl<'a> Evaluator<'a> {
             (resumed p self.old.frames.items (tag a_truth ((full p).truth (expression expr.now) (env_in env.entry) (world self.old b))))) }
     {
         if self.turns == 0 {
-            return Ok(Next::Going(line_of(expr)));
+            return Ok(Next::Going(acts_at(expr)));
         }
         self.turns -= 1;
         self.truth_inside(expr, env)
@@ -440,7 +461,7 @@ impl<'a> Evaluator<'a> {
             (resumed p self.old.frames.items (tag a_target ((full p).target (expression expr.now) (env_in env.entry) (world self.old b))))) }
     {
         if self.turns == 0 {
-            return Ok(Next::Going(line_of(expr)));
+            return Ok(Next::Going(acts_at(expr)));
         }
         self.turns -= 1;
         self.target_inside(expr, env)
@@ -453,14 +474,23 @@ impl<'a> Evaluator<'a> {
             (resumed p self.old.frames.items (tag a_truth (truth_of p (full p) (expression expr.now) (env_in env.entry) (world self.old b))))) }
     {
         match expr {
-            Expr::Parens(_, inside) => Ok(Next::Truth(inside, env)),
-            Expr::Unary(_, prefix, operand) => match prefix {
+            Expr::Parens { inside, .. } => Ok(Next::Truth(inside, env)),
+            Expr::Unary {
+                prefix,
+                operand,
+                ..
+            } => match prefix {
                 Prefix::Not => self.first_truth(OnTruth::Not, operand, env),
                 Prefix::Contents | Prefix::Address | Prefix::Plus | Prefix::Minus => self.judged(
                     expr, env,
                 ),
             },
-            Expr::Binary(_, operator, _, a, b) => match operator {
+            Expr::Binary {
+                operator,
+                left: a,
+                right: b,
+                ..
+            } => match operator {
                 Operator::Both => {
                     let behind = env.again()?.behind(count(a)?)?;
                     self.first_truth(OnTruth::And(b, behind), a, env)
@@ -482,23 +512,33 @@ impl<'a> Evaluator<'a> {
             (resumed p self.old.frames.items (tag a_target (target_of (full p) (expression expr.now) (env_in env.entry) (world self.old b))))) }
     {
         match expr {
-            Expr::Name(_, name) => match env.sense(name) {
+            Expr::Name { letters: name, .. } => match env.sense(name) {
                 Some(Sense::Cell(object, offset)) => Ok(Next::Gives(Thing::Target(Location::Cell(
                     Worth::Address(object, offset),
                 )))),
                 _ => Ok(Next::Undefined(Subject::Expr(expr), Reason::NoPlace)),
             },
-            Expr::Parens(_, inside) => Ok(Next::Target(inside, env)),
-            Expr::Unary(_, Prefix::Contents, operand) => self.first_value(
-                OnValue::At,
+            Expr::Parens { inside, .. } => Ok(Next::Target(inside, env)),
+            Expr::Unary {
+                prefix: Prefix::Contents,
                 operand,
-                env,
-            ),
-            Expr::Binary(_, Operator::Subscript, _, a, b) => {
+                ..
+            } => self.first_value(OnValue::At, operand, env),
+            Expr::Binary {
+                operator: Operator::Subscript,
+                left: a,
+                right: b,
+                ..
+            } => {
                 let behind = env.again()?.behind(count(a)?)?;
                 self.first_value(OnValue::Vector(expr, b, behind), a, env)
             }
-            Expr::Binary(_, Operator::Byte, _, a, b) => {
+            Expr::Binary {
+                operator: Operator::Byte,
+                left: a,
+                right: b,
+                ..
+            } => {
                 let behind = env.again()?.behind(count(a)?)?;
                 self.first_value(OnValue::String(b, behind), a, env)
             }
@@ -510,7 +550,7 @@ impl<'a> Evaluator<'a> {
 /// A command in its scope, or nothing where the place that is sought is not in it.
 fn from_place<'a>(command: &'a Command, mode: Option<Sought<'a>>, env: Env<'a>) -> Next<'a>
     ensures { (p : Program) (fs : List Continuation) (w : World)
-        → Comes p fs result w (resumed p fs (tag done_tag (in_order (full p) (alone (action command.now)) (mode_in mode.entry)
+        → Comes p fs result w (resumed p fs (tag done_tag (in_order (full p) (alone (command_in command.now)) (mode_in mode.entry)
         (env_in env.entry) w))) }
 {
     match mode {
@@ -525,20 +565,10 @@ fn from_place<'a>(command: &'a Command, mode: Option<Sought<'a>>, env: Env<'a>) 
     }
 }
 
-/// The line of an expression.
-pub fn line_of(expr: &Expr) -> Line {
+/// Where an expression acts on its operands: at its operator, or where it begins.
+pub fn acts_at(expr: &Expr) -> Position {
     match expr {
-        Expr::Name(line, _)
-        | Expr::Number(line, _)
-        | Expr::Text(line, _)
-        | Expr::Truth(line, _)
-        | Expr::Query(line)
-        | Expr::Parens(line, _)
-        | Expr::Unary(line, _, _)
-        | Expr::Binary(_, _, line, _, _)
-        | Expr::Choice(line, _, _, _, _)
-        | Expr::Apply(line, _, _, _)
-        | Expr::Valof(line, _)
-        | Expr::Table(line, _) => *line,
+        Expr::Binary { sign, .. } => *sign,
+        other => other.at(),
     }
 }

@@ -1,6 +1,6 @@
 //! Seeking a label, or the place of a CASE or DEFAULT, in commands.
 ghost use Rattle.std.specs.Prelude.{◌≡◌, Option};
-ghost use Rattle.bk_tree.specs.Tree.{action, actions_in, expression};
+ghost use Rattle.bk_tree.specs.Tree.{command_in, commands_in, expression};
 ghost use Rattle.bk_meaning.specs.Environment.{constant_in};
 ghost use Rattle.bk_meaning.specs.Seeking as q;
 ghost use Rattle.bk_check.specs.Views.{sought_in, mode_in};
@@ -49,37 +49,50 @@ fn is_default(sought: Sought) -> bool
 /// Whether the place is in a command, where seeking comes to it.
 #[cycle(seeking)]
 pub fn stands_in(sought: Sought, env: &Env, command: &Command) -> bool
-    ensures { result ≡ q.stands_in (sought_in sought.entry) (env_in env.now) (action command.now) }
+    ensures { result ≡ q.stands_in (sought_in sought.entry) (env_in env.now) (command_in command.now) }
 {
     match command {
-        Command::Label(_, name, c) => is_label(sought, name) || stands_in(sought, env, c),
-        Command::Case(_, e, c) => is_case(sought, constant(env, e)) || stands_in(sought, env, c),
-        Command::Default(_, c) => is_default(sought) || stands_in(sought, env, c),
-        Command::If(_, _, _, c) => stands_in(sought, env, c),
-        Command::While(_, _, _, c) => stands_in(sought, env, c),
-        Command::Repeat(_, c) => stands_in(sought, env, c),
-        Command::RepeatWhile(_, _, c, _) => stands_in(sought, env, c),
-        Command::Test(_, _, a, b) => stands_in(sought, env, a) || stands_in(sought, env, b),
-        Command::SwitchOn(_, _, c) => match sought {
+        Command::Label {
+            letters: name,
+            body: c,
+            ..
+        } => is_label(sought, name) || stands_in(sought, env, c),
+        Command::Case {
+            value: e,
+            body: c,
+            ..
+        } => is_case(sought, constant(env, e)) || stands_in(sought, env, c),
+        Command::Default { body: c, .. } => is_default(sought) || stands_in(sought, env, c),
+        Command::If { body: c, .. } => stands_in(sought, env, c),
+        Command::While { body: c, .. } => stands_in(sought, env, c),
+        Command::Repeat { body: c, .. } => stands_in(sought, env, c),
+        Command::RepeatWhile { body: c, .. } => stands_in(sought, env, c),
+        Command::Test { yes: a, no: b, .. } => stands_in(sought, env, a)
+            || stands_in(sought, env, b),
+        Command::SwitchOn { body: c, .. } => match sought {
             Sought::Label(_) => stands_in(sought, env, c),
             Sought::Case(_) => false,
             Sought::Default => false,
         },
-        Command::Block(_, ds, cs) => ds.is_empty() && stands_in_one(sought, env, cs),
+        Command::Block {
+            decls: ds,
+            commands: cs,
+            ..
+        } => ds.is_empty() && stands_in_one(sought, env, cs),
         Command::Empty => false,
-        Command::Assign(_, _, _) => false,
-        Command::Call(_, _, _) => false,
-        Command::Goto(_, _) => false,
-        Command::For(_, _, _, _, _, _) => false,
-        Command::ResultIs(_, _) => false,
-        Command::Simple(_, _) => false,
+        Command::Assign { .. } => false,
+        Command::Call { .. } => false,
+        Command::Goto { .. } => false,
+        Command::For { .. } => false,
+        Command::ResultIs { .. } => false,
+        Command::Simple { .. } => false,
     }
 }
 
 /// Whether it is in one of these commands.
 #[cycle(seeking)]
 pub fn stands_in_one(sought: Sought, env: &Env, commands: &[Command]) -> bool
-    ensures { result ≡ q.stands_in_one (sought_in sought.entry) (env_in env.now) (actions_in commands.now) }
+    ensures { result ≡ q.stands_in_one (sought_in sought.entry) (env_in env.now) (commands_in commands.now) }
 {
     for c in commands {
         if stands_in(sought, env, c) {

@@ -33,10 +33,10 @@ pub fn step<'a>(
         Next::Starts(inits, here, names, rest) => starts(m, inits, here, names, rest),
         Next::Gives(thing) => given(m, program, thing),
         Next::Leaves(exit) => left(m, exit),
-        Next::Library(line, routine, values) => Ok(Next::Library(line, routine, values)),
+        Next::Library(at, routine, values) => Ok(Next::Library(at, routine, values)),
         Next::Status(status) => Ok(Next::Status(status)),
         Next::DivideByZero(subject) => Ok(Next::DivideByZero(subject)),
         Next::Undefined(subject, reason) => Ok(Next::Undefined(subject, reason)),
-        Next::Going(line) => Ok(Next::Going(line)),
+        Next::Going(at) => Ok(Next::Going(at)),
     }
 }

@@ -1,5 +1,5 @@
 -- What was written begins what is written then, whatever is still to be done.
-use Rattle.bk_checker.proofs.Terms.{ℕ, suc, Bool, not, Option, List, [], ◌∷◌, ◌++◌, map, arith, Expression, Expressions, Action, Starts, expression, expressions_in, action, actions_in, declarations_in, definitions_in, starts_in, Value, unset, World, Exit, break, loop, result, Outcome, gives, leaves, undefined, with, given, either, Done, done, Environment, past, past_action, Program, Target, at, byte_at, call, History, history, Grows, After, full, stays, earlier, Adds, adds, with_after, each_way_after, given_after, either_after, Ties, ties, ties_add, AllTied, done_ties, fetch_ties, combined_ties, operate_prefix_ties, judged_ties, address_in_ties, values_ties, call_ties, assigned_ties, store_ties, choose_case_ties, rounds_of_ties, for_loop_ties, for_test_ties, for_step_ties, where_truth_ties, turn_ties, in_order_ties, landing_ties, result_ties, return_ties, case_exit_ties, starts_ties, let_values_ties, bind_variables_ties, declare_all_ties, scope_ties, library_ties, means_tied, value_in, routine_in, Continuation, Next, letters_in, mode_in, start_in, Given, a_value, a_truth, a_target, is_done, done_tag, tag, resumed, resume_given, resume_left, value_goes, truth_goes, target_goes, done_goes, done_left, next_round, next_for, bound_then, defined_then, started_then, starting_then, declared_then, outcome_next, thing_in, exit_in, assigned_to, OnValue, OnValue as v, OnTruth, OnTruth as o, OnTarget, OnTarget as a, OnDone, OnDone as d, Continuation as f, Next as n}
+use Rattle.bk_checker.proofs.Terms.{ℕ, suc, Bool, not, Option, List, [], ◌∷◌, ◌++◌, map, arith, Expression, Expressions, Command, Starts, expression, expressions_in, command_in, commands_in, declarations_in, definitions_in, starts_in, Value, unset, World, Exit, break, loop, result, Outcome, gives, leaves, undefined, with, given, either, Done, done, Environment, past, past_command, Program, Target, at, byte_at, call, History, history, Grows, After, full, stays, earlier, Adds, adds, with_after, each_way_after, given_after, either_after, Ties, ties, ties_add, AllTied, done_ties, fetch_ties, combined_ties, operate_prefix_ties, judged_ties, address_in_ties, values_ties, call_ties, assigned_ties, store_ties, choose_case_ties, rounds_of_ties, for_loop_ties, for_test_ties, for_step_ties, where_truth_ties, turn_ties, in_order_ties, landing_ties, result_ties, return_ties, case_exit_ties, starts_ties, let_values_ties, bind_variables_ties, declare_all_ties, scope_ties, library_ties, means_tied, value_in, routine_in, Continuation, Next, letters_in, mode_in, start_in, Given, a_value, a_truth, a_target, is_done, done_tag, tag, resumed, resume_given, resume_left, value_goes, truth_goes, target_goes, done_goes, done_left, next_round, next_for, bound_then, defined_then, started_then, starting_then, declared_then, outcome_next, thing_in, exit_in, assigned_to, OnValue, OnValue as v, OnTruth, OnTruth as o, OnTarget, OnTarget as a, OnDone, OnDone as d, Continuation as f, Next as n}
 use Rattle.bk_tree.specs.Tree as t
 use Rattle.bk_meaning.specs.Operators.{sum}
 use Rattle.bk_meaning.specs.Seeking.{the_label, Mode, forwards, seeking}
@@ -52,7 +52,7 @@ module _ (p : Program) where
   truth : (e : Expression) (env : Environment) → Adds ((full p).truth e env)
   truth e env = ties_add _ _ (g.truth e env)
 
-  act : (c : Action) (mode : Mode) (env : Environment) → Adds ((full p).act c mode env)
+  act : (c : Command) (mode : Mode) (env : Environment) → Adds ((full p).act c mode env)
   act c mode env = ties_add _ _ (g.act c mode env)
 
   place : (x y : Value) → Adds (λ w. with (given (sum w.memory x y) w) (λ c w. gives (at c) w))
@@ -61,14 +61,14 @@ module _ (p : Program) where
   one_of : {A : Type 0} (x : Bool) (go other : World → Outcome A) → Adds go → Adds other → Adds (λ w. either x go other w)
   one_of x go other h k = adds _ (λ w. either_after x go other h k w)
 
-  for_on : (x : List ℕ) (c : Action) (env : Environment) (step : Option ℕ) (start limit : Value) → Adds (λ w. with (given step w) (λ n w. for_loop (full p) x c start limit n env w))
+  for_on : (x : List ℕ) (c : Command) (env : Environment) (step : Option ℕ) (start limit : Value) → Adds (λ w. with (given step w) (λ n w. for_loop (full p) x c start limit n env w))
   for_on x c env step start limit = adds _ (λ w. with_after (history w) (given step w) _ (given_after step w) (λ n. ties_add _ _ (for_loop_ties (full p) (full p) g x c start limit n env)))
 
   bound : (l : Let) (ss : List b.Start) → Adds (bound_then p l ss)
   bound l ss = by _ _ (ties_add _ _ (bind_variables_ties (full p) (full p) g (map start_in l.starts.items ++ ss) (env_in l.behind))) (λ env. declared l env)
     where
-      declared : (l : Let) (env : Environment) → Adds (declared_then p (declarations_in l.decls.now) (actions_in l.commands.now) env)
-      declared l env = by _ _ (ties_add _ _ (declare_all_ties (full p) (full p) g (declarations_in l.decls.now) env)) (λ env. ties_add _ _ (scope_ties (full p) (full p) g (actions_in l.commands.now) forwards env))
+      declared : (l : Let) (env : Environment) → Adds (declared_then p (declarations_in l.decls.now) (commands_in l.commands.now) env)
+      declared l env = by _ _ (ties_add _ _ (declare_all_ties (full p) (full p) g (declarations_in l.decls.now) env)) (λ env. ties_add _ _ (scope_ties (full p) (full p) g (commands_in l.commands.now) forwards env))
 
   defined : (l : Let) → Adds (defined_then p l)
   defined l = by _ _ (ties_add _ _ (let_values_ties (full p) (full p) g (definitions_in l.defs.now) (env_in l.here))) (λ ss. bound l ss)
@@ -91,9 +91,9 @@ module _ (p : Program) where
   value_on (v.Offset e y) x = tag_adds a_target _ (place (value_in y) x)
   value_on (v.String b env) x = tag_adds a_target _ (by _ _ (value (expression b.now) (env_in env)) (λ y. still (byte_at x y)))
   value_on (v.Byte y) x = tag_adds a_target _ (still (byte_at (value_in y) x))
-  value_on (v.Argument line es here before callee env) x = tag_adds a_value _ (by _ _ (ties_add _ _ (values_ties (full p) (full p) g (expressions_in es.now) (env_in here))) (λ vs.
+  value_on (v.Argument spot es here before callee env) x = tag_adds a_value _ (by _ _ (ties_add _ _ (values_ties (full p) (full p) g (expressions_in es.now) (env_in here))) (λ vs.
       by _ _ (value (expression callee.now) (env_in env)) (λ c. ties_add _ _ (call_ties (full p) (full p) g p c (map value_in before.items ++ x ∷ vs)))))
-  value_on (v.Callee line e before) x = tag_adds a_value _ (ties_add _ _ (call_ties (full p) (full p) g p x (map value_in before.items)))
+  value_on (v.Callee spot e before) x = tag_adds a_value _ (ties_add _ _ (call_ties (full p) (full p) g p x (map value_in before.items)))
   value_on v.Dropped x = tag_adds done_tag _ finished
   value_on v.Result x = tag_adds done_tag _ (left (result x))
   value_on (v.Assigned xs there es env) x = tag_adds done_tag _ (assigned_on (expressions_in xs.now) (env_in there))
@@ -101,9 +101,9 @@ module _ (p : Program) where
       assigned_on : (xs : Expressions) (there : Environment) → Adds (assigned_to (full p) x xs there (expressions_in es.now) (env_in env))
       assigned_on t.none there = finished
       assigned_on (t.more d ds) there = by _ _ (ties_add _ _ (g.target d there)) (λ c. by _ _ (ties_add _ _ (store_ties (full p) (full p) g c x)) (λ _. ties_add _ _ (assigned_ties (full p) (full p) g ds (past d there) (expressions_in es.now) (env_in env))))
-  value_on (v.Switch e c env) x = tag_adds done_tag _ (ties_add _ _ (choose_case_ties (full p) (full p) g x (action c.now) (env_in env)))
-  value_on (v.ForStart name e env c step) x = tag_adds done_tag _ (by _ _ (value (expression e.now) (env_in env)) (λ h. for_on name.now.letters.items (action c.now) (past (expression e.now) (env_in env)) step x h))
-  value_on (v.ForLimit name env start c step) x = tag_adds done_tag _ (for_on name.now.letters.items (action c.now) (env_in env) step (value_in start) x)
+  value_on (v.Switch e c env) x = tag_adds done_tag _ (ties_add _ _ (choose_case_ties (full p) (full p) g x (command_in c.now) (env_in env)))
+  value_on (v.ForStart name e env c step) x = tag_adds done_tag _ (by _ _ (value (expression e.now) (env_in env)) (λ h. for_on name.now.letters.items (command_in c.now) (past (expression e.now) (env_in env)) step x h))
+  value_on (v.ForLimit name env start c step) x = tag_adds done_tag _ (for_on name.now.letters.items (command_in c.now) (env_in env) step (value_in start) x)
   value_on (v.Starts is here names l) x = tag_adds done_tag _ (by _ _ (by _ _ (ties_add _ _ (starts_ties (full p) (full p) g (starts_in is.now) (env_in here))) (λ vs. still (x ∷ vs))) (λ vs. started l.value (letters_in names.now) vs))
 
   -- with a truth
@@ -112,32 +112,32 @@ module _ (p : Program) where
   truth_on o.Not x = tag_adds a_truth _ (still (not x))
   truth_on (o.And b env) x = tag_adds a_truth _ (one_of x _ _ (truth (expression b.now) (env_in env)) (still _))
   truth_on (o.Or b env) x = tag_adds a_truth _ (one_of x _ _ (still _) (truth (expression b.now) (env_in env)))
-  truth_on (o.When b c env) x = tag_adds done_tag _ (one_of (same_truth b x) _ _ (act (action c.now) forwards (env_in env)) finished)
-  truth_on (o.Test a b env) x = tag_adds done_tag _ (one_of x _ _ (act (action a.now) forwards (env_in env)) (act (action b.now) forwards (past_action (action a.now) (env_in env))))
-  truth_on (o.First b c env) x = tag_adds done_tag _ (one_of (same_truth b x) _ _ (ties_add _ _ (rounds_of_ties (full p) (full p) g (action c.now) forwards (env_in env))) finished)
-  truth_on (o.Further b c env) x = tag_adds done_tag _ (one_of (same_truth b x) _ _ (ties_add _ _ (turn_ties (full p) (full p) g _ _ (g.rounds (action c.now) forwards (env_in env)))) finished)
+  truth_on (o.When b c env) x = tag_adds done_tag _ (one_of (same_truth b x) _ _ (act (command_in c.now) forwards (env_in env)) finished)
+  truth_on (o.Test a b env) x = tag_adds done_tag _ (one_of x _ _ (act (command_in a.now) forwards (env_in env)) (act (command_in b.now) forwards (past_command (command_in a.now) (env_in env))))
+  truth_on (o.First b c env) x = tag_adds done_tag _ (one_of (same_truth b x) _ _ (ties_add _ _ (rounds_of_ties (full p) (full p) g (command_in c.now) forwards (env_in env))) finished)
+  truth_on (o.Further b c env) x = tag_adds done_tag _ (one_of (same_truth b x) _ _ (ties_add _ _ (turn_ties (full p) (full p) g _ _ (g.rounds (command_in c.now) forwards (env_in env)))) finished)
 
   -- with a place
   target_on : (k : OnTarget) (x : Target) → Adds (λ w. target_goes p k (gives x w))
   target_on (a.Address e) x = tag_adds a_value _ (ties_add _ _ (address_in_ties (full p) (full p) g x))
   target_on (a.Put e y xs there es env) x = tag_adds done_tag _ (by _ _ (ties_add _ _ (store_ties (full p) (full p) g x (value_in y))) (λ _. ties_add _ _ (assigned_ties (full p) (full p) g (expressions_in xs.now) (env_in there) (expressions_in es.now) (env_in env))))
 
-  next_ties : (c : Action) (env : Environment) → Ties (next_round p c env) (next_round p c env)
+  next_ties : (c : Command) (env : Environment) → Ties (next_round p c env) (next_round p c env)
   next_ties (t.while l b e c) env = where_truth_ties (full p) (full p) g b e env _ _ (turn_ties (full p) (full p) g _ _ (g.rounds (t.while l b e c) forwards env))
   next_ties (t.repeat l c) env = turn_ties (full p) (full p) g _ _ (g.rounds (t.repeat l c) forwards env)
-  next_ties (t.repeat_while l b c e) env = where_truth_ties (full p) (full p) g b e (past_action c env) _ _ (turn_ties (full p) (full p) g _ _ (g.rounds (t.repeat_while l b c e) forwards env))
+  next_ties (t.repeat_while l b c e) env = where_truth_ties (full p) (full p) g b e (past_command c env) _ _ (turn_ties (full p) (full p) g _ _ (g.rounds (t.repeat_while l b c e) forwards env))
   next_ties c env = done_ties
 
   next_for_adds : (k : For) → Adds (next_for p k)
   next_for_adds k = by _ _ (ties_add _ _ (for_step_ties (full p) (full p) g k.object k.step)) (λ _.
-      ties_add _ _ (for_test_ties (full p) (full p) g k.object (value_in k.limit) k.step _ _ (turn_ties (full p) (full p) g _ _ (g.for_rounds (action k.body.now) k.object (value_in k.limit) k.step (env_in k.env)))))
+      ties_add _ _ (for_test_ties (full p) (full p) g k.object (value_in k.limit) k.step _ _ (turn_ties (full p) (full p) g _ _ (g.for_rounds (command_in k.body.now) k.object (value_in k.limit) k.step (env_in k.env)))))
 
   -- after a command
   done_on : (k : OnDone) → Adds (λ w. done_goes p k (done w))
-  done_on (d.After cs env) = tag_adds done_tag _ (ties_add _ _ (in_order_ties (full p) (full p) g (actions_in cs.now) forwards (env_in env)))
+  done_on (d.After cs env) = tag_adds done_tag _ (ties_add _ _ (in_order_ties (full p) (full p) g (commands_in cs.now) forwards (env_in env)))
   done_on d.Body = tag_adds a_value _ (still unset)
   done_on d.Valof = tag_adds a_value _ (still unset)
-  done_on (d.Round c env) = tag_adds done_tag _ (ties_add _ _ (next_ties (action c.now) (env_in env)))
+  done_on (d.Round c env) = tag_adds done_tag _ (ties_add _ _ (next_ties (command_in c.now) (env_in env)))
   done_on (d.ForRound k) = tag_adds done_tag _ (next_for_adds k)
   done_on x = tag_adds done_tag _ finished
 
@@ -151,10 +151,10 @@ module _ (p : Program) where
   left_on (d.After cs env) x = left x
   left_on d.Body x = tag_adds a_value _ (ties_add _ _ (return_ties (full p) (full p) g x))
   left_on d.Valof x = tag_adds a_value _ (ties_add _ _ (result_ties (full p) (full p) g x))
-  left_on (d.Scope cs env) x = tag_adds done_tag _ (ties_add _ _ (landing_ties (full p) (full p) g (actions_in cs.now) (env_in env) _ _ (λ y. g.scope (actions_in cs.now) (seeking (the_label y)) (env_in env)) x))
-  left_on (d.Alone c env) x = tag_adds done_tag _ (ties_add _ _ (landing_ties (full p) (full p) g (alone (action c.now)) (env_in env) _ _ (λ y. g.scope (alone (action c.now)) (seeking (the_label y)) (env_in env)) x))
+  left_on (d.Scope cs env) x = tag_adds done_tag _ (ties_add _ _ (landing_ties (full p) (full p) g (commands_in cs.now) (env_in env) _ _ (λ y. g.scope (commands_in cs.now) (seeking (the_label y)) (env_in env)) x))
+  left_on (d.Alone c env) x = tag_adds done_tag _ (ties_add _ _ (landing_ties (full p) (full p) g (alone (command_in c.now)) (env_in env) _ _ (λ y. g.scope (alone (command_in c.now)) (seeking (the_label y)) (env_in env)) x))
   left_on d.Cases x = tag_adds done_tag _ (ties_add _ _ (case_exit_ties (full p) (full p) g x))
-  left_on (d.Round c env) x = tag_adds done_tag _ (round_left _ (ties_add _ _ (next_ties (action c.now) (env_in env))) x)
+  left_on (d.Round c env) x = tag_adds done_tag _ (round_left _ (ties_add _ _ (next_ties (command_in c.now) (env_in env))) x)
   left_on (d.ForRound k) x = tag_adds done_tag _ (round_left _ (next_for_adds k) x)
 
   exit_on : (k : Continuation) (x : Exit) → Adds (λ w. resume_left p k x w)
@@ -183,14 +183,14 @@ module _ (p : Program) where
   next_on (n.Value e env) = tag_adds a_value _ (value (expression e.now) (env_in env))
   next_on (n.Truth e env) = tag_adds a_truth _ (truth (expression e.now) (env_in env))
   next_on (n.Target e env) = tag_adds a_target _ (ties_add _ _ (g.target (expression e.now) (env_in env)))
-  next_on (n.Act c mode env) = tag_adds done_tag _ (act (action c.now) (mode_in mode) (env_in env))
-  next_on (n.InOrder cs mode env) = tag_adds done_tag _ (ties_add _ _ (in_order_ties (full p) (full p) g (actions_in cs.now) (mode_in mode) (env_in env)))
-  next_on (n.Declare ds cs env) = tag_adds done_tag _ (by _ _ (ties_add _ _ (declare_all_ties (full p) (full p) g (declarations_in ds.now) (env_in env))) (λ env. ties_add _ _ (scope_ties (full p) (full p) g (actions_in cs.now) forwards env)))
+  next_on (n.Act c mode env) = tag_adds done_tag _ (act (command_in c.now) (mode_in mode) (env_in env))
+  next_on (n.InOrder cs mode env) = tag_adds done_tag _ (ties_add _ _ (in_order_ties (full p) (full p) g (commands_in cs.now) (mode_in mode) (env_in env)))
+  next_on (n.Declare ds cs env) = tag_adds done_tag _ (by _ _ (ties_add _ _ (declare_all_ties (full p) (full p) g (declarations_in ds.now) (env_in env))) (λ env. ties_add _ _ (scope_ties (full p) (full p) g (commands_in cs.now) forwards env)))
   next_on (n.Define l) = tag_adds done_tag _ (defined l.value)
   next_on (n.Starts is here names l) = tag_adds done_tag _ (starting (starts_in is.now) (env_in here) (letters_in names.now) l.value)
   next_on (n.Gives t) = still (thing_in t)
   next_on (n.Leaves x) = left (exit_in x)
-  next_on (n.Library line r vs) = tag_adds a_value _ (ties_add _ _ (library_ties (routine_in r) (map value_in vs.items)))
+  next_on (n.Library spot r vs) = tag_adds a_value _ (ties_add _ _ (library_ties (routine_in r) (map value_in vs.items)))
   next_on (n.Undefined s why) = adds _ (λ w. tt)
   next_on y = adds _ (λ w. stays (history w))
 

@@ -34,7 +34,7 @@ unfolding resumed
 over_is p fs (n.Status k) w is = ends_stays p fs _ w
 over_is p fs (n.DivideByZero s) w is = ends_stays p fs _ w
 over_is p fs (n.Undefined s why) w is = undefined_stays p fs
-over_is p fs (n.Going line) w is = going_stays p fs w
+over_is p fs (n.Going spot) w is = going_stays p fs w
 over_is p [] (n.Gives t) w is = refl
 over_is p [] (n.Leaves x) w is = refl
 over_is p fs next w is = absurd (cc is)
@@ -44,7 +44,7 @@ shows_verdict : (p : Program) (fs : List Continuation) (next : Next) (w : World)
 shows_verdict p fs (n.Status k) w is = (w.most_calls, refl)
 shows_verdict p fs (n.DivideByZero s) w is = (w.most_calls, refl)
 shows_verdict p fs (n.Undefined s why) w is = refl
-shows_verdict p fs (n.Going line) w is = (w.most_calls, refl)
+shows_verdict p fs (n.Going spot) w is = (w.most_calls, refl)
 shows_verdict p [] (n.Gives (g.Value x)) w is = (w.most_calls, refl)
 shows_verdict p [] (n.Gives t) w is = refl
 shows_verdict p [] (n.Leaves x) w is = refl
@@ -208,21 +208,21 @@ answered_byte old new b delivered keeps open_ = record {
   takes = λ rest w follows is. ap (λ (i : List ℕ). takes_byte i w) is;
 }
 
-module _ (p : Program) (m m' : Evaluator) (line : ℕ) (r : Routine) (vs : Vec Worth Global) (e : Effect)
+module _ (p : Program) (m m' : Evaluator) (spot : ℕ) (r : Routine) (vs : Vec Worth Global) (e : Effect)
     (frames : m'.frames.items ≡ m.frames.items) (same : (b : Bytes) → world m' b ≡ remembering m'.store (world m b))
     (law : (w : World) → w.memory ≡ m.store → outcome_in e (remembering m'.store w) ≡ library (routine_in r) (map value_in vs.items) w) where
-  called : (b : Bytes) → tag a_value (outcome_in e (world m' b)) ≡ outcome_next p (n.Library line r vs) (world m b)
+  called : (b : Bytes) → tag a_value (outcome_in e (world m' b)) ≡ outcome_next p (n.Library spot r vs) (world m b)
   called b = ap (λ (w : World). tag a_value (outcome_in e w)) (same b) ∙ ap (tag a_value) (law (world m b) refl)
 
   framed : (u v : Outcome Given) → u ≡ v → resumed p m'.frames.items u ≡ resumed p m.frames.items v
   framed u v is = ap (λ (fs : List Continuation). resumed p fs u) frames ∙ ap (resumed p m.frames.items) is
 
   -- it needs no device
-  pub library_still : (next : Next) (told : Devices) → ((w : World) → outcome_next p next w ≡ tag a_value (outcome_in e w)) → Moves p m (n.Library line r vs) m' next told told
-  library_still next told does = moves_still p m (n.Library line r vs) m' next told (λ b. framed _ _ (does (world m' b) ∙ called b))
+  pub library_still : (next : Next) (told : Devices) → ((w : World) → outcome_next p next w ≡ tag a_value (outcome_in e w)) → Moves p m (n.Library spot r vs) m' next told told
+  library_still next told does = moves_still p m (n.Library spot r vs) m' next told (λ b. framed _ _ (does (world m' b) ∙ called b))
 
   -- it takes a byte
-  pub library_takes : (word : ℕ) (old new : Devices) → e ≡ t.TakesByte → Answered word old new → Moves p m (n.Library line r vs) m' (n.Gives (g.Value (w.Number word))) old new
+  pub library_takes : (word : ℕ) (old new : Devices) → e ≡ t.TakesByte → Answered word old new → Moves p m (n.Library spot r vs) m' (n.Gives (g.Value (w.Number word))) old new
   library_takes word old new is answered = record {
     read = answered.read;
     written = [];
@@ -235,7 +235,7 @@ module _ (p : Program) (m m' : Evaluator) (line : ℕ) (r : Routine) (vs : Vec W
   }
 
   -- it writes a text
-  pub library_writes : (text : Vec ℕ Global) (old new : Devices) → e ≡ t.Writes text → Exchanged old new [] text.items → Moves p m (n.Library line r vs) m' (n.Gives (g.Value w.Unset)) old new
+  pub library_writes : (text : Vec ℕ Global) (old new : Devices) → e ≡ t.Writes text → Exchanged old new [] text.items → Moves p m (n.Library spot r vs) m' (n.Gives (g.Value w.Unset)) old new
   library_writes text old new is exchanged = record {
     read = [];
     written = text.items;
@@ -310,16 +310,16 @@ part_grows before part others text w whole = record {
   most_calls = omega arith;
 }
 
-pub reaches_part : (p : Program) (m : Evaluator) (line : ℕ) (r : Routine) (vs : Vec Worth Global) (s : Memory) (text : Vec ℕ Global) (old new : Devices) (part others : List ℕ)
+pub reaches_part : (p : Program) (m : Evaluator) (spot : ℕ) (r : Routine) (vs : Vec Worth Global) (s : Memory) (text : Vec ℕ Global) (old new : Devices) (part others : List ℕ)
     → ((w : World) → w.memory ≡ m.store → outcome_in (t.Writes text) (remembering s w) ≡ library (routine_in r) (map value_in vs.items) w)
-    → text.items ≡ part ++ others → Exchanged old new [] part → Reaches p m (n.Library line r vs) old new
-reaches_part p m line r vs s text old new part others law whole exchanged = record {
+    → text.items ≡ part ++ others → Exchanged old new [] part → Reaches p m (n.Library spot r vs) old new
+reaches_part p m spot r vs s text old new part others law whole exchanged = record {
   read = [];
   written = part;
   exchanged = exchanged;
   grows = λ rest before follows.
       let w = world m (record { input = rest; output = before }) in
-      resumed_after p m.frames.items (shown (before ++ part) rest 0) (outcome_next p (n.Library line r vs) w)
+      resumed_after p m.frames.items (shown (before ++ part) rest 0) (outcome_next p (n.Library spot r vs) w)
       (subst (λ (u : Outcome Value). After (shown (before ++ part) rest 0) (tag a_value u)) (law w refl) (part_grows before part others text.items w whole));
 }
 

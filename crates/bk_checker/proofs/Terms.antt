@@ -9,7 +9,7 @@ pub use Rattle.bk_check.specs.declared.frame.Continuation.{Continuation}
 pub use Rattle.bk_check.specs.declared.frame.Next.{Next}
 pub use Rattle.bk_meaning.proofs.Lemmas.{stays, earlier, Adds, adds, with_after, each_way_after, given_after, either_after, Ties, ties, ties_add, AllTied, done_ties, fetch_ties, combined_ties, operate_prefix_ties, judged_ties, address_in_ties, values_ties, call_ties, assigned_ties, store_ties, choose_case_ties, rounds_of_ties, for_loop_ties, for_test_ties, for_step_ties, where_truth_ties, turn_ties, in_order_ties, landing_ties, result_ties, return_ties, case_exit_ties, starts_ties, let_values_ties, bind_variables_ties, declare_all_ties, scope_ties, library_ties, means_tied, reads_from_the_front, full_call}
 pub use Rattle.bk_meaning.specs.Calls.{call}
-pub use Rattle.bk_meaning.specs.Environment.{Environment, past, past_action, globals_object}
+pub use Rattle.bk_meaning.specs.Environment.{Environment, past, past_command, globals_object}
 unfoldable pub use Rattle.bk_meaning.specs.Full.{full}
 pub use Rattle.bk_meaning.specs.Growing.{History, history, Grows, After}
 pub use Rattle.bk_meaning.specs.Lasting.{Program, program_of, first_memory}
@@ -19,7 +19,7 @@ pub use Rattle.bk_meaning.specs.World.{World, remembering, Exit, break, loop, re
 pub use Rattle.bk_objects.specs.Texts.{outcome_in}
 pub use Rattle.bk_objects.specs.Views.{value_in, routine_in, outcome_of}
 pub use Rattle.bk_objects.specs.declared.library.Effect.{Effect}
-pub use Rattle.bk_tree.specs.Tree.{Expression, Expressions, Action, Declarations, Starts, expression, expressions_in, action, actions_in, declarations_in, definitions_in, starts_in}
+pub use Rattle.bk_tree.specs.Tree.{Expression, Expressions, Command, Declarations, Starts, expression, expressions_in, command_in, commands_in, declarations_in, definitions_in, starts_in}
 pub use Rattle.bk_checker.specs.Checks.{Blames, Moves, Devices, Exchanged, Follows, Shows, Checks, over, verdict_of, run_given, Answered, Begun, Runs, ChecksPart, RunsPart, Reaches, Flushed}
 pub use Rattle.bk_checker.specs.declared.report.CheckFault.{CheckFault}
 pub use Rattle.bk_check.specs.declared.frame.OnDone.{OnDone}

@@ -82,7 +82,7 @@ abbrev pub over : List Continuation → Next → Bool
 over fs (n.Status k) = true
 over fs (n.DivideByZero s) = true
 over fs (n.Undefined s why) = true
-over fs (n.Going line) = true
+over fs (n.Going spot) = true
 over [] (n.Gives t) = true
 over [] (n.Leaves x) = true
 over fs next = false
@@ -91,7 +91,7 @@ over fs next = false
 abbrev pub verdict_of : Next → Verdict
 verdict_of (n.Status k) = v.Status k
 verdict_of (n.DivideByZero s) = v.DivideByZero
-verdict_of (n.Going line) = v.Turns
+verdict_of (n.Going spot) = v.Turns
 verdict_of (n.Gives (g.Value x)) = v.Status 0
 verdict_of next = v.Undefined
 

@@ -15,11 +15,11 @@ use crate::explain::{explain, given_up};
 use crate::remarks::remarks_on;
 use crate::report::{GivenUp, Report, Verdict};
 use crate::run::{flush, go, verdict};
-use bk_base::{ByteIn, ByteOut, Line};
+use bk_base::{ByteIn, ByteOut};
 use bk_check::{Evaluator, call};
 use bk_lasting::{GLOBALS_OBJECT, Lasting, first_memory, program_of};
 use bk_objects::{Computed, Worth, read};
-use bk_tree::Section;
+use bk_tree::{Position, Section};
 use std::alloc::{AllocError, Global};
 
 /// The machine before the run of a program.
@@ -61,7 +61,7 @@ fn check_start<'a, I: ByteIn, O: ByteOut>(
     ensures cause { IfErr result (λ stop. Blames stop.fault (I.faults input.old) (I.faults input.new) (O.faults out.old) (O.faults out.new)) }
 {
     let arguments = Vec::new(m.alloc);
-    let first = call(m, program, Line::first(), None, start, arguments)?;
+    let first = call(m, program, Position::first(), None, start, arguments)?;
     let came = go(m, program, first, input, out);
     flush(out)?;
     match came {
@@ -82,7 +82,7 @@ fn no_start<O: ByteOut>(alloc: Global, out: &mut O) -> Result<Report, GivenUp>
     flush(out)?;
     Ok(Report {
         verdict: Verdict::NoStart,
-        line: Line::first(),
+        at: Position::first(),
         what: Vec::new(alloc),
         calls: Vec::new(alloc),
         remarks: Vec::new(alloc),

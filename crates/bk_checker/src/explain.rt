@@ -4,11 +4,11 @@ ghost use Rattle.bk_checker.specs.Checks.{verdict_of};
 
 use crate::report::{CheckFault, GivenUp, Report};
 use crate::run::verdict;
-use bk_base::{Line, word_text};
-use bk_check::{Call, Continuation, Evaluator, Next, Subject, line_of};
+use bk_base::word_text;
+use bk_check::{Call, Continuation, Evaluator, Next, Subject, acts_at};
 use bk_lasting::Lasting;
 use bk_objects::{Reason, Routine, Worth};
-use bk_tree::{Expr, Operator, Prefix};
+use bk_tree::{Expr, Operator, Position, Prefix};
 use itoa::Buffer;
 use std::alloc::AllocError;
 
@@ -95,7 +95,7 @@ fn callee_name<'a>(program: &[Lasting<'a>], callee: Worth) -> &'a [u8] {
 /// The name that an expression is, if it is one.
 fn name_of(expr: &Expr) -> Option<&[u8]> {
     match expr {
-        Expr::Name(_, name) => Some(name),
+        Expr::Name { letters: name, .. } => Some(name),
         _ => None,
     }
 }
@@ -355,25 +355,31 @@ fn add_expr<'a>(
     reason: Reason,
 ) -> Result<(), AllocError> {
     match expr {
-        Expr::Name(_, name) => match reason {
+        Expr::Name { letters: name, .. } => match reason {
             Reason::NotSet(at) => add_unset_name(text, m, program, name, at),
             Reason::PartlySet => add(text, &[name, b" is set only in part, by its bytes"]),
             Reason::NoPlace => add(text, &[name, b" is no variable"]),
             _ => add_reason(text, program, reason),
         },
-        Expr::Unary(_, Prefix::Contents, operand) => {
-            add_vector(text, program, b"!", operand, reason)
-        }
-        Expr::Unary(_, prefix, _) => {
+        Expr::Unary {
+            prefix: Prefix::Contents,
+            operand,
+            ..
+        } => { add_vector(text, program, b"!", operand, reason) }
+        Expr::Unary { prefix, .. } => {
             add_operation(text, program, prefix_symbol(*prefix), reason)
         }
-        Expr::Binary(_, Operator::Subscript, _, vector, _) => {
-            add_vector(text, program, b"!", vector, reason)
-        }
-        Expr::Binary(_, Operator::Byte, _, vector, _) => {
-            add_vector(text, program, b"%", vector, reason)
-        }
-        Expr::Binary(_, operator, _, _, _) => {
+        Expr::Binary {
+            operator: Operator::Subscript,
+            left: vector,
+            ..
+        } => { add_vector(text, program, b"!", vector, reason) }
+        Expr::Binary {
+            operator: Operator::Byte,
+            left: vector,
+            ..
+        } => { add_vector(text, program, b"%", vector, reason) }
+        Expr::Binary { operator, .. } => {
             add_operation(text, program, operator_symbol(*operator), reason)
         }
         _ => add_reason(text, program, reason),
@@ -449,13 +455,13 @@ fn add_act<'a>(
     }
 }
 
-/// The line of what an undefined act is done with.
-fn line_of_subject(subject: &Subject) -> Line {
+/// The position of what an undefined act is done with.
+fn place_of_subject(subject: &Subject) -> Position {
     match subject {
-        Subject::Expr(expr) | Subject::Condition(expr) | Subject::Switch(expr) => line_of(expr),
-        Subject::Variable(name) => name.line,
-        Subject::Call(line, _) | Subject::Library(line, _) => *line,
-        Subject::Nothing => Line::first(),
+        Subject::Expr(expr) | Subject::Condition(expr) | Subject::Switch(expr) => acts_at(expr),
+        Subject::Variable(name) => name.at,
+        Subject::Call(at, _) | Subject::Library(at, _) => *at,
+        Subject::Nothing => Position::first(),
     }
 }
 
@@ -497,7 +503,7 @@ fn add_calls<'a>(
                         b"  in ",
                         callee_name(program, call.callee),
                         b", called on line ",
-                        buffer.format(call.line.number()).as_bytes(),
+                        buffer.format(call.at.line().number()).as_bytes(),
                         b", from ",
                         callee_name(program, caller.callee),
                         b"\n",
@@ -538,27 +544,27 @@ pub fn explain<'a>(
 {
     let mut what = Vec::new(m.alloc);
     let mut calls = Vec::new(m.alloc);
-    let line = match next {
+    let at = match next {
         Next::Undefined(subject, reason) => {
             add_act(&mut what, m, program, subject, *reason)?;
-            line_of_subject(subject)
+            place_of_subject(subject)
         }
         Next::DivideByZero(subject) => {
             add(&mut what, &[b"division by zero"])?;
-            line_of_subject(subject)
+            place_of_subject(subject)
         }
-        Next::Going(line) => {
+        Next::Going(at) => {
             add(&mut what, &[b"the turns are used up"])?;
-            *line
+            *at
         }
-        _ => Line::first(),
+        _ => Position::first(),
     };
     if !what.is_empty() {
         add_calls(&mut calls, m, program)?;
     }
     Ok(Report {
         verdict: verdict(next),
-        line,
+        at,
         what,
         calls,
         remarks: Vec::new(m.alloc),

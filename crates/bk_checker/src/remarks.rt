@@ -1,8 +1,8 @@
 //! What is suspicious in a program that is accepted. No contract says anything of these texts, nor which things they are.
 
 use crate::explain::add;
-use bk_base::{Line, word_text};
-use bk_tree::{Command, ConstItem, Decl, Def, Expr, Init, Prefix, Section, Sort};
+use bk_base::word_text;
+use bk_tree::{Command, ConstItem, Decl, Def, Expr, Init, Position, Prefix, Section, Sort};
 use itoa::Buffer;
 use std::alloc::{AllocError, Global};
 
@@ -15,8 +15,8 @@ const NEAR: usize = 256;
 /// Something suspicious.
 #[derive(Debug, Drop)]
 pub struct Remark {
-    /// The line of the source.
-    pub line: Line,
+    /// Where it is in the source.
+    pub at: Position,
     /// What is suspicious there, without the end of the line.
     pub text: Vec<u8>,
 }
@@ -25,7 +25,7 @@ pub struct Remark {
 fn make_remark(
     alloc: Global,
     found: &mut Vec<Remark>,
-    line: Line,
+    at: Position,
     pieces: &[&[u8]],
 ) -> Result<(), AllocError> {
     if found.len() >= REMARKS {
@@ -33,16 +33,20 @@ fn make_remark(
     }
     let mut text = Vec::new(alloc);
     add(&mut text, pieces)?;
-    found.push(Remark { line, text })?;
+    found.push(Remark { at, text })?;
     Ok(())
 }
 
 /// The number that an expression is, if it is written as one.
 fn number(expr: &Expr) -> Option<i32> {
     match expr {
-        Expr::Number(_, word) => Some(word.cast_signed()),
-        Expr::Unary(_, Prefix::Minus, operand) => match &**operand {
-            Expr::Number(_, word) => word.cast_signed().checked_neg(),
+        Expr::Number { word, .. } => Some(word.cast_signed()),
+        Expr::Unary {
+            prefix: Prefix::Minus,
+            operand,
+            ..
+        } => match &**operand {
+            Expr::Number { word, .. } => word.cast_signed().checked_neg(),
             _ => None,
         },
         _ => None,
@@ -53,7 +57,7 @@ fn number(expr: &Expr) -> Option<i32> {
 fn in_for(
     alloc: Global,
     found: &mut Vec<Remark>,
-    line: Line,
+    at: Position,
     from: &Expr,
     to: &Expr,
     by: &Option<Box<Expr>>,
@@ -71,7 +75,7 @@ fn in_for(
         return make_remark(
             alloc,
             found,
-            line,
+            at,
             &[
                 b"this `FOR` does nothing, since ",
                 first.as_bytes(),
@@ -85,7 +89,7 @@ fn in_for(
         return make_remark(
             alloc,
             found,
-            line,
+            at,
             &[
                 b"this `FOR` does nothing, since ",
                 first.as_bytes(),
@@ -129,14 +133,14 @@ fn plain_percent(format: &[u8]) -> Option<u8> {
 fn in_format(
     alloc: Global,
     found: &mut Vec<Remark>,
-    line: Line,
+    at: Position,
     callee: &Expr,
     arguments: &[Expr],
 ) -> Result<(), AllocError> {
-    let Expr::Name(_, name) = callee else {
+    let Expr::Name { letters: name, .. } = callee else {
         return Ok(());
     };
-    let [Expr::Text(_, format), ..] = arguments else {
+    let [Expr::Text { bytes: format, .. }, ..] = arguments else {
         return Ok(());
     };
     if name.as_slice() != b"WRITEF".as_slice() {
@@ -146,7 +150,7 @@ fn in_format(
         Some(letter) if letter.is_ascii_graphic() => make_remark(
             alloc,
             found,
-            line,
+            at,
             &[
                 b"`WRITEF` writes `%",
                 &[letter],
@@ -161,29 +165,43 @@ fn in_format(
 #[cycle(remarks)]
 fn in_expr(alloc: Global, found: &mut Vec<Remark>, expr: &Expr) -> Result<(), AllocError> {
     match expr {
-        Expr::Name(_, _)
-        | Expr::Number(_, _)
-        | Expr::Text(_, _)
-        | Expr::Truth(_, _)
-        | Expr::Query(_)
-        | Expr::Table(_, _) => Ok(()),
-        Expr::Parens(_, inside) => in_expr(alloc, found, inside),
-        Expr::Unary(_, _, operand) => in_expr(alloc, found, operand),
-        Expr::Binary(_, _, _, a, b) => {
+        Expr::Name { .. }
+        | Expr::Number { .. }
+        | Expr::Text { .. }
+        | Expr::Truth { .. }
+        | Expr::Query { .. }
+        | Expr::Table { .. } => Ok(()),
+        Expr::Parens { inside, .. } => in_expr(alloc, found, inside),
+        Expr::Unary { operand, .. } => in_expr(alloc, found, operand),
+        Expr::Binary {
+            left: a,
+            right: b,
+            ..
+        } => {
             in_expr(alloc, found, a)?;
             in_expr(alloc, found, b)
         }
-        Expr::Choice(_, _, condition, yes, no) => {
+        Expr::Choice {
+            condition,
+            yes,
+            no,
+            ..
+        } => {
             in_expr(alloc, found, condition)?;
             in_expr(alloc, found, yes)?;
             in_expr(alloc, found, no)
         }
-        Expr::Apply(_, line, callee, arguments) => {
-            in_format(alloc, found, *line, callee, arguments)?;
+        Expr::Apply {
+            sign,
+            callee,
+            arguments,
+            ..
+        } => {
+            in_format(alloc, found, *sign, callee, arguments)?;
             in_expr(alloc, found, callee)?;
             in_exprs(alloc, found, arguments)
         }
-        Expr::Valof(_, command) => in_command(alloc, found, command),
+        Expr::Valof { command, .. } => in_command(alloc, found, command),
     }
 }
 
@@ -200,43 +218,79 @@ fn in_exprs(alloc: Global, found: &mut Vec<Remark>, exprs: &[Expr]) -> Result<()
 #[cycle(remarks)]
 fn in_command(alloc: Global, found: &mut Vec<Remark>, command: &Command) -> Result<(), AllocError> {
     match command {
-        Command::Empty | Command::Goto(_, _) | Command::Simple(_, _) => Ok(()),
-        Command::Assign(_, dests, values) => {
+        Command::Empty | Command::Goto { .. } | Command::Simple { .. } => Ok(()),
+        Command::Assign {
+            destinations: dests,
+            values,
+            ..
+        } => {
             in_exprs(alloc, found, dests)?;
             in_exprs(alloc, found, values)
         }
-        Command::Call(line, callee, arguments) => {
-            in_format(alloc, found, *line, callee, arguments)?;
+        Command::Call {
+            at,
+            callee,
+            arguments,
+        } => {
+            in_format(alloc, found, *at, callee, arguments)?;
             in_expr(alloc, found, callee)?;
             in_exprs(alloc, found, arguments)
         }
-        Command::Label(_, _, body)
-        | Command::Case(_, _, body)
-        | Command::Default(_, body)
-        | Command::Repeat(_, body) => in_command(alloc, found, body),
-        Command::If(_, _, value, body)
-        | Command::While(_, _, value, body)
-        | Command::SwitchOn(_, value, body) => {
+        Command::Label { body, .. }
+        | Command::Case { body, .. }
+        | Command::Default { body, .. }
+        | Command::Repeat { body, .. } => in_command(alloc, found, body),
+        Command::If {
+            condition: value,
+            body,
+            ..
+        }
+        | Command::While {
+            condition: value,
+            body,
+            ..
+        }
+        | Command::SwitchOn { value, body, .. } => {
             in_expr(alloc, found, value)?;
             in_command(alloc, found, body)
         }
-        Command::Test(_, value, yes, no) => {
+        Command::Test {
+            condition: value,
+            yes,
+            no,
+            ..
+        } => {
             in_expr(alloc, found, value)?;
             in_command(alloc, found, yes)?;
             in_command(alloc, found, no)
         }
-        Command::For(line, _, from, to, by, body) => {
-            in_for(alloc, found, *line, from, to, by)?;
+        Command::For {
+            at,
+            from,
+            to,
+            by,
+            body,
+            ..
+        } => {
+            in_for(alloc, found, *at, from, to, by)?;
             in_expr(alloc, found, from)?;
             in_expr(alloc, found, to)?;
             in_command(alloc, found, body)
         }
-        Command::ResultIs(_, value) => in_expr(alloc, found, value),
-        Command::Block(_, decls, commands) => {
+        Command::ResultIs { value, .. } => in_expr(alloc, found, value),
+        Command::Block {
+            decls,
+            commands,
+            ..
+        } => {
             in_decls(alloc, found, decls)?;
             in_commands(alloc, found, commands)
         }
-        Command::RepeatWhile(_, _, body, value) => {
+        Command::RepeatWhile {
+            body,
+            condition: value,
+            ..
+        } => {
             in_command(alloc, found, body)?;
             in_expr(alloc, found, value)
         }
@@ -261,7 +315,7 @@ fn in_commands(
 fn in_decls(alloc: Global, found: &mut Vec<Remark>, decls: &[Decl]) -> Result<(), AllocError> {
     twice(alloc, found, decls)?;
     for decl in decls {
-        if let Decl::Let(_, defs) = decl {
+        if let Decl::Let { defs, .. } = decl {
             in_defs(alloc, found, defs)?;
         }
     }
@@ -281,9 +335,9 @@ fn in_defs(alloc: Global, found: &mut Vec<Remark>, defs: &[Def]) -> Result<(), A
 #[cycle(remarks)]
 fn in_def(alloc: Global, found: &mut Vec<Remark>, def: &Def) -> Result<(), AllocError> {
     match def {
-        Def::Routine(_, _, _, body) => in_command(alloc, found, body),
-        Def::Function(_, _, _, body) => in_expr(alloc, found, body),
-        Def::Variables(_, _, inits) => in_inits(alloc, found, inits),
+        Def::Routine { body, .. } => in_command(alloc, found, body),
+        Def::Function { body, .. } => in_expr(alloc, found, body),
+        Def::Variables { inits, .. } => in_inits(alloc, found, inits),
     }
 }
 
@@ -302,15 +356,23 @@ fn in_inits(alloc: Global, found: &mut Vec<Remark>, inits: &[Init]) -> Result<()
 #[derive(Clone, Copy)]
 struct Defined<'a> {
     name: &'a [u8],
-    line: Line,
+    at: Position,
 }
 
 /// The procedure that a definition is, if it is one.
 fn procedure(def: &Def) -> Option<Defined<'_>> {
     match def {
-        Def::Routine(line, name, _, _) => Some(Defined { name, line: *line }),
-        Def::Function(line, name, _, _) => Some(Defined { name, line: *line }),
-        Def::Variables(_, _, _) => None,
+        Def::Routine {
+            at,
+            letters: name,
+            ..
+        } => Some(Defined { name, at: *at }),
+        Def::Function {
+            at,
+            letters: name,
+            ..
+        } => Some(Defined { name, at: *at }),
+        Def::Variables { .. } => None,
     }
 }
 
@@ -327,20 +389,20 @@ fn with_defs<'a>(before: Vec<&'a Def>, defs: &'a [Def]) -> Result<Vec<&'a Def>, 
 fn defs_of(alloc: Global, decls: &[Decl]) -> Result<Vec<&Def>, AllocError> {
     let mut all = Vec::new(alloc);
     for decl in decls {
-        if let Decl::Let(_, defs) = decl {
+        if let Decl::Let { defs, .. } = decl {
             all = with_defs(all, defs)?;
         }
     }
     Ok(all)
 }
 
-/// The line of the last procedure among these definitions that has this name.
-fn line_of_last(defs: &[&Def], name: &[u8]) -> Option<Line> {
+/// The position of the last procedure among these definitions that has this name.
+fn place_of_last(defs: &[&Def], name: &[u8]) -> Option<Position> {
     for def in defs.iter().rev() {
         if let Some(defined) = procedure(def)
             && defined.name == name
         {
-            return Some(defined.line);
+            return Some(defined.at);
         }
     }
     None
@@ -350,14 +412,14 @@ fn line_of_last(defs: &[&Def], name: &[u8]) -> Option<Line> {
 fn remark_twice<'a>(
     alloc: Global,
     found: &mut Vec<Remark>,
-    line: Line,
+    at: Position,
     name: &'a [u8],
     before: &'a [u8],
 ) -> Result<(), AllocError> {
     make_remark(
         alloc,
         found,
-        line,
+        at,
         &[b"`", name, b"` hides that of line ", before],
     )
 }
@@ -367,11 +429,11 @@ fn twice(alloc: Global, found: &mut Vec<Remark>, decls: &[Decl]) -> Result<(), A
     let all = defs_of(alloc, decls)?;
     for (i, def) in all.iter().enumerate() {
         if let Some(defined) = procedure(def)
-            && let Some(before) = line_of_last(&all[i.saturating_sub(NEAR)..i], defined.name)
+            && let Some(before) = place_of_last(&all[i.saturating_sub(NEAR)..i], defined.name)
         {
             let mut number = Buffer::new();
-            let spelling = number.format(before.number()).as_bytes();
-            remark_twice(alloc, found, defined.line, defined.name, spelling)?;
+            let spelling = number.format(before.line().number()).as_bytes();
+            remark_twice(alloc, found, defined.at, defined.name, spelling)?;
         }
     }
     Ok(())
@@ -379,24 +441,28 @@ fn twice(alloc: Global, found: &mut Vec<Remark>, decls: &[Decl]) -> Result<(), A
 
 /// Whether START is among the items of a declaration of globals.
 fn has_start(items: &[ConstItem]) -> bool {
-    items.iter().any(|ConstItem::Item(_, name, _)| name.as_slice() == b"START".as_slice())
+    items.iter().any(|ConstItem::Item { letters: name, .. }| name.as_slice() == b"START".as_slice())
 }
 
 /// Whether a declaration says that START is a global.
 fn declares_start(decl: &Decl) -> bool {
     match decl {
-        Decl::Constants(_, Sort::Global, items) => has_start(items),
+        Decl::Constants {
+            sort: Sort::Global,
+            items,
+            ..
+        } => has_start(items),
         _ => false,
     }
 }
 
-/// The line of the procedure START, if it is among these definitions.
-fn start_in(defs: &[Def]) -> Option<Line> {
+/// The position of the procedure START, if it is among these definitions.
+fn start_in(defs: &[Def]) -> Option<Position> {
     for def in defs {
         if let Some(defined) = procedure(def)
             && defined.name == b"START".as_slice()
         {
-            return Some(defined.line);
+            return Some(defined.at);
         }
     }
     None
@@ -408,13 +474,13 @@ fn local_start(alloc: Global, found: &mut Vec<Remark>, decls: &[Decl]) -> Result
         if declares_start(decl) {
             return Ok(());
         }
-        if let Decl::Let(_, defs) = decl
-            && let Some(line) = start_in(defs)
+        if let Decl::Let { defs, .. } = decl
+            && let Some(at) = start_in(defs)
         {
             return make_remark(
                 alloc,
                 found,
-                line,
+                at,
                 &[
                     b"`START` is no global here, so no run begins with it; `GET \"LIBHDR\"` before it makes it one",
                 ],

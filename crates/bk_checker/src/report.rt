@@ -1,7 +1,7 @@
 //! What a check answers.
 
 use crate::remarks::Remark;
-use bk_base::Line;
+use bk_tree::Position;
 use std::alloc::AllocError;
 
 /// How a check ends.
@@ -81,8 +81,8 @@ impl From<AllocError> for GivenUp {
 pub struct Report {
     /// The verdict.
     pub verdict: Verdict,
-    /// The line of the source on which the run stopped.
-    pub line: Line,
+    /// Where in the source the run stopped; its first line where it ended.
+    pub at: Position,
     /// What went wrong there, without the end of the line; nothing where the program ends with a status.
     pub what: Vec<u8>,
     /// The calls that were active, a line each, innermost first: ten at most.

@@ -12,11 +12,11 @@ ghost use Rattle.bk_checker.specs.declared.report.CheckFault.TheVariants.{Write}
 ghost use Rattle.bk_checker.specs.Checks.{Blames, over, verdict_of, Answered, Moves, Reaches, devices};
 
 use crate::report::{CheckFault, Verdict};
-use bk_base::{ByteIn, ByteOut, Line, put_all};
+use bk_base::{ByteIn, ByteOut, put_all};
 use bk_check::{Evaluator, Next, Subject, Thing, step};
 use bk_lasting::{Lasting, constant};
 use bk_objects::{Effect, Routine, Worth, perform};
-use bk_tree::Init;
+use bk_tree::{Init, Position};
 
 /// How many frames are at most on the stack of a check.
 pub const FRAMES: usize = 4_194_304;
@@ -63,15 +63,15 @@ fn ask<I: ByteIn, O: ByteOut>(input: &mut I, out: &mut O) -> Result<u32, CheckFa
 /// A call of a routine of the library.
 fn library<'a, I: ByteIn, O: ByteOut>(
     m: &mut Evaluator<'a>,
-    line: Line,
+    at: Position,
     routine: Routine,
     values: &Vec<Worth>,
     input: &mut I,
     out: &mut O,
 ) -> Result<Next<'a>, CheckFault>
-    ensures moves { IfOk result (λ after. (p : Program) → Moves p m.old (n.Library line routine values.now) m.new after
+    ensures moves { IfOk result (λ after. (p : Program) → Moves p m.old (n.Library at routine values.now) m.new after
         (devices I.ByteIn O.ByteOut input.old out.old) (devices I.ByteIn O.ByteOut input.new out.new)) }
-    ensures part { IfErr result (λ _. (p : Program) → Reaches p m.old (n.Library line routine values.now)
+    ensures part { IfErr result (λ _. (p : Program) → Reaches p m.old (n.Library at routine values.now)
         (devices I.ByteIn O.ByteOut input.old out.old) (devices I.ByteIn O.ByteOut input.new out.new)) }
     ensures passes { Begins (O.passed out.old) (O.passed out.new) }
     ensures sound { OnOk result ((I.faults input.new ≡ I.faults input.old) × (O.faults out.new ≡ O.faults out.old)) }
@@ -90,7 +90,7 @@ fn library<'a, I: ByteIn, O: ByteOut>(
             Ok(Next::Gives(Thing::Value(Worth::Unset)))
         }
         Effect::Gives(x) => Ok(Next::Gives(Thing::Value(x))),
-        Effect::Undefined(reason) => Ok(Next::Undefined(Subject::Library(line, routine), reason)),
+        Effect::Undefined(reason) => Ok(Next::Undefined(Subject::Library(at, routine), reason)),
     }
 }
 
@@ -111,7 +111,7 @@ fn turn<'a, I: ByteIn, O: ByteOut>(
     ensures cause { IfErr result (λ fault. Blames fault (I.faults input.old) (I.faults input.new) (O.faults out.old) (O.faults out.new)) }
 {
     match next {
-        Next::Library(line, routine, values) => library(m, line, routine, &values, input, out),
+        Next::Library(at, routine, values) => library(m, at, routine, &values, input, out),
         _ => Ok(step(m, program, next)?),
     }
 }
@@ -146,7 +146,7 @@ fn is_too_deep(m: &Evaluator, next: &Next) -> bool {
         return true;
     }
     match next {
-        Next::Starts([Init::Vector(_, size), ..], here, _, _) => match constant(here, size) {
+        Next::Starts([Init::Vector { size, .. }, ..], here, _, _) => match constant(here, size) {
             Some(last) => last as usize > CELLS.saturating_sub(m.store.cells_in_use()),
             None => false,
         },

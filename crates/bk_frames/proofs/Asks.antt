@@ -1,5 +1,5 @@
 -- What a state asks for, as rooms.
-use Rattle.bk_frames.proofs.Terms.{◌≡◌, ◌⊎◌, ◌↔◌, inl, inr, ℕ, ◌+◌, Bool, true, ◌&&◌, ◌||◌, List, [], ◌∷◌, refl, sym, ◌∙◌, Category, Budget, Form, Action, none, more, depth, nodes, depth_of_action, nodes_of_action, Stack, in_args, want, have, begin, maybe, did, due, form_of, Limit, counted, next_of, is_next, serves, fits, holds, covered, has_budget, category_of, Part, Closes, Sized, AreBudgets, Any, Gives, Wants, Misses, Completes, Form as f, or_cases, or_left, or_right}
+use Rattle.bk_frames.proofs.Terms.{◌≡◌, ◌⊎◌, ◌↔◌, inl, inr, ℕ, ◌+◌, Bool, true, ◌&&◌, ◌||◌, List, [], ◌∷◌, refl, sym, ◌∙◌, Category, Budget, Form, none, more, depth, nodes, depth_of_command, nodes_of_command, Stack, in_args, want, have, begin, maybe, did, due, form_of, Limit, counted, next_of, is_next, serves, fits, holds, covered, has_budget, category_of, Part, Closes, Sized, AreBudgets, Any, Gives, Wants, Misses, Completes, Form as f, or_cases, or_left, or_right}
 use Rattle.bk_frames.specs.declared.budget.Category.TheVariants.{Expression, Label, Call, Command, Missing, Due, Closed}
 use Rattle.bk_tree.specs.Tree as r
 use Rattle.bk_frames.specs.Completing as w
@@ -66,8 +66,8 @@ asks_want b st rs h = via (wanted (Limit b) st, either_completion b st) (either 
 pub asks_begin : (b : Bool) (st : Stack) (rs : List Budget) → AreBudgets b st rs → Completes (Limit b) (begin st) ↔ (has_budget rs Command 1 (counted b 1) ≡ true)
 asks_begin b st rs h = asked b st rs h Command 1 1 tt
 
-pub asks_did : (b : Bool) (st : Stack) (rs : List Budget) → AreBudgets b st rs → (a : Action) → Completes (Limit b) (did st a) ↔ (has_budget rs Command (depth_of_action a) (counted b (nodes_of_action a)) ≡ true)
-asks_did b st rs h a = asked b st rs h Command (depth_of_action a) (nodes_of_action a) tt
+pub asks_did : (b : Bool) (st : Stack) (rs : List Budget) → AreBudgets b st rs → (a : r.Command) → Completes (Limit b) (did st a) ↔ (has_budget rs Command (depth_of_command a) (counted b (nodes_of_command a)) ≡ true)
+asks_did b st rs h a = asked b st rs h Command (depth_of_command a) (nodes_of_command a) tt
 
 pub asks_maybe : (b : Bool) (st : Stack) (rs : List Budget) → AreBudgets b st rs → Completes (Limit b) (maybe st) ↔ (has_budget rs Missing 0 (counted b 0) || has_budget rs Command 1 (counted b 1) ≡ true)
 asks_maybe b st rs h = either (asked_shut b st rs h Missing (Misses (Limit b) st) (refl, refl) same) (asked b st rs h Command 1 1 tt)

@@ -1,5 +1,5 @@
 -- The ways of a command that was begun, of a definition and of a symbol that is due, are the ways on.
-use Rattle.bk_frames.proofs.Terms.{◌≡◌, ◌↔◌, ℕ, ◌+◌, ◌==◌, max, Bool, true, false, List, length, refl, arith, Sort, Guard, Closing, Going, Operating, Mention, Expressions, Action, Actions, Declarations, Items, Definitions, Starts, no_items, item, depth, depth_of_each, depth_of_action, depth_of_actions, depth_of_declarations, depth_of_items, depth_of_definitions, depth_of_starts, nodes, nodes_of_each, nodes_of_action, nodes_of_actions, nodes_of_declarations, nodes_of_items, nodes_of_definitions, nodes_of_starts, start_count, Stack, in_block, in_let, at_name, at_formals, at_formal, at_formal_end, at_head, at_variable, at_variable_end, at_starts, at_opening, at_items, at_sign, at_goto, at_for, at_forward, at_default, in_valof, in_label, in_guarded, in_default, in_do, in_or, in_for, in_routine, owed, Limit, is_tight, led, goes_on, completions_of_valof, Any, AtClosing, AtListing, If, Answered, Gives, Does, Operates, Defines, Declares, Misses, Link as l, Form as f}
+use Rattle.bk_frames.proofs.Terms.{◌≡◌, ◌↔◌, ℕ, ◌+◌, ◌==◌, max, Bool, true, false, List, length, refl, arith, Sort, Guard, Closing, Going, Operating, Mention, Expressions, Commands, Declarations, Items, Definitions, Starts, no_items, item, depth, depth_of_each, depth_of_command, depth_of_commands, depth_of_declarations, depth_of_items, depth_of_definitions, depth_of_starts, nodes, nodes_of_each, nodes_of_command, nodes_of_commands, nodes_of_declarations, nodes_of_items, nodes_of_definitions, nodes_of_starts, start_count, Stack, in_block, in_let, at_name, at_formals, at_formal, at_formal_end, at_head, at_variable, at_variable_end, at_starts, at_opening, at_items, at_sign, at_goto, at_for, at_forward, at_default, in_valof, in_label, in_guarded, in_default, in_do, in_or, in_for, in_routine, owed, Limit, is_tight, led, goes_on, completions_of_valof, Any, AtClosing, AtListing, If, Answered, Gives, Does, Operates, Defines, Declares, Misses, Link as l, Form as f}
 use Rattle.bk_frames.specs.declared.budget.Category.TheVariants.{Expression, Call, Operated, Command, Missing, Definition, Declaration, Due}
 use Rattle.bk_tree.specs.Tree as r
 use Rattle.bk_frames.specs.Completing as w
@@ -36,8 +36,8 @@ guarded_missing b st q k e h c d n s = link_test (l.ThenMissing Closing) (Does (
 pub do_ : (b : Bool) (st : Stack) (k : ℕ) (e : r.Expression) → Budgets b st → (c : w.Lookahead) (d n : ℕ) → Does (Limit b) (in_do k e st) d n c ↔ (goes_on b (in_do k e st) Command c d n ≡ true)
 do_ b st k e h c d n = link_test (l.Then Closing) (Does (Limit b) st) (does_falls (Limit b) (limit_down b) st) (goes_on b st Command) (λ j e m. h Command j e m tt) (max (depth e) (max d 1) + 1) _ (nodes e + n + 2) _ c (omega arith) (omega arith)
 
-pub or_ : (b : Bool) (st : Stack) (k : ℕ) (e : r.Expression) (a : Action) → Budgets b st → (c : w.Lookahead) (d n : ℕ) → Does (Limit b) (in_or k e a st) d n c ↔ (goes_on b (in_or k e a st) Command c d n ≡ true)
-or_ b st k e a h c d n = link_test l.Each (Does (Limit b) st) (does_falls (Limit b) (limit_down b) st) (goes_on b st Command) (λ j e m. h Command j e m tt) (max (depth e) (max (depth_of_action a) d) + 1) _ (nodes e + nodes_of_action a + n + 1) _ c (omega arith) (omega arith)
+pub or_ : (b : Bool) (st : Stack) (k : ℕ) (e : r.Expression) (a : r.Command) → Budgets b st → (c : w.Lookahead) (d n : ℕ) → Does (Limit b) (in_or k e a st) d n c ↔ (goes_on b (in_or k e a st) Command c d n ≡ true)
+or_ b st k e a h c d n = link_test l.Each (Does (Limit b) st) (does_falls (Limit b) (limit_down b) st) (goes_on b st Command) (λ j e m. h Command j e m tt) (max (depth e) (max (depth_of_command a) d) + 1) _ (nodes e + nodes_of_command a + n + 1) _ c (omega arith) (omega arith)
 
 pub for_ : (b : Bool) (st : Stack) (k : ℕ) (x : Mention) (a e : r.Expression) (y : Expressions) → Budgets b st → (c : w.Lookahead) (d n : ℕ) → Does (Limit b) (in_for k x a e y st) d n c ↔ (goes_on b (in_for k x a e y st) Command c d n ≡ true)
 for_ b st k x a e y h c d n = link_test l.Each (Does (Limit b) st) (does_falls (Limit b) (limit_down b) st) (goes_on b st Command) (λ j e m. h Command j e m tt) (max (depth a) (max (depth e) (max (depth_of_each y) d)) + 1) _ (nodes a + nodes e + nodes_of_each y + n + 1) _ c (omega arith) (omega arith)
@@ -45,14 +45,14 @@ for_ b st k x a e y h c d n = link_test l.Each (Does (Limit b) st) (does_falls (
 pub routine_ : (b : Bool) (st : Stack) (x : Mention) (fs : List Mention) → Budgets b st → (c : w.Lookahead) (d n : ℕ) → Does (Limit b) (in_routine x fs st) d n c ↔ (goes_on b (in_routine x fs st) Command c d n ≡ true)
 routine_ b st x fs h c d n = via (closing_any _ c) (link_test (l.Then Closing) (defined b st) (defined_falls b st) (goes_on b st Definition) (λ j e m. h Definition j e m tt) (d + 1) _ (n + 1) _ c (omega arith) (omega arith))
 
-pub block_ : (b : Bool) (st : Stack) (k : ℕ) (t : Bool) (ds : Declarations) (cs : Actions) → Budgets b st → (c : w.Lookahead) (d n : ℕ) → Does (Limit b) (in_block k t ds cs st) d n c ↔ (goes_on b (in_block k t ds cs st) Command c d n ≡ true)
-block_ b st k t ds cs h c d n = via add_none (either (link_test (l.Then Closing) (Does (Limit b) st) (does_falls (Limit b) (limit_down b) st) (goes_on b st Command) (λ j e m. h Command j e m tt) (max (depth_of_declarations ds) (max (depth_of_actions cs) d) + 1) _ (nodes_of_declarations ds + (nodes_of_actions cs + n) + 1) _ c (omega arith) (omega arith)) none_is)
+pub block_ : (b : Bool) (st : Stack) (k : ℕ) (t : Bool) (ds : Declarations) (cs : Commands) → Budgets b st → (c : w.Lookahead) (d n : ℕ) → Does (Limit b) (in_block k t ds cs st) d n c ↔ (goes_on b (in_block k t ds cs st) Command c d n ≡ true)
+block_ b st k t ds cs h c d n = via add_none (either (link_test (l.Then Closing) (Does (Limit b) st) (does_falls (Limit b) (limit_down b) st) (goes_on b st Command) (λ j e m. h Command j e m tt) (max (depth_of_declarations ds) (max (depth_of_commands cs) d) + 1) _ (nodes_of_declarations ds + (nodes_of_commands cs + n) + 1) _ c (omega arith) (omega arith)) none_is)
 
-pub block_declares : (b : Bool) (st : Stack) (k : ℕ) (t : Bool) (ds : Declarations) (cs : Actions) → Budgets b st → (c : w.Lookahead) (d n : ℕ) → AtClosing (Declares (Limit b) (in_block k t ds cs st) d n) c ↔ (goes_on b (in_block k t ds cs st) Declaration c d n ≡ true)
-block_declares b st k t ds cs h c d n = via add_none (either (link_test (l.Then Closing) (Does (Limit b) st) (does_falls (Limit b) (limit_down b) st) (goes_on b st Command) (λ j e m. h Command j e m tt) (max (depth_of_declarations ds) (max (depth_of_actions cs) d) + 1) _ (nodes_of_declarations ds + (nodes_of_actions cs + n) + 1) _ c (omega arith) (omega arith)) none_is)
+pub block_declares : (b : Bool) (st : Stack) (k : ℕ) (t : Bool) (ds : Declarations) (cs : Commands) → Budgets b st → (c : w.Lookahead) (d n : ℕ) → AtClosing (Declares (Limit b) (in_block k t ds cs st) d n) c ↔ (goes_on b (in_block k t ds cs st) Declaration c d n ≡ true)
+block_declares b st k t ds cs h c d n = via add_none (either (link_test (l.Then Closing) (Does (Limit b) st) (does_falls (Limit b) (limit_down b) st) (goes_on b st Command) (λ j e m. h Command j e m tt) (max (depth_of_declarations ds) (max (depth_of_commands cs) d) + 1) _ (nodes_of_declarations ds + (nodes_of_commands cs + n) + 1) _ c (omega arith) (omega arith)) none_is)
 
-pub block_due : (b : Bool) (st : Stack) (k : ℕ) (t : Bool) (ds : Declarations) (cs : Actions) → Budgets b st → (c : w.Lookahead) (d n : ℕ) → (d ≡ 0) × (n ≡ 0) → AtClosing (w.Due (Limit b) (in_block k t ds cs st)) c ↔ (goes_on b (in_block k t ds cs st) Due c d n ≡ true)
-block_due b st k t ds cs h c d n s = link_test (l.Then Closing) (Does (Limit b) st) (does_falls (Limit b) (limit_down b) st) (goes_on b st Command) (λ j e m. h Command j e m tt) (max (depth_of_declarations ds) (max (depth_of_actions cs) 0) + 1) _ (nodes_of_declarations ds + (nodes_of_actions cs + 0) + 1) _ c (omega (arith, s.0, s.1)) (omega (arith, s.0, s.1))
+pub block_due : (b : Bool) (st : Stack) (k : ℕ) (t : Bool) (ds : Declarations) (cs : Commands) → Budgets b st → (c : w.Lookahead) (d n : ℕ) → (d ≡ 0) × (n ≡ 0) → AtClosing (w.Due (Limit b) (in_block k t ds cs st)) c ↔ (goes_on b (in_block k t ds cs st) Due c d n ≡ true)
+block_due b st k t ds cs h c d n s = link_test (l.Then Closing) (Does (Limit b) st) (does_falls (Limit b) (limit_down b) st) (goes_on b st Command) (λ j e m. h Command j e m tt) (max (depth_of_declarations ds) (max (depth_of_commands cs) 0) + 1) _ (nodes_of_declarations ds + (nodes_of_commands cs + 0) + 1) _ c (omega (arith, s.0, s.1)) (omega (arith, s.0, s.1))
 
 pub let_defines : (b : Bool) (st : Stack) (k : ℕ) (ds : Definitions) → Budgets b st → (c : w.Lookahead) (d n : ℕ) → AtClosing (Defines (Limit b) (in_let k ds st) d n) c ↔ (goes_on b (in_let k ds st) Definition c d n ≡ true)
 let_defines b st k ds h c d n = via add_none (either (via (closing_any _ c) (link_test (l.Then Closing) (declared b st) (declared_falls b st) (goes_on b st Declaration) (λ j e m. h Declaration j e m tt) (max (depth_of_definitions ds) d) _ (nodes_of_definitions ds + n) _ c (omega arith) (omega arith))) none_is)

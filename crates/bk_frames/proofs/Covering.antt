@@ -1,13 +1,14 @@
 -- A step of the machine leads to nothing that could not be completed before it.
-use Rattle.bk_frames.proofs.Terms.{◌≡◌, ◌≤◌, ℕ, ◌+◌, max, Bool, true, false, cond, ◌==◌, length, Option, Some, None, refl, sym, subst, inl, inr, List, [], ◌∷◌, ◌++◌, length-append, Result, Ok, arith, eq_is, each_depth, each_nodes, actions_depth, actions_nodes, declarations_depth, declarations_nodes, definitions_depth, definitions_nodes, items_depth, items_nodes, starts_depth, starts_nodes, Kind, Operator, Both, nat_lt, Prefix, Sort, Guard, Form, depth, depth_of_each, depth_of_action, depth_of_actions, depth_of_declaration, depth_of_declarations, depth_of_items, depth_of_definition, depth_of_definitions, depth_of_starts, nodes, nodes_of_each, nodes_of_action, nodes_of_actions, nodes_of_declaration, nodes_of_declarations, nodes_of_items, nodes_of_definition, nodes_of_definitions, nodes_of_starts, inner, behind, is_relation, infix_of, prefix_of, sort_of, begins_command, repeats, assigns, is_and, is_comma, goes, last, line_of, line_of_first, line_of_names, line_of_action, size, start_count, each_then, actions_then, declarations_then, items_then, definitions_then, starts_then, form_of, owed, falls, behind_ok, inner_ok, pushes, repeated, size_then, count_then, no_comma, Kind as k, Operator as ops, Guard as g}
+use Rattle.bk_frames.proofs.Terms.{◌≡◌, ◌≤◌, ℕ, ◌+◌, max, Bool, true, false, cond, ◌==◌, length, Option, Some, None, refl, sym, subst, inl, inr, List, [], ◌∷◌, ◌++◌, length-append, Result, Ok, arith, eq_is, each_depth, each_nodes, commands_depth, commands_nodes, declarations_depth, declarations_nodes, definitions_depth, definitions_nodes, items_depth, items_nodes, starts_depth, starts_nodes, Kind, Operator, Both, nat_lt, Prefix, Sort, Guard, Form, depth, depth_of_each, depth_of_command, depth_of_commands, depth_of_declaration, depth_of_declarations, depth_of_items, depth_of_definition, depth_of_definitions, depth_of_starts, nodes, nodes_of_each, nodes_of_command, nodes_of_commands, nodes_of_declaration, nodes_of_declarations, nodes_of_items, nodes_of_definition, nodes_of_definitions, nodes_of_starts, inner, behind, is_relation, infix_of, prefix_of, sort_of, begins_command, repeats, assigns, is_and, is_comma, goes, last, at_expression, at_expressions, at_names, at_command, size, start_count, each_then, commands_then, declarations_then, items_then, definitions_then, starts_then, form_of, owed, falls, behind_ok, inner_ok, pushes, repeated, size_then, count_then, no_comma, Kind as k, Operator as ops, Guard as g}
 use Rattle.bk_lex.specs.Symbol.{Symbol}
 use Rattle.bk_frames.specs.declared.size.Form.TheVariants.{Label, Call, Callable, Other}
-use Rattle.bk_tree.specs.Tree.{Mention, Expression, Expressions, Action, Actions, Declaration, Declarations, Items, Definition, Starts, name, parens, unary, binary, choice, apply, valof, table, none, more, empty, assign, label, default, test, for_loop, result, block, repeat_while, no_actions, also, constants, definitions, no_declarations, declare, no_items, item, routine, function, variables, no_definitions, define, no_starts, value, vector, call, goto}
+use Rattle.bk_tree.specs.Tree.{Mention, Expression, Expressions, Command, Commands, Declaration, Declarations, Items, Definition, Starts, name, parens, unary, binary, choice, apply, valof, table, none, more, empty, assign, label, default, test, for_loop, result, block, repeat_while, no_commands, also, constants, definitions, no_declarations, declare, no_items, item, routine, function, variables, no_definitions, define, no_starts, value, vector, call, goto}
 use Rattle.bk_grammar.specs.Machine.{Stack, in_section, in_block, in_let, at_name, at_formals, at_formal, at_formal_end, at_head, at_variable, at_variable_end, at_starts, at_opening, at_items, at_sign, at_goto, at_for, at_forward, at_default, in_parens, in_unary, in_binary, in_chain, in_then, in_else, in_args, in_table, in_start, in_dests, in_values, in_guard, in_test, in_result, in_while, in_from, in_to, in_by, in_item, in_function, in_value, in_vector, in_valof, in_label, in_guarded, in_default, in_do, in_or, in_for, in_routine, State, want, have, begin, maybe, did, due, linked, infixed, push, is_close, is_colon, is_do, is_or, is_to, is_equal, is_semicolon, opens, closes, is_vec, is_let, is_open, is_sign_of, named, guarded, behind_sign, no_args, bars, take_operand, take_command, sorted, take_declaration, take_in_section, in_head, take_in_block, declared, declared_by, defined_by, again, dests, labelled, is_call, call_of, in_constants, to_or_do, give, finish, without, inside, in_names, in_formals, headed, take_item, take_due, step, prefixed, counted, whole, run, stepped_by, going}
 use Rattle.bk_frames.specs.Completing as nx
 use Rattle.bk_frames.specs.Completing.{Lookahead, Any, AtClosing, AtListing, AtArgument, AtAssignment, Unlisted, AtPart, If, Closed, Missing, Started, Answered, Whole, Guarded, Taken, Gives, Does, Operates, Defines, Declares, Wants, Misses, Lists, Due, Completes}
 use Rattle.bk_frames.proofs.Turns.{guarded_depth, guarded_nodes}
 use Rattle.bk_frames.proofs.Lowering.{Down, Falls, any, unlisted, any_falls, any_closed, any_missing, whole_falls, gives_falls, does_falls, defines_fall, declares_fall}
+use Rattle.bk_grammar.specs.Placed.{position_of}
 
 -- where what comes can be completed, so can what was before it
 abbrev pub Leads : (ℕ → ℕ → Type 0) → Type 0 → Option State → Type 0
@@ -96,10 +97,10 @@ from_listing : {X : Type 0} → Any (AtListing X) → X
 from_listing (nx.listing, h) = h
 from_listing (x, h) = absurd h
 
-again_leads : (P : ℕ → ℕ → Type 0) → Down P → (t : Kind) (st : Stack) (c : Action) → Leads P (Any (Does P st (depth_of_action c + 1) (nodes_of_action c + 1))) (again st c t)
+again_leads : (P : ℕ → ℕ → Type 0) → Down P → (t : Kind) (st : Stack) (c : Command) → Leads P (Any (Does P st (depth_of_command c + 1) (nodes_of_command c + 1))) (again st c t)
 again_leads P w k.Repeat st c = λ h. h
-again_leads P w k.RepeatWhile st c = λ h. opened (Does P st) (does_falls P w st) (depth_of_action c + 1) (max (depth_of_action c) 1 + 1) (nodes_of_action c + 1) (nodes_of_action c + 1 + 1) (omega arith) (omega arith) h
-again_leads P w k.RepeatUntil st c = λ h. opened (Does P st) (does_falls P w st) (depth_of_action c + 1) (max (depth_of_action c) 1 + 1) (nodes_of_action c + 1) (nodes_of_action c + 1 + 1) (omega arith) (omega arith) h
+again_leads P w k.RepeatWhile st c = λ h. opened (Does P st) (does_falls P w st) (depth_of_command c + 1) (max (depth_of_command c) 1 + 1) (nodes_of_command c + 1) (nodes_of_command c + 1 + 1) (omega arith) (omega arith) h
+again_leads P w k.RepeatUntil st c = λ h. opened (Does P st) (does_falls P w st) (depth_of_command c + 1) (max (depth_of_command c) 1 + 1) (nodes_of_command c + 1) (nodes_of_command c + 1 + 1) (omega arith) (omega arith) h
 again_leads P w _ st c = tt
 
 -- ---- an operand is due
@@ -218,19 +219,19 @@ section_leads P w t ds l =
     leads_if P (Declares P (in_section ds) 0 0) (is_semicolon t) (Some (due (in_section ds))) (take_declaration (in_section ds) l t None) (λ e h. h)
     (λ e. declaration_leads P w t (in_section ds) l None tt)
 
-block_leads : (P : ℕ → ℕ → Type 0) → Down P → (t : Kind) (b : ℕ) (free : Bool) (ds : Declarations) (cs : Actions) (st : Stack) (l : ℕ) (x : List ℕ) → Leads P (Declares P (in_block b free ds cs st) 0 0) (take_in_block b free ds cs st l x t)
+block_leads : (P : ℕ → ℕ → Type 0) → Down P → (t : Kind) (b : ℕ) (free : Bool) (ds : Declarations) (cs : Commands) (st : Stack) (l : ℕ) (x : List ℕ) → Leads P (Declares P (in_block b free ds cs st) 0 0) (take_in_block b free ds cs st l x t)
 block_leads P w t b free ds cs st l x =
     let here : Stack = in_block b free ds cs st in
     let X : Type 0 = Declares P here 0 0 in
     let rest : Option State = cond free (take_command here l x t) None in
     let command : Leads P X rest = leads_if P X free (take_command here l x t) None
     (λ e. leads_by P (Any (Does P here 1 1)) X (take_command here l x t)
-    (λ h. any_falls (Does P st) (does_falls P w st) (max (depth_of_declarations ds) (max (depth_of_actions cs) 0) + 1) (max (depth_of_declarations ds) (max (depth_of_actions cs) 1) + 1) (nodes_of_declarations ds + (nodes_of_actions cs + 0) + 1) (nodes_of_declarations ds + (nodes_of_actions cs + 1) + 1) (omega arith) (omega arith) (from_closing h))
+    (λ h. any_falls (Does P st) (does_falls P w st) (max (depth_of_declarations ds) (max (depth_of_commands cs) 0) + 1) (max (depth_of_declarations ds) (max (depth_of_commands cs) 1) + 1) (nodes_of_declarations ds + (nodes_of_commands cs + 0) + 1) (nodes_of_declarations ds + (nodes_of_commands cs + 1) + 1) (omega arith) (omega arith) (from_closing h))
     (command_leads P w t here l x))
     (λ e. tt) in
     leads_if P X (is_semicolon t) (Some (due (in_block b true ds cs st))) _ (λ e h. h)
     (λ e. leads_if P X (closes t) (Some (did st (block b ds cs))) _
-    (λ c h. any_falls (Does P st) (does_falls P w st) (max (depth_of_declarations ds) (max (depth_of_actions cs) 0) + 1) (max (depth_of_declarations ds) (depth_of_actions cs) + 1) (nodes_of_declarations ds + (nodes_of_actions cs + 0) + 1) (nodes_of_declarations ds + nodes_of_actions cs + 1) (omega arith) (omega arith) h)
+    (λ c h. any_falls (Does P st) (does_falls P w st) (max (depth_of_declarations ds) (max (depth_of_commands cs) 0) + 1) (max (depth_of_declarations ds) (depth_of_commands cs) + 1) (nodes_of_declarations ds + (nodes_of_commands cs + 0) + 1) (nodes_of_declarations ds + nodes_of_commands cs + 1) (omega arith) (omega arith) h)
     (λ c. leads_if P X (in_head cs) (take_declaration here l t rest) rest (λ d. declaration_leads P w t here l rest command) (λ d. command)))
 
 declared_by_leads : (P : ℕ → ℕ → Type 0) → Down P → (t : Kind) (st : Stack) (d : Declaration) (l : ℕ) (x : List ℕ) → Leads P (Declares P st (depth_of_declaration d) (nodes_of_declaration d)) (declared_by st d l x t)
@@ -246,7 +247,7 @@ declared_by_leads P w t (in_block b free ds cs st) d l x =
     let p = declarations_depth ds d in
     let q = declarations_nodes ds d in
     leads_by P (Declares P (in_block b false es cs st) 0 0) (Declares P (in_block b free ds cs st) (depth_of_declaration d) (nodes_of_declaration d)) (take_in_block b false es cs st l x t)
-    (λ h. any_falls (Does P st) (does_falls P w st) (max (depth_of_declarations ds) (max (depth_of_actions cs) (depth_of_declaration d)) + 1) (max (depth_of_declarations es) (max (depth_of_actions cs) 0) + 1) (nodes_of_declarations ds + (nodes_of_actions cs + nodes_of_declaration d) + 1) (nodes_of_declarations es + (nodes_of_actions cs + 0) + 1) (omega (arith, p)) (omega (arith, q)) h)
+    (λ h. any_falls (Does P st) (does_falls P w st) (max (depth_of_declarations ds) (max (depth_of_commands cs) (depth_of_declaration d)) + 1) (max (depth_of_declarations es) (max (depth_of_commands cs) 0) + 1) (nodes_of_declarations ds + (nodes_of_commands cs + nodes_of_declaration d) + 1) (nodes_of_declarations es + (nodes_of_commands cs + 0) + 1) (omega (arith, p)) (omega (arith, q)) h)
     (block_leads P w t b false es cs st l x)
 declared_by_leads P w t _ d l x = tt
 
@@ -260,7 +261,7 @@ declared_leads P w (in_block b free ds cs st) d =
     let es = declarations_then ds (declare d no_declarations) in
     let p = declarations_depth ds d in
     let q = declarations_nodes ds d in
-    λ h. any_falls (Does P st) (does_falls P w st) (max (depth_of_declarations ds) (max (depth_of_actions cs) (depth_of_declaration d)) + 1) (max (depth_of_declarations es) (max (depth_of_actions cs) 0) + 1) (nodes_of_declarations ds + (nodes_of_actions cs + nodes_of_declaration d) + 1) (nodes_of_declarations es + (nodes_of_actions cs + 0) + 1) (omega (arith, p)) (omega (arith, q)) h
+    λ h. any_falls (Does P st) (does_falls P w st) (max (depth_of_declarations ds) (max (depth_of_commands cs) (depth_of_declaration d)) + 1) (max (depth_of_declarations es) (max (depth_of_commands cs) 0) + 1) (nodes_of_declarations ds + (nodes_of_commands cs + nodes_of_declaration d) + 1) (nodes_of_declarations es + (nodes_of_commands cs + 0) + 1) (omega (arith, p)) (omega (arith, q)) h
 declared_leads P w _ d = tt
 
 defined_leads : (P : ℕ → ℕ → Type 0) → Down P → (t : Kind) (st : Stack) (d : Definition) (l : ℕ) (x : List ℕ) → Leads P (Defines P st (depth_of_definition d) (nodes_of_definition d)) (defined_by st d l x t)
@@ -339,16 +340,16 @@ each_defined P X st d l x =
     let none : (t : Kind) → Plain t → Leads P X (defined_by st d l x t) = λ t p. leads_none P X (defined_by st d l x t) (defined_none st d l x t p) in
     (none k.Repeat (refl, refl, refl, refl, refl), none k.RepeatWhile (refl, refl, refl, refl, refl), none k.RepeatUntil (refl, refl, refl, refl, refl))
 
-finish_repeat : (P : ℕ → ℕ → Type 0) → Down P → (st : Stack) (c : Action) (l : ℕ) (x : List ℕ) → Each P (Any (Does P st (depth_of_action c + 1) (nodes_of_action c + 1))) (finish st c l x)
+finish_repeat : (P : ℕ → ℕ → Type 0) → Down P → (st : Stack) (c : Command) (l : ℕ) (x : List ℕ) → Each P (Any (Does P st (depth_of_command c + 1) (nodes_of_command c + 1))) (finish st c l x)
 finish_repeat P w st c l x =
-    let again_so : (t : Kind) → repeats t ≡ true → Leads P (Any (Does P st (depth_of_action c + 1) (nodes_of_action c + 1))) (finish st c l x t) = λ t r. subst (λ (z : Option State). Leads P (Any (Does P st (depth_of_action c + 1) (nodes_of_action c + 1))) z) (sym (repeated st c l x t r)) (again_leads P w t st c) in
+    let again_so : (t : Kind) → repeats t ≡ true → Leads P (Any (Does P st (depth_of_command c + 1) (nodes_of_command c + 1))) (finish st c l x t) = λ t r. subst (λ (z : Option State). Leads P (Any (Does P st (depth_of_command c + 1) (nodes_of_command c + 1))) z) (sym (repeated st c l x t r)) (again_leads P w t st c) in
     (again_so k.Repeat refl, again_so k.RepeatWhile refl, again_so k.RepeatUntil refl)
 
 give_repeat : (P : ℕ → ℕ → Type 0) → Down P → (st : Stack) (e : Expression) (l : ℕ) (x : List ℕ) → Each P (Gives P st (form_of e) (depth e) (nodes e) nx.repeating) (give st e l x)
 give_repeat P w (in_unary m p st) e l x = give_repeat P w st (unary m p e) l x
-give_repeat P w (in_binary q s a st) e l x = give_repeat P w st (binary (line_of a) q s a e) l x
-give_repeat P w (in_chain q s a b st) e l x = give_repeat P w st (binary (line_of a) Both s a (binary (line_of b) q s b e)) l x
-give_repeat P w (in_else s y a st) e l x = give_repeat P w st (choice (line_of y) s y a e) l x
+give_repeat P w (in_binary q s a st) e l x = give_repeat P w st (binary (at_expression a) q s a e) l x
+give_repeat P w (in_chain q s a b st) e l x = give_repeat P w st (binary (at_expression a) Both s a (binary (at_expression b) q s b e)) l x
+give_repeat P w (in_else s y a st) e l x = give_repeat P w st (choice (at_expression y) s y a e) l x
 give_repeat P w (in_table m es st) e l x = each_by P (Gives P st Other (depth_of_each (each_then es (more e none)) + 1) (nodes_of_each (each_then es (more e none)) + 1) nx.repeating) (Gives P st Other (max (depth_of_each es) (depth e) + 1) (nodes_of_each es + nodes e + 1) nx.repeating) (give st (table m (each_then es (more e none))) l x)
     (let a = each_depth es e in let b = each_nodes es e in gives_falls P w st Other (max (depth_of_each es) (depth e) + 1) (depth_of_each (each_then es (more e none)) + 1) (nodes_of_each es + nodes e + 1) (nodes_of_each (each_then es (more e none)) + 1) (omega (arith, a)) (omega (arith, b)) nx.repeating) (give_repeat P w st (table m (each_then es (more e none))) l x)
 give_repeat P w (in_start st) (apply m s y es) l x = finish_repeat P w st (call m y es) l x
@@ -359,21 +360,21 @@ give_repeat P w (in_values xs ys st) e l x =
     let a = each_depth ys e in
     let b = each_nodes ys e in
     each_counted P (size xs == size ys + 1) (Closed (Does P st) (max (depth_of_each xs) (max (depth_of_each ys) (depth e)) + 1) (nodes_of_each xs + (nodes_of_each ys + nodes e) + 1)) (AtListing (Any (Closed (Does P st) (max (depth_of_each xs) (max (depth_of_each ys) (max (depth e) 1)) + 1) (nodes_of_each xs + (nodes_of_each ys + nodes e) + owed (size xs) (size ys) + 1)))) nx.repeating
-    (finish st (assign (line_of_first xs) xs zs) l x) (want (in_values xs zs st))
-    (each_by P (Any (Does P st (max (depth_of_each xs) (depth_of_each (each_then ys (more e none))) + 1 + 1) (nodes_of_each xs + nodes_of_each (each_then ys (more e none)) + 1 + 1))) (Any (Does P st (max (depth_of_each xs) (max (depth_of_each ys) (depth e)) + 1 + 1) (nodes_of_each xs + (nodes_of_each ys + nodes e) + 1 + 1))) (finish st (assign (line_of_first xs) xs zs) l x) (any_falls (Does P st) (does_falls P w st) (max (depth_of_each xs) (max (depth_of_each ys) (depth e)) + 1 + 1) (max (depth_of_each xs) (depth_of_each (each_then ys (more e none))) + 1 + 1) (nodes_of_each xs + (nodes_of_each ys + nodes e) + 1 + 1) (nodes_of_each xs + nodes_of_each (each_then ys (more e none)) + 1 + 1) (omega (arith, a)) (omega (arith, b))) (finish_repeat P w st (assign (line_of_first xs) xs zs) l x))
+    (finish st (assign (at_expressions xs) xs zs) l x) (want (in_values xs zs st))
+    (each_by P (Any (Does P st (max (depth_of_each xs) (depth_of_each (each_then ys (more e none))) + 1 + 1) (nodes_of_each xs + nodes_of_each (each_then ys (more e none)) + 1 + 1))) (Any (Does P st (max (depth_of_each xs) (max (depth_of_each ys) (depth e)) + 1 + 1) (nodes_of_each xs + (nodes_of_each ys + nodes e) + 1 + 1))) (finish st (assign (at_expressions xs) xs zs) l x) (any_falls (Does P st) (does_falls P w st) (max (depth_of_each xs) (max (depth_of_each ys) (depth e)) + 1 + 1) (max (depth_of_each xs) (depth_of_each (each_then ys (more e none))) + 1 + 1) (nodes_of_each xs + (nodes_of_each ys + nodes e) + 1 + 1) (nodes_of_each xs + nodes_of_each (each_then ys (more e none)) + 1 + 1) (omega (arith, a)) (omega (arith, b))) (finish_repeat P w st (assign (at_expressions xs) xs zs) l x))
 give_repeat P w (in_guard gd m st) e l x = each_guard P (AtClosing (Guarded gd (Does P st) (depth e) (nodes e)) nx.repeating) gd (behind_sign gd (in_guarded gd m e st))
 give_repeat P w (in_result m st) e l x = finish_repeat P w st (result m e) l x
-give_repeat P w (in_while b a st) e l x = finish_repeat P w st (repeat_while (line_of_action a) b a e) l x
-give_repeat P w (in_function y fs st) e l x = each_defined P (AtClosing (Defines P st (depth e + 1) (nodes e + 1)) nx.repeating) st (function y.line y.letters fs e) l x
+give_repeat P w (in_while b a st) e l x = finish_repeat P w st (repeat_while (at_command a) b a e) l x
+give_repeat P w (in_function y fs st) e l x = each_defined P (AtClosing (Defines P st (depth e + 1) (nodes e + 1)) nx.repeating) st (function y.at y.letters fs e) l x
 give_repeat P w (in_value xs is st) e l x =
     let js : Starts = starts_then is (value e no_starts) in
-    let whole_of : Definition = variables (line_of_names xs) xs js in
+    let whole_of : Definition = variables (at_names xs) xs js in
     each_counted P (length xs == start_count is + 1) (AtClosing (Defines P st (max (depth_of_starts is) (depth e) + 1) (nodes_of_starts is + nodes e + 1)))
     (AtListing (Defines P st (max (depth_of_starts is) (max (depth e) 1) + 1) (nodes_of_starts is + nodes e + owed (length xs) (start_count is) + 1))) nx.repeating (defined_by st whole_of l x) (due (at_starts xs js st))
     (each_defined P ⊥ st whole_of l x)
 give_repeat P w (in_vector m xs is st) e l x =
     let js : Starts = starts_then is (vector m e no_starts) in
-    let whole_of : Definition = variables (line_of_names xs) xs js in
+    let whole_of : Definition = variables (at_names xs) xs js in
     each_counted P (length xs == start_count is + 1) (AtClosing (Defines P st (max (depth_of_starts is) (depth e) + 1) (nodes_of_starts is + nodes e + 1)))
     (AtListing (Defines P st (max (depth_of_starts is) (max (depth e) 1) + 1) (nodes_of_starts is + nodes e + owed (length xs) (start_count is) + 1))) nx.repeating (defined_by st whole_of l x) (due (at_starts xs js st))
     (each_defined P ⊥ st whole_of l x)
@@ -459,9 +460,9 @@ two_defined P F st d l x = (
 mutual
   give_two : (P : ℕ → ℕ → Type 0) → Down P → (st : Stack) (e : Expression) (l : ℕ) (x : List ℕ) → Two P (Gives P st (form_of e) (depth e) (nodes e)) (give st e l x)
   give_two P w (in_unary m p st) e l x = give_two P w st (unary m p e) l x
-  give_two P w (in_binary q s a st) e l x = give_two P w st (binary (line_of a) q s a e) l x
-  give_two P w (in_chain q s a b st) e l x = give_two P w st (binary (line_of a) Both s a (binary (line_of b) q s b e)) l x
-  give_two P w (in_else s y a st) e l x = give_two P w st (choice (line_of y) s y a e) l x
+  give_two P w (in_binary q s a st) e l x = give_two P w st (binary (at_expression a) q s a e) l x
+  give_two P w (in_chain q s a b st) e l x = give_two P w st (binary (at_expression a) Both s a (binary (at_expression b) q s b e)) l x
+  give_two P w (in_else s y a st) e l x = give_two P w st (choice (at_expression y) s y a e) l x
   give_two P w (in_then s y st) e l x = (tt, λ h. any_falls (Gives P st Other) (gives_falls P w st Other) (max (depth y) (max (depth e) 1) + 1) (max (depth y) (max (depth e) 1) + 1) (nodes y + nodes e + 2) (nodes y + nodes e + 1 + 1) (omega arith) (omega arith) h)
   give_two P w (in_args s y es st) e l x = (tt, let a = each_depth es e in let b = each_nodes es e in λ h. args_any P w s y es st e h)
   give_two P w (in_table m es st) e l x = (
@@ -482,41 +483,41 @@ mutual
       let a = each_depth ys e in
       let b = each_nodes ys e in
       two_counted P (size xs == size ys + 1) (Closed (Does P st) (max (depth_of_each xs) (max (depth_of_each ys) (depth e)) + 1) (nodes_of_each xs + (nodes_of_each ys + nodes e) + 1)) (AtListing (Any (Closed (Does P st) (max (depth_of_each xs) (max (depth_of_each ys) (max (depth e) 1)) + 1) (nodes_of_each xs + (nodes_of_each ys + nodes e) + owed (size xs) (size ys) + 1))))
-      (finish st (assign (line_of_first xs) xs zs) l x) (want (in_values xs zs st))
-      (two_by P (Does P st (max (depth_of_each xs) (depth_of_each (each_then ys (more e none))) + 1) (nodes_of_each xs + nodes_of_each (each_then ys (more e none)) + 1)) (Does P st (max (depth_of_each xs) (max (depth_of_each ys) (depth e)) + 1) (nodes_of_each xs + (nodes_of_each ys + nodes e) + 1)) (finish st (assign (line_of_first xs) xs zs) l x) (does_falls P w st (max (depth_of_each xs) (max (depth_of_each ys) (depth e)) + 1) (max (depth_of_each xs) (depth_of_each (each_then ys (more e none))) + 1) (nodes_of_each xs + (nodes_of_each ys + nodes e) + 1) (nodes_of_each xs + nodes_of_each (each_then ys (more e none)) + 1) (omega (arith, a)) (omega (arith, b))) (finish_two P w st (assign (line_of_first xs) xs zs) l x))
+      (finish st (assign (at_expressions xs) xs zs) l x) (want (in_values xs zs st))
+      (two_by P (Does P st (max (depth_of_each xs) (depth_of_each (each_then ys (more e none))) + 1) (nodes_of_each xs + nodes_of_each (each_then ys (more e none)) + 1)) (Does P st (max (depth_of_each xs) (max (depth_of_each ys) (depth e)) + 1) (nodes_of_each xs + (nodes_of_each ys + nodes e) + 1)) (finish st (assign (at_expressions xs) xs zs) l x) (does_falls P w st (max (depth_of_each xs) (max (depth_of_each ys) (depth e)) + 1) (max (depth_of_each xs) (depth_of_each (each_then ys (more e none))) + 1) (nodes_of_each xs + (nodes_of_each ys + nodes e) + 1) (nodes_of_each xs + nodes_of_each (each_then ys (more e none)) + 1) (omega (arith, a)) (omega (arith, b))) (finish_two P w st (assign (at_expressions xs) xs zs) l x))
       (λ h. values_more P w xs ys st e h)
   give_two P w (in_guard gd m st) e l x = two_guard P (Guarded gd (Does P st) (depth e) (nodes e)) gd (behind_sign gd (in_guarded gd m e st))
   give_two P w (in_result m st) e l x = finish_two P w st (result m e) l x
-  give_two P w (in_while b a st) e l x = finish_two P w st (repeat_while (line_of_action a) b a e) l x
-  give_two P w (in_function y fs st) e l x = two_defined P (AtClosing (Defines P st (depth e + 1) (nodes e + 1))) st (function y.line y.letters fs e) l x
+  give_two P w (in_while b a st) e l x = finish_two P w st (repeat_while (at_command a) b a e) l x
+  give_two P w (in_function y fs st) e l x = two_defined P (AtClosing (Defines P st (depth e + 1) (nodes e + 1))) st (function y.at y.letters fs e) l x
   give_two P w (in_value xs is st) e l x =
       let js : Starts = starts_then is (value e no_starts) in
-      let whole_of : Definition = variables (line_of_names xs) xs js in
+      let whole_of : Definition = variables (at_names xs) xs js in
       two_counted P (length xs == start_count is + 1) (AtClosing (Defines P st (max (depth_of_starts is) (depth e) + 1) (nodes_of_starts is + nodes e + 1)))
       (AtListing (Defines P st (max (depth_of_starts is) (max (depth e) 1) + 1) (nodes_of_starts is + nodes e + owed (length xs) (start_count is) + 1))) (defined_by st whole_of l x) (due (at_starts xs js st))
       (two_defined P (AtClosing (Defines P st (max (depth_of_starts is) (depth e) + 1) (nodes_of_starts is + nodes e + 1))) st whole_of l x)
       (λ h. starts_more P w xs is (starts_then is (value e no_starts)) st (depth e) (nodes e) (starts_depth is (value e no_starts)) (starts_nodes is (value e no_starts)) (count_then is (value e no_starts)) h)
   give_two P w (in_vector m xs is st) e l x =
       let js : Starts = starts_then is (vector m e no_starts) in
-      let whole_of : Definition = variables (line_of_names xs) xs js in
+      let whole_of : Definition = variables (at_names xs) xs js in
       two_counted P (length xs == start_count is + 1) (AtClosing (Defines P st (max (depth_of_starts is) (depth e) + 1) (nodes_of_starts is + nodes e + 1)))
       (AtListing (Defines P st (max (depth_of_starts is) (max (depth e) 1) + 1) (nodes_of_starts is + nodes e + owed (length xs) (start_count is) + 1))) (defined_by st whole_of l x) (due (at_starts xs js st))
       (two_defined P (AtClosing (Defines P st (max (depth_of_starts is) (depth e) + 1) (nodes_of_starts is + nodes e + 1))) st whole_of l x)
       (λ h. starts_more P w xs is (starts_then is (vector m e no_starts)) st (depth e) (nodes e) (starts_depth is (vector m e no_starts)) (starts_nodes is (vector m e no_starts)) (count_then is (vector m e no_starts)) h)
   give_two P w _ e l x = (tt, tt)
 
-  finish_two : (P : ℕ → ℕ → Type 0) → Down P → (st : Stack) (c : Action) (l : ℕ) (x : List ℕ) → Two P (Does P st (depth_of_action c) (nodes_of_action c)) (finish st c l x)
+  finish_two : (P : ℕ → ℕ → Type 0) → Down P → (st : Stack) (c : Command) (l : ℕ) (x : List ℕ) → Two P (Does P st (depth_of_command c) (nodes_of_command c)) (finish st c l x)
   finish_two P w (in_valof m st) c l x = give_two P w st (valof m c) l x
   finish_two P w (in_label m y st) c l x = finish_two P w st (label m y c) l x
   finish_two P w (in_guarded gd m e st) c l x =
       let a = guarded_depth gd m e c in
       let b = guarded_nodes gd m e c in
-      two_by P (Does P st (depth_of_action (guarded gd m e c)) (nodes_of_action (guarded gd m e c))) (Does P st (max (depth e) (depth_of_action c) + 1) (nodes e + nodes_of_action c + 1)) (finish st (guarded gd m e c) l x)
-      (does_falls P w st (max (depth e) (depth_of_action c) + 1) (depth_of_action (guarded gd m e c)) (nodes e + nodes_of_action c + 1) (nodes_of_action (guarded gd m e c)) (omega (arith, a)) (omega (arith, b))) (finish_two P w st (guarded gd m e c) l x)
+      two_by P (Does P st (depth_of_command (guarded gd m e c)) (nodes_of_command (guarded gd m e c))) (Does P st (max (depth e) (depth_of_command c) + 1) (nodes e + nodes_of_command c + 1)) (finish st (guarded gd m e c) l x)
+      (does_falls P w st (max (depth e) (depth_of_command c) + 1) (depth_of_command (guarded gd m e c)) (nodes e + nodes_of_command c + 1) (nodes_of_command (guarded gd m e c)) (omega (arith, a)) (omega (arith, b))) (finish_two P w st (guarded gd m e c) l x)
   finish_two P w (in_default m st) c l x = finish_two P w st (default m c) l x
   finish_two P w (in_or m e a st) c l x = finish_two P w st (test m e a c) l x
   finish_two P w (in_for m y a b z st) c l x = finish_two P w st (for_loop m y a b z c) l x
-  finish_two P w (in_routine y fs st) c l x = two_defined P (Does P (in_routine y fs st) (depth_of_action c) (nodes_of_action c)) st (routine y.line y.letters fs c) l x
+  finish_two P w (in_routine y fs st) c l x = two_defined P (Does P (in_routine y fs st) (depth_of_command c) (nodes_of_command c)) st (routine y.at y.letters fs c) l x
   finish_two P w _ c l x = (tt, tt)
 
 -- ---- a symbol with which an expression goes on
@@ -586,41 +587,41 @@ pass_binary P w false a st d n h = h
 operator_leads : (P : ℕ → ℕ → Type 0) → Down P → (t : Kind) → goes 12 t ≡ true → is_open t ≡ false → (st : Stack) (e : Expression) (l : ℕ) (x : List ℕ) → Leads P (Operates P st (Gives P st) (depth e) (nodes e)) (give st e l x t)
 operator_leads P w t g o (in_unary m p st) e l x = leads_if P (Any (Gives P st Other (depth e + 1 + 1) (nodes e + 2 + 1))) (goes (behind p) t) (push (in_unary m p st) e t l) (give st (unary m p e) l x t) (λ j. push_leads P w t o (in_unary m p st) e l)
     (λ j. leads_by P (Operates P st (Gives P st) (depth e + 1) (nodes e + 1)) (Any (Gives P st Other (depth e + 1 + 1) (nodes e + 2 + 1))) (give st (unary m p e) l x t) (λ h. any_falls (Gives P st Other) (gives_falls P w st Other) (depth e + 1 + 1) (depth e + 1 + 1) (nodes e + 2 + 1) (nodes e + 1 + 2) (omega arith) (omega arith) (operates_any P w st (depth e + 1) (nodes e + 1) h)) (operator_leads P w t g o st (unary m p e) l x))
-operator_leads P w t g o (in_binary q s a st) e l x = let whole_of : Expression = binary (line_of a) q s a e in leads_if P (Operates P (in_binary q s a st) (Gives P (in_binary q s a st)) (depth e) (nodes e)) (goes (inner q) t) (push (in_binary q s a st) e t l) (give st whole_of l x t) (λ j. push_binary P w t o q s a st e l j)
+operator_leads P w t g o (in_binary q s a st) e l x = let whole_of : Expression = binary (at_expression a) q s a e in leads_if P (Operates P (in_binary q s a st) (Gives P (in_binary q s a st)) (depth e) (nodes e)) (goes (inner q) t) (push (in_binary q s a st) e t l) (give st whole_of l x t) (λ j. push_binary P w t o q s a st e l j)
     (λ j. leads_by P (Operates P st (Gives P st) (max (depth a) (depth e) + 1) (nodes a + nodes e + 1)) (Operates P (in_binary q s a st) (Gives P (in_binary q s a st)) (depth e) (nodes e)) (give st whole_of l x t) (pass_binary P w (nat_lt 1 (inner q)) a st (depth e) (nodes e)) (operator_leads P w t g o st whole_of l x))
-operator_leads P w t g o (in_chain q s a b st) e l x = let whole_of : Expression = binary (line_of a) Both s a (binary (line_of b) q s b e) in leads_if P (Any (Gives P st Other (max (depth a) (max (depth b) (depth e + 1) + 1) + 1) (nodes a + (nodes b + (nodes e + 2) + 1) + 1))) (goes 5 t) (push (in_chain q s a b st) e t l) (give st whole_of l x t) (λ j. push_leads P w t o (in_chain q s a b st) e l)
+operator_leads P w t g o (in_chain q s a b st) e l x = let whole_of : Expression = binary (at_expression a) Both s a (binary (at_expression b) q s b e) in leads_if P (Any (Gives P st Other (max (depth a) (max (depth b) (depth e + 1) + 1) + 1) (nodes a + (nodes b + (nodes e + 2) + 1) + 1))) (goes 5 t) (push (in_chain q s a b st) e t l) (give st whole_of l x t) (λ j. push_leads P w t o (in_chain q s a b st) e l)
     (λ j. leads_by P (Operates P st (Gives P st) (depth whole_of) (nodes whole_of)) (Any (Gives P st Other (max (depth a) (max (depth b) (depth e + 1) + 1) + 1) (nodes a + (nodes b + (nodes e + 2) + 1) + 1))) (give st whole_of l x t) (λ h. any_falls (Gives P st Other) (gives_falls P w st Other) (max (depth a) (max (depth b) (depth e + 1) + 1) + 1) (max (depth a) (max (depth b) (depth e) + 1) + 1 + 1) (nodes a + (nodes b + (nodes e + 2) + 1) + 1) (nodes a + (nodes b + nodes e + 1) + 1 + 2) (omega arith) (omega arith) (operates_any P w st (max (depth a) (max (depth b) (depth e) + 1) + 1) (nodes a + (nodes b + nodes e + 1) + 1) h)) (operator_leads P w t g o st whole_of l x))
 operator_leads P w t g o st e l x = let Q : Option State → Type 0 = λ z. Leads P (Operates P st (Gives P st) (depth e) (nodes e)) z in subst Q (sym (pushes st e l x t g)) (push_leads P w t o st e l)
 
-finish_operator : (P : ℕ → ℕ → Type 0) → Down P → (t : Kind) → goes 12 t ≡ true → is_open t ≡ false → (st : Stack) (c : Action) (l : ℕ) (x : List ℕ) → Leads P (Does P st (depth_of_action c) (nodes_of_action c) nx.operating) (finish st c l x t)
+finish_operator : (P : ℕ → ℕ → Type 0) → Down P → (t : Kind) → goes 12 t ≡ true → is_open t ≡ false → (st : Stack) (c : Command) (l : ℕ) (x : List ℕ) → Leads P (Does P st (depth_of_command c) (nodes_of_command c) nx.operating) (finish st c l x t)
 finish_operator P w t g o (in_valof m st) c l x = let r = (inner_of t g).1 in rw r (operator_leads P w t g o st (valof m c) l x)
 finish_operator P w t g o (in_label m y st) c l x = let r = (inner_of t g).1 in rw r (finish_operator P w t g o st (label m y c) l x)
 finish_operator P w t g o (in_guarded gd m e st) c l x =
     let r = (inner_of t g).1 in
     let a = guarded_depth gd m e c in
     let b = guarded_nodes gd m e c in
-    rw r (leads_by P (Does P st (depth_of_action (guarded gd m e c)) (nodes_of_action (guarded gd m e c)) nx.operating) (Does P st (max (depth e) (depth_of_action c) + 1) (nodes e + nodes_of_action c + 1) nx.operating) (finish st (guarded gd m e c) l x t)
-    (does_falls P w st (max (depth e) (depth_of_action c) + 1) (depth_of_action (guarded gd m e c)) (nodes e + nodes_of_action c + 1) (nodes_of_action (guarded gd m e c)) (omega (arith, a)) (omega (arith, b)) nx.operating) (finish_operator P w t g o st (guarded gd m e c) l x))
+    rw r (leads_by P (Does P st (depth_of_command (guarded gd m e c)) (nodes_of_command (guarded gd m e c)) nx.operating) (Does P st (max (depth e) (depth_of_command c) + 1) (nodes e + nodes_of_command c + 1) nx.operating) (finish st (guarded gd m e c) l x t)
+    (does_falls P w st (max (depth e) (depth_of_command c) + 1) (depth_of_command (guarded gd m e c)) (nodes e + nodes_of_command c + 1) (nodes_of_command (guarded gd m e c)) (omega (arith, a)) (omega (arith, b)) nx.operating) (finish_operator P w t g o st (guarded gd m e c) l x))
 finish_operator P w t g o (in_default m st) c l x = let r = (inner_of t g).1 in rw r (finish_operator P w t g o st (default m c) l x)
 finish_operator P w t g o (in_or m e a st) c l x = let r = (inner_of t g).1 in rw r (finish_operator P w t g o st (test m e a c) l x)
 finish_operator P w t g o (in_for m y a b z st) c l x = let r = (inner_of t g).1 in rw r (finish_operator P w t g o st (for_loop m y a b z c) l x)
 finish_operator P w t g o (in_do m e st) c l x = let r = (inner_of t g).1 in let f = (inner_of t g).2 in rw (r, f) tt
-finish_operator P w t g o (in_routine y fs st) c l x = let r = (inner_of t g).1 in rw r (leads_none P ⊥ (defined_by st (routine y.line y.letters fs c) l x t) (defined_none st (routine y.line y.letters fs c) l x t (inner_of t g).0))
+finish_operator P w t g o (in_routine y fs st) c l x = let r = (inner_of t g).1 in rw r (leads_none P ⊥ (defined_by st (routine y.at y.letters fs c) l x t) (defined_none st (routine y.at y.letters fs c) l x t (inner_of t g).0))
 finish_operator P w t g o (in_block b free ds cs st) c l x = let r = (inner_of t g).1 in let f = (inner_of t g).0.3 in let d = (inner_of t g).0.4 in rw (r, f, d) tt
 finish_operator P w t g o st c l x = let r = (inner_of t g).1 in rw r tt
 
-finish_open : (P : ℕ → ℕ → Type 0) → Down P → (st : Stack) (c : Action) (l : ℕ) (x : List ℕ) → Leads P (Does P st (depth_of_action c) (nodes_of_action c) nx.going) (finish st c l x k.Open)
-finish_open P w (in_valof m st) c l x = leads_by P (Any (Gives P st Call (depth_of_action c + 1 + 1) (nodes_of_action c + 1 + 1))) (Any (Gives P st Call (depth_of_action c + 2) (nodes_of_action c + 2))) (give st (valof m c) l x k.Open) (any_falls (Gives P st Call) (gives_falls P w st Call) (depth_of_action c + 2) (depth_of_action c + 1 + 1) (nodes_of_action c + 2) (nodes_of_action c + 1 + 1) (omega arith) (omega arith)) (open_leads P w st (valof m c) l x)
+finish_open : (P : ℕ → ℕ → Type 0) → Down P → (st : Stack) (c : Command) (l : ℕ) (x : List ℕ) → Leads P (Does P st (depth_of_command c) (nodes_of_command c) nx.going) (finish st c l x k.Open)
+finish_open P w (in_valof m st) c l x = leads_by P (Any (Gives P st Call (depth_of_command c + 1 + 1) (nodes_of_command c + 1 + 1))) (Any (Gives P st Call (depth_of_command c + 2) (nodes_of_command c + 2))) (give st (valof m c) l x k.Open) (any_falls (Gives P st Call) (gives_falls P w st Call) (depth_of_command c + 2) (depth_of_command c + 1 + 1) (nodes_of_command c + 2) (nodes_of_command c + 1 + 1) (omega arith) (omega arith)) (open_leads P w st (valof m c) l x)
 finish_open P w (in_label m y st) c l x = finish_open P w st (label m y c) l x
 finish_open P w (in_guarded gd m e st) c l x =
     let a = guarded_depth gd m e c in
     let b = guarded_nodes gd m e c in
-    leads_by P (Does P st (depth_of_action (guarded gd m e c)) (nodes_of_action (guarded gd m e c)) nx.going) (Does P st (max (depth e) (depth_of_action c) + 1) (nodes e + nodes_of_action c + 1) nx.going) (finish st (guarded gd m e c) l x k.Open)
-    (does_falls P w st (max (depth e) (depth_of_action c) + 1) (depth_of_action (guarded gd m e c)) (nodes e + nodes_of_action c + 1) (nodes_of_action (guarded gd m e c)) (omega (arith, a)) (omega (arith, b)) nx.going) (finish_open P w st (guarded gd m e c) l x)
+    leads_by P (Does P st (depth_of_command (guarded gd m e c)) (nodes_of_command (guarded gd m e c)) nx.going) (Does P st (max (depth e) (depth_of_command c) + 1) (nodes e + nodes_of_command c + 1) nx.going) (finish st (guarded gd m e c) l x k.Open)
+    (does_falls P w st (max (depth e) (depth_of_command c) + 1) (depth_of_command (guarded gd m e c)) (nodes e + nodes_of_command c + 1) (nodes_of_command (guarded gd m e c)) (omega (arith, a)) (omega (arith, b)) nx.going) (finish_open P w st (guarded gd m e c) l x)
 finish_open P w (in_default m st) c l x = finish_open P w st (default m c) l x
 finish_open P w (in_or m e a st) c l x = finish_open P w st (test m e a c) l x
 finish_open P w (in_for m y a b z st) c l x = finish_open P w st (for_loop m y a b z c) l x
-finish_open P w (in_routine y fs st) c l x = leads_none P ⊥ (defined_by st (routine y.line y.letters fs c) l x k.Open) (defined_none st (routine y.line y.letters fs c) l x k.Open (refl, refl, refl, refl, refl))
+finish_open P w (in_routine y fs st) c l x = leads_none P ⊥ (defined_by st (routine y.at y.letters fs c) l x k.Open) (defined_none st (routine y.at y.letters fs c) l x k.Open (refl, refl, refl, refl, refl))
 finish_open P w _ c l x = tt
 
 -- ---- a symbol that goes through all
@@ -630,7 +631,7 @@ no_dests k.Comma xs st h = absurd cc
 no_dests k.Assign xs st h = absurd cc
 no_dests _ xs st h = refl
 
-start_leads : (P : ℕ → ℕ → Type 0) (st : Stack) (e : Expression) (l : ℕ) (x : List ℕ) (t : Kind) → ((c : Action) → Leads P (Does P st (depth_of_action c) (nodes_of_action c) nx.closing) (finish st c l x t))
+start_leads : (P : ℕ → ℕ → Type 0) (st : Stack) (e : Expression) (l : ℕ) (x : List ℕ) (t : Kind) → ((c : Command) → Leads P (Does P st (depth_of_command c) (nodes_of_command c) nx.closing) (finish st c l x t))
     → Leads P (Started (Does P st) (form_of e) (depth e) (nodes e) nx.closing) (cond (is_call e) (finish st (call_of e) l x t) (cond (is_colon t) (labelled e st) None))
 start_leads P st (apply m s f es) l x t h = h (call m f es)
 start_leads P st (name m y) l x t h = leads_if P (Started (Does P st) Label 1 1 nx.closing) (is_colon t) (Some (maybe (in_label m y st))) None (λ e j. j) (λ e. tt)
@@ -659,17 +660,17 @@ mutual
   give_close : (P : ℕ → ℕ → Type 0) → Down P → (t : Kind) → goes 12 t ≡ false → repeats t ≡ false → assigns t ≡ false → (st : Stack) (e : Expression) (l : ℕ) (x : List ℕ) → Leads P (Gives P st (form_of e) (depth e) (nodes e) nx.closing) (give st e l x t)
   give_close P w t g r a (in_parens m st) e l x = rw g (leads_if P (Whole (Gives P st) Callable (depth e + 1) (nodes e + 1)) (is_close t) (Some (have st (parens m e))) None (λ j h. h) (λ j. tt))
   give_close P w t g r a (in_unary m p st) e l x = let low = falls (behind p) 12 t (behind_ok p).1 g in rw low (give_close P w t g r a st (unary m p e) l x)
-  give_close P w t g r a (in_binary q s y st) e l x = let low = falls (inner q) 12 t (inner_ok q).1 g in rw low (give_close P w t g r a st (binary (line_of y) q s y e) l x)
-  give_close P w t g r a (in_chain q s y b st) e l x = let low = falls 5 12 t (omega arith) g in rw low (give_close P w t g r a st (binary (line_of y) Both s y (binary (line_of b) q s b e)) l x)
+  give_close P w t g r a (in_binary q s y st) e l x = let low = falls (inner q) 12 t (inner_ok q).1 g in rw low (give_close P w t g r a st (binary (at_expression y) q s y e) l x)
+  give_close P w t g r a (in_chain q s y b st) e l x = let low = falls 5 12 t (omega arith) g in rw low (give_close P w t g r a st (binary (at_expression y) Both s y (binary (at_expression b) q s b e)) l x)
   give_close P w t g r a (in_then s y st) e l x = let c = no_comma t a in rw (g, c) tt
-  give_close P w t g r a (in_else s y b st) e l x = rw g (give_close P w t g r a st (choice (line_of y) s y b e) l x)
+  give_close P w t g r a (in_else s y b st) e l x = rw g (give_close P w t g r a st (choice (at_expression y) s y b e) l x)
   give_close P w t g r a (in_args s y es st) e l x =
       let c = no_comma t a in
       let zs : Expressions = each_then es (more e none) in
       let p = each_depth es e in
       let q = each_nodes es e in
       let X : Type 0 = Whole (Gives P st) Call (max (depth y) (max (depth_of_each es) (depth e)) + 1) (nodes y + (nodes_of_each es + nodes e) + 1) in
-      rw (g, c) (leads_if P X (is_close t) (Some (have st (apply (line_of y) s y zs))) None
+      rw (g, c) (leads_if P X (is_close t) (Some (have st (apply (at_expression y) s y zs))) None
       (λ j h. whole_falls (Gives P st) (gives_falls P w st) Call (max (depth y) (max (depth_of_each es) (depth e)) + 1) (max (depth y) (depth_of_each zs) + 1) (nodes y + (nodes_of_each es + nodes e) + 1) (nodes y + nodes_of_each zs + 1) (omega (arith, p)) (omega (arith, q)) h) (λ j. tt))
   give_close P w t g r a (in_table m es st) e l x =
       let c = no_comma t a in
@@ -686,36 +687,36 @@ mutual
       let q = each_nodes ys e in
       let c = no_comma t a in
       rw g (counted_leads P (size xs == size ys + 1) (Closed (Does P st) (max (depth_of_each xs) (max (depth_of_each ys) (depth e)) + 1) (nodes_of_each xs + (nodes_of_each ys + nodes e) + 1)) (AtListing (Any (Closed (Does P st) (max (depth_of_each xs) (max (depth_of_each ys) (max (depth e) 1)) + 1) (nodes_of_each xs + (nodes_of_each ys + nodes e) + owed (size xs) (size ys) + 1)))) nx.closing
-      (finish st (assign (line_of_first xs) xs zs) l x t) t (want (in_values xs zs st))
-      (leads_by P (Does P st (max (depth_of_each xs) (depth_of_each zs) + 1) (nodes_of_each xs + nodes_of_each zs + 1) nx.closing) (Does P st (max (depth_of_each xs) (max (depth_of_each ys) (depth e)) + 1) (nodes_of_each xs + (nodes_of_each ys + nodes e) + 1) nx.closing) (finish st (assign (line_of_first xs) xs zs) l x t)
-      (does_falls P w st (max (depth_of_each xs) (max (depth_of_each ys) (depth e)) + 1) (max (depth_of_each xs) (depth_of_each zs) + 1) (nodes_of_each xs + (nodes_of_each ys + nodes e) + 1) (nodes_of_each xs + nodes_of_each zs + 1) (omega (arith, p)) (omega (arith, q)) nx.closing) (finish_close P w t g r a st (assign (line_of_first xs) xs zs) l x))
+      (finish st (assign (at_expressions xs) xs zs) l x t) t (want (in_values xs zs st))
+      (leads_by P (Does P st (max (depth_of_each xs) (depth_of_each zs) + 1) (nodes_of_each xs + nodes_of_each zs + 1) nx.closing) (Does P st (max (depth_of_each xs) (max (depth_of_each ys) (depth e)) + 1) (nodes_of_each xs + (nodes_of_each ys + nodes e) + 1) nx.closing) (finish st (assign (at_expressions xs) xs zs) l x t)
+      (does_falls P w st (max (depth_of_each xs) (max (depth_of_each ys) (depth e)) + 1) (max (depth_of_each xs) (depth_of_each zs) + 1) (nodes_of_each xs + (nodes_of_each ys + nodes e) + 1) (nodes_of_each xs + nodes_of_each zs + 1) (omega (arith, p)) (omega (arith, q)) nx.closing) (finish_close P w t g r a st (assign (at_expressions xs) xs zs) l x))
       (λ j. absurd (let d = c in cc)))
   give_close P w t g r a (in_guard gd m st) e l x = rw g (leads_if P (Guarded gd (Does P st) (depth e) (nodes e)) (is_sign_of gd t) (Some (behind_sign gd (in_guarded gd m e st))) None (λ j. guard_leads P w gd m e st) (λ j. tt))
   give_close P w t g r a (in_test m st) e l x = rw g (leads_if P (Any (Does P st (max (depth e) 1 + 1) (nodes e + 3))) (is_do t) (Some (begin (in_do m e st))) None
       (λ j h. any_falls (Does P st) (does_falls P w st) (max (depth e) 1 + 1) (max (depth e) (max 1 1) + 1) (nodes e + 3) (nodes e + 1 + 2) (omega arith) (omega arith) (from_closing h)) (λ j. tt))
   give_close P w t g r a (in_result m st) e l x = rw g (finish_close P w t g r a st (result m e) l x)
-  give_close P w t g r a (in_while b y st) e l x = rw g (finish_close P w t g r a st (repeat_while (line_of_action y) b y e) l x)
+  give_close P w t g r a (in_while b y st) e l x = rw g (finish_close P w t g r a st (repeat_while (at_command y) b y e) l x)
   give_close P w t g r a (in_from m y st) e l x = rw g (leads_if P (Any (Does P st (max (depth e) 1 + 1) (nodes e + 3))) (is_to t) (Some (want (in_to m y e st))) None
       (λ j h. any_falls (Does P st) (does_falls P w st) (max (depth e) 1 + 1) (max (depth e) (max 1 1) + 1) (nodes e + 3) (nodes e + 1 + 2) (omega arith) (omega arith) (from_closing h)) (λ j. tt))
   give_close P w t g r a (in_to m y b st) e l x = rw g (limit_leads P w t m y b e st)
   give_close P w t g r a (in_by m y b z st) e l x = rw g (leads_if P (Any (Does P st (max (depth b) (max (depth z) (max (depth e) 1)) + 1) (nodes b + nodes z + nodes e + 2))) (is_do t) (Some (begin (in_for m y b z (more e none) st))) None
       (λ j h. any_falls (Does P st) (does_falls P w st) (max (depth b) (max (depth z) (max (depth e) 1)) + 1) (max (depth b) (max (depth z) (max (max (depth e) 0) 1)) + 1) (nodes b + nodes z + nodes e + 2) (nodes b + nodes z + (nodes e + 0) + 1 + 1) (omega arith) (omega arith) h) (λ j. tt))
   give_close P w t g r a (in_item m s is y st) e l x =
-      let js : Items = items_then is (item y.line y.letters e no_items) in
-      let p = items_depth is (item y.line y.letters e no_items) in
-      let q = items_nodes is (item y.line y.letters e no_items) in
+      let js : Items = items_then is (item y.at y.letters e no_items) in
+      let p = items_depth is (item y.at y.letters e no_items) in
+      let q = items_nodes is (item y.at y.letters e no_items) in
       rw g (leads_by P (Declares P st (depth_of_items js) (nodes_of_items js)) (Declares P st (max (depth_of_items is) (depth e + 1)) (nodes_of_items is + (nodes e + 1))) (in_constants m s js st t)
       (declares_fall P w st (max (depth_of_items is) (depth e + 1)) (depth_of_items js) (nodes_of_items is + (nodes e + 1)) (nodes_of_items js) (omega (arith, p)) (omega (arith, q))) (constants_leads P w t m s js st))
-  give_close P w t g r a (in_function y fs st) e l x = rw g (defined_leads P w t st (function y.line y.letters fs e) l x)
+  give_close P w t g r a (in_function y fs st) e l x = rw g (defined_leads P w t st (function y.at y.letters fs e) l x)
   give_close P w t g r a (in_value xs is st) e l x =
       let js : Starts = starts_then is (value e no_starts) in
       let p = starts_depth is (value e no_starts) in
       let q = starts_nodes is (value e no_starts) in
       let c = no_comma t a in
       rw g (counted_leads P (length xs == start_count is + 1) (AtClosing (Defines P st (max (depth_of_starts is) (depth e) + 1) (nodes_of_starts is + nodes e + 1)))
-      (AtListing (Defines P st (max (depth_of_starts is) (max (depth e) 1) + 1) (nodes_of_starts is + nodes e + owed (length xs) (start_count is) + 1))) nx.closing (defined_by st (variables (line_of_names xs) xs js) l x t) t (due (at_starts xs js st))
-      (leads_by P (Defines P st (depth_of_starts js + 1) (nodes_of_starts js + 1)) (Defines P st (max (depth_of_starts is) (depth e) + 1) (nodes_of_starts is + nodes e + 1)) (defined_by st (variables (line_of_names xs) xs js) l x t)
-      (defines_fall P w st (max (depth_of_starts is) (depth e) + 1) (depth_of_starts js + 1) (nodes_of_starts is + nodes e + 1) (nodes_of_starts js + 1) (omega (arith, p)) (omega (arith, q))) (defined_leads P w t st (variables (line_of_names xs) xs js) l x))
+      (AtListing (Defines P st (max (depth_of_starts is) (max (depth e) 1) + 1) (nodes_of_starts is + nodes e + owed (length xs) (start_count is) + 1))) nx.closing (defined_by st (variables (at_names xs) xs js) l x t) t (due (at_starts xs js st))
+      (leads_by P (Defines P st (depth_of_starts js + 1) (nodes_of_starts js + 1)) (Defines P st (max (depth_of_starts is) (depth e) + 1) (nodes_of_starts is + nodes e + 1)) (defined_by st (variables (at_names xs) xs js) l x t)
+      (defines_fall P w st (max (depth_of_starts is) (depth e) + 1) (depth_of_starts js + 1) (nodes_of_starts is + nodes e + 1) (nodes_of_starts js + 1) (omega (arith, p)) (omega (arith, q))) (defined_leads P w t st (variables (at_names xs) xs js) l x))
       (λ j. absurd (let d = c in cc)))
   give_close P w t g r a (in_vector m xs is st) e l x =
       let js : Starts = starts_then is (vector m e no_starts) in
@@ -723,35 +724,35 @@ mutual
       let q = starts_nodes is (vector m e no_starts) in
       let c = no_comma t a in
       rw g (counted_leads P (length xs == start_count is + 1) (AtClosing (Defines P st (max (depth_of_starts is) (depth e) + 1) (nodes_of_starts is + nodes e + 1)))
-      (AtListing (Defines P st (max (depth_of_starts is) (max (depth e) 1) + 1) (nodes_of_starts is + nodes e + owed (length xs) (start_count is) + 1))) nx.closing (defined_by st (variables (line_of_names xs) xs js) l x t) t (due (at_starts xs js st))
-      (leads_by P (Defines P st (depth_of_starts js + 1) (nodes_of_starts js + 1)) (Defines P st (max (depth_of_starts is) (depth e) + 1) (nodes_of_starts is + nodes e + 1)) (defined_by st (variables (line_of_names xs) xs js) l x t)
-      (defines_fall P w st (max (depth_of_starts is) (depth e) + 1) (depth_of_starts js + 1) (nodes_of_starts is + nodes e + 1) (nodes_of_starts js + 1) (omega (arith, p)) (omega (arith, q))) (defined_leads P w t st (variables (line_of_names xs) xs js) l x))
+      (AtListing (Defines P st (max (depth_of_starts is) (max (depth e) 1) + 1) (nodes_of_starts is + nodes e + owed (length xs) (start_count is) + 1))) nx.closing (defined_by st (variables (at_names xs) xs js) l x t) t (due (at_starts xs js st))
+      (leads_by P (Defines P st (depth_of_starts js + 1) (nodes_of_starts js + 1)) (Defines P st (max (depth_of_starts is) (depth e) + 1) (nodes_of_starts is + nodes e + 1)) (defined_by st (variables (at_names xs) xs js) l x t)
+      (defines_fall P w st (max (depth_of_starts is) (depth e) + 1) (depth_of_starts js + 1) (nodes_of_starts is + nodes e + 1) (nodes_of_starts js + 1) (omega (arith, p)) (omega (arith, q))) (defined_leads P w t st (variables (at_names xs) xs js) l x))
       (λ j. absurd (let d = c in cc)))
   give_close P w t g r a _ e l x = rw g tt
 
-  finish_close : (P : ℕ → ℕ → Type 0) → Down P → (t : Kind) → goes 12 t ≡ false → repeats t ≡ false → assigns t ≡ false → (st : Stack) (c : Action) (l : ℕ) (x : List ℕ) → Leads P (Does P st (depth_of_action c) (nodes_of_action c) nx.closing) (finish st c l x t)
+  finish_close : (P : ℕ → ℕ → Type 0) → Down P → (t : Kind) → goes 12 t ≡ false → repeats t ≡ false → assigns t ≡ false → (st : Stack) (c : Command) (l : ℕ) (x : List ℕ) → Leads P (Does P st (depth_of_command c) (nodes_of_command c) nx.closing) (finish st c l x t)
   finish_close P w t g r a (in_valof m st) c l x = rw r (give_close P w t g r a st (valof m c) l x)
   finish_close P w t g r a (in_label m y st) c l x = rw r (finish_close P w t g r a st (label m y c) l x)
   finish_close P w t g r a (in_guarded gd m e st) c l x =
       let p = guarded_depth gd m e c in
       let q = guarded_nodes gd m e c in
-      rw r (leads_by P (Does P st (depth_of_action (guarded gd m e c)) (nodes_of_action (guarded gd m e c)) nx.closing) (Does P st (max (depth e) (depth_of_action c) + 1) (nodes e + nodes_of_action c + 1) nx.closing) (finish st (guarded gd m e c) l x t)
-      (does_falls P w st (max (depth e) (depth_of_action c) + 1) (depth_of_action (guarded gd m e c)) (nodes e + nodes_of_action c + 1) (nodes_of_action (guarded gd m e c)) (omega (arith, p)) (omega (arith, q)) nx.closing) (finish_close P w t g r a st (guarded gd m e c) l x))
+      rw r (leads_by P (Does P st (depth_of_command (guarded gd m e c)) (nodes_of_command (guarded gd m e c)) nx.closing) (Does P st (max (depth e) (depth_of_command c) + 1) (nodes e + nodes_of_command c + 1) nx.closing) (finish st (guarded gd m e c) l x t)
+      (does_falls P w st (max (depth e) (depth_of_command c) + 1) (depth_of_command (guarded gd m e c)) (nodes e + nodes_of_command c + 1) (nodes_of_command (guarded gd m e c)) (omega (arith, p)) (omega (arith, q)) nx.closing) (finish_close P w t g r a st (guarded gd m e c) l x))
   finish_close P w t g r a (in_default m st) c l x = rw r (finish_close P w t g r a st (default m c) l x)
-  finish_close P w t g r a (in_do m e st) c l x = rw r (leads_if P (Any (Does P st (max (depth e) (max (depth_of_action c) 1) + 1) (nodes e + nodes_of_action c + 2))) (is_or t) (Some (begin (in_or m e c st))) None
-      (λ j h. any_falls (Does P st) (does_falls P w st) (max (depth e) (max (depth_of_action c) 1) + 1) (max (depth e) (max (depth_of_action c) 1) + 1) (nodes e + nodes_of_action c + 2) (nodes e + nodes_of_action c + 1 + 1) (omega arith) (omega arith) h) (λ j. tt))
+  finish_close P w t g r a (in_do m e st) c l x = rw r (leads_if P (Any (Does P st (max (depth e) (max (depth_of_command c) 1) + 1) (nodes e + nodes_of_command c + 2))) (is_or t) (Some (begin (in_or m e c st))) None
+      (λ j h. any_falls (Does P st) (does_falls P w st) (max (depth e) (max (depth_of_command c) 1) + 1) (max (depth e) (max (depth_of_command c) 1) + 1) (nodes e + nodes_of_command c + 2) (nodes e + nodes_of_command c + 1 + 1) (omega arith) (omega arith) h) (λ j. tt))
   finish_close P w t g r a (in_or m e y st) c l x = rw r (finish_close P w t g r a st (test m e y c) l x)
   finish_close P w t g r a (in_for m y b z u st) c l x = rw r (finish_close P w t g r a st (for_loop m y b z u c) l x)
-  finish_close P w t g r a (in_routine y fs st) c l x = rw r (defined_leads P w t st (routine y.line y.letters fs c) l x)
+  finish_close P w t g r a (in_routine y fs st) c l x = rw r (defined_leads P w t st (routine y.at y.letters fs c) l x)
   finish_close P w t g r a (in_block b free ds cs st) c l x =
-      let zs : Actions = actions_then cs (also c no_actions) in
-      let p = actions_depth cs c in
-      let q = actions_nodes cs c in
-      let X : Type 0 = Any (Does P st (max (depth_of_declarations ds) (max (depth_of_actions cs) (depth_of_action c)) + 1) (nodes_of_declarations ds + (nodes_of_actions cs + nodes_of_action c) + 1)) in
+      let zs : Commands = commands_then cs (also c no_commands) in
+      let p = commands_depth cs c in
+      let q = commands_nodes cs c in
+      let X : Type 0 = Any (Does P st (max (depth_of_declarations ds) (max (depth_of_commands cs) (depth_of_command c)) + 1) (nodes_of_declarations ds + (nodes_of_commands cs + nodes_of_command c) + 1)) in
       rw r (leads_if P X (is_semicolon t) (Some (due (in_block b true ds zs st))) (cond (closes t) (Some (did st (block b ds zs))) None)
-      (λ j h. any_falls (Does P st) (does_falls P w st) (max (depth_of_declarations ds) (max (depth_of_actions cs) (depth_of_action c)) + 1) (max (depth_of_declarations ds) (max (depth_of_actions zs) 0) + 1) (nodes_of_declarations ds + (nodes_of_actions cs + nodes_of_action c) + 1) (nodes_of_declarations ds + (nodes_of_actions zs + 0) + 1) (omega (arith, p)) (omega (arith, q)) h)
+      (λ j h. any_falls (Does P st) (does_falls P w st) (max (depth_of_declarations ds) (max (depth_of_commands cs) (depth_of_command c)) + 1) (max (depth_of_declarations ds) (max (depth_of_commands zs) 0) + 1) (nodes_of_declarations ds + (nodes_of_commands cs + nodes_of_command c) + 1) (nodes_of_declarations ds + (nodes_of_commands zs + 0) + 1) (omega (arith, p)) (omega (arith, q)) h)
       (λ j. leads_if P X (closes t) (Some (did st (block b ds zs))) None
-      (λ i h. any_falls (Does P st) (does_falls P w st) (max (depth_of_declarations ds) (max (depth_of_actions cs) (depth_of_action c)) + 1) (max (depth_of_declarations ds) (depth_of_actions zs) + 1) (nodes_of_declarations ds + (nodes_of_actions cs + nodes_of_action c) + 1) (nodes_of_declarations ds + nodes_of_actions zs + 1) (omega (arith, p)) (omega (arith, q)) h) (λ i. tt)))
+      (λ i h. any_falls (Does P st) (does_falls P w st) (max (depth_of_declarations ds) (max (depth_of_commands cs) (depth_of_command c)) + 1) (max (depth_of_declarations ds) (depth_of_commands zs) + 1) (nodes_of_declarations ds + (nodes_of_commands cs + nodes_of_command c) + 1) (nodes_of_declarations ds + nodes_of_commands zs + 1) (omega (arith, p)) (omega (arith, q)) h) (λ i. tt)))
   finish_close P w t g r a _ c l x = rw r tt
 
 -- ---- where a symbol is due
@@ -841,11 +842,11 @@ have_leads P w st e l x =
     (λ t g o. leads_by P (Operates P st (Gives P st) (depth e) (nodes e)) X (give st e l x t) (λ h. inr (operated P w st (depth e) (nodes e) (operates_any P w st (depth e) (nodes e) h))) (operator_leads P w t g o st e l x))
     (λ t g r a. leads_by P (Gives P st (form_of e) (depth e) (nodes e) nx.closing) X (give st e l x t) (at nx.closing) (give_close P w t g r a st e l x))
 
-did_leads : (P : ℕ → ℕ → Type 0) → Down P → (st : Stack) (c : Action) (l : ℕ) (x : List ℕ) (t : Kind) → Leads P (Any (Does P st (depth_of_action c) (nodes_of_action c))) (finish st c l x t)
+did_leads : (P : ℕ → ℕ → Type 0) → Down P → (st : Stack) (c : Command) (l : ℕ) (x : List ℕ) (t : Kind) → Leads P (Any (Does P st (depth_of_command c) (nodes_of_command c))) (finish st c l x t)
 did_leads P w st c l x =
     let F : ℕ → ℕ → Lookahead → Type 0 = Does P st in
-    let d : ℕ = depth_of_action c in
-    let m : ℕ = nodes_of_action c in
+    let d : ℕ = depth_of_command c in
+    let m : ℕ = nodes_of_command c in
     let X : Type 0 = Any (F d m) in
     let at : (z : Lookahead) → F d m z → X = λ z h. (z, h) in
     let more_of : Any (F (d + 1) (m + 1)) → X = any_falls F (does_falls P w st) d (d + 1) m (m + 1) (omega arith) (omega arith) in
@@ -858,11 +859,11 @@ did_leads P w st c l x =
     (λ t g r a. leads_by P (F d m nx.closing) X (finish st c l x t) (at nx.closing) (finish_close P w t g r a st c l x))
 
 -- where a command is missing behind a colon
-empty_leads : (P : ℕ → ℕ → Type 0) → Down P → (st : Stack) (c : Action) (l : ℕ) (x : List ℕ) (t : Kind) → begins_command t ≡ false → Leads P (Any (Missing (Does P st) (depth_of_action c) (nodes_of_action c))) (finish st c l x t)
+empty_leads : (P : ℕ → ℕ → Type 0) → Down P → (st : Stack) (c : Command) (l : ℕ) (x : List ℕ) (t : Kind) → begins_command t ≡ false → Leads P (Any (Missing (Does P st) (depth_of_command c) (nodes_of_command c))) (finish st c l x t)
 empty_leads P w st c l x =
     let F : ℕ → ℕ → Lookahead → Type 0 = Does P st in
-    let d : ℕ = depth_of_action c in
-    let m : ℕ = nodes_of_action c in
+    let d : ℕ = depth_of_command c in
+    let m : ℕ = nodes_of_command c in
     let X : Type 0 = Any (Missing F d m) in
     by_class (λ t. begins_command t ≡ false → Leads P X (finish st c l x t))
     (λ b. leads_by P (F d m nx.assigning) X (finish st c l x k.Assign) (λ h. (nx.assigning, h)) (finish_two P w st c l x).0)
@@ -877,8 +878,8 @@ missing_leads P w (in_label m y st) l x t b = empty_leads P w st (label m y empt
 missing_leads P w (in_guarded gd m e st) l x t b =
     let a = guarded_depth gd m e empty in
     let z = guarded_nodes gd m e empty in
-    leads_by P (Any (Missing (Does P st) (depth_of_action (guarded gd m e empty)) (nodes_of_action (guarded gd m e empty)))) (Any (Missing (Does P st) (depth e + 1) (nodes e + 1))) (finish st (guarded gd m e empty) l x t)
-    (any_missing (Does P st) (does_falls P w st) (depth e + 1) (depth_of_action (guarded gd m e empty)) (nodes e + 1) (nodes_of_action (guarded gd m e empty)) (omega (arith, a)) (omega (arith, z))) (empty_leads P w st (guarded gd m e empty) l x t b)
+    leads_by P (Any (Missing (Does P st) (depth_of_command (guarded gd m e empty)) (nodes_of_command (guarded gd m e empty)))) (Any (Missing (Does P st) (depth e + 1) (nodes e + 1))) (finish st (guarded gd m e empty) l x t)
+    (any_missing (Does P st) (does_falls P w st) (depth e + 1) (depth_of_command (guarded gd m e empty)) (nodes e + 1) (nodes_of_command (guarded gd m e empty)) (omega (arith, a)) (omega (arith, z))) (empty_leads P w st (guarded gd m e empty) l x t b)
 missing_leads P w (in_default m st) l x t b = empty_leads P w st (default m empty) l x t b
 missing_leads P w _ l x t b = tt
 
@@ -911,4 +912,4 @@ going_leads P X ts (Some y) f ds h is j = h (j y is)
 pub run_completes : (P : ℕ → ℕ → Type 0) → Down P → (ts : List Symbol) (x : State) (ds : Declarations) → run ts x ≡ Ok ds → P (depth_of_declarations ds) (nodes_of_declarations ds) → Completes P x
 unfolding run
 run_completes P w [] x ds is p = whole_leads P w (Completes P x) (stepped_by x 1 [] k.Semicolon) ds (step_leads P w x 1 [] k.Semicolon) is p
-run_completes P w (t ∷ ts) x ds is p = going_leads P (Completes P x) (t ∷ ts) (step x t) (run ts) ds (step_leads P w x t.line t.text t.kind) is (λ y r. run_completes P w ts y ds r p)
+run_completes P w (t ∷ ts) x ds is p = going_leads P (Completes P x) (t ∷ ts) (step x t) (run ts) ds (step_leads P w x (position_of t) t.text t.kind) is (λ y r. run_completes P w ts y ds r p)

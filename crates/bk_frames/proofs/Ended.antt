@@ -1,7 +1,7 @@
 -- What the end completes is no larger than any other completion.
-use Rattle.bk_frames.proofs.Terms.{◌≡◌, ◌≤◌, ◌+◌, ◌==◌, max, length, ℕ, List, [], Bool, true, false, cond, Option, Some, None, refl, subst, inl, inr, arith, nat_lt, Form, Both, inner, line_of, line_of_first, line_of_names, line_of_action, size, start_count, depth, depth_of_each, depth_of_action, depth_of_declarations, depth_of_definition, depth_of_definitions, depth_of_starts, nodes, nodes_of_each, nodes_of_action, nodes_of_declarations, nodes_of_definition, nodes_of_definitions, nodes_of_starts, each_then, starts_then, definitions_then, declarations_then, form_of, Lookahead, closing, assigning, listing, going, repeating, operating, Any, AtClosing, AtPart, If, Unlisted, Closed, Missing, Started, Answered, Whole, Taken, Gives, Does, Operates, Defines, Completes, each_depth, each_nodes, declarations_depth, declarations_nodes, definitions_depth, definitions_nodes, starts_depth, starts_nodes, Kind as k, Guard as g}
+use Rattle.bk_frames.proofs.Terms.{◌≡◌, ◌≤◌, ◌+◌, ◌==◌, max, length, ℕ, List, [], Bool, true, false, cond, Option, Some, None, refl, subst, inl, inr, arith, nat_lt, Form, Both, inner, at_expression, at_expressions, at_names, at_command, size, start_count, depth, depth_of_each, depth_of_command, depth_of_declarations, depth_of_definition, depth_of_definitions, depth_of_starts, nodes, nodes_of_each, nodes_of_command, nodes_of_declarations, nodes_of_definition, nodes_of_definitions, nodes_of_starts, each_then, starts_then, definitions_then, declarations_then, form_of, Lookahead, closing, assigning, listing, going, repeating, operating, Any, AtClosing, AtPart, If, Unlisted, Closed, Missing, Started, Answered, Whole, Taken, Gives, Does, Operates, Defines, Completes, each_depth, each_nodes, declarations_depth, declarations_nodes, definitions_depth, definitions_nodes, starts_depth, starts_nodes, Kind as k, Guard as g}
 use Rattle.bk_frames.specs.declared.size.Form.TheVariants.{Label, Call, Callable, Other}
-use Rattle.bk_tree.specs.Tree.{Expression, Expressions, Action, Definition, Declarations, name, unary, binary, choice, apply, table, call, assign, result, repeat_while, function, variables, value, vector, valof, label, default, test, for_loop, routine, empty, none, more, no_starts, no_items, item, declare, no_declarations, definitions, define, no_definitions}
+use Rattle.bk_tree.specs.Tree.{Expression, Expressions, Command, Definition, Declarations, name, unary, binary, choice, apply, table, call, assign, result, repeat_while, function, variables, value, vector, valof, label, default, test, for_loop, routine, empty, none, more, no_starts, no_items, item, declare, no_declarations, definitions, define, no_definitions}
 use Rattle.bk_grammar.specs.Machine.{Stack, State, want, have, maybe, did, due, in_section, in_block, in_let, at_name, at_starts, at_items, in_unary, in_binary, in_chain, in_else, in_table, in_start, in_values, in_guard, in_result, in_while, in_function, in_value, in_vector, in_valof, in_label, in_guarded, in_default, in_or, in_for, in_routine, give, finish, defined_by, stepped_by, counted, guarded, inside}
 use Rattle.bk_frames.proofs.Turns.{guarded_depth, guarded_nodes}
 use Rattle.bk_frames.proofs.Lowering.{Down}
@@ -93,7 +93,7 @@ no_label : (f : Form) (m s : ℕ) (x : Expression) (es : Expressions) → Apart 
 no_label Label m s x es a h = a
 no_label _ m s x es a h = cc
 
-not_call : (f : Form) (m : ℕ) (y : Action) → Apart f (valof m y)
+not_call : (f : Form) (m : ℕ) (y : Command) → Apart f (valof m y)
 not_call Label m y = tt
 not_call _ m y = tt
 
@@ -116,10 +116,10 @@ mutual
   -- an expression is complete
   gives : (P : ℕ → ℕ → Type 0) → Down P → (st : Stack) (f : Form) (e : Expression) (l : ℕ) (x : List ℕ) (ds : Declarations) → Ended (give st e l x k.Semicolon) ds → Apart f e → NoLess P ds (Gives P st f) (depth e) (nodes e)
   gives P w (in_unary m o st) f e l x ds h a d n p q c i = gives P w st Other (unary m o e) l x ds h tt (d + 1) (n + 1) (omega (arith, p)) (omega (arith, q)) c i
-  gives P w (in_binary o s y st) f e l x ds h a d n p q c i = gives P w st Other (binary (line_of y) o s y e) l x ds h tt (max (depth y) d + 1) (nodes y + n + 1) (omega (arith, p)) (omega (arith, q)) c i
+  gives P w (in_binary o s y st) f e l x ds h a d n p q c i = gives P w st Other (binary (at_expression y) o s y e) l x ds h tt (max (depth y) d + 1) (nodes y + n + 1) (omega (arith, p)) (omega (arith, q)) c i
   gives P w (in_chain o s y z st) f e l x ds h a d n p q c i =
-      gives P w st Other (binary (line_of y) Both s y (binary (line_of z) o s z e)) l x ds h tt (max (depth y) (max (depth z) d + 1) + 1) (nodes y + (nodes z + n + 1) + 1) (omega (arith, p)) (omega (arith, q)) c i
-  gives P w (in_else s y z st) f e l x ds h a d n p q c i = gives P w st Other (choice (line_of y) s y z e) l x ds h tt (max (depth y) (max (depth z) d) + 1) (nodes y + nodes z + n + 1) (omega (arith, p)) (omega (arith, q)) c i
+      gives P w st Other (binary (at_expression y) Both s y (binary (at_expression z) o s z e)) l x ds h tt (max (depth y) (max (depth z) d + 1) + 1) (nodes y + (nodes z + n + 1) + 1) (omega (arith, p)) (omega (arith, q)) c i
+  gives P w (in_else s y z st) f e l x ds h a d n p q c i = gives P w st Other (choice (at_expression y) s y z e) l x ds h tt (max (depth y) (max (depth z) d) + 1) (nodes y + nodes z + n + 1) (omega (arith, p)) (omega (arith, q)) c i
   gives P w (in_table m es st) f e l x ds h a d n p q c i =
       let u = each_depth es e in
       let v = each_nodes es e in
@@ -130,36 +130,36 @@ mutual
       started_has P ds (Does P st) (depth (apply m s y es)) (nodes (apply m s y es)) (finishes P w st (call m y es) l x ds h) f (no_label f m s y es a) d n p q c i
   gives P w (in_start st) f _ l x ds h a d n p q c i = absurd cc
   gives P w (in_values xs ys st) f e l x ds h a d n p q c i =
-      let z = counted_is (size xs == size ys + 1) (finish st (assign (line_of_first xs) xs (each_then ys (more e none))) l x k.Semicolon) (want (in_values xs (each_then ys (more e none)) st)) ds h in
+      let z = counted_is (size xs == size ys + 1) (finish st (assign (at_expressions xs) xs (each_then ys (more e none))) l x k.Semicolon) (want (in_values xs (each_then ys (more e none)) st)) ds h in
       let u = each_depth ys e in
       let v = each_nodes ys e in
-      values_have P ds (Does P st) _ _ _ (size xs == size ys + 1) z.0 (finishes P w st (assign (line_of_first xs) xs (each_then ys (more e none))) l x ds z.1)
+      values_have P ds (Does P st) _ _ _ (size xs == size ys + 1) z.0 (finishes P w st (assign (at_expressions xs) xs (each_then ys (more e none))) l x ds z.1)
       (max (depth_of_each xs) (max (depth_of_each ys) d) + 1) (nodes_of_each xs + (nodes_of_each ys + n) + 1) (omega (arith, p, u)) (omega (arith, q, v)) c i
   gives P w (in_guard g.SwitchOn m st) f e l x ds h a d n p q c i = absurd cc
   gives P w (in_guard g.Case m st) f e l x ds h a d n p q c i = absurd cc
   gives P w (in_guard _ m st) f e l x ds h a d n p q c i = absurd cc
   gives P w (in_result m st) f e l x ds h a d n p q c i = closed_has P ds (Does P st) _ _ (finishes P w st (result m e) l x ds h) (d + 1) (n + 1) (omega (arith, p)) (omega (arith, q)) c i
   gives P w (in_while b y st) f e l x ds h a d n p q c i =
-      closed_has P ds (Does P st) _ _ (finishes P w st (repeat_while (line_of_action y) b y e) l x ds h) (max (depth_of_action y) d + 1) (nodes_of_action y + n + 1) (omega (arith, p)) (omega (arith, q)) c i
-  gives P w (in_function m fs st) f e l x ds h a d n p q c i = at_closing_has (Has P ds) _ (defines P w st (function m.line m.letters fs e) l x ds h (d + 1) (n + 1) (omega (arith, p)) (omega (arith, q))) c i
+      closed_has P ds (Does P st) _ _ (finishes P w st (repeat_while (at_command y) b y e) l x ds h) (max (depth_of_command y) d + 1) (nodes_of_command y + n + 1) (omega (arith, p)) (omega (arith, q)) c i
+  gives P w (in_function m fs st) f e l x ds h a d n p q c i = at_closing_has (Has P ds) _ (defines P w st (function m.at m.letters fs e) l x ds h (d + 1) (n + 1) (omega (arith, p)) (omega (arith, q))) c i
   gives P w (in_value ns is st) f e l x ds h a d n p q c i =
-      let z = counted_is (length ns == start_count is + 1) (defined_by st (variables (line_of_names ns) ns (starts_then is (value e no_starts))) l x k.Semicolon) (due (at_starts ns (starts_then is (value e no_starts)) st)) ds h in
+      let z = counted_is (length ns == start_count is + 1) (defined_by st (variables (at_names ns) ns (starts_then is (value e no_starts))) l x k.Semicolon) (due (at_starts ns (starts_then is (value e no_starts)) st)) ds h in
       let u = starts_depth is (value e no_starts) in
       let v = starts_nodes is (value e no_starts) in
       starts_have (Has P ds) _ _ (length ns == start_count is + 1) z.0
-      (defines P w st (variables (line_of_names ns) ns (starts_then is (value e no_starts))) l x ds z.1 (max (depth_of_starts is) d + 1) (nodes_of_starts is + n + 1) (omega (arith, p, u)) (omega (arith, q, v))) c i
+      (defines P w st (variables (at_names ns) ns (starts_then is (value e no_starts))) l x ds z.1 (max (depth_of_starts is) d + 1) (nodes_of_starts is + n + 1) (omega (arith, p, u)) (omega (arith, q, v))) c i
   gives P w (in_vector m ns is st) f e l x ds h a d n p q c i =
-      let z = counted_is (length ns == start_count is + 1) (defined_by st (variables (line_of_names ns) ns (starts_then is (vector m e no_starts))) l x k.Semicolon) (due (at_starts ns (starts_then is (vector m e no_starts)) st)) ds h in
+      let z = counted_is (length ns == start_count is + 1) (defined_by st (variables (at_names ns) ns (starts_then is (vector m e no_starts))) l x k.Semicolon) (due (at_starts ns (starts_then is (vector m e no_starts)) st)) ds h in
       let u = starts_depth is (vector m e no_starts) in
       let v = starts_nodes is (vector m e no_starts) in
       starts_have (Has P ds) _ _ (length ns == start_count is + 1) z.0
-      (defines P w st (variables (line_of_names ns) ns (starts_then is (vector m e no_starts))) l x ds z.1 (max (depth_of_starts is) d + 1) (nodes_of_starts is + n + 1) (omega (arith, p, u)) (omega (arith, q, v))) c i
+      (defines P w st (variables (at_names ns) ns (starts_then is (vector m e no_starts))) l x ds z.1 (max (depth_of_starts is) d + 1) (nodes_of_starts is + n + 1) (omega (arith, p, u)) (omega (arith, q, v))) c i
   gives P w _ f e l x ds h a d n p q c i = absurd cc
 
   -- a command is complete
-  finishes : (P : ℕ → ℕ → Type 0) → Down P → (st : Stack) (y : Action) (l : ℕ) (x : List ℕ) (ds : Declarations) → Ended (finish st y l x k.Semicolon) ds → NoLess P ds (Does P st) (depth_of_action y) (nodes_of_action y)
+  finishes : (P : ℕ → ℕ → Type 0) → Down P → (st : Stack) (y : Command) (l : ℕ) (x : List ℕ) (ds : Declarations) → Ended (finish st y l x k.Semicolon) ds → NoLess P ds (Does P st) (depth_of_command y) (nodes_of_command y)
   finishes P w (in_valof m st) y l x ds h d n p q c i =
-      answered_has P ds (Gives P st) (Operates P st (Gives P st)) (depth_of_action y) (nodes_of_action y) (λ f other. gives P w st f (valof m y) l x ds h (not_call f m y))
+      answered_has P ds (Gives P st) (Operates P st (Gives P st)) (depth_of_command y) (nodes_of_command y) (λ f other. gives P w st f (valof m y) l x ds h (not_call f m y))
       (operates P w st (valof m y) l x ds h (gives P w st Other (valof m y) l x ds h tt)) d n p q c i
   finishes P w (in_label m z st) y l x ds h d n p q c i = finishes P w st (label m z y) l x ds h (d + 1) (n + 1) (omega (arith, p)) (omega (arith, q)) c i
   finishes P w (in_guarded gd m e st) y l x ds h d n p q c i =
@@ -167,10 +167,10 @@ mutual
       let v = guarded_nodes gd m e y in
       finishes P w st (guarded gd m e y) l x ds h (max (depth e) d + 1) (nodes e + n + 1) (omega (arith, p, u)) (omega (arith, q, v)) c i
   finishes P w (in_default m st) y l x ds h d n p q c i = finishes P w st (default m y) l x ds h (d + 1) (n + 1) (omega (arith, p)) (omega (arith, q)) c i
-  finishes P w (in_or m e a st) y l x ds h d n p q c i = finishes P w st (test m e a y) l x ds h (max (depth e) (max (depth_of_action a) d) + 1) (nodes e + nodes_of_action a + n + 1) (omega (arith, p)) (omega (arith, q)) c i
+  finishes P w (in_or m e a st) y l x ds h d n p q c i = finishes P w st (test m e a y) l x ds h (max (depth e) (max (depth_of_command a) d) + 1) (nodes e + nodes_of_command a + n + 1) (omega (arith, p)) (omega (arith, q)) c i
   finishes P w (in_for m z a b t st) y l x ds h d n p q c i =
       finishes P w st (for_loop m z a b t y) l x ds h (max (depth a) (max (depth b) (max (depth_of_each t) d)) + 1) (nodes a + nodes b + nodes_of_each t + n + 1) (omega (arith, p)) (omega (arith, q)) c i
-  finishes P w (in_routine m fs st) y l x ds h d n p q c i = at_closing_has (Has P ds) _ (defines P w st (routine m.line m.letters fs y) l x ds h (d + 1) (n + 1) (omega (arith, p)) (omega (arith, q))) c i
+  finishes P w (in_routine m fs st) y l x ds h d n p q c i = at_closing_has (Has P ds) _ (defines P w st (routine m.at m.letters fs y) l x ds h (d + 1) (n + 1) (omega (arith, p)) (omega (arith, q))) c i
   finishes P w _ y l x ds h d n p q c i = absurd cc
 
   -- an operator comes behind an expression that is complete
@@ -178,7 +178,7 @@ mutual
       → (d n : ℕ) → depth e ≤ d → nodes e ≤ n → Operates P st (Gives P st) d n → Has P ds
   operates P w (in_binary o s y st) e l x ds h f d n p q i =
       taken_has (nat_lt 1 (inner o)) (Has P ds) _ _ (λ j. f (d + 1) (n + 2) (omega (arith, p)) (omega (arith, q)) j.0 j.1)
-      (operates P w st (binary (line_of y) o s y e) l x ds h (gives P w st Other (binary (line_of y) o s y e) l x ds h tt) (max (depth y) d + 1) (nodes y + n + 1) (omega (arith, p)) (omega (arith, q))) i
+      (operates P w st (binary (at_expression y) o s y e) l x ds h (gives P w st Other (binary (at_expression y) o s y e) l x ds h tt) (max (depth y) d + 1) (nodes y + n + 1) (omega (arith, p)) (omega (arith, q))) i
   operates P w _ e l x ds h f d n p q i = f (d + 1) (n + 2) (omega (arith, p)) (omega (arith, q)) i.0 i.1
 
 inside_not : (b : Bool) (ds : Declarations) → Ended (cond b None None) ds → ⊥
@@ -199,7 +199,7 @@ missed P ds F G a b f h = missing_has P ds F a b f a b (omega arith) (omega arit
 -- the section is whole behind a semicolon
 pub ends : (P : ℕ → ℕ → Type 0) → Down P → (x : State) (ds : Declarations) → Ended (stepped_by x 1 [] k.Semicolon) ds → Completes P x → Has P ds
 ends P w (have st e) ds h i = whole_has P ds (Gives P st) (form_of e) (depth e) (nodes e) (gives P w st (form_of e) e 1 [] ds h (form_apart e)) (gives P w st Call e 1 [] ds h tt) i
-ends P w (did st c) ds h i = finishes P w st c 1 [] ds h (depth_of_action c) (nodes_of_action c) (omega arith) (omega arith) i.0 i.1
+ends P w (did st c) ds h i = finishes P w st c 1 [] ds h (depth_of_command c) (nodes_of_command c) (omega arith) (omega arith) i.0 i.1
 ends P w (due (in_section gs)) ds h i =
     subst (Has P) (section_is gs ds h) (w _ (max (depth_of_declarations gs) 0) _ (nodes_of_declarations gs + 0) (omega arith) (omega arith) i)
 ends P w (due (at_name n st)) ds h i = absurd (inside_not (inside st) ds h)

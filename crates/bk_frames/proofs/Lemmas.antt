@@ -5,4 +5,4 @@ pub use Rattle.bk_frames.proofs.Insides.{inside_at, inside_short, limit_member, 
 pub use Rattle.bk_frames.proofs.Lowering.{Down, at_most_down, levels_down}
 pub use Rattle.bk_frames.proofs.Possible.{possible}
 pub use Rattle.bk_frames.proofs.Stacks.{frames_laws, last_on, none_on, stack_none, stack_take}
-pub use Rattle.bk_frames.proofs.Turns.{again_cases, binary_done, call_done, command_cases, constants_cases, declaration_cases, declared_then, dests_cases, formals_cases, guarded_depth, guarded_nodes, guarded_sizes, headed_cases, items_cases, last_cases, limit_cases, named_cases, names_cases, no_args_cases, operand_cases, push_cases, related_last, some_actions, unary_done}
+pub use Rattle.bk_frames.proofs.Turns.{again_cases, binary_done, call_done, command_cases, constants_cases, declaration_cases, declared_then, dests_cases, formals_cases, guarded_depth, guarded_nodes, guarded_sizes, headed_cases, items_cases, last_cases, limit_cases, named_cases, names_cases, no_args_cases, operand_cases, push_cases, related_last, some_commands, unary_done}

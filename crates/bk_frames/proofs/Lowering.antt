@@ -1,5 +1,5 @@
 -- What can be completed with a part can be completed with a smaller one.
-use Rattle.bk_frames.proofs.Terms.{◌≤◌, ℕ, ◌+◌, max, Bool, true, false, ◌==◌, length, inl, inr, arith, Guard, Form, depth, depth_of_each, depth_of_action, depth_of_actions, depth_of_declarations, depth_of_items, depth_of_definitions, depth_of_starts, nodes, nodes_of_each, nodes_of_action, nodes_of_actions, nodes_of_declarations, nodes_of_items, nodes_of_definitions, nodes_of_starts, nat_lt, inner, size, start_count, Stack, in_section, in_block, in_let, in_parens, in_unary, in_binary, in_chain, in_then, in_else, in_args, in_table, in_start, in_dests, in_values, in_guard, in_test, in_result, in_while, in_from, in_to, in_by, in_item, in_function, in_value, in_vector, in_valof, in_label, in_guarded, in_default, in_do, in_or, in_for, in_routine, owed, AtMost, LevelsAtMost, Lookahead, closing, assigning, listing, going, repeating, operating, Any, AtClosing, AtListing, AtArgument, AtAssignment, Unlisted, AtPart, If, Closed, Missing, Started, Answered, Whole, Guarded, Taken, Gives, Does, Operates, Defines, Declares, Guard as g}
+use Rattle.bk_frames.proofs.Terms.{◌≤◌, ℕ, ◌+◌, max, Bool, true, false, ◌==◌, length, inl, inr, arith, Guard, Form, depth, depth_of_each, depth_of_command, depth_of_commands, depth_of_declarations, depth_of_items, depth_of_definitions, depth_of_starts, nodes, nodes_of_each, nodes_of_command, nodes_of_commands, nodes_of_declarations, nodes_of_items, nodes_of_definitions, nodes_of_starts, nat_lt, inner, size, start_count, Stack, in_section, in_block, in_let, in_parens, in_unary, in_binary, in_chain, in_then, in_else, in_args, in_table, in_start, in_dests, in_values, in_guard, in_test, in_result, in_while, in_from, in_to, in_by, in_item, in_function, in_value, in_vector, in_valof, in_label, in_guarded, in_default, in_do, in_or, in_for, in_routine, owed, AtMost, LevelsAtMost, Lookahead, closing, assigning, listing, going, repeating, operating, Any, AtClosing, AtListing, AtArgument, AtAssignment, Unlisted, AtPart, If, Closed, Missing, Started, Answered, Whole, Guarded, Taken, Gives, Does, Operates, Defines, Declares, Guard as g}
 use Rattle.bk_frames.specs.declared.size.Form.TheVariants.{Call, Callable, Other}
 
 -- a smaller section has the property too
@@ -118,7 +118,7 @@ mutual
   gives_falls P w (in_guard k l st) f d e n m p q c h = at_closing (guarded_falls k (Does P st) (does_falls P w st) d e n m p q) c h
   gives_falls P w (in_test l st) f d e n m p q c h = at_closing (any_falls (Does P st) (does_falls P w st) (max d 1 + 1) (max e 1 + 1) (n + 3) (m + 3) (omega (arith, p)) (omega (arith, q))) c h
   gives_falls P w (in_result l st) f d e n m p q c h = closed_falls (Does P st) (does_falls P w st) (d + 1) (e + 1) (n + 1) (m + 1) (omega (arith, p)) (omega (arith, q)) c h
-  gives_falls P w (in_while b a st) f d e n m p q c h = closed_falls (Does P st) (does_falls P w st) (max (depth_of_action a) d + 1) (max (depth_of_action a) e + 1) (nodes_of_action a + n + 1) (nodes_of_action a + m + 1) (omega (arith, p)) (omega (arith, q)) c h
+  gives_falls P w (in_while b a st) f d e n m p q c h = closed_falls (Does P st) (does_falls P w st) (max (depth_of_command a) d + 1) (max (depth_of_command a) e + 1) (nodes_of_command a + n + 1) (nodes_of_command a + m + 1) (omega (arith, p)) (omega (arith, q)) c h
   gives_falls P w (in_from l x st) f d e n m p q c h = at_closing (any_falls (Does P st) (does_falls P w st) (max d 1 + 1) (max e 1 + 1) (n + 3) (m + 3) (omega (arith, p)) (omega (arith, q))) c h
   gives_falls P w (in_to l x a st) f d e n m p q c h = at_closing (any_falls (Does P st) (does_falls P w st) (max (depth a) (max d 1) + 1) (max (depth a) (max e 1) + 1) (nodes a + n + 2) (nodes a + m + 2) (omega (arith, p)) (omega (arith, q))) c h
   gives_falls P w (in_by l x a b st) f d e n m p q c h = at_closing (any_falls (Does P st) (does_falls P w st) (max (depth a) (max (depth b) (max d 1)) + 1) (max (depth a) (max (depth b) (max e 1)) + 1) (nodes a + nodes b + n + 2) (nodes a + nodes b + m + 2) (omega (arith, p)) (omega (arith, q))) c h
@@ -138,10 +138,10 @@ mutual
   does_falls P w (in_guarded k l x st) d e n m p q c h = does_falls P w st (max (depth x) d + 1) (max (depth x) e + 1) (nodes x + n + 1) (nodes x + m + 1) (omega (arith, p)) (omega (arith, q)) c h
   does_falls P w (in_default l st) d e n m p q c h = does_falls P w st (d + 1) (e + 1) (n + 1) (m + 1) (omega (arith, p)) (omega (arith, q)) c h
   does_falls P w (in_do l x st) d e n m p q c h = at_closing (any_falls (Does P st) (does_falls P w st) (max (depth x) (max d 1) + 1) (max (depth x) (max e 1) + 1) (nodes x + n + 2) (nodes x + m + 2) (omega (arith, p)) (omega (arith, q))) c h
-  does_falls P w (in_or l x a st) d e n m p q c h = does_falls P w st (max (depth x) (max (depth_of_action a) d) + 1) (max (depth x) (max (depth_of_action a) e) + 1) (nodes x + nodes_of_action a + n + 1) (nodes x + nodes_of_action a + m + 1) (omega (arith, p)) (omega (arith, q)) c h
+  does_falls P w (in_or l x a st) d e n m p q c h = does_falls P w st (max (depth x) (max (depth_of_command a) d) + 1) (max (depth x) (max (depth_of_command a) e) + 1) (nodes x + nodes_of_command a + n + 1) (nodes x + nodes_of_command a + m + 1) (omega (arith, p)) (omega (arith, q)) c h
   does_falls P w (in_for l x a b y st) d e n m p q c h = does_falls P w st (max (depth a) (max (depth b) (max (depth_of_each y) d)) + 1) (max (depth a) (max (depth b) (max (depth_of_each y) e)) + 1) (nodes a + nodes b + nodes_of_each y + n + 1) (nodes a + nodes b + nodes_of_each y + m + 1) (omega (arith, p)) (omega (arith, q)) c h
   does_falls P w (in_routine x fs st) d e n m p q c h = at_closing (defines_fall P w st (d + 1) (e + 1) (n + 1) (m + 1) (omega (arith, p)) (omega (arith, q))) c h
-  does_falls P w (in_block l b ds cs st) d e n m p q c h = at_closing (any_falls (Does P st) (does_falls P w st) (max (depth_of_declarations ds) (max (depth_of_actions cs) d) + 1) (max (depth_of_declarations ds) (max (depth_of_actions cs) e) + 1) (nodes_of_declarations ds + (nodes_of_actions cs + n) + 1) (nodes_of_declarations ds + (nodes_of_actions cs + m) + 1) (omega (arith, p)) (omega (arith, q))) c h
+  does_falls P w (in_block l b ds cs st) d e n m p q c h = at_closing (any_falls (Does P st) (does_falls P w st) (max (depth_of_declarations ds) (max (depth_of_commands cs) d) + 1) (max (depth_of_declarations ds) (max (depth_of_commands cs) e) + 1) (nodes_of_declarations ds + (nodes_of_commands cs + n) + 1) (nodes_of_declarations ds + (nodes_of_commands cs + m) + 1) (omega (arith, p)) (omega (arith, q))) c h
   does_falls P w _ d e n m p q c h = h
 
   pub operates_fall : (P : ℕ → ℕ → Type 0) → Down P → (st : Stack) → ((f : Form) → Falls (Gives P st f)) → Down (Operates P st (Gives P st))
@@ -154,5 +154,5 @@ mutual
 
   pub declares_fall : (P : ℕ → ℕ → Type 0) → Down P → (st : Stack) (d e n m : ℕ) → d ≤ e → n ≤ m → Declares P st e m → Declares P st d n
   declares_fall P w (in_section ds) d e n m p q h = w (max (depth_of_declarations ds) d) (max (depth_of_declarations ds) e) (nodes_of_declarations ds + n) (nodes_of_declarations ds + m) (omega (arith, p)) (omega (arith, q)) h
-  declares_fall P w (in_block l b ds cs st) d e n m p q h = any_falls (Does P st) (does_falls P w st) (max (depth_of_declarations ds) (max (depth_of_actions cs) d) + 1) (max (depth_of_declarations ds) (max (depth_of_actions cs) e) + 1) (nodes_of_declarations ds + (nodes_of_actions cs + n) + 1) (nodes_of_declarations ds + (nodes_of_actions cs + m) + 1) (omega (arith, p)) (omega (arith, q)) h
+  declares_fall P w (in_block l b ds cs st) d e n m p q h = any_falls (Does P st) (does_falls P w st) (max (depth_of_declarations ds) (max (depth_of_commands cs) d) + 1) (max (depth_of_declarations ds) (max (depth_of_commands cs) e) + 1) (nodes_of_declarations ds + (nodes_of_commands cs + n) + 1) (nodes_of_declarations ds + (nodes_of_commands cs + m) + 1) (omega (arith, p)) (omega (arith, q)) h
   declares_fall P w _ d e n m p q h = h

@@ -1,5 +1,5 @@
 -- The ways of an expression that was begun, and of what waits for one, are the ways on.
-use Rattle.bk_frames.proofs.Terms.{◌≡◌, ◌↔◌, ℕ, ◌+◌, ◌==◌, max, not, Bool, true, false, List, length, refl, arith, nat_lt, Operator, Prefix, Sort, Guard, Closing, Assigning, Listing, Repeating, Form, Mention, Expressions, Action, Items, Starts, none, more, depth, depth_of_each, depth_of_action, depth_of_items, depth_of_starts, nodes, nodes_of_each, nodes_of_action, nodes_of_items, nodes_of_starts, inner, size, start_count, Stack, in_parens, in_unary, in_binary, in_chain, in_then, in_else, in_args, in_table, in_start, in_dests, in_values, in_guard, in_test, in_result, in_while, in_from, in_to, in_by, in_item, in_function, in_value, in_vector, owed, Limit, is_tight, Tight, Closes, Part, led, goes_on, completions_of_binary, completions_of_values, completions_of_starts, Any, AtClosing, AtListing, If, Taken, Gives, Does, Operates, Defines, Guard as g, Link as l, Form as f}
+use Rattle.bk_frames.proofs.Terms.{◌≡◌, ◌↔◌, ℕ, ◌+◌, ◌==◌, max, not, Bool, true, false, List, length, refl, arith, nat_lt, Operator, Prefix, Sort, Guard, Closing, Assigning, Listing, Repeating, Form, Mention, Expressions, Items, Starts, none, more, depth, depth_of_each, depth_of_command, depth_of_items, depth_of_starts, nodes, nodes_of_each, nodes_of_command, nodes_of_items, nodes_of_starts, inner, size, start_count, Stack, in_parens, in_unary, in_binary, in_chain, in_then, in_else, in_args, in_table, in_start, in_dests, in_values, in_guard, in_test, in_result, in_while, in_from, in_to, in_by, in_item, in_function, in_value, in_vector, owed, Limit, is_tight, Tight, Closes, Part, led, goes_on, completions_of_binary, completions_of_values, completions_of_starts, Any, AtClosing, AtListing, If, Taken, Gives, Does, Operates, Defines, Guard as g, Link as l, Form as f}
 use Rattle.bk_frames.specs.declared.budget.Category.TheVariants.{Expression, Label, Call, Operated, Command, Definition, Declaration, Closed}
 use Rattle.bk_tree.specs.Tree as r
 use Rattle.bk_frames.specs.Completing as w
@@ -43,8 +43,8 @@ by_ b st k x a e h g c d n = link_test (l.Then Closing) (Does (Limit b) st) (doe
 pub result : (b : Bool) (st : Stack) (k : ℕ) → Budgets b st → (g : Form) (c : w.Lookahead) (d n : ℕ) → Gives (Limit b) (in_result k st) g d n c ↔ (goes_on b (in_result k st) Expression c d n ≡ true)
 result b st k h g c d n = via (split_closed (Does (Limit b) st) (d + 1) (n + 1) c) (either (link_test l.Ended (Does (Limit b) st) (does_falls (Limit b) (limit_down b) st) (goes_on b st Command) (λ j e m. h Command j e m tt) (d + 1) _ (n + 1) _ c (omega arith) (omega arith)) (link_test (l.Then Repeating) (Does (Limit b) st) (does_falls (Limit b) (limit_down b) st) (goes_on b st Command) (λ j e m. h Command j e m tt) (d + 1 + 1) _ (n + 1 + 1) _ c (omega arith) (omega arith)))
 
-pub while_ : (b : Bool) (st : Stack) (t : Bool) (a : Action) → Budgets b st → (g : Form) (c : w.Lookahead) (d n : ℕ) → Gives (Limit b) (in_while t a st) g d n c ↔ (goes_on b (in_while t a st) Expression c d n ≡ true)
-while_ b st t a h g c d n = via (split_closed (Does (Limit b) st) (max (depth_of_action a) d + 1) (nodes_of_action a + n + 1) c) (either (link_test l.Ended (Does (Limit b) st) (does_falls (Limit b) (limit_down b) st) (goes_on b st Command) (λ j e m. h Command j e m tt) (max (depth_of_action a) d + 1) _ (nodes_of_action a + n + 1) _ c (omega arith) (omega arith)) (link_test (l.Then Repeating) (Does (Limit b) st) (does_falls (Limit b) (limit_down b) st) (goes_on b st Command) (λ j e m. h Command j e m tt) (max (depth_of_action a) d + 1 + 1) _ (nodes_of_action a + n + 1 + 1) _ c (omega arith) (omega arith)))
+pub while_ : (b : Bool) (st : Stack) (t : Bool) (a : r.Command) → Budgets b st → (g : Form) (c : w.Lookahead) (d n : ℕ) → Gives (Limit b) (in_while t a st) g d n c ↔ (goes_on b (in_while t a st) Expression c d n ≡ true)
+while_ b st t a h g c d n = via (split_closed (Does (Limit b) st) (max (depth_of_command a) d + 1) (nodes_of_command a + n + 1) c) (either (link_test l.Ended (Does (Limit b) st) (does_falls (Limit b) (limit_down b) st) (goes_on b st Command) (λ j e m. h Command j e m tt) (max (depth_of_command a) d + 1) _ (nodes_of_command a + n + 1) _ c (omega arith) (omega arith)) (link_test (l.Then Repeating) (Does (Limit b) st) (does_falls (Limit b) (limit_down b) st) (goes_on b st Command) (λ j e m. h Command j e m tt) (max (depth_of_command a) d + 1 + 1) _ (nodes_of_command a + n + 1 + 1) _ c (omega arith) (omega arith)))
 
 pub item_ : (b : Bool) (st : Stack) (k : ℕ) (q : Sort) (is : Items) (x : Mention) → Budgets b st → (g : Form) (c : w.Lookahead) (d n : ℕ) → Gives (Limit b) (in_item k q is x st) g d n c ↔ (goes_on b (in_item k q is x st) Expression c d n ≡ true)
 item_ b st k q is x h g c d n = via (closing_any _ c) (link_test (l.Then Closing) (declared b st) (declared_falls b st) (goes_on b st Declaration) (λ j e m. h Declaration j e m tt) (max (depth_of_items is) (d + 1)) _ (nodes_of_items is + (n + 1)) _ c (omega arith) (omega arith))

@@ -1,7 +1,7 @@
 -- What is surely spare on a stack leaves what is surely spare above it.
-use Rattle.bk_frames.proofs.Terms.{◌≡◌, ◌≤◌, ◌<◌, ℕ, zero, suc, List, [], ◌∷◌, cond, refl, ◌+◌, ◌==◌, max, Bool, true, false, length, inl, inr, ap, arith, TREE_DEPTH, Guard, Size, Frame, Decl, Unfinished, ParserState, Form, depth, depth_of_each, depth_of_action, depth_of_actions, depth_of_declarations, depth_of_items, depth_of_definitions, depth_of_starts, nodes, nodes_of_each, nodes_of_action, nodes_of_actions, nodes_of_declarations, nodes_of_items, nodes_of_definitions, nodes_of_starts, nat_lt, nat_le, map, nat_tests, inner, size, start_count, Stack, in_section, in_args, unfinished_on, kept, owed, form_of, size_of_declarations, held_depth, held_nodes, Always, Limit, owes, alone, spare_of_section, Leaves, IsSmall, above, stack, spare_under, spare_below, Spared, state, part_of, Guard as g, OpenExpression as o, Phrase as p, Member as member, Clause as c, Place as a, Point as t, Unfinished as b, ParserState as n}
+use Rattle.bk_frames.proofs.Terms.{◌≡◌, ◌≤◌, ◌<◌, ℕ, zero, suc, List, [], ◌∷◌, cond, refl, ◌+◌, ◌==◌, max, Bool, true, false, length, inl, inr, ap, arith, TREE_DEPTH, Guard, Size, Frame, Decl, Unfinished, ParserState, Form, depth, depth_of_each, depth_of_command, depth_of_commands, depth_of_declarations, depth_of_items, depth_of_definitions, depth_of_starts, nodes, nodes_of_each, nodes_of_command, nodes_of_commands, nodes_of_declarations, nodes_of_items, nodes_of_definitions, nodes_of_starts, nat_lt, nat_le, map, nat_tests, inner, size, start_count, Stack, in_section, in_args, unfinished_on, kept, owed, form_of, size_of_declarations, held_depth, held_nodes, Always, Limit, owes, alone, spare_of_section, Leaves, IsSmall, above, stack, spare_under, spare_below, Spared, state, part_of, Guard as g, OpenExpression as o, Phrase as p, Member as member, Clause as c, Place as a, Point as t, Unfinished as b, ParserState as n}
 use Rattle.bk_frames.specs.declared.size.Form.TheVariants.{Label, Call, Callable, Other}
-use Rattle.bk_tree.specs.Tree.{Expression, Expressions, Items, Declarations, no_items, item, none, more, mention, expression, expressions_in, step_in, action, actions_in, declarations_in, items_in, definitions_in, starts_in}
+use Rattle.bk_tree.specs.Tree.{Expression, Expressions, Items, Declarations, no_items, item, none, more, mention, expression, expressions_in, step_in, command_in, commands_in, declarations_in, items_in, definitions_in, starts_in}
 use Rattle.bk_frames.specs.Completing.{Lookahead, closing, assigning, listing, going, repeating, operating, Closed, Missing, Started, Whole, Guarded, Taken, Gives, Does, Operates, Defines, Declares, Wants, Misses, Lists, Due, Completes}
 use Rattle.bk_frames.proofs.Lowering.{at_closing, at_listing, at_argument, at_assignment, any, at_part, either}
 
@@ -110,8 +110,8 @@ module _ (e m l k : ℕ) (st : Stack) (s : Sure l k st) where
   gives_on (b.Phrase (p.Test i)) (u, v, w, y, z) f d n p q c h = at_closing (any (s.does (max d 1 + 1) (n + 3) (omega (arith, u, y, p)) (omega (arith, w, q)))) c h
   gives_on (b.Phrase (p.ResultIs i)) (u, v, w, y, z) f d n p q c h = closed_in l k (Does Always st) (Does Most st) s.does (d + 1) (n + 1) (omega (arith, u, p)) (omega (arith, w, q)) c h
   gives_on (b.Phrase (p.RepeatWhile i x1)) (u, v, w, y, z) f d n p q c h =
-      let e1 = action x1.value in
-      closed_in l k (Does Always st) (Does Most st) s.does (max (depth_of_action e1) d + 1) (nodes_of_action e1 + n + 1) (omega (arith, u, v, p)) (omega (arith, w, q)) c h
+      let e1 = command_in x1.value in
+      closed_in l k (Does Always st) (Does Most st) s.does (max (depth_of_command e1) d + 1) (nodes_of_command e1 + n + 1) (omega (arith, u, v, p)) (omega (arith, w, q)) c h
   gives_on (b.Phrase (p.From i j)) (u, v, w, y, z) f d n p q c h = at_closing (any (s.does (max d 1 + 1) (n + 3) (omega (arith, u, y, p)) (omega (arith, w, q)))) c h
   gives_on (b.Phrase (p.To i j x1)) (u, v, w, y, z) f d n p q c h =
       let e1 = expression x1.value in
@@ -158,8 +158,8 @@ module _ (e m l k : ℕ) (st : Stack) (s : Sure l k st) where
       at_closing (any (s.does (max (depth e1) (max d 1) + 1) (nodes e1 + n + 2) (omega (arith, u, v, y, p)) (omega (arith, w, q)))) c h
   does_on (b.Clause (c.Else i x1 x2)) (u, v, w, y, z) d n p q c h =
       let e1 = expression x1.value in
-      let e2 = action x2.value in
-      s.does (max (depth e1) (max (depth_of_action e2) d) + 1) (nodes e1 + nodes_of_action e2 + n + 1) (omega (arith, u, v, p)) (omega (arith, w, q)) c h
+      let e2 = command_in x2.value in
+      s.does (max (depth e1) (max (depth_of_command e2) d) + 1) (nodes e1 + nodes_of_command e2 + n + 1) (omega (arith, u, v, p)) (omega (arith, w, q)) c h
   does_on (b.Clause (c.For i j x1 x2 x3)) (u, v, w, y, z) d n p q c h =
       let e1 = expression x1.value in
       let e2 = expression x2.value in
@@ -168,8 +168,8 @@ module _ (e m l k : ℕ) (st : Stack) (s : Sure l k st) where
   does_on (b.Clause (c.Routine i j)) (u, v, w, y, z) d n p q c h = at_closing (s.defines (d + 1) (n + 1) (omega (arith, u, p)) (omega (arith, w, q))) c h
   does_on (b.Place (a.Block i j x1 x2)) (u, v, w, y, z) d n p q c h =
       let ds = declarations_in x1.items in
-      let cs = actions_in x2.items in
-      at_closing (any (s.does (max (depth_of_declarations ds) (max (depth_of_actions cs) d) + 1) (nodes_of_declarations ds + (nodes_of_actions cs + n) + 1) (omega (arith, u, v, p)) (omega (arith, w, q)))) c h
+      let cs = commands_in x2.items in
+      at_closing (any (s.does (max (depth_of_declarations ds) (max (depth_of_commands cs) d) + 1) (nodes_of_declarations ds + (nodes_of_commands cs + n) + 1) (omega (arith, u, v, p)) (omega (arith, w, q)))) c h
   does_on (b.Point (t.Goto i)) _ d n p q c h = h
   does_on (b.Member (member.Function i j)) _ d n p q c h = h
   does_on (b.Phrase (p.Start)) _ d n p q c h = h
@@ -208,8 +208,8 @@ module _ (e m l k : ℕ) (st : Stack) (s : Sure l k st) where
   declares_on : (x : Unfinished) → Fewer e m l k x → (d n : ℕ) → d ≤ e → n ≤ m → Declares Always (unfinished_on x st) d n → Declares Most (unfinished_on x st) d n
   declares_on (b.Place (a.Block i j x1 x2)) (u, v, w, y, z) d n p q h =
       let ds = declarations_in x1.items in
-      let cs = actions_in x2.items in
-      any (s.does (max (depth_of_declarations ds) (max (depth_of_actions cs) d) + 1) (nodes_of_declarations ds + (nodes_of_actions cs + n) + 1) (omega (arith, u, v, p)) (omega (arith, w, q))) h
+      let cs = commands_in x2.items in
+      any (s.does (max (depth_of_declarations ds) (max (depth_of_commands cs) d) + 1) (nodes_of_declarations ds + (nodes_of_commands cs + n) + 1) (omega (arith, u, v, p)) (omega (arith, w, q))) h
   declares_on (b.Point (t.Goto i)) _ d n p q h = h
   declares_on (b.Clause (c.Valof i)) _ d n p q h = h
   declares_on (b.Member (member.Function i j)) _ d n p q h = h
@@ -364,11 +364,11 @@ goes_on_surely st s n.Maybe l h p q (inl c) = let r = h (omega (arith, p)) (omeg
 goes_on_surely st s n.Maybe l h p q (inr c) = let r = h (omega (arith, p)) (omega (arith, q)) in inr (any (r.does 1 1 (omega (arith, p)) (omega (arith, q))) c)
 goes_on_surely st s (n.Did x) l h p q c =
     let r = h (omega (arith, p)) (omega (arith, q)) in
-    let e = action x.command in
+    let e = command_in x.command in
     let is = x.sizes in
-    let d : x.size.depth ≡ kept (depth_of_action e) = ap (λ (i : Size). i.depth) is in
-    let n : x.size.nodes ≡ kept (nodes_of_action e) = ap (λ (i : Size). i.nodes) is in
+    let d : x.size.depth ≡ kept (depth_of_command e) = ap (λ (i : Size). i.depth) is in
+    let n : x.size.nodes ≡ kept (nodes_of_command e) = ap (λ (i : Size). i.nodes) is in
     let far = l.0 in
     let large = l.1 in
-    any (r.does (depth_of_action e) (nodes_of_action e) (omega (arith, d, p, far)) (omega (arith, n, q, large))) c
+    any (r.does (depth_of_command e) (nodes_of_command e) (omega (arith, d, p, far)) (omega (arith, n, q, large))) c
 goes_on_surely st s n.Due l h p q c = let r = h (omega (arith, p)) (omega (arith, q)) in r.due c

@@ -11,10 +11,10 @@ pub use Rattle.bk_grammar.specs.Machine.{Stack, in_parens, in_binary, in_start, 
 pub use Rattle.bk_grammar.specs.Rows.{inner, behind, is_relation, infix_of, prefix_of, sort_of, begins_command, repeats, assigns, is_and, is_comma, goes, leaf, simple_of, guard_of, is_arrow, is_both, is_name, declaring_of, opening_of, heading_of, repetition_of}
 pub use Rattle.bk_grammar.specs.declared.symbols.Guard.{Guard}
 pub use Rattle.bk_lex.specs.declared.token.Kind.{Kind}
-pub use Rattle.bk_tree.proofs.Lemmas.{eq_is, each_depth, each_nodes, actions_depth, actions_nodes, declarations_depth, declarations_nodes, definitions_depth, definitions_nodes, items_depth, items_nodes, starts_depth, starts_nodes}
-pub use Rattle.bk_tree.specs.Limits.{depth, depth_of_each, depth_of_action, depth_of_actions, depth_of_declarations, depth_of_items, depth_of_definitions, depth_of_starts, nodes, nodes_of_each, nodes_of_action, nodes_of_actions, nodes_of_declarations, nodes_of_items, nodes_of_definitions, nodes_of_starts, depth_of_declaration, depth_of_definition, nodes_of_declaration, nodes_of_definition}
-pub use Rattle.bk_tree.specs.Parts.{size, start_count, line_of, line_of_first, line_of_names, line_of_action, each_then, actions_then, declarations_then, items_then, definitions_then, starts_then}
-pub use Rattle.bk_tree.specs.Tree.{none, more, no_items, item, Action, declarations_in, Declarations, no_declarations, Mention, Expressions, Actions, Items, Definitions, Starts, expression, action}
+pub use Rattle.bk_tree.proofs.Lemmas.{eq_is, each_depth, each_nodes, commands_depth, commands_nodes, declarations_depth, declarations_nodes, definitions_depth, definitions_nodes, items_depth, items_nodes, starts_depth, starts_nodes}
+pub use Rattle.bk_tree.specs.Limits.{depth, depth_of_each, depth_of_command, depth_of_commands, depth_of_declarations, depth_of_items, depth_of_definitions, depth_of_starts, nodes, nodes_of_each, nodes_of_command, nodes_of_commands, nodes_of_declarations, nodes_of_items, nodes_of_definitions, nodes_of_starts, depth_of_declaration, depth_of_definition, nodes_of_declaration, nodes_of_definition}
+pub use Rattle.bk_tree.specs.Parts.{size, start_count, at_expression, at_expressions, at_names, at_command, each_then, commands_then, declarations_then, items_then, definitions_then, starts_then}
+pub use Rattle.bk_tree.specs.Tree.{none, more, no_items, item, Command, declarations_in, Declarations, no_declarations, Mention, Expressions, Commands, Items, Definitions, Starts, expression, command_in}
 pub use Rattle.bk_tree.specs.declared.tree.Decl.{Decl}
 pub use Rattle.bk_tree.specs.declared.tree.Operator.{Operator}
 pub use Rattle.bk_tree.specs.declared.tree.Operator.TheVariants.{Both}
@@ -31,7 +31,7 @@ unfoldable pub use Rattle.bk_frames.specs.Stacked.{stack, spare_under, spare_bel
 pub use Rattle.bk_frames.specs.Unfinished.{unfinished_on, phrase_on, member_on}
 pub use Rattle.bk_frames.specs.declared.budget.Budget.{Budget}
 pub use Rattle.bk_frames.specs.declared.budget.Category.{Category}
-pub use Rattle.bk_frames.specs.declared.budget.Category.TheVariants.{Expression, Command, Call}
+pub use Rattle.bk_frames.specs.declared.budget.Category.TheVariants.{Expression, Call}
 pub use Rattle.bk_frames.specs.declared.budget.Lookahead.TheVariants.{Closing, Assigning, Listing, Going, Repeating, Operating}
 pub use Rattle.bk_frames.specs.declared.completion.Completion.{Completion}
 pub use Rattle.bk_frames.specs.declared.completion.Completions.{Completions}

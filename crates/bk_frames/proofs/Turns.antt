@@ -1,10 +1,10 @@
 -- What the machine does with a symbol, by the tests that the parser makes in turn.
-use Rattle.bk_frames.proofs.Terms.{◌≡◌, ◌≤◌, ◌+◌, max, ◌∙◌, [], ◌∷◌, length, arith, ℕ, List, Bool, true, false, cond, Option, Some, None, refl, ap, Kind, Operator, Both, Prefix, Guard, depth, depth_of_action, nodes, nodes_of_action, leaf, goes, assigns, inner, behind, infix_of, prefix_of, simple_of, guard_of, is_arrow, is_both, is_comma, is_name, declaring_of, opening_of, heading_of, repetition_of, last, line_of, line_of_action, Stack, State, push, infixed, want, have, begin, due, did, in_args, in_then, in_parens, in_unary, in_valof, in_table, in_start, in_guard, in_dests, in_values, in_by, in_for, in_routine, in_function, in_while, at_variable, at_starts, at_formal, at_head, at_items, is_open, is_assign, is_equal, is_close, is_be, is_by, is_do, is_semicolon, closes, bars, no_args, take_operand, take_command, dests, in_names, in_formals, headed, to_or_do, in_constants, declared, again, named, in_section, in_block, take_declaration, declared_by, take_due, take_item, at_sign, give, finish, in_head, in_binary, guarded, Sort, related, heads, declaring, are_none, are_no_items, Kind as k, Guard as g, Opening, Opening as s, ConstItem, ConstItem as i, Repetition, Repetition as r}
+use Rattle.bk_frames.proofs.Terms.{◌≡◌, ◌≤◌, ◌+◌, max, ◌∙◌, [], ◌∷◌, length, arith, ℕ, List, Bool, true, false, cond, Option, Some, None, refl, ap, Kind, Operator, Both, Prefix, Guard, depth, depth_of_command, nodes, nodes_of_command, leaf, goes, assigns, inner, behind, infix_of, prefix_of, simple_of, guard_of, is_arrow, is_both, is_comma, is_name, declaring_of, opening_of, heading_of, repetition_of, last, at_expression, at_command, Stack, State, push, infixed, want, have, begin, due, did, in_args, in_then, in_parens, in_unary, in_valof, in_table, in_start, in_guard, in_dests, in_values, in_by, in_for, in_routine, in_function, in_while, at_variable, at_starts, at_formal, at_head, at_items, is_open, is_assign, is_equal, is_close, is_be, is_by, is_do, is_semicolon, closes, bars, no_args, take_operand, take_command, dests, in_names, in_formals, headed, to_or_do, in_constants, declared, again, named, in_section, in_block, take_declaration, declared_by, take_due, take_item, at_sign, give, finish, in_head, in_binary, guarded, Sort, related, heads, declaring, are_none, are_no_items, Kind as k, Guard as g, Opening, Opening as s, ConstItem, ConstItem as i, Repetition, Repetition as r}
 use Rattle.bk_tree.specs.declared.tree.Simple.{Simple}
 use Rattle.bk_grammar.specs.declared.symbols.Heading.{Heading}
 use Rattle.bk_tree.specs.declared.tree.Expr.{Expr}
-use Rattle.bk_tree.specs.declared.tree.Command.{Command}
-use Rattle.bk_tree.specs.Tree.{expressions_in, items_in, actions_in, call, Mention, Expression, Expressions, Action, Items, Declaration, name, unary, binary, apply, simple, repeat, constants, none, more, no_items, item, no_starts}
+use Rattle.bk_tree.specs.declared.tree.Command.{Command as CommandNode}
+use Rattle.bk_tree.specs.Tree.{expressions_in, items_in, commands_in, call, Mention, Expression, Expressions, Command, Items, Declaration, name, unary, binary, apply, simple, repeat, constants, none, more, no_items, item, no_starts}
 use Rattle.bk_lex.specs.Values.{upper_name}
 use Rattle.bk_grammar.specs.declared.symbols.Declaring.{Declaring}
 
@@ -75,13 +75,13 @@ pub constants_cases : (l : ℕ) (s : Sort) (is : Items) (st : Stack) (kind : Kin
 constants_cases l s is st k.Open = refl
 constants_cases l s is st _ = refl
 
-abbrev pub again_by : Stack → Action → Option Repetition → Option State
-again_by st c (Some r.Always) = Some (did st (repeat (line_of_action c) c))
+abbrev pub again_by : Stack → Command → Option Repetition → Option State
+again_by st c (Some r.Always) = Some (did st (repeat (at_command c) c))
 again_by st c (Some r.While) = Some (want (in_while true c st))
 again_by st c (Some r.Until) = Some (want (in_while false c st))
 again_by st c None = None
 
-pub again_cases : (st : Stack) (c : Action) (kind : Kind) → again st c kind ≡ again_by st c (repetition_of kind)
+pub again_cases : (st : Stack) (c : Command) (kind : Kind) → again st c kind ≡ again_by st c (repetition_of kind)
 again_cases st c k.Open = refl
 again_cases st c _ = refl
 
@@ -105,7 +105,7 @@ declared_then (in_block b free ds cs st) d l x kind = refl
 declared_then _ d l x kind = refl
 
 abbrev pub named_by : ℕ → List ℕ → (Mention → State) → Bool → Option State
-named_by l x f b = cond b (Some (f (record { line = l; letters = upper_name x }))) None
+named_by l x f b = cond b (Some (f (record { at = l; letters = upper_name x }))) None
 
 pub named_cases : (kind : Kind) (l : ℕ) (x : List ℕ) (f : Mention → State) → named kind l x f ≡ named_by l x f (is_name kind)
 named_cases k.Open l x f = refl
@@ -115,10 +115,10 @@ named_cases _ l x f = refl
 pub unary_done : (m : ℕ) (p : Prefix) (st : Stack) (e : Expression) (l : ℕ) (x : List ℕ) (kind : Kind) → goes (behind p) kind ≡ false → give (in_unary m p st) e l x kind ≡ give st (unary m p e) l x kind
 unary_done m p st e l x kind h = ap (λ b. cond b (push (in_unary m p st) e kind l) (give st (unary m p e) l x kind)) h
 
-pub binary_done : (o : Operator) (m : ℕ) (a : Expression) (st : Stack) (e : Expression) (l : ℕ) (x : List ℕ) (kind : Kind) → goes (inner o) kind ≡ false → give (in_binary o m a st) e l x kind ≡ give st (binary (line_of a) o m a e) l x kind
-binary_done o m a st e l x kind h = ap (λ b. cond b (push (in_binary o m a st) e kind l) (give st (binary (line_of a) o m a e) l x kind)) h
+pub binary_done : (o : Operator) (m : ℕ) (a : Expression) (st : Stack) (e : Expression) (l : ℕ) (x : List ℕ) (kind : Kind) → goes (inner o) kind ≡ false → give (in_binary o m a st) e l x kind ≡ give st (binary (at_expression a) o m a e) l x kind
+binary_done o m a st e l x kind h = ap (λ b. cond b (push (in_binary o m a st) e kind l) (give st (binary (at_expression a) o m a e) l x kind)) h
 
-pub no_args_cases : (l : ℕ) (f : Expression) (es : Expressions) (st : Stack) → no_args (in_args l f es st) ≡ cond (are_none es) (Some (have st (apply (line_of f) l f es))) None
+pub no_args_cases : (l : ℕ) (f : Expression) (es : Expressions) (st : Stack) → no_args (in_args l f es st) ≡ cond (are_none es) (Some (have st (apply (at_expression f) l f es))) None
 no_args_cases l f none st = refl
 no_args_cases l f (more x xs) st = refl
 
@@ -134,9 +134,9 @@ pub some_items : (xs : List ConstItem) → 1 ≤ length xs → false ≡ are_no_
 some_items [] h = absurd (omega arith)
 some_items ((i.Item l x y) ∷ xs) h = refl
 
-pub some_actions : (xs : List Command) → 1 ≤ length xs → false ≡ in_head (actions_in xs)
-some_actions [] h = absurd (omega arith)
-some_actions (x ∷ xs) h = refl
+pub some_commands : (xs : List CommandNode) → 1 ≤ length xs → false ≡ in_head (commands_in xs)
+some_commands [] h = absurd (omega arith)
+some_commands (x ∷ xs) h = refl
 
 -- a call at the head of a command is complete
 pub call_done : (st : Stack) (m s : ℕ) (f : Expression) (es : Expressions) (l : ℕ) (x : List ℕ) (kind : Kind) → goes 12 kind ≡ false → assigns kind ≡ false → give (in_start st) (apply m s f es) l x kind ≡ finish st (call m f es) l x kind
@@ -144,11 +144,11 @@ call_done st m s f es l x kind stops other =
     ap (λ b. cond b (push (in_start st) (apply m s f es) kind l) (cond (assigns kind) (dests (more (apply m s f es) none) st kind) (finish st (call m f es) l x kind))) stops
     ∙ ap (λ b. cond b (dests (more (apply m s f es) none) st kind) (finish st (call m f es) l x kind)) other
 
-pub guarded_depth : (k : Guard) (l : ℕ) (e : Expression) (c : Action) → depth_of_action (guarded k l e c) ≡ max (depth e) (depth_of_action c) + 1
+pub guarded_depth : (k : Guard) (l : ℕ) (e : Expression) (c : Command) → depth_of_command (guarded k l e c) ≡ max (depth e) (depth_of_command c) + 1
 guarded_depth g.If l e c = refl
 guarded_depth _ l e c = refl
 
-pub guarded_nodes : (k : Guard) (l : ℕ) (e : Expression) (c : Action) → nodes_of_action (guarded k l e c) ≡ nodes e + nodes_of_action c + 1
+pub guarded_nodes : (k : Guard) (l : ℕ) (e : Expression) (c : Command) → nodes_of_command (guarded k l e c) ≡ nodes e + nodes_of_command c + 1
 guarded_nodes g.If l e c = refl
 guarded_nodes _ l e c = refl
 

@@ -6,7 +6,7 @@ use Rattle.bk_grammar.specs.declared.symbols.Guard.TheVariants as g
 use Rattle.bk_frames.specs.declared.size.Form.{Form}
 use Rattle.bk_frames.specs.declared.size.Form.TheVariants.{Label, Call, Callable, Other}
 use Rattle.bk_tree.specs.Tree.{Items, no_items, item, none}
-use Rattle.bk_tree.specs.Limits.{depth, depth_of_each, depth_of_action, depth_of_actions, depth_of_declarations, depth_of_items, depth_of_definitions, depth_of_starts, nodes, nodes_of_each, nodes_of_action, nodes_of_actions, nodes_of_declarations, nodes_of_items, nodes_of_definitions, nodes_of_starts}
+use Rattle.bk_tree.specs.Limits.{depth, depth_of_each, depth_of_command, depth_of_commands, depth_of_declarations, depth_of_items, depth_of_definitions, depth_of_starts, nodes, nodes_of_each, nodes_of_command, nodes_of_commands, nodes_of_declarations, nodes_of_items, nodes_of_definitions, nodes_of_starts}
 use Rattle.bk_grammar.specs.Rows.{inner}
 use Rattle.bk_tree.specs.Parts.{size, start_count}
 use Rattle.bk_grammar.specs.Machine.{Stack, State, in_section, in_block, in_let, at_name, at_formals, at_formal, at_formal_end, at_head, at_variable, at_variable_end, at_starts, at_opening, at_items, at_sign, at_goto, at_for, at_forward, at_default, in_parens, in_unary, in_binary, in_chain, in_then, in_else, in_args, in_table, in_start, in_dests, in_values, in_guard, in_test, in_result, in_while, in_from, in_to, in_by, in_item, in_function, in_value, in_vector, in_valof, in_label, in_guarded, in_default, in_do, in_or, in_for, in_routine, want, have, begin, maybe, did, due}
@@ -126,7 +126,7 @@ abbrev mutual
   Gives P (in_guard k l st) f d n c = AtClosing (Guarded k (Does P st) d n) c
   Gives P (in_test l st) f d n c = AtClosing (Any (Does P st (max d 1 + 1) (n + 3))) c
   Gives P (in_result l st) f d n c = Closed (Does P st) (d + 1) (n + 1) c
-  Gives P (in_while b a st) f d n c = Closed (Does P st) (max (depth_of_action a) d + 1) (nodes_of_action a + n + 1) c
+  Gives P (in_while b a st) f d n c = Closed (Does P st) (max (depth_of_command a) d + 1) (nodes_of_command a + n + 1) c
   Gives P (in_from l x st) f d n c = AtClosing (Any (Does P st (max d 1 + 1) (n + 3))) c
   Gives P (in_to l x a st) f d n c = AtClosing (Any (Does P st (max (depth a) (max d 1) + 1) (nodes a + n + 2))) c
   Gives P (in_by l x a b st) f d n c = AtClosing (Any (Does P st (max (depth a) (max (depth b) (max d 1)) + 1) (nodes a + nodes b + n + 2))) c
@@ -147,10 +147,10 @@ abbrev mutual
   Does P (in_guarded k l e st) d n c = Does P st (max (depth e) d + 1) (nodes e + n + 1) c
   Does P (in_default l st) d n c = Does P st (d + 1) (n + 1) c
   Does P (in_do l e st) d n c = AtClosing (Any (Does P st (max (depth e) (max d 1) + 1) (nodes e + n + 2))) c
-  Does P (in_or l e a st) d n c = Does P st (max (depth e) (max (depth_of_action a) d) + 1) (nodes e + nodes_of_action a + n + 1) c
+  Does P (in_or l e a st) d n c = Does P st (max (depth e) (max (depth_of_command a) d) + 1) (nodes e + nodes_of_command a + n + 1) c
   Does P (in_for l x a b h st) d n c = Does P st (max (depth a) (max (depth b) (max (depth_of_each h) d)) + 1) (nodes a + nodes b + nodes_of_each h + n + 1) c
   Does P (in_routine x fs st) d n c = AtClosing (Defines P st (d + 1) (n + 1)) c
-  Does P (in_block l b ds cs st) d n c = AtClosing (Any (Does P st (max (depth_of_declarations ds) (max (depth_of_actions cs) d) + 1) (nodes_of_declarations ds + (nodes_of_actions cs + n) + 1))) c
+  Does P (in_block l b ds cs st) d n c = AtClosing (Any (Does P st (max (depth_of_declarations ds) (max (depth_of_commands cs) d) + 1) (nodes_of_declarations ds + (nodes_of_commands cs + n) + 1))) c
   Does P _ d n c = ⊥
 
   -- after an expression on this stack, where G is Gives of it, an operator comes that begins no command, and a name; `%` is the tightest, and goes on all but the
@@ -167,7 +167,7 @@ abbrev mutual
   -- and of a declaration
   pub Declares : (ℕ → ℕ → Type 0) → Stack → ℕ → ℕ → Type 0
   Declares P (in_section ds) d n = P (max (depth_of_declarations ds) d) (nodes_of_declarations ds + n)
-  Declares P (in_block l b ds cs st) d n = Any (Does P st (max (depth_of_declarations ds) (max (depth_of_actions cs) d) + 1) (nodes_of_declarations ds + (nodes_of_actions cs + n) + 1))
+  Declares P (in_block l b ds cs st) d n = Any (Does P st (max (depth_of_declarations ds) (max (depth_of_commands cs) d) + 1) (nodes_of_declarations ds + (nodes_of_commands cs + n) + 1))
   Declares P _ d n = ⊥
 
 -- an operand is due, or a `)` where no argument may come
@@ -215,5 +215,5 @@ Completes P (want st) = Wants P st
 Completes P (have st e) = Whole (Gives P st) (form_of e) (depth e) (nodes e)
 Completes P (begin st) = Any (Does P st 1 1)
 Completes P (maybe st) = Misses P st ⊎ Any (Does P st 1 1)
-Completes P (did st a) = Any (Does P st (depth_of_action a) (nodes_of_action a))
+Completes P (did st a) = Any (Does P st (depth_of_command a) (nodes_of_command a))
 Completes P (due st) = Due P st

@@ -19,13 +19,14 @@ use Rattle.bk_lex.specs.Values.{upper_name}
 use Rattle.bk_tree.specs.declared.tree.Name.{Name}
 use Rattle.bk_grammar.specs.declared.symbols.Declaring.{Declaring}
 use Rattle.bk_grammar.specs.declared.symbols.Declaring.TheVariants as g
+use Rattle.bk_grammar.specs.Placed.{position_at}
 use Rattle.bk_grammar.specs.Rows.{is_relation, is_name}
 use Rattle.bk_frames.specs.declared.budget.FrameBudgets.{FrameBudgets}
 use Rattle.bk_frames.specs.Budgets.{AreBudgets}
 use Rattle.bk_frames.specs.declared.frame.Size.{Size}
 use Rattle.bk_frames.specs.Sizes.{kept_size}
 use Rattle.bk_frames.specs.Stacked.{stack}
-use Rattle.bk_tree.specs.Tree.{Expression, binary, no_declarations, no_actions, no_definitions, mention, expression, action, definition}
+use Rattle.bk_tree.specs.Tree.{Expression, binary, no_declarations, no_commands, no_definitions, mention, expression, command_in, definition}
 use Rattle.bk_grammar.specs.Machine.{Stack, State, in_block, in_let, at_opening, at_goto, at_for, at_default, in_test, in_result, want, have, begin, maybe, did, due, give, finish, defined_by}
 
 abbrev pub stack_of : Frames → Stack
@@ -40,7 +41,7 @@ state st n.Want = want st
 state st (n.Have x) = have st (expression x.expr)
 state st n.Begin = begin st
 state st n.Maybe = maybe st
-state st (n.Did x) = did st (action x.command)
+state st (n.Did x) = did st (command_in x.command)
 state st n.Due = due st
 
 -- the size of the part that is complete so far, if there is one
@@ -68,13 +69,13 @@ given st _ l x t = None
 
 -- and how the command does
 abbrev pub finished : Stack → ParserState → ℕ → List ℕ → Kind → Option State
-finished st (n.Did y) l x t = finish st (action y.command) l x t
+finished st (n.Did y) l x t = finish st (command_in y.command) l x t
 finished st _ l x t = None
 
 -- and how either does; with no part, no symbol is taken
 abbrev pub after : Stack → ParserState → ℕ → List ℕ → Kind → Option State
 after st (n.Have y) l x t = give st (expression y.expr) l x t
-after st (n.Did y) l x t = finish st (action y.command) l x t
+after st (n.Did y) l x t = finish st (command_in y.command) l x t
 after st y l x t = Some (state st y)
 
 -- where a symbol leads that was taken, or that comes after the part that is complete now
@@ -89,7 +90,7 @@ Flows st (Err s.Unexpected) y l x t next = next ≡ None
 
 -- the same, after this token
 abbrev pub Answers : Frames → ParserState → Result Flow Stop → Token → (ℕ → List ℕ → Kind → Option State) → Type 0
-Answers new y result t next = Flows (stack_of new) result y t.line t.text.now t.kind (next t.line t.text.now t.kind)
+Answers new y result t next = Flows (stack_of new) result y (position_at t) t.text.now t.kind (next (position_at t) t.text.now t.kind)
 
 -- what a command with a word of its own is to begin with
 abbrev pub heads : Stack → ℕ → Heading → State
@@ -98,7 +99,7 @@ heads st l h.Test = want (in_test l st)
 heads st l h.For = due (at_for l st)
 heads st l h.ResultIs = want (in_result l st)
 heads st l h.Default = due (at_default l st)
-heads st l h.Block = due (in_block l true no_declarations no_actions st)
+heads st l h.Block = due (in_block l true no_declarations no_commands st)
 
 -- a part that is complete took no frame more
 abbrev pub Lowers : Frames → Frames → Result Flow Stop → Type 0
@@ -118,7 +119,7 @@ related _ = None
 -- the name that a token is, if it is one
 abbrev pub NamedBy : Option Name → Token → Type 0
 NamedBy None t = is_name t.kind ≡ false
-NamedBy (Some x) t = (is_name t.kind ≡ true) × (mention x ≡ record { line = t.line; letters = upper_name t.text.now })
+NamedBy (Some x) t = (is_name t.kind ≡ true) × (mention x ≡ record { at = position_at t; letters = upper_name t.text.now })
 
 -- what a complete declaration leaves: a symbol is due
 abbrev pub Declares : Stack → Result Unit Stop → Option State → Type 0

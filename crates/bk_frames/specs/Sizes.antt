@@ -3,8 +3,8 @@ use Rattle.std.specs.Prelude.{ℕ, ◌+◌, ◌-◌, ◌≡◌, max, min, Option
 use Rattle.bk_frames.specs.declared.frame.Size.{Size}
 use Rattle.bk_frames.specs.declared.size.Form.{Form}
 use Rattle.bk_frames.specs.declared.size.Form.TheVariants.{Label, Call, Callable, Other}
-use Rattle.bk_tree.specs.Tree.{Expression, Expressions, Action, Items, Definition, Declaration, Declarations, name, number, text, truth, query, parens, apply, valof, none, more, no_items, item}
-use Rattle.bk_tree.specs.Limits.{depth, depth_of_each, depth_of_action, depth_of_actions, depth_of_declaration, depth_of_declarations, depth_of_items, depth_of_definition, depth_of_definitions, depth_of_starts, nodes, nodes_of_each, nodes_of_action, nodes_of_actions, nodes_of_declaration, nodes_of_declarations, nodes_of_items, nodes_of_definition, nodes_of_definitions, nodes_of_starts}
+use Rattle.bk_tree.specs.Tree.{Expression, Expressions, Command, Items, Definition, Declaration, Declarations, name, number, text, truth, query, parens, apply, valof, none, more, no_items, item}
+use Rattle.bk_tree.specs.Limits.{depth, depth_of_each, depth_of_command, depth_of_commands, depth_of_declaration, depth_of_declarations, depth_of_items, depth_of_definition, depth_of_definitions, depth_of_starts, nodes, nodes_of_each, nodes_of_command, nodes_of_commands, nodes_of_declaration, nodes_of_declarations, nodes_of_items, nodes_of_definition, nodes_of_definitions, nodes_of_starts}
 use Rattle.bk_grammar.specs.Grammar.{last}
 use Rattle.bk_grammar.specs.Machine.{Stack, in_section, in_block, in_let, at_starts, at_items, at_sign, in_binary, in_chain, in_then, in_else, in_args, in_table, in_dests, in_values, in_while, in_to, in_by, in_item, in_value, in_vector, in_guarded, in_do, in_or, in_for}
 
@@ -18,8 +18,8 @@ kept_size d n = record { depth = kept d; nodes = kept n }
 abbrev pub size_of : Expression → Size
 size_of e = kept_size (depth e) (nodes e)
 
-abbrev pub size_of_action : Action → Size
-size_of_action c = kept_size (depth_of_action c) (nodes_of_action c)
+abbrev pub size_of_command : Command → Size
+size_of_command c = kept_size (depth_of_command c) (nodes_of_command c)
 
 abbrev pub size_of_definition : Definition → Size
 size_of_definition d = kept_size (depth_of_definition d) (nodes_of_definition d)
@@ -66,7 +66,7 @@ owed all done = all - done - 1
 -- the size of the parts that the top of the stack holds
 abbrev pub held_depth : Stack → ℕ
 held_depth (in_section ds) = depth_of_declarations ds
-held_depth (in_block l b ds cs st) = max (depth_of_declarations ds) (depth_of_actions cs)
+held_depth (in_block l b ds cs st) = max (depth_of_declarations ds) (depth_of_commands cs)
 held_depth (in_let l ds st) = depth_of_definitions ds
 held_depth (at_starts xs is st) = depth_of_starts is
 held_depth (at_items l q is st) = depth_of_items is
@@ -79,7 +79,7 @@ held_depth (in_args s e es st) = max (depth e) (depth_of_each es)
 held_depth (in_table l es st) = depth_of_each es
 held_depth (in_dests xs st) = depth_of_each xs
 held_depth (in_values xs ys st) = max (depth_of_each xs) (depth_of_each ys)
-held_depth (in_while b c st) = depth_of_action c
+held_depth (in_while b c st) = depth_of_command c
 held_depth (in_to l x a st) = depth a
 held_depth (in_by l x a b st) = max (depth a) (depth b)
 held_depth (in_item l q is x st) = depth_of_items is
@@ -87,13 +87,13 @@ held_depth (in_value xs is st) = depth_of_starts is
 held_depth (in_vector l xs is st) = depth_of_starts is
 held_depth (in_guarded k l e st) = depth e
 held_depth (in_do l e st) = depth e
-held_depth (in_or l e a st) = max (depth e) (depth_of_action a)
+held_depth (in_or l e a st) = max (depth e) (depth_of_command a)
 held_depth (in_for l x a b h st) = max (depth a) (max (depth b) (depth_of_each h))
 held_depth _ = 0
 
 abbrev pub held_nodes : Stack → ℕ
 held_nodes (in_section ds) = nodes_of_declarations ds
-held_nodes (in_block l b ds cs st) = nodes_of_declarations ds + nodes_of_actions cs
+held_nodes (in_block l b ds cs st) = nodes_of_declarations ds + nodes_of_commands cs
 held_nodes (in_let l ds st) = nodes_of_definitions ds
 held_nodes (at_starts xs is st) = nodes_of_starts is
 held_nodes (at_items l q is st) = nodes_of_items is
@@ -106,7 +106,7 @@ held_nodes (in_args s e es st) = nodes e + nodes_of_each es
 held_nodes (in_table l es st) = nodes_of_each es
 held_nodes (in_dests xs st) = nodes_of_each xs
 held_nodes (in_values xs ys st) = nodes_of_each xs + nodes_of_each ys
-held_nodes (in_while b c st) = nodes_of_action c
+held_nodes (in_while b c st) = nodes_of_command c
 held_nodes (in_to l x a st) = nodes a
 held_nodes (in_by l x a b st) = nodes a + nodes b
 held_nodes (in_item l q is x st) = nodes_of_items is
@@ -114,7 +114,7 @@ held_nodes (in_value xs is st) = nodes_of_starts is
 held_nodes (in_vector l xs is st) = nodes_of_starts is
 held_nodes (in_guarded k l e st) = nodes e
 held_nodes (in_do l e st) = nodes e
-held_nodes (in_or l e a st) = nodes e + nodes_of_action a
+held_nodes (in_or l e a st) = nodes e + nodes_of_command a
 held_nodes (in_for l x a b h st) = nodes a + nodes b + nodes_of_each h
 held_nodes _ = 0
 

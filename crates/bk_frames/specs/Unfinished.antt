@@ -14,7 +14,7 @@ use Rattle.bk_frames.specs.declared.frame.Point.{Point}
 use Rattle.bk_frames.specs.declared.frame.Point.TheVariants as t
 use Rattle.bk_frames.specs.declared.frame.Unfinished.{Unfinished}
 use Rattle.bk_frames.specs.declared.frame.Unfinished.TheVariants as b
-use Rattle.bk_tree.specs.Tree.{no_declarations, mention, expression, expressions_in, step_in, action, actions_in, declarations_in, items_in, definitions_in, starts_in}
+use Rattle.bk_tree.specs.Tree.{no_declarations, mention, expression, expressions_in, step_in, command_in, commands_in, declarations_in, items_in, definitions_in, starts_in}
 use Rattle.bk_grammar.specs.Machine.{Stack, in_section, in_block, in_let, at_name, at_formals, at_formal, at_formal_end, at_head, at_variable, at_variable_end, at_starts, at_opening, at_items, at_sign, at_goto, at_for, at_forward, at_default, in_parens, in_unary, in_binary, in_chain, in_then, in_else, in_args, in_table, in_start, in_dests, in_values, in_guard, in_test, in_result, in_while, in_from, in_to, in_by, in_item, in_function, in_value, in_vector, in_valof, in_label, in_guarded, in_default, in_do, in_or, in_for, in_routine}
 use Rattle.bk_frames.specs.declared.frame.Size.{Size}
 use Rattle.bk_frames.specs.Sizes.{held_of}
@@ -36,7 +36,7 @@ phrase_on (p.Values xs ys) st = in_values (expressions_in xs.items) (expressions
 phrase_on (p.Guard g l) st = in_guard g l st
 phrase_on (p.Test l) st = in_test l st
 phrase_on (p.ResultIs l) st = in_result l st
-phrase_on (p.RepeatWhile t x) st = in_while t (action x.value) st
+phrase_on (p.RepeatWhile t x) st = in_while t (command_in x.value) st
 phrase_on (p.From l x) st = in_from l (mention x) st
 phrase_on (p.To l x y) st = in_to l (mention x) (expression y.value) st
 phrase_on (p.By l x y z) st = in_by l (mention x) (expression y.value) (expression z.value) st
@@ -53,12 +53,12 @@ clause_on (c.Label l x) st = in_label l x.items st
 clause_on (c.Guarded g l x) st = in_guarded g l (expression x.value) st
 clause_on (c.Default l) st = in_default l st
 clause_on (c.Then l x) st = in_do l (expression x.value) st
-clause_on (c.Else l x y) st = in_or l (expression x.value) (action y.value) st
+clause_on (c.Else l x y) st = in_or l (expression x.value) (command_in y.value) st
 clause_on (c.For l x y z h) st = in_for l (mention x) (expression y.value) (expression z.value) (step_in h) st
 clause_on (c.Routine x fs) st = in_routine (mention x) (map mention fs.items) st
 
 abbrev pub place_on : Place → Stack → Stack
-place_on (a.Block l q ds cs) st = in_block l q (declarations_in ds.items) (actions_in cs.items) st
+place_on (a.Block l q ds cs) st = in_block l q (declarations_in ds.items) (commands_in cs.items) st
 place_on (a.Let l ds) st = in_let l (definitions_in ds.items) st
 place_on (a.Named x) st = at_name (mention x) st
 place_on (a.Formals x) st = at_formals (mention x) st

@@ -1,14 +1,15 @@
 //! Frames: the unfinished constructs of the parser, and its state.
 ghost use Rattle.std.specs.Prelude.{◌≡◌};
-ghost use Rattle.bk_tree.specs.Tree.{expression, action, definition};
+ghost use Rattle.bk_tree.specs.Tree.{expression, command_in, definition};
 ghost use Rattle.bk_grammar.specs.Grammar.{last};
-ghost use Rattle.bk_frames.specs.Sizes.{size_of, size_if, size_of_action, size_of_definition};
+ghost use Rattle.bk_frames.specs.Sizes.{size_of, size_if, size_of_command, size_of_definition};
 ghost use Rattle.bk_frames.specs.Unfinished.{held_in};
 ghost use Rattle.bk_frames.specs.Spares.{IsSmall};
 
-use bk_base::Line;
 use bk_grammar::symbols::Guard;
-use bk_tree::{Command, ConstItem, Decl, Def, Expr, Init, Letters, Name, Operator, Prefix, Sort};
+use bk_tree::{
+    Command, ConstItem, Decl, Def, Expr, Init, Letters, Name, Operator, Position, Prefix, Sort,
+};
 use std::alloc::{AllocError, AllocFailed};
 use std::mem;
 
@@ -24,18 +25,18 @@ pub struct Size {
 /// An unfinished expression. The parser reads an operand of it.
 #[derive(Drop)]
 pub enum OpenExpression {
-    Parens(Line),
-    Unary(Line, Prefix),
+    Parens(Position),
+    Unary(Position, Prefix),
     /// The operator, its line and the left operand.
-    Binary(Operator, Line, Box<Expr>),
+    Binary(Operator, Position, Box<Expr>),
     /// The same with the copy of the operand that two relations share.
-    Chain(Operator, Line, Box<Expr>, Box<Expr>),
+    Chain(Operator, Position, Box<Expr>, Box<Expr>),
     /// The line of the arrow and the condition.
-    Then(Line, Box<Expr>),
-    Else(Line, Box<Expr>, Box<Expr>),
+    Then(Position, Box<Expr>),
+    Else(Position, Box<Expr>, Box<Expr>),
     /// The line of the parenthesis, the procedure and the arguments so far.
-    Args(Line, Box<Expr>, Vec<Expr>),
-    Table(Line, Vec<Expr>),
+    Args(Position, Box<Expr>, Vec<Expr>),
+    Table(Position, Vec<Expr>),
 }
 
 /// An unfinished command. The parser reads an expression of it.
@@ -47,38 +48,38 @@ pub enum Phrase {
     Dests(Vec<Expr>),
     /// A value after these, for the destinations.
     Values(Vec<Expr>, Vec<Expr>),
-    Guard(Guard, Line),
-    Test(Line),
-    ResultIs(Line),
+    Guard(Guard, Position),
+    Test(Position),
+    ResultIs(Position),
     /// The condition of REPEATWHILE (true) or REPEATUNTIL (false).
     RepeatWhile(bool, Box<Command>),
     /// The start, the limit and the step of FOR.
-    From(Line, Name),
-    To(Line, Name, Box<Expr>),
-    By(Line, Name, Box<Expr>, Box<Expr>),
+    From(Position, Name),
+    To(Position, Name, Box<Expr>),
+    By(Position, Name, Box<Expr>, Box<Expr>),
 }
 
 /// An unfinished item or definition. The parser reads an expression of it.
 #[derive(Drop)]
 pub enum Member {
     /// The constant of an item after the items so far.
-    Item(Line, Sort, Vec<ConstItem>, Name),
+    Item(Position, Sort, Vec<ConstItem>, Name),
     Function(Name, Vec<Name>),
     /// An item of a LET after these, a VEC with its line.
     Value(Vec<Name>, Vec<Init>),
-    Vector(Line, Vec<Name>, Vec<Init>),
+    Vector(Position, Vec<Name>, Vec<Init>),
 }
 
 /// An unfinished command or definition. The parser reads a command of it.
 #[derive(Drop)]
 pub enum Clause {
-    Valof(Line),
-    Label(Line, Letters),
-    Guarded(Guard, Line, Box<Expr>),
-    Default(Line),
-    Then(Line, Box<Expr>),
-    Else(Line, Box<Expr>, Box<Command>),
-    For(Line, Name, Box<Expr>, Box<Expr>, Option<Box<Expr>>),
+    Valof(Position),
+    Label(Position, Letters),
+    Guarded(Guard, Position, Box<Expr>),
+    Default(Position),
+    Then(Position, Box<Expr>),
+    Else(Position, Box<Expr>, Box<Command>),
+    For(Position, Name, Box<Expr>, Box<Expr>, Option<Box<Expr>>),
     Routine(Name, Vec<Name>),
 }
 
@@ -86,9 +87,9 @@ pub enum Clause {
 #[derive(Drop)]
 pub enum Place {
     /// In a block; whether a command may come.
-    Block(Line, bool, Vec<Decl>, Vec<Command>),
+    Block(Position, bool, Vec<Decl>, Vec<Command>),
     /// The name of a definition, after these.
-    Let(Line, Vec<Def>),
+    Let(Position, Vec<Def>),
     /// After that name.
     Named(Name),
     /// After the `(` of a procedure.
@@ -109,14 +110,14 @@ pub enum Place {
 #[derive(Drop)]
 pub enum Point {
     /// After MANIFEST, STATIC or GLOBAL.
-    Opening(Line, Sort),
+    Opening(Position, Sort),
     /// Between the items, and after the name of one.
-    Items(Line, Sort, Vec<ConstItem>),
-    Signed(Line, Sort, Vec<ConstItem>, Name),
-    Goto(Line),
-    For(Line),
-    Forward(Line, Name),
-    Default(Line),
+    Items(Position, Sort, Vec<ConstItem>),
+    Signed(Position, Sort, Vec<ConstItem>, Name),
+    Goto(Position),
+    For(Position),
+    Forward(Position, Name),
+    Default(Position),
 }
 
 /// An unfinished construct, by the part of it that the parser reads.
@@ -156,7 +157,7 @@ pub struct Sized {
 pub struct Done {
     pub command: Command,
     pub size: Size,
-    ghost sizes: { size ≡ size_of_action (action command) },
+    ghost sizes: { size ≡ size_of_command (command_in command) },
 }
 
 /// A definition that is complete, with its size.
@@ -195,6 +196,15 @@ impl ParserState {
             self.clear();
         }
         mem::forget(mem::replace(self, next));
+    }
+
+    /// Takes out the state; no part is left.
+    #[inline(always)]
+    pub fn take(&mut self) -> ParserState
+        ensures taken { result ≡ self.old }
+        ensures left { self.new ≡ ParserState.Due }
+    {
+        mem::replace(self, ParserState::Due)
     }
 
     /// Drops the part.

@@ -30,14 +30,14 @@ pub fn form_of(expr: &Expr) -> Form
     ensures { result ≡ form_of (expression expr.now) }
 {
     match expr {
-        Expr::Name(_, _) => Form::Label,
-        Expr::Apply(_, _, _, _) => Form::Call,
-        Expr::Number(_, _)
-        | Expr::Text(_, _)
-        | Expr::Truth(_, _)
-        | Expr::Query(_)
-        | Expr::Parens(_, _)
-        | Expr::Valof(_, _) => Form::Callable,
+        Expr::Name { .. } => Form::Label,
+        Expr::Apply { .. } => Form::Call,
+        Expr::Number { .. }
+        | Expr::Text { .. }
+        | Expr::Truth { .. }
+        | Expr::Query { .. }
+        | Expr::Parens { .. }
+        | Expr::Valof { .. } => Form::Callable,
         _ => Form::Other,
     }
 }

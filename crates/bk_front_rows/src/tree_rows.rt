@@ -64,26 +64,40 @@ fn sign_before(prefix: Prefix) -> &'static str {
 #[cycle(show)]
 fn show(out: &mut String, expr: &Expr) -> Result<(), Fail> {
     match expr {
-        Expr::Name(_, letters) => {
+        Expr::Name { letters, .. } => {
             let Some(letter) = letters.first() else {
                 return Err(Fail::from("no letter"));
             };
             out.push(char::from(*letter))?;
         }
-        Expr::Unary(_, prefix, operand) => {
+        Expr::Unary {
+            prefix,
+            operand,
+            ..
+        } => {
             out.push('[')?;
             out.push_str(sign_before(*prefix))?;
             show(out, operand)?;
             out.push(']')?;
         }
-        Expr::Binary(_, operator, _, left, right) => {
+        Expr::Binary {
+            operator,
+            left,
+            right,
+            ..
+        } => {
             out.push('[')?;
             show(out, left)?;
             out.push_str(sign_of(*operator))?;
             show(out, right)?;
             out.push(']')?;
         }
-        Expr::Choice(_, _, condition, yes, no) => {
+        Expr::Choice {
+            condition,
+            yes,
+            no,
+            ..
+        } => {
             out.push('[')?;
             show(out, condition)?;
             out.push_str("->")?;
@@ -109,8 +123,8 @@ fn joined(alloc: Global, parts: &[&str]) -> Result<String, AllocError> {
 /// The tree of what the first procedure of a section gives, as text.
 fn first_body(alloc: Global, section: &Section) -> Result<String, Fail> {
     let mut out = String::new(alloc);
-    if let Some(Decl::Let(_, defs)) = section.decls().first() {
-        if let Some(Def::Function(_, _, _, body)) = defs.first() {
+    if let Some(Decl::Let { defs, .. }) = section.decls().first() {
+        if let Some(Def::Function { body, .. }) = defs.first() {
             show(&mut out, body)?;
         }
     }
@@ -234,18 +248,23 @@ fn repeat_belongs_to_the_command_before(rt: HostRuntime) -> Result<(), Fail> {
     let Ok(section) = section_of(rt.alloc(), b"LET F() BE IF A DO B() REPEAT") else {
         return Err(Fail::from("refused"));
     };
-    let Some(Decl::Let(_, defs)) = section.decls().first() else {
+    let Some(Decl::Let { defs, .. }) = section.decls().first() else {
         return Err(Fail::from("no LET"));
     };
-    let Some(Def::Routine(_, _, _, body)) = defs.first() else {
+    let Some(Def::Routine { body, .. }) = defs.first() else {
         return Err(Fail::from("no routine"));
     };
-    let Command::If(_, true, _, inner) = &**body else {
+    let Command::If {
+        truth: true,
+        body: inner,
+        ..
+    } = &**body
+    else {
         return Err(Fail::from("no IF"));
     };
-    let Command::Repeat(_, repeated) = &**inner else {
+    let Command::Repeat { body: repeated, .. } = &**inner else {
         return Err(Fail::from("no REPEAT"));
     };
-    assert!(rt; matches!(&**repeated, Command::Call(_, _, _)));
+    assert!(rt; matches!(&**repeated, Command::Call { .. }));
     Ok(())
 }

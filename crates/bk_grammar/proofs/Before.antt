@@ -1,6 +1,7 @@
 -- What is read is in the grammar: what was begun, and expressions.
-use Rattle.bk_grammar.proofs.Terms.{◌≡◌, ℕ, zero, suc, ◌<◌, ◌≤◌, Bool, true, false, cond, List, [], ◌∷◌, Option, Some, None, refl, ap, subst, ◌⊎◌, inl, inr, arith, nat_lt, ltb-false, le-ltb, Kind, Kind as k, Symbol, Operator, Operator as o, Prefix, Guard as g, Mention, Expression, Expressions, Actions, Declarations, Items, Definitions, Starts, unary, binary, choice, apply, none, more, no_actions, also, no_declarations, declare, no_items, item, no_definitions, define, no_starts, value, vector, row, inner, left, behind, is_relation, infix_of, prefix_of, sort_of, guard_of, sign_of, is_and, is_comma, goes, SpellsName, Names, Formals, Semis, last, Full, Filled, repeats_while, Reads, Each, Does, Heads, Defines, Stack, in_section, in_block, in_let, at_name, at_formals, at_formal, at_formal_end, at_head, at_variable, at_variable_end, at_starts, at_opening, at_items, at_sign, at_goto, at_for, at_forward, at_default, in_parens, in_unary, in_binary, in_chain, in_then, in_else, in_args, in_table, in_start, in_dests, in_values, in_guard, in_test, in_result, in_while, in_from, in_to, in_by, in_item, in_function, in_value, in_vector, in_valof, in_label, in_guarded, in_default, in_do, in_or, in_for, in_routine, State, want, have, begin, maybe, did, due, limit, is_close, is_colon, is_do, is_or, is_to, is_equal, is_semicolon, opens, closes, is_vec, is_let, is_open, if_is, inside}
+use Rattle.bk_grammar.proofs.Terms.{◌≡◌, ℕ, zero, suc, ◌<◌, ◌≤◌, Bool, true, false, cond, List, [], ◌∷◌, Option, Some, None, refl, ap, subst, ◌⊎◌, inl, inr, arith, nat_lt, ltb-false, le-ltb, Kind, Kind as k, Symbol, Operator, Operator as o, Prefix, Guard as g, Mention, Expression, Expressions, Commands, Declarations, Items, Definitions, Starts, unary, binary, choice, apply, none, more, no_commands, also, no_declarations, declare, no_items, item, no_definitions, define, no_starts, value, vector, row, inner, left, behind, is_relation, infix_of, prefix_of, sort_of, guard_of, sign_of, is_and, is_comma, goes, SpellsName, Names, Formals, Semis, last, Full, Filled, repeats_while, Reads, Each, Does, Heads, Defines, Stack, in_section, in_block, in_let, at_name, at_formals, at_formal, at_formal_end, at_head, at_variable, at_variable_end, at_starts, at_opening, at_items, at_sign, at_goto, at_for, at_forward, at_default, in_parens, in_unary, in_binary, in_chain, in_then, in_else, in_args, in_table, in_start, in_dests, in_values, in_guard, in_test, in_result, in_while, in_from, in_to, in_by, in_item, in_function, in_value, in_vector, in_valof, in_label, in_guarded, in_default, in_do, in_or, in_for, in_routine, State, want, have, begin, maybe, did, due, limit, is_close, is_colon, is_do, is_or, is_to, is_equal, is_semicolon, opens, closes, is_vec, is_let, is_open, if_is, inside}
 use Rattle.bk_tree.specs.declared.tree.Prefix.TheVariants.{Contents}
+use Rattle.bk_grammar.specs.Placed.{position_of}
 
 pub is_close_kind : (t : Kind) → is_close t ≡ true → t ≡ k.Close
 is_close_kind k.Close h = refl
@@ -66,13 +67,13 @@ Commas (more e es) a z = (d : Symbol) × (ms : List Symbol) × (d.kind ≡ k.Com
 -- names with a comma behind each
 abbrev pub NamesThen : List Mention → List Symbol → List Symbol → Type 0
 NamesThen [] a z = a ≡ z
-NamesThen (x ∷ xs) a z = (t : Symbol) × (d : Symbol) × (ms : List Symbol) × (a ≡ t ∷ d ∷ ms) × SpellsName x.line x.letters t × (d.kind ≡ k.Comma) × NamesThen xs ms z
+NamesThen (x ∷ xs) a z = (t : Symbol) × (d : Symbol) × (ms : List Symbol) × (a ≡ t ∷ d ∷ ms) × SpellsName x.at x.letters t × (d.kind ≡ k.Comma) × NamesThen xs ms z
 
 -- items of a LET with a comma behind each
 abbrev pub StartsThen : Starts → List Symbol → List Symbol → Type 0
 StartsThen no_starts a z = a ≡ z
 StartsThen (value e is) a z = (d : Symbol) × (ms : List Symbol) × (d.kind ≡ k.Comma) × Reads 12 e a (d ∷ ms) × StartsThen is ms z
-StartsThen (vector l e is) a z = (t : Symbol) × (ns : List Symbol) × (d : Symbol) × (ms : List Symbol) × (a ≡ t ∷ ns) × (t.kind ≡ k.Vec) × (t.line ≡ l) × (d.kind ≡ k.Comma) × Reads 12 e ns (d ∷ ms) × StartsThen is ms z
+StartsThen (vector l e is) a z = (t : Symbol) × (ns : List Symbol) × (d : Symbol) × (ms : List Symbol) × (a ≡ t ∷ ns) × (t.kind ≡ k.Vec) × (position_of t ≡ l) × (d.kind ≡ k.Comma) × Reads 12 e ns (d ∷ ms) × StartsThen is ms z
 
 -- items with a semicolon at least behind each
 abbrev pub ItemsThen : Items → List Symbol → List Symbol → Type 0
@@ -85,12 +86,12 @@ DefinitionsThen b no_definitions a z = a ≡ z
 DefinitionsThen b (define d ds) a z = (t : Symbol) × (ms : List Symbol) × (t.kind ≡ k.And) × Defines b d a (t ∷ ms) × DefinitionsThen b ds ms z
 
 -- commands, the first behind a semicolon, and a semicolon at least behind the last
-abbrev pub PartedThen : Actions → List Symbol → List Symbol → Type 0
-PartedThen no_actions a z = (d : Symbol) × (rs : List Symbol) × (a ≡ d ∷ rs) × (d.kind ≡ k.Semicolon) × Semis rs z
+abbrev pub PartedThen : Commands → List Symbol → List Symbol → Type 0
+PartedThen no_commands a z = (d : Symbol) × (rs : List Symbol) × (a ≡ d ∷ rs) × (d.kind ≡ k.Semicolon) × Semis rs z
 PartedThen (also c cs) a z = (d : Symbol) × (rs : List Symbol) × (ms : List Symbol) × (ns : List Symbol) × (a ≡ d ∷ rs) × (d.kind ≡ k.Semicolon) × Semis rs ms × Does c ms ns × Full c ns × PartedThen cs ns z
 
-abbrev pub BodyThen : Actions → List Symbol → List Symbol → Type 0
-BodyThen no_actions a z = Semis a z
+abbrev pub BodyThen : Commands → List Symbol → List Symbol → Type 0
+BodyThen no_commands a z = Semis a z
 BodyThen (also c cs) a z = (ms : List Symbol) × (ns : List Symbol) × Semis a ms × Does c ms ns × Full c ns × PartedThen cs ns z
 
 abbrev pub Some_ds : Declarations → Type 0
@@ -98,8 +99,8 @@ Some_ds no_declarations = ⊥
 Some_ds (declare d ds) = Unit {0}
 
 -- the inside of a block so far; whether a command may come
-abbrev pub Inside : Bool → Declarations → Actions → List Symbol → List Symbol → Type 0
-Inside false ds no_actions a z = Heads true ds a z × Some_ds ds
+abbrev pub Inside : Bool → Declarations → Commands → List Symbol → List Symbol → Type 0
+Inside false ds no_commands a z = Heads true ds a z × Some_ds ds
 Inside false ds (also c cs) a z = ⊥
 Inside true no_declarations cs a z = BodyThen cs a z
 Inside true (declare d ds) cs a z = (ms : List Symbol) × Heads true (declare d ds) a ms × PartedThen cs ms z
@@ -112,12 +113,12 @@ in_block_is _ = false
 -- where a declaration may begin
 abbrev pub At_head : Stack → Type 0
 At_head (in_section ds) = Unit {0}
-At_head (in_block l f ds no_actions st) = Unit {0}
+At_head (in_block l f ds no_commands st) = Unit {0}
 At_head _ = ⊥
 
 -- a definition: the name and the parenthesis of a procedure
 abbrev pub Procedure : Mention → List Symbol → List Symbol → Type 0
-Procedure n a z = (t : Symbol) × (o : Symbol) × (a ≡ t ∷ o ∷ z) × SpellsName n.line n.letters t × (o.kind ≡ k.Open)
+Procedure n a z = (t : Symbol) × (o : Symbol) × (a ≡ t ∷ o ∷ z) × SpellsName n.at n.letters t × (o.kind ≡ k.Open)
 
 -- a command may stand here
 abbrev pub Ready : Stack → Type 0
@@ -127,9 +128,9 @@ Ready _ = Unit {0}
 -- what was begun, from a to z
 abbrev pub Before : Stack → List Symbol → List Symbol → Type 0
 Before (in_section ds) a z = (ms : List Symbol) × Heads false ds a ms × Semis ms z
-Before (in_block l f ds cs st) a z = (t : Symbol) × (ns : List Symbol) × (Before st a (t ∷ ns) × Ready st) × (t.kind ≡ k.SectionOpen) × (t.line ≡ l) × Inside f ds cs ns z
-Before (in_let l ds st) a z = (t : Symbol) × (ns : List Symbol) × Before st a (t ∷ ns) × (t.kind ≡ k.Let) × (t.line ≡ l) × At_head st × DefinitionsThen (in_block_is st) ds ns z
-Before (at_name n st) a z = (t : Symbol) × Before st a (t ∷ z) × SpellsName n.line n.letters t
+Before (in_block l f ds cs st) a z = (t : Symbol) × (ns : List Symbol) × (Before st a (t ∷ ns) × Ready st) × (t.kind ≡ k.SectionOpen) × (position_of t ≡ l) × Inside f ds cs ns z
+Before (in_let l ds st) a z = (t : Symbol) × (ns : List Symbol) × Before st a (t ∷ ns) × (t.kind ≡ k.Let) × (position_of t ≡ l) × At_head st × DefinitionsThen (in_block_is st) ds ns z
+Before (at_name n st) a z = (t : Symbol) × Before st a (t ∷ z) × SpellsName n.at n.letters t
 Before (at_formals n st) a z = (ms : List Symbol) × Before st a ms × Procedure n ms z
 Before (at_formal n fs st) a z = (ms : List Symbol) × (ns : List Symbol) × Before st a ms × Procedure n ms ns × NamesThen fs ns z
 Before (at_formal_end n fs st) a z = (ms : List Symbol) × (ns : List Symbol) × Before st a ms × Procedure n ms ns × Names fs ns z
@@ -137,43 +138,43 @@ Before (at_head n fs st) a z = (ms : List Symbol) × (ns : List Symbol) × Befor
 Before (at_variable xs st) a z = (ms : List Symbol) × Before st a ms × (inside st ≡ true) × NamesThen xs ms z
 Before (at_variable_end xs st) a z = (ms : List Symbol) × Before st a ms × (inside st ≡ true) × Names xs ms z
 Before (at_starts xs is st) a z = (ms : List Symbol) × (t : Symbol) × (ns : List Symbol) × Before st a ms × (inside st ≡ true) × (t.kind ≡ k.Equal) × Names xs ms (t ∷ ns) × StartsThen is ns z
-Before (at_opening l s st) a z = (t : Symbol) × Before st a (t ∷ z) × At_head st × (sort_of t.kind ≡ Some s) × (t.line ≡ l)
-Before (at_items l s is st) a z = (t : Symbol) × (b : Symbol) × (ns : List Symbol) × Before st a (t ∷ b ∷ ns) × At_head st × (sort_of t.kind ≡ Some s) × (t.line ≡ l) × (b.kind ≡ k.SectionOpen) × ItemsThen is ns z
-Before (at_sign l s is n st) a z = (t : Symbol) × (b : Symbol) × (ns : List Symbol) × (m : Symbol) × Before st a (t ∷ b ∷ ns) × At_head st × (sort_of t.kind ≡ Some s) × (t.line ≡ l) × (b.kind ≡ k.SectionOpen) × ItemsThen is ns (m ∷ z) × SpellsName n.line n.letters m
-Before (at_goto l st) a z = (t : Symbol) × (Before st a (t ∷ z) × Ready st) × (t.kind ≡ k.Goto) × (t.line ≡ l)
-Before (at_for l st) a z = (t : Symbol) × (Before st a (t ∷ z) × Ready st) × (t.kind ≡ k.For) × (t.line ≡ l)
-Before (at_forward l n st) a z = (t : Symbol) × (m : Symbol) × (Before st a (t ∷ m ∷ z) × Ready st) × (t.kind ≡ k.For) × (t.line ≡ l) × SpellsName n.line n.letters m
-Before (at_default l st) a z = (t : Symbol) × (Before st a (t ∷ z) × Ready st) × (t.kind ≡ k.Default) × (t.line ≡ l)
-Before (in_parens l st) a z = (t : Symbol) × Before st a (t ∷ z) × (t.kind ≡ k.Open) × (t.line ≡ l)
-Before (in_unary l p st) a z = (t : Symbol) × Before st a (t ∷ z) × (prefix_of t.kind ≡ Some p) × (t.line ≡ l)
-Before (in_binary q s x st) a z = (ms : List Symbol) × (t : Symbol) × Before st a ms × (infix_of t.kind ≡ Some q) × (t.line ≡ s) × (row q ≤ limit st) × Reads (left q) x ms (t ∷ z)
-Before (in_chain q s x b st) a z = (ms : List Symbol) × (t : Symbol) × Before st a ms × (infix_of t.kind ≡ Some q) × (t.line ≡ s) × (6 ≤ limit st) × (is_relation q ≡ true) × (last x ≡ Some b) × Reads 6 x ms (t ∷ z)
-Before (in_then s c st) a z = (ms : List Symbol) × (t : Symbol) × Before st a ms × (t.kind ≡ k.Arrow) × (t.line ≡ s) × (12 ≤ limit st) × Reads 11 c ms (t ∷ z)
-Before (in_else s c x st) a z = (ms : List Symbol) × (t : Symbol) × (ns : List Symbol) × (d : Symbol) × Before st a ms × (t.kind ≡ k.Arrow) × (t.line ≡ s) × (12 ≤ limit st) × Reads 11 c ms (t ∷ ns) × (d.kind ≡ k.Comma) × Reads 12 x ns (d ∷ z)
-Before (in_args s f es st) a z = (ms : List Symbol) × (t : Symbol) × (ns : List Symbol) × Before st a ms × (t.kind ≡ k.Open) × (t.line ≡ s) × Reads 0 f ms (t ∷ ns) × Commas es ns z
-Before (in_table l es st) a z = (t : Symbol) × (ns : List Symbol) × Before st a (t ∷ ns) × (t.kind ≡ k.Table) × (t.line ≡ l) × Commas es ns z
+Before (at_opening l s st) a z = (t : Symbol) × Before st a (t ∷ z) × At_head st × (sort_of t.kind ≡ Some s) × (position_of t ≡ l)
+Before (at_items l s is st) a z = (t : Symbol) × (b : Symbol) × (ns : List Symbol) × Before st a (t ∷ b ∷ ns) × At_head st × (sort_of t.kind ≡ Some s) × (position_of t ≡ l) × (b.kind ≡ k.SectionOpen) × ItemsThen is ns z
+Before (at_sign l s is n st) a z = (t : Symbol) × (b : Symbol) × (ns : List Symbol) × (m : Symbol) × Before st a (t ∷ b ∷ ns) × At_head st × (sort_of t.kind ≡ Some s) × (position_of t ≡ l) × (b.kind ≡ k.SectionOpen) × ItemsThen is ns (m ∷ z) × SpellsName n.at n.letters m
+Before (at_goto l st) a z = (t : Symbol) × (Before st a (t ∷ z) × Ready st) × (t.kind ≡ k.Goto) × (position_of t ≡ l)
+Before (at_for l st) a z = (t : Symbol) × (Before st a (t ∷ z) × Ready st) × (t.kind ≡ k.For) × (position_of t ≡ l)
+Before (at_forward l n st) a z = (t : Symbol) × (m : Symbol) × (Before st a (t ∷ m ∷ z) × Ready st) × (t.kind ≡ k.For) × (position_of t ≡ l) × SpellsName n.at n.letters m
+Before (at_default l st) a z = (t : Symbol) × (Before st a (t ∷ z) × Ready st) × (t.kind ≡ k.Default) × (position_of t ≡ l)
+Before (in_parens l st) a z = (t : Symbol) × Before st a (t ∷ z) × (t.kind ≡ k.Open) × (position_of t ≡ l)
+Before (in_unary l p st) a z = (t : Symbol) × Before st a (t ∷ z) × (prefix_of t.kind ≡ Some p) × (position_of t ≡ l)
+Before (in_binary q s x st) a z = (ms : List Symbol) × (t : Symbol) × Before st a ms × (infix_of t.kind ≡ Some q) × (position_of t ≡ s) × (row q ≤ limit st) × Reads (left q) x ms (t ∷ z)
+Before (in_chain q s x b st) a z = (ms : List Symbol) × (t : Symbol) × Before st a ms × (infix_of t.kind ≡ Some q) × (position_of t ≡ s) × (6 ≤ limit st) × (is_relation q ≡ true) × (last x ≡ Some b) × Reads 6 x ms (t ∷ z)
+Before (in_then s c st) a z = (ms : List Symbol) × (t : Symbol) × Before st a ms × (t.kind ≡ k.Arrow) × (position_of t ≡ s) × (12 ≤ limit st) × Reads 11 c ms (t ∷ z)
+Before (in_else s c x st) a z = (ms : List Symbol) × (t : Symbol) × (ns : List Symbol) × (d : Symbol) × Before st a ms × (t.kind ≡ k.Arrow) × (position_of t ≡ s) × (12 ≤ limit st) × Reads 11 c ms (t ∷ ns) × (d.kind ≡ k.Comma) × Reads 12 x ns (d ∷ z)
+Before (in_args s f es st) a z = (ms : List Symbol) × (t : Symbol) × (ns : List Symbol) × Before st a ms × (t.kind ≡ k.Open) × (position_of t ≡ s) × Reads 0 f ms (t ∷ ns) × Commas es ns z
+Before (in_table l es st) a z = (t : Symbol) × (ns : List Symbol) × Before st a (t ∷ ns) × (t.kind ≡ k.Table) × (position_of t ≡ l) × Commas es ns z
 Before (in_start st) a z = Before st a z × Ready st
 Before (in_dests xs st) a z = (ms : List Symbol) × (Before st a ms × Ready st) × Commas xs ms z
 Before (in_values xs ys st) a z = (ms : List Symbol) × (t : Symbol) × (ns : List Symbol) × (Before st a ms × Ready st) × (t.kind ≡ k.Assign) × Each xs ms (t ∷ ns) × Commas ys ns z
-Before (in_guard gd l st) a z = (t : Symbol) × (Before st a (t ∷ z) × Ready st) × (guard_of t.kind ≡ Some gd) × (t.line ≡ l)
-Before (in_test l st) a z = (t : Symbol) × (Before st a (t ∷ z) × Ready st) × (t.kind ≡ k.Test) × (t.line ≡ l)
-Before (in_result l st) a z = (t : Symbol) × (Before st a (t ∷ z) × Ready st) × (t.kind ≡ k.ResultIs) × (t.line ≡ l)
+Before (in_guard gd l st) a z = (t : Symbol) × (Before st a (t ∷ z) × Ready st) × (guard_of t.kind ≡ Some gd) × (position_of t ≡ l)
+Before (in_test l st) a z = (t : Symbol) × (Before st a (t ∷ z) × Ready st) × (t.kind ≡ k.Test) × (position_of t ≡ l)
+Before (in_result l st) a z = (t : Symbol) × (Before st a (t ∷ z) × Ready st) × (t.kind ≡ k.ResultIs) × (position_of t ≡ l)
 Before (in_while b c st) a z = (ms : List Symbol) × (t : Symbol) × (Before st a ms × Ready st) × (t.kind ≡ repeats_while b) × Filled c × Does c ms (t ∷ z)
-Before (in_from l n st) a z = (t : Symbol) × (m : Symbol) × (q : Symbol) × (Before st a (t ∷ m ∷ q ∷ z) × Ready st) × (t.kind ≡ k.For) × (t.line ≡ l) × SpellsName n.line n.letters m × (q.kind ≡ k.Equal)
-Before (in_to l n x st) a z = (t : Symbol) × (m : Symbol) × (q : Symbol) × (ms : List Symbol) × (o : Symbol) × (Before st a (t ∷ m ∷ q ∷ ms) × Ready st) × (t.kind ≡ k.For) × (t.line ≡ l) × SpellsName n.line n.letters m × (q.kind ≡ k.Equal) × Reads 12 x ms (o ∷ z) × (o.kind ≡ k.To)
-Before (in_by l n x y st) a z = (t : Symbol) × (m : Symbol) × (q : Symbol) × (ms : List Symbol) × (o : Symbol) × (ns : List Symbol) × (b : Symbol) × (Before st a (t ∷ m ∷ q ∷ ms) × Ready st) × (t.kind ≡ k.For) × (t.line ≡ l) × SpellsName n.line n.letters m × (q.kind ≡ k.Equal) × Reads 12 x ms (o ∷ ns) × (o.kind ≡ k.To) × Reads 12 y ns (b ∷ z) × (b.kind ≡ k.By)
-Before (in_item l s is n st) a z = (t : Symbol) × (b : Symbol) × (ns : List Symbol) × (m : Symbol) × (q : Symbol) × Before st a (t ∷ b ∷ ns) × At_head st × (sort_of t.kind ≡ Some s) × (t.line ≡ l) × (b.kind ≡ k.SectionOpen) × ItemsThen is ns (m ∷ q ∷ z) × SpellsName n.line n.letters m × ((q.kind ≡ k.Equal) ⊎ (q.kind ≡ k.Colon))
+Before (in_from l n st) a z = (t : Symbol) × (m : Symbol) × (q : Symbol) × (Before st a (t ∷ m ∷ q ∷ z) × Ready st) × (t.kind ≡ k.For) × (position_of t ≡ l) × SpellsName n.at n.letters m × (q.kind ≡ k.Equal)
+Before (in_to l n x st) a z = (t : Symbol) × (m : Symbol) × (q : Symbol) × (ms : List Symbol) × (o : Symbol) × (Before st a (t ∷ m ∷ q ∷ ms) × Ready st) × (t.kind ≡ k.For) × (position_of t ≡ l) × SpellsName n.at n.letters m × (q.kind ≡ k.Equal) × Reads 12 x ms (o ∷ z) × (o.kind ≡ k.To)
+Before (in_by l n x y st) a z = (t : Symbol) × (m : Symbol) × (q : Symbol) × (ms : List Symbol) × (o : Symbol) × (ns : List Symbol) × (b : Symbol) × (Before st a (t ∷ m ∷ q ∷ ms) × Ready st) × (t.kind ≡ k.For) × (position_of t ≡ l) × SpellsName n.at n.letters m × (q.kind ≡ k.Equal) × Reads 12 x ms (o ∷ ns) × (o.kind ≡ k.To) × Reads 12 y ns (b ∷ z) × (b.kind ≡ k.By)
+Before (in_item l s is n st) a z = (t : Symbol) × (b : Symbol) × (ns : List Symbol) × (m : Symbol) × (q : Symbol) × Before st a (t ∷ b ∷ ns) × At_head st × (sort_of t.kind ≡ Some s) × (position_of t ≡ l) × (b.kind ≡ k.SectionOpen) × ItemsThen is ns (m ∷ q ∷ z) × SpellsName n.at n.letters m × ((q.kind ≡ k.Equal) ⊎ (q.kind ≡ k.Colon))
 Before (in_function n fs st) a z = (ms : List Symbol) × (ns : List Symbol) × (t : Symbol) × Before st a ms × Procedure n ms ns × Formals fs ns (t ∷ z) × (t.kind ≡ k.Equal)
 Before (in_value xs is st) a z = (ms : List Symbol) × (t : Symbol) × (ns : List Symbol) × Before st a ms × (inside st ≡ true) × (t.kind ≡ k.Equal) × Names xs ms (t ∷ ns) × StartsThen is ns z
-Before (in_vector l xs is st) a z = (ms : List Symbol) × (t : Symbol) × (ns : List Symbol) × (v : Symbol) × Before st a ms × (inside st ≡ true) × (t.kind ≡ k.Equal) × Names xs ms (t ∷ ns) × StartsThen is ns (v ∷ z) × (v.kind ≡ k.Vec) × (v.line ≡ l)
-Before (in_valof l st) a z = (t : Symbol) × Before st a (t ∷ z) × (t.kind ≡ k.Valof) × (t.line ≡ l)
+Before (in_vector l xs is st) a z = (ms : List Symbol) × (t : Symbol) × (ns : List Symbol) × (v : Symbol) × Before st a ms × (inside st ≡ true) × (t.kind ≡ k.Equal) × Names xs ms (t ∷ ns) × StartsThen is ns (v ∷ z) × (v.kind ≡ k.Vec) × (position_of v ≡ l)
+Before (in_valof l st) a z = (t : Symbol) × Before st a (t ∷ z) × (t.kind ≡ k.Valof) × (position_of t ≡ l)
 Before (in_label l x st) a z = (t : Symbol) × (d : Symbol) × (Before st a (t ∷ d ∷ z) × Ready st) × SpellsName l x t × (d.kind ≡ k.Colon)
-Before (in_guarded gd l e st) a z = (t : Symbol) × (ms : List Symbol) × (d : Symbol) × (Before st a (t ∷ ms) × Ready st) × (guard_of t.kind ≡ Some gd) × (t.line ≡ l) × Reads 12 e ms (d ∷ z) × (d.kind ≡ sign_of gd)
-Before (in_default l st) a z = (t : Symbol) × (d : Symbol) × (Before st a (t ∷ d ∷ z) × Ready st) × (t.kind ≡ k.Default) × (t.line ≡ l) × (d.kind ≡ k.Colon)
-Before (in_do l e st) a z = (t : Symbol) × (ms : List Symbol) × (d : Symbol) × (Before st a (t ∷ ms) × Ready st) × (t.kind ≡ k.Test) × (t.line ≡ l) × Reads 12 e ms (d ∷ z) × (d.kind ≡ k.Do)
-Before (in_or l e c st) a z = (t : Symbol) × (ms : List Symbol) × (d : Symbol) × (ns : List Symbol) × (o : Symbol) × (Before st a (t ∷ ms) × Ready st) × (t.kind ≡ k.Test) × (t.line ≡ l) × Reads 12 e ms (d ∷ ns) × (d.kind ≡ k.Do) × Does c ns (o ∷ z) × Full c (o ∷ z) × (o.kind ≡ k.Or)
-Before (in_for l n x y none st) a z = (t : Symbol) × (m : Symbol) × (q : Symbol) × (ms : List Symbol) × (o : Symbol) × (ns : List Symbol) × (d : Symbol) × (Before st a (t ∷ m ∷ q ∷ ms) × Ready st) × (t.kind ≡ k.For) × (t.line ≡ l) × SpellsName n.line n.letters m × (q.kind ≡ k.Equal) × Reads 12 x ms (o ∷ ns) × (o.kind ≡ k.To) × Reads 12 y ns (d ∷ z) × (d.kind ≡ k.Do)
-Before (in_for l n x y (more h none) st) a z = (t : Symbol) × (m : Symbol) × (q : Symbol) × (ms : List Symbol) × (o : Symbol) × (ns : List Symbol) × (b : Symbol) × (rs : List Symbol) × (d : Symbol) × (Before st a (t ∷ m ∷ q ∷ ms) × Ready st) × (t.kind ≡ k.For) × (t.line ≡ l) × SpellsName n.line n.letters m × (q.kind ≡ k.Equal) × Reads 12 x ms (o ∷ ns) × (o.kind ≡ k.To) × Reads 12 y ns (b ∷ rs) × (b.kind ≡ k.By) × Reads 12 h rs (d ∷ z) × (d.kind ≡ k.Do)
+Before (in_guarded gd l e st) a z = (t : Symbol) × (ms : List Symbol) × (d : Symbol) × (Before st a (t ∷ ms) × Ready st) × (guard_of t.kind ≡ Some gd) × (position_of t ≡ l) × Reads 12 e ms (d ∷ z) × (d.kind ≡ sign_of gd)
+Before (in_default l st) a z = (t : Symbol) × (d : Symbol) × (Before st a (t ∷ d ∷ z) × Ready st) × (t.kind ≡ k.Default) × (position_of t ≡ l) × (d.kind ≡ k.Colon)
+Before (in_do l e st) a z = (t : Symbol) × (ms : List Symbol) × (d : Symbol) × (Before st a (t ∷ ms) × Ready st) × (t.kind ≡ k.Test) × (position_of t ≡ l) × Reads 12 e ms (d ∷ z) × (d.kind ≡ k.Do)
+Before (in_or l e c st) a z = (t : Symbol) × (ms : List Symbol) × (d : Symbol) × (ns : List Symbol) × (o : Symbol) × (Before st a (t ∷ ms) × Ready st) × (t.kind ≡ k.Test) × (position_of t ≡ l) × Reads 12 e ms (d ∷ ns) × (d.kind ≡ k.Do) × Does c ns (o ∷ z) × Full c (o ∷ z) × (o.kind ≡ k.Or)
+Before (in_for l n x y none st) a z = (t : Symbol) × (m : Symbol) × (q : Symbol) × (ms : List Symbol) × (o : Symbol) × (ns : List Symbol) × (d : Symbol) × (Before st a (t ∷ m ∷ q ∷ ms) × Ready st) × (t.kind ≡ k.For) × (position_of t ≡ l) × SpellsName n.at n.letters m × (q.kind ≡ k.Equal) × Reads 12 x ms (o ∷ ns) × (o.kind ≡ k.To) × Reads 12 y ns (d ∷ z) × (d.kind ≡ k.Do)
+Before (in_for l n x y (more h none) st) a z = (t : Symbol) × (m : Symbol) × (q : Symbol) × (ms : List Symbol) × (o : Symbol) × (ns : List Symbol) × (b : Symbol) × (rs : List Symbol) × (d : Symbol) × (Before st a (t ∷ m ∷ q ∷ ms) × Ready st) × (t.kind ≡ k.For) × (position_of t ≡ l) × SpellsName n.at n.letters m × (q.kind ≡ k.Equal) × Reads 12 x ms (o ∷ ns) × (o.kind ≡ k.To) × Reads 12 y ns (b ∷ rs) × (b.kind ≡ k.By) × Reads 12 h rs (d ∷ z) × (d.kind ≡ k.Do)
 Before (in_for l n x y (more h (more i hs)) st) a z = ⊥
 Before (in_routine n fs st) a z = (ms : List Symbol) × (ns : List Symbol) × (t : Symbol) × Before st a ms × Procedure n ms ns × Formals fs ns (t ∷ z) × (t.kind ≡ k.Be)
 

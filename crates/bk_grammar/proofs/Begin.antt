@@ -1,14 +1,15 @@
 -- What the grammar allows is read.
-use Rattle.bk_grammar.proofs.Terms.{◌≡◌, ℕ, ◌+◌, ◌<◌, ◌≤◌, Bool, true, false, cond, List, ◌∷◌, Some, None, refl, sym, ap, subst, ◌∙◌, inl, inr, arith, Kind, Kind as k, Symbol, Operator, Operator as o, Expression, Expressions, Action, Actions, Declarations, name, parens, unary, binary, choice, apply, valof, table, none, more, empty, assign, call, goto, label, default, when, test, while, for_loop, result, simple, block, repeat, repeat_while, no_declarations, declare, row, inner, left, is_relation, infix_of, begins_operand, begins_command, repeats, assigns, is_comma, goes, Fails, Stops, Leaf, last, Full, EndsCommand, Filled, if_or_unless, while_or_until, Reads, Each, Does, line_of, line_of_first, size, Stack, in_block, in_binary, in_chain, in_table, in_start, in_values, State, want, have, begin, maybe, did, due, limit, linked, guarded, behind_sign, bars, give, finish, without, stepped_by, run, each_then}
+use Rattle.bk_grammar.proofs.Terms.{◌≡◌, ℕ, ◌+◌, ◌<◌, ◌≤◌, Bool, true, false, cond, List, ◌∷◌, Some, None, refl, sym, ap, subst, ◌∙◌, inl, inr, arith, Kind, Kind as k, Symbol, Operator, Operator as o, Expression, Expressions, Command, Commands, Declarations, name, parens, unary, binary, choice, apply, valof, table, none, more, empty, assign, call, goto, label, default, when, test, while, for_loop, result, simple, block, repeat, repeat_while, no_declarations, declare, row, inner, left, is_relation, infix_of, begins_operand, begins_command, repeats, assigns, is_comma, goes, Fails, Stops, Leaf, last, Full, EndsCommand, Filled, if_or_unless, while_or_until, Reads, Each, Does, at_expression, at_expressions, size, Stack, in_block, in_binary, in_chain, in_table, in_start, in_values, State, want, have, begin, maybe, did, due, limit, linked, guarded, behind_sign, bars, give, finish, without, stepped_by, run, each_then}
 use Rattle.bk_grammar.proofs.Steps.{stepped, same_step, alike, takes, failing, failing_both, stops_alike, repeats_alike, pushes, row_le, infix_goes, push_infix, prefix_begins, leaf_begins, operand_begins, simple_begins, guard_begins, at_operand, at_item, same_eq, less_eq}
+use Rattle.bk_grammar.specs.Placed.{position_of}
 
 -- ---- expressions
 
 -- an infix operator within the rows is taken
 pub takes_infix : (st : Stack) (a : Expression) (q : Operator) (t : Symbol) (ms : List Symbol) → infix_of t.kind ≡ Some q → row q ≤ limit st
-    → run (t ∷ ms) (have st a) ≡ run ms (cond (is_relation q) (linked q t.line a st (last a)) (want (in_binary q t.line a st)))
+    → run (t ∷ ms) (have st a) ≡ run ms (cond (is_relation q) (linked q (position_of t) a st (last a)) (want (in_binary q (position_of t) a st)))
 takes_infix st a q t ms is le =
-    stepped (have st a) _ t ms (pushes st a t.line t.text t.kind (infix_goes t.kind q (limit st) is le) ∙ push_infix t.kind q st a t.line is)
+    stepped (have st a) _ t ms (pushes st a (position_of t) t.text t.kind (infix_goes t.kind q (limit st) is le) ∙ push_infix t.kind q st a (position_of t) is)
 
 pub cond_pick : (b : Bool) (x y : State) → (b ≡ true → x ≡ y) → cond b x y ≡ y
 cond_pick true x y h = h refl
@@ -21,25 +22,25 @@ pub lines : (l s m n : ℕ) (q : Operator) (a b : Expression) → m ≡ l → n 
 lines l s m n q a b h j = rw (h, j) refl
 
 -- a wanted right operand, with what stands left of it, makes the whole
-pub joins : (st : Stack) (l s : ℕ) (a b : Expression) (q : Operator) (t : Symbol) (ms us : List Symbol) → infix_of t.kind ≡ Some q → t.line ≡ s → l ≡ line_of a → row q ≤ limit st → (is_relation q ≡ true → last a ≡ None)
-    → run ms (want (in_binary q t.line a st)) ≡ run us (have (in_binary q t.line a st) b) → Stops (inner q) us → run (t ∷ ms) (have st a) ≡ run us (have st (binary l q s a b))
+pub joins : (st : Stack) (l s : ℕ) (a b : Expression) (q : Operator) (t : Symbol) (ms us : List Symbol) → infix_of t.kind ≡ Some q → position_of t ≡ s → l ≡ at_expression a → row q ≤ limit st → (is_relation q ≡ true → last a ≡ None)
+    → run ms (want (in_binary q (position_of t) a st)) ≡ run us (have (in_binary q (position_of t) a st) b) → Stops (inner q) us → run (t ∷ ms) (have st a) ≡ run us (have st (binary l q s a b))
 joins st l s a b q t ms us is at from le free right stops =
-    takes_infix st a q t ms is le ∙ ap (run ms) (plain_link q t.line a st free) ∙ right
-    ∙ stops_alike (inner q) us (have (in_binary q t.line a st) b) (have st (binary (line_of a) q t.line a b)) stops (λ m x y h. rw h refl)
-    ∙ ap (λ e. run us (have st e)) (lines l s (line_of a) t.line q a b (sym from) at)
+    takes_infix st a q t ms is le ∙ ap (run ms) (plain_link q (position_of t) a st free) ∙ right
+    ∙ stops_alike (inner q) us (have (in_binary q (position_of t) a st) b) (have st (binary (at_expression a) q (position_of t) a b)) stops (λ m x y h. rw h refl)
+    ∙ ap (λ e. run us (have st e)) (lines l s (at_expression a) (position_of t) q a b (sym from) at)
 
-pub chain_lines : (l s m n : ℕ) (q : Operator) (a b c : Expression) (t : ℕ) → t ≡ s → n ≡ s → l ≡ line_of a → m ≡ line_of b
-    → binary (line_of a) o.Both t a (binary (line_of b) q t b c) ≡ binary l o.Both s a (binary m q n b c)
+pub chain_lines : (l s m n : ℕ) (q : Operator) (a b c : Expression) (t : ℕ) → t ≡ s → n ≡ s → l ≡ at_expression a → m ≡ at_expression b
+    → binary (at_expression a) o.Both t a (binary (at_expression b) q t b c) ≡ binary l o.Both s a (binary m q n b c)
 chain_lines l s m n q a b c t h j p r = rw (h, j, p, r) refl
 
-pub joins_chain : (st : Stack) (l s m n : ℕ) (a b c : Expression) (q : Operator) (t : Symbol) (ms us : List Symbol) → infix_of t.kind ≡ Some q → t.line ≡ s → n ≡ s → l ≡ line_of a → m ≡ line_of b → row q ≤ limit st
-    → is_relation q ≡ true → last a ≡ Some b → run ms (want (in_chain q t.line a b st)) ≡ run us (have (in_chain q t.line a b st) c) → Stops 5 us
+pub joins_chain : (st : Stack) (l s m n : ℕ) (a b c : Expression) (q : Operator) (t : Symbol) (ms us : List Symbol) → infix_of t.kind ≡ Some q → position_of t ≡ s → n ≡ s → l ≡ at_expression a → m ≡ at_expression b → row q ≤ limit st
+    → is_relation q ≡ true → last a ≡ Some b → run ms (want (in_chain q (position_of t) a b st)) ≡ run us (have (in_chain q (position_of t) a b st) c) → Stops 5 us
     → run (t ∷ ms) (have st a) ≡ run us (have st (binary l o.Both s a (binary m q n b c)))
 joins_chain st l s m n a b c q t ms us is at also_at from shared_from le rel shares right stops =
-    let e : cond (is_relation q) (linked q t.line a st (last a)) (want (in_binary q t.line a st)) ≡ want (in_chain q t.line a b st) = rw (rel, shares) refl in
+    let e : cond (is_relation q) (linked q (position_of t) a st (last a)) (want (in_binary q (position_of t) a st)) ≡ want (in_chain q (position_of t) a b st) = rw (rel, shares) refl in
     takes_infix st a q t ms is le ∙ ap (run ms) e ∙ right
-    ∙ stops_alike 5 us (have (in_chain q t.line a b st) c) (have st (binary (line_of a) o.Both t.line a (binary (line_of b) q t.line b c))) stops (λ i x y h. rw h refl)
-    ∙ ap (λ e. run us (have st e)) (chain_lines l s m n q a b c t.line at also_at from shared_from)
+    ∙ stops_alike 5 us (have (in_chain q (position_of t) a b st) c) (have st (binary (at_expression a) o.Both (position_of t) a (binary (at_expression b) q (position_of t) b c))) stops (λ i x y h. rw h refl)
+    ∙ ap (λ e. run us (have st e)) (chain_lines l s m n q a b c (position_of t) at also_at from shared_from)
 
 pub row_6 : (q : Operator) → is_relation q ≡ true → row q ≡ 6
 row_6 o.Subscript h = cc
@@ -95,7 +96,7 @@ pub record Opens (passes : Kind → Bool) (ts : List Symbol) : Type 0 where
   pub good : passes first.kind ≡ true
 
 pub opens_leaf : (e : Expression) (ts us : List Symbol) → Leaf e ts us → Opens begins_operand ts
-opens_leaf e ts us h = record { first = h.0; rest = us; is = h.1; good = leaf_begins h.0.kind h.0.line h.0.text e h.2 }
+opens_leaf e ts us h = record { first = h.0; rest = us; is = h.1; good = leaf_begins h.0.kind (position_of h.0) h.0.text e h.2 }
 
 pub opens_read : (rows : ℕ) (e : Expression) (ts us : List Symbol) → Reads rows e ts us → Opens begins_operand ts
 opens_read rows (parens l x) ts us h = record { first = h.0; rest = h.1; is = h.3; good = ap begins_operand h.4 }
@@ -118,7 +119,7 @@ opens_each none ts us h = absurd h
 opens_each (more x none) ts us h = opens_read 12 x ts us h.0
 opens_each (more x (more y ys)) ts us h = opens_read 12 x ts (h.0 ∷ h.1) h.3
 
-pub opens_does : (c : Action) (ts us : List Symbol) → Filled c → Does c ts us → Opens begins_command ts
+pub opens_does : (c : Command) (ts us : List Symbol) → Filled c → Does c ts us → Opens begins_command ts
 opens_does empty ts us full h = absurd full
 opens_does (assign l xs ys) ts us full h = widen ts (opens_each xs ts (h.0 ∷ h.1) h.5)
 opens_does (call l f none) ts us full h = widen ts (opens_read 0 f ts (h.0 ∷ h.1 ∷ us) h.5)
@@ -141,27 +142,27 @@ opens_does y ts us full h = record { first = h.0; rest = h.1; is = h.4; good = g
 -- two states that take the first symbol alike
 pub at_first : (passes : Kind → Bool) (ts : List Symbol) (x y : State) → Opens passes ts → ((l : ℕ) (s : List ℕ) (t : Kind) → passes t ≡ true → stepped_by x l s t ≡ stepped_by y l s t) → run ts x ≡ run ts y
 at_first passes ts x y h f =
-    ap (λ z. run z x) h.is ∙ same_step h.first h.rest x y (f h.first.line h.first.text h.first.kind h.good) ∙ ap (λ z. run z y) (sym h.is)
+    ap (λ z. run z x) h.is ∙ same_step h.first h.rest x y (f (position_of h.first) h.first.text h.first.kind h.good) ∙ ap (λ z. run z y) (sym h.is)
 
 pub opened : (st : Stack) (ts : List Symbol) → Opens begins_operand ts → run ts (begin st) ≡ run ts (want (in_start st))
 opened st ts h = at_first begins_operand ts (begin st) (want (in_start st)) h (λ l s t good. at_operand t st l s good)
 
-pub item_starts : (b : ℕ) (ds : Declarations) (cs : Actions) (st : Stack) (ts : List Symbol) → Opens begins_command ts → run ts (due (in_block b true ds cs st)) ≡ run ts (begin (in_block b true ds cs st))
+pub item_starts : (b : ℕ) (ds : Declarations) (cs : Commands) (st : Stack) (ts : List Symbol) → Opens begins_command ts → run ts (due (in_block b true ds cs st)) ≡ run ts (begin (in_block b true ds cs st))
 item_starts b ds cs st ts h = at_first begins_command ts (due (in_block b true ds cs st)) (begin (in_block b true ds cs st)) h (λ l s t good. at_item t b ds cs st l s good)
 
-pub full_filled : (c : Action) (us : List Symbol) → Full c us → Filled c
+pub full_filled : (c : Command) (us : List Symbol) → Full c us → Filled c
 full_filled empty us h = h
 full_filled _ us h = tt
 
-pub full_fails : (c : Action) (us : List Symbol) → Full c us → Fails repeats us
+pub full_fails : (c : Command) (us : List Symbol) → Full c us → Fails repeats us
 full_fails empty us h = absurd h
 full_fails (goto l x) us h = h
 full_fails _ us h = h
 
 -- a command behind a colon, or none
-pub perhaps : (c : Action) (ts us : List Symbol) (fr st : Stack) (make : Action → Action)
+pub perhaps : (c : Command) (ts us : List Symbol) (fr st : Stack) (make : Command → Command)
     → ((l : ℕ) (s : List ℕ) (t : Kind) → without fr l s t ≡ finish st (make empty) l s t)
-    → ((a : Action) (l : ℕ) (s : List ℕ) (t : Kind) → repeats t ≡ false → finish fr a l s t ≡ finish st (make a) l s t)
+    → ((a : Command) (l : ℕ) (s : List ℕ) (t : Kind) → repeats t ≡ false → finish fr a l s t ≡ finish st (make a) l s t)
     → (Filled c → run ts (begin fr) ≡ run us (did fr c)) → Does c ts us → EndsCommand c us → run ts (maybe fr) ≡ run us (did st (make c))
 perhaps empty ts us fr st make bare made runs h ends =
     ap (λ z. run z (maybe fr)) h.0 ∙ alike us (maybe fr) (did st (make empty)) (stepped_by (did st (make empty)))
@@ -170,11 +171,11 @@ perhaps c ts us fr st make bare made runs h ends =
     at_first begins_command ts (maybe fr) (begin fr) (opens_does c ts us tt h) (λ l s t good. rw good refl)
     ∙ runs tt ∙ repeats_alike us (did fr c) (did st (make c)) ends (λ l s t f. made c l s t f)
 
-pub guarded_when : (b : Bool) (l : ℕ) (e : Expression) (c : Action) → guarded (if_or_unless b) l e c ≡ when l b e c
+pub guarded_when : (b : Bool) (l : ℕ) (e : Expression) (c : Command) → guarded (if_or_unless b) l e c ≡ when l b e c
 guarded_when true l e c = refl
 guarded_when false l e c = refl
 
-pub guarded_while : (b : Bool) (l : ℕ) (e : Expression) (c : Action) → guarded (while_or_until b) l e c ≡ while l b e c
+pub guarded_while : (b : Bool) (l : ℕ) (e : Expression) (c : Command) → guarded (while_or_until b) l e c ≡ while l b e c
 guarded_while true l e c = refl
 guarded_while false l e c = refl
 
@@ -192,9 +193,9 @@ call_ends st m s f es us stops fails =
     (failing_both (goes 12) assigns us (have (in_start st) (apply m s f es)) _ refl refl stops fails (λ l x t h j. rw (h, j) refl)) (takes us (did st (call m f es)))
 
 pub value_ends : (xs zs : Expressions) (y : Expression) (us : List Symbol) (st : Stack) → size xs ≡ size zs + 1 → Stops 12 us
-    → run us (have (in_values xs zs st) y) ≡ run us (did st (assign (line_of_first xs) xs (each_then zs (more y none))))
+    → run us (have (in_values xs zs st) y) ≡ run us (did st (assign (at_expressions xs) xs (each_then zs (more y none))))
 value_ends xs zs y us st n stops =
-    stops_alike 12 us (have (in_values xs zs st) y) (did st (assign (line_of_first xs) xs (each_then zs (more y none)))) stops (λ l x t h. rw (h, same_eq (size xs) (size zs + 1) n) refl)
+    stops_alike 12 us (have (in_values xs zs st) y) (did st (assign (at_expressions xs) xs (each_then zs (more y none)))) stops (λ l x t h. rw (h, same_eq (size xs) (size zs + 1) n) refl)
 
 pub value_more : (xs zs : Expressions) (y : Expression) (l : ℕ) (x : List ℕ) (t : Kind) (st : Stack) → size zs + 1 < size xs → t ≡ k.Comma → give (in_values xs zs st) y l x t ≡ Some (want (in_values xs (each_then zs (more y none)) st))
 value_more xs zs y l x t st n is = rw (is, less_eq (size xs) (size zs + 1) n) refl

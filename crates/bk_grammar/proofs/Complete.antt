@@ -1,9 +1,10 @@
 -- What the grammar allows is read.
-use Rattle.bk_grammar.proofs.Terms.{◌≡◌, ℕ, ◌+◌, ◌<◌, ◌≤◌, Bool, true, false, cond, List, [], ◌∷◌, ◌++◌, Option, Some, None, Ok, length, refl, sym, ap, subst, ◌∙◌, ◌⊎◌, inl, inr, append_assoc, arith, le-ltb, lt-ltb, Kind, Kind as k, Symbol, Operator as o, Sort, Guard as g, Mention, Expression, Expressions, Action, Actions, Declaration, Declarations, Items, Definition, Definitions, Starts, name, number, text, truth, query, parens, unary, binary, choice, apply, valof, table, none, more, empty, assign, call, goto, label, case_of, default, when, test, while, for_loop, switch, result, simple, block, repeat, repeat_while, no_actions, also, constants, definitions, no_declarations, declare, no_items, item, routine, function, variables, no_definitions, define, no_starts, value, vector, inner, left, behind, infix_of, sort_of, begins_operand, repeats, is_and, is_comma, goes, Fails, SpellsName, Names, Formals, Semis, Filled, if_or_unless, while_or_until, repeats_while, Reads, Each, Does, Body, Parted, Heads, Declares, Listed, Defined, Defines, Started, Section, line_of, line_of_first, line_of_names, line_of_action, size, start_count, Stack, in_section, in_block, in_let, at_name, at_formals, at_formal, at_formal_end, at_head, at_variable, at_variable_end, at_starts, at_opening, at_items, at_sign, at_goto, at_for, at_forward, at_default, in_parens, in_unary, in_binary, in_chain, in_then, in_else, in_args, in_table, in_start, in_dests, in_values, in_guard, in_test, in_result, in_while, in_from, in_to, in_by, in_item, in_function, in_value, in_vector, in_valof, in_label, in_guarded, in_default, in_do, in_or, in_for, in_routine, State, want, have, begin, maybe, did, due, limit, is_vec, named, guarded, behind_sign, take_command, sorted, declared, declared_by, defined_by, again, finish, inside, in_names, take_item, take_due, step, run, each_then, actions_then, declarations_then, items_then, definitions_then, starts_then}
-use Rattle.bk_grammar.proofs.Steps.{stepped, Takes, alike, failing, stops_alike, repeats_alike, pushes, repeated, left_le, leaf_step, prefix_step, simple_step, guard_step, sign_step, same_eq, less_eq, each_end, actions_end, declarations_end, declarations_all, items_end, definitions_end, value_end, vector_end, size_then, count_then}
+use Rattle.bk_grammar.proofs.Terms.{◌≡◌, ℕ, ◌+◌, ◌<◌, ◌≤◌, Bool, true, false, cond, List, [], ◌∷◌, ◌++◌, Option, Some, None, Ok, length, refl, sym, ap, subst, ◌∙◌, ◌⊎◌, inl, inr, append_assoc, arith, le-ltb, lt-ltb, Kind, Kind as k, Symbol, Operator as o, Sort, Guard as g, Mention, Expression, Expressions, Command, Commands, Declaration, Declarations, Items, Definition, Definitions, Starts, name, number, text, truth, query, parens, unary, binary, choice, apply, valof, table, none, more, empty, assign, call, goto, label, case_of, default, when, test, while, for_loop, switch, result, simple, block, repeat, repeat_while, no_commands, also, constants, definitions, no_declarations, declare, no_items, item, routine, function, variables, no_definitions, define, no_starts, value, vector, inner, left, behind, infix_of, sort_of, begins_operand, repeats, is_and, is_comma, goes, Fails, SpellsName, Names, Formals, Semis, Filled, if_or_unless, while_or_until, repeats_while, Reads, Each, Does, Body, Parted, Heads, Declares, Listed, Defined, Defines, Started, Section, at_expression, at_expressions, at_names, at_command, size, start_count, Stack, in_section, in_block, in_let, at_name, at_formals, at_formal, at_formal_end, at_head, at_variable, at_variable_end, at_starts, at_opening, at_items, at_sign, at_goto, at_for, at_forward, at_default, in_parens, in_unary, in_binary, in_chain, in_then, in_else, in_args, in_table, in_start, in_dests, in_values, in_guard, in_test, in_result, in_while, in_from, in_to, in_by, in_item, in_function, in_value, in_vector, in_valof, in_label, in_guarded, in_default, in_do, in_or, in_for, in_routine, State, want, have, begin, maybe, did, due, limit, is_vec, named, guarded, behind_sign, take_command, sorted, declared, declared_by, defined_by, again, finish, inside, in_names, take_item, take_due, step, run, each_then, commands_then, declarations_then, items_then, definitions_then, starts_then}
+use Rattle.bk_grammar.proofs.Steps.{stepped, Takes, alike, failing, stops_alike, repeats_alike, pushes, repeated, left_le, leaf_step, prefix_step, simple_step, guard_step, sign_step, same_eq, less_eq, each_end, commands_end, declarations_end, declarations_all, items_end, definitions_end, value_end, vector_end, size_then, count_then}
 use Rattle.bk_grammar.proofs.Begin.{Free, Opens, joins, joins_chain, row_6, free_left, each_stops, at_infix, at_open, at_arrow, at_comma, table_ends, opens_read, opens_each, opens_does, at_first, opened, item_starts, full_filled, full_fails, perhaps, guarded_when, guarded_while, begins_if, begins_while, call_ends, value_ends, value_more}
+use Rattle.bk_grammar.specs.Placed.{position_of}
 
-semis_run : (b : ℕ) (ds : Declarations) (cs : Actions) (ts us : List Symbol) (st : Stack) → Semis ts us → run ts (due (in_block b true ds cs st)) ≡ run us (due (in_block b true ds cs st))
+semis_run : (b : ℕ) (ds : Declarations) (cs : Commands) (ts us : List Symbol) (st : Stack) → Semis ts us → run ts (due (in_block b true ds cs st)) ≡ run us (due (in_block b true ds cs st))
 semis_run b ds cs [] us st h = ap (λ z. run z (due (in_block b true ds cs st))) h
 semis_run b ds cs (t ∷ ts) us st (inl h) = ap (λ z. run z (due (in_block b true ds cs st))) h
 semis_run b ds cs (t ∷ ts) us st (inr h) =
@@ -11,37 +12,37 @@ semis_run b ds cs (t ∷ ts) us st (inr h) =
     stepped (due (in_block b true ds cs st)) _ t ts e ∙ semis_run b ds cs ts us st h.1
 
 -- semicolons and the bracket behind the last command
-last_semis : (b : ℕ) (f : Bool) (ds : Declarations) (bs : Actions) (c : Action) (ts : List Symbol) (x : Symbol) (us : List Symbol) (st : Stack) → x.kind ≡ k.SectionClose → Semis ts (x ∷ us)
-    → run ts (did (in_block b f ds bs st) c) ≡ run us (did st (block b ds (actions_then bs (also c no_actions))))
+last_semis : (b : ℕ) (f : Bool) (ds : Declarations) (bs : Commands) (c : Command) (ts : List Symbol) (x : Symbol) (us : List Symbol) (st : Stack) → x.kind ≡ k.SectionClose → Semis ts (x ∷ us)
+    → run ts (did (in_block b f ds bs st) c) ≡ run us (did st (block b ds (commands_then bs (also c no_commands))))
 last_semis b f ds bs c [] x us st is h = absurd cc
 last_semis b f ds bs c (t ∷ ts) x us st is (inl h) =
-    let e : step (did (in_block b f ds bs st) c) x ≡ Some (did st (block b ds (actions_then bs (also c no_actions)))) = rw is refl in
+    let e : step (did (in_block b f ds bs st) c) x ≡ Some (did st (block b ds (commands_then bs (also c no_commands)))) = rw is refl in
     ap (λ z. run z (did (in_block b f ds bs st) c)) h ∙ stepped (did (in_block b f ds bs st) c) _ x us e
 last_semis b f ds bs c (t ∷ ts) x us st is (inr h) =
-    let e : step (did (in_block b f ds bs st) c) t ≡ Some (due (in_block b true ds (actions_then bs (also c no_actions)) st)) = rw h.0 refl in
-    let d : step (due (in_block b true ds (actions_then bs (also c no_actions)) st)) x ≡ Some (did st (block b ds (actions_then bs (also c no_actions)))) = rw is refl in
-    stepped (did (in_block b f ds bs st) c) _ t ts e ∙ semis_run b ds (actions_then bs (also c no_actions)) ts (x ∷ us) st h.1
-    ∙ stepped (due (in_block b true ds (actions_then bs (also c no_actions)) st)) _ x us d
+    let e : step (did (in_block b f ds bs st) c) t ≡ Some (due (in_block b true ds (commands_then bs (also c no_commands)) st)) = rw h.0 refl in
+    let d : step (due (in_block b true ds (commands_then bs (also c no_commands)) st)) x ≡ Some (did st (block b ds (commands_then bs (also c no_commands)))) = rw is refl in
+    stepped (did (in_block b f ds bs st) c) _ t ts e ∙ semis_run b ds (commands_then bs (also c no_commands)) ts (x ∷ us) st h.1
+    ∙ stepped (due (in_block b true ds (commands_then bs (also c no_commands)) st)) _ x us d
 
 -- the same behind the last declaration
 head_semis : (b : ℕ) (f : Bool) (ds : Declarations) (ts : List Symbol) (x : Symbol) (us : List Symbol) (st : Stack) → x.kind ≡ k.SectionClose → Semis ts (x ∷ us)
-    → run ts (due (in_block b f ds no_actions st)) ≡ run us (did st (block b ds no_actions))
+    → run ts (due (in_block b f ds no_commands st)) ≡ run us (did st (block b ds no_commands))
 head_semis b f ds [] x us st is h = absurd cc
 head_semis b f ds (t ∷ ts) x us st is (inl h) =
-    let e : step (due (in_block b f ds no_actions st)) x ≡ Some (did st (block b ds no_actions)) = rw is refl in
-    ap (λ z. run z (due (in_block b f ds no_actions st))) h ∙ stepped (due (in_block b f ds no_actions st)) _ x us e
+    let e : step (due (in_block b f ds no_commands st)) x ≡ Some (did st (block b ds no_commands)) = rw is refl in
+    ap (λ z. run z (due (in_block b f ds no_commands st))) h ∙ stepped (due (in_block b f ds no_commands st)) _ x us e
 head_semis b f ds (t ∷ ts) x us st is (inr h) =
-    let e : step (due (in_block b f ds no_actions st)) t ≡ Some (due (in_block b true ds no_actions st)) = rw h.0 refl in
-    let d : step (due (in_block b true ds no_actions st)) x ≡ Some (did st (block b ds no_actions)) = rw is refl in
-    stepped (due (in_block b f ds no_actions st)) _ t ts e ∙ semis_run b ds no_actions ts (x ∷ us) st h.1 ∙ stepped (due (in_block b true ds no_actions st)) _ x us d
+    let e : step (due (in_block b f ds no_commands st)) t ≡ Some (due (in_block b true ds no_commands st)) = rw h.0 refl in
+    let d : step (due (in_block b true ds no_commands st)) x ≡ Some (did st (block b ds no_commands)) = rw is refl in
+    stepped (due (in_block b f ds no_commands st)) _ t ts e ∙ semis_run b ds no_commands ts (x ∷ us) st h.1 ∙ stepped (due (in_block b true ds no_commands st)) _ x us d
 
 -- semicolons before a declaration
-before_run : (ts us : List Symbol) (b : ℕ) (f : Bool) (ds : Declarations) (st : Stack) → Semis ts us → (g : Bool) × (run ts (due (in_block b f ds no_actions st)) ≡ run us (due (in_block b g ds no_actions st)))
-before_run [] us b f ds st h = (f, ap (λ z. run z (due (in_block b f ds no_actions st))) h)
-before_run (t ∷ ts) us b f ds st (inl h) = (f, ap (λ z. run z (due (in_block b f ds no_actions st))) h)
+before_run : (ts us : List Symbol) (b : ℕ) (f : Bool) (ds : Declarations) (st : Stack) → Semis ts us → (g : Bool) × (run ts (due (in_block b f ds no_commands st)) ≡ run us (due (in_block b g ds no_commands st)))
+before_run [] us b f ds st h = (f, ap (λ z. run z (due (in_block b f ds no_commands st))) h)
+before_run (t ∷ ts) us b f ds st (inl h) = (f, ap (λ z. run z (due (in_block b f ds no_commands st))) h)
 before_run (t ∷ ts) us b f ds st (inr h) =
-    let e : step (due (in_block b f ds no_actions st)) t ≡ Some (due (in_block b true ds no_actions st)) = rw h.0 refl in
-    (true, stepped (due (in_block b f ds no_actions st)) _ t ts e ∙ semis_run b ds no_actions ts us st h.1)
+    let e : step (due (in_block b f ds no_commands st)) t ≡ Some (due (in_block b true ds no_commands st)) = rw h.0 refl in
+    (true, stepped (due (in_block b f ds no_commands st)) _ t ts e ∙ semis_run b ds no_commands ts us st h.1)
 
 section_semis : (ds : Declarations) (ts us : List Symbol) → Semis ts us → run ts (due (in_section ds)) ≡ run us (due (in_section ds))
 section_semis ds [] us h = ap (λ z. run z (due (in_section ds))) h
@@ -50,13 +51,13 @@ section_semis ds (t ∷ ts) us (inr h) =
     let e : step (due (in_section ds)) t ≡ Some (due (in_section ds)) = rw h.0 refl in
     stepped (due (in_section ds)) _ t ts e ∙ section_semis ds ts us h.1
 
-named_step : (n : Symbol) (l : ℕ) (x : List ℕ) (f : Mention → State) → SpellsName l x n → named n.kind n.line n.text f ≡ Some (f (record { line = l; letters = x }))
+named_step : (n : Symbol) (l : ℕ) (x : List ℕ) (f : Mention → State) → SpellsName l x n → named n.kind (position_of n) n.text f ≡ Some (f (record { at = l; letters = x }))
 named_step n l x f h = rw (h.0, h.1, h.2) refl
 
-named_mention : (n : Symbol) (m : Mention) (f : Mention → State) → SpellsName m.line m.letters n → named n.kind n.line n.text f ≡ Some (f m)
-named_mention n m f h = named_step n m.line m.letters f h
+named_mention : (n : Symbol) (m : Mention) (f : Mention → State) → SpellsName m.at m.letters n → named n.kind (position_of n) n.text f ≡ Some (f m)
+named_mention n m f h = named_step n m.at m.letters f h
 
-repeats_step : (b : Bool) (st : Stack) (c : Action) (l : ℕ) (x : List ℕ) (t : Kind) → t ≡ repeats_while b → finish st c l x t ≡ Some (want (in_while b c st))
+repeats_step : (b : Bool) (st : Stack) (c : Command) (l : ℕ) (x : List ℕ) (t : Kind) → t ≡ repeats_while b → finish st c l x t ≡ Some (want (in_while b c st))
 repeats_step true st c l x t h = repeated st c l x t (ap repeats h) ∙ ap (again st c) h
 repeats_step false st c l x t h = repeated st c l x t (ap repeats h) ∙ ap (again st c) h
 
@@ -65,7 +66,7 @@ repeats_step false st c l x t h = repeated st c l x t (ap repeats h) ∙ ap (aga
 -- where a declaration may stand: in a section, or at the head of a block
 abbrev pub Head : Bool → Stack → Type 0
 Head false (in_section ds) = Unit {0}
-Head true (in_block l f ds no_actions st) = Unit {0}
+Head true (in_block l f ds no_commands st) = Unit {0}
 Head b st = ⊥
 
 -- with one declaration more
@@ -76,12 +77,12 @@ after st d = st
 
 declared_is : (b : Bool) (fr : Stack) (d : Declaration) → Head b fr → declared fr d ≡ Some (due (after fr d))
 declared_is false (in_section ds) d h = refl
-declared_is true (in_block l f ds no_actions st) d h = refl
+declared_is true (in_block l f ds no_commands st) d h = refl
 declared_is b fr d h = absurd h
 
 declared_by_is : (b : Bool) (fr : Stack) (d : Declaration) (l : ℕ) (x : List ℕ) (t : Kind) → Head b fr → declared_by fr d l x t ≡ take_due (after fr d) l x t
 declared_by_is false (in_section ds) d l x t h = refl
-declared_by_is true (in_block m f ds no_actions st) d l x t h = refl
+declared_by_is true (in_block m f ds no_commands st) d l x t h = refl
 declared_by_is b fr d l x t h = absurd h
 
 sorted_is : (fr : Stack) (l : ℕ) (z : Option Sort) (s : Sort) (other : Option State) → z ≡ Some s → sorted fr l z other ≡ Some (due (at_opening l s fr))
@@ -92,22 +93,22 @@ sort_step false (in_section ds) l x k.Manifest s h j = sorted_is (in_section ds)
 sort_step false (in_section ds) l x k.Static s h j = sorted_is (in_section ds) l (sort_of k.Static) s None j
 sort_step false (in_section ds) l x k.Global s h j = sorted_is (in_section ds) l (sort_of k.Global) s None j
 sort_step false (in_section ds) l x t s h j = absurd cc
-sort_step true (in_block m f ds no_actions st) l x k.Manifest s h j = sorted_is (in_block m f ds no_actions st) l (sort_of k.Manifest) s (cond f (take_command (in_block m f ds no_actions st) l x k.Manifest) None) j
-sort_step true (in_block m f ds no_actions st) l x k.Static s h j = sorted_is (in_block m f ds no_actions st) l (sort_of k.Static) s (cond f (take_command (in_block m f ds no_actions st) l x k.Static) None) j
-sort_step true (in_block m f ds no_actions st) l x k.Global s h j = sorted_is (in_block m f ds no_actions st) l (sort_of k.Global) s (cond f (take_command (in_block m f ds no_actions st) l x k.Global) None) j
-sort_step true (in_block m f ds no_actions st) l x t s h j = absurd cc
+sort_step true (in_block m f ds no_commands st) l x k.Manifest s h j = sorted_is (in_block m f ds no_commands st) l (sort_of k.Manifest) s (cond f (take_command (in_block m f ds no_commands st) l x k.Manifest) None) j
+sort_step true (in_block m f ds no_commands st) l x k.Static s h j = sorted_is (in_block m f ds no_commands st) l (sort_of k.Static) s (cond f (take_command (in_block m f ds no_commands st) l x k.Static) None) j
+sort_step true (in_block m f ds no_commands st) l x k.Global s h j = sorted_is (in_block m f ds no_commands st) l (sort_of k.Global) s (cond f (take_command (in_block m f ds no_commands st) l x k.Global) None) j
+sort_step true (in_block m f ds no_commands st) l x t s h j = absurd cc
 sort_step b fr l x t s h j = absurd h
 
 let_step : (b : Bool) (fr : Stack) (l : ℕ) (x : List ℕ) (t : Kind) → Head b fr → t ≡ k.Let → take_due fr l x t ≡ Some (due (in_let l no_definitions fr))
 let_step false (in_section ds) l x t h j = rw j refl
-let_step true (in_block m f ds no_actions st) l x t h j = rw j refl
+let_step true (in_block m f ds no_commands st) l x t h j = rw j refl
 let_step b fr l x t h j = absurd h
 
 inside_is : (fr : Stack) (l : ℕ) (es : Definitions) → Head true fr → inside (in_let l es fr) ≡ true
-inside_is (in_block m f ds no_actions st) l es h = refl
+inside_is (in_block m f ds no_commands st) l es h = refl
 inside_is fr l es h = absurd h
 
-item_name : (m : ℕ) (s : Sort) (zs : Items) (fr : Stack) (n : Symbol) (l : ℕ) (x : List ℕ) → SpellsName l x n → take_item m s zs fr n.line n.text n.kind ≡ Some (due (at_sign m s zs (record { line = l; letters = x }) fr))
+item_name : (m : ℕ) (s : Sort) (zs : Items) (fr : Stack) (n : Symbol) (l : ℕ) (x : List ℕ) → SpellsName l x n → take_item m s zs fr (position_of n) n.text n.kind ≡ Some (due (at_sign m s zs (record { at = l; letters = x }) fr))
 item_name m s no_items fr n l x h = named_step n l x (λ y. due (at_sign m s no_items y fr)) h
 item_name m s (item a b c zs) fr n l x h = rw (h.0, h.1, h.2) refl
 
@@ -131,22 +132,22 @@ items_semis : (m : ℕ) (s : Sort) (zs : Items) (fr : Stack) (ts us : List Symbo
 items_semis m s no_items fr ts us some h = absurd some
 items_semis m s (item a b c zs) fr ts us some h = item_semis m s a b c zs fr ts us h
 
-items_shut : (m : ℕ) (s : Sort) (zs : Items) (fr : Stack) (inside : Bool) (t : Symbol) → Some_items zs → Head inside fr → t.kind ≡ k.SectionClose → take_item m s zs fr t.line t.text t.kind ≡ Some (due (after fr (constants m s zs)))
+items_shut : (m : ℕ) (s : Sort) (zs : Items) (fr : Stack) (inside : Bool) (t : Symbol) → Some_items zs → Head inside fr → t.kind ≡ k.SectionClose → take_item m s zs fr (position_of t) t.text t.kind ≡ Some (due (after fr (constants m s zs)))
 items_shut m s no_items fr inside t some head h = absurd some
 items_shut m s (item a b c zs) fr inside t some head h = rw h (declared_is inside fr (constants m s (item a b c zs)) head)
 
 -- behind the last item
 items_close : (m : ℕ) (s : Sort) (zs : Items) (x : Mention) (e : Expression) (fr : Stack) (inside : Bool) (ns : List Symbol) (c : Symbol) (us : List Symbol) → Head inside fr → c.kind ≡ k.SectionClose → Semis ns (c ∷ us)
-    → run ns (have (in_item m s zs x fr) e) ≡ run us (due (after fr (constants m s (items_then zs (item x.line x.letters e no_items)))))
+    → run ns (have (in_item m s zs x fr) e) ≡ run us (due (after fr (constants m s (items_then zs (item x.at x.letters e no_items)))))
 items_close m s zs x e fr inside [] c us head is h = absurd cc
 items_close m s zs x e fr inside (t ∷ ns) c us head is (inl h) =
-    let d : step (have (in_item m s zs x fr) e) c ≡ Some (due (after fr (constants m s (items_then zs (item x.line x.letters e no_items))))) = rw is (declared_is inside fr (constants m s (items_then zs (item x.line x.letters e no_items))) head) in
+    let d : step (have (in_item m s zs x fr) e) c ≡ Some (due (after fr (constants m s (items_then zs (item x.at x.letters e no_items))))) = rw is (declared_is inside fr (constants m s (items_then zs (item x.at x.letters e no_items))) head) in
     ap (λ z. run z (have (in_item m s zs x fr) e)) h ∙ stepped (have (in_item m s zs x fr) e) _ c us d
 items_close m s zs x e fr inside (t ∷ ns) c us head is (inr h) =
-    let ys = items_then zs (item x.line x.letters e no_items) in
+    let ys = items_then zs (item x.at x.letters e no_items) in
     let d : step (have (in_item m s zs x fr) e) t ≡ Some (due (at_items m s ys fr)) = rw h.0 refl in
-    stepped (have (in_item m s zs x fr) e) _ t ns d ∙ items_semis m s ys fr ns (c ∷ us) (then_some zs x.line x.letters e) h.1
-    ∙ stepped (due (at_items m s ys fr)) _ c us (items_shut m s ys fr inside c (then_some zs x.line x.letters e) head is)
+    stepped (have (in_item m s zs x fr) e) _ t ns d ∙ items_semis m s ys fr ns (c ∷ us) (then_some zs x.at x.letters e) h.1
+    ∙ stepped (due (at_items m s ys fr)) _ c us (items_shut m s ys fr inside c (then_some zs x.at x.letters e) head is)
 
 sign_taken : (m : ℕ) (s : Sort) (zs : Items) (x : Mention) (fr : Stack) (q : Symbol) → (q.kind ≡ k.Equal) ⊎ (q.kind ≡ k.Colon) → step (due (at_sign m s zs x fr)) q ≡ Some (want (in_item m s zs x fr))
 sign_taken m s zs x fr q (inl h) = rw h refl
@@ -226,11 +227,11 @@ Some_declarations (declare d ds) = Unit {0}
 
 mutual
   pub reads_run : (rows : ℕ) (e : Expression) (ts us : List Symbol) (st : Stack) → rows ≤ limit st → Free st us → Reads rows e ts us → run ts (want st) ≡ run us (have st e)
-  reads_run rows (name l n) ts us st le free h = ap (λ z. run z (want st)) h.1 ∙ stepped (want st) (have st (name l n)) h.0 us (leaf_step h.0.kind st h.0.line h.0.text (name l n) h.2)
-  reads_run rows (number l n) ts us st le free h = ap (λ z. run z (want st)) h.1 ∙ stepped (want st) (have st (number l n)) h.0 us (leaf_step h.0.kind st h.0.line h.0.text (number l n) h.2)
-  reads_run rows (text l n) ts us st le free h = ap (λ z. run z (want st)) h.1 ∙ stepped (want st) (have st (text l n)) h.0 us (leaf_step h.0.kind st h.0.line h.0.text (text l n) h.2)
-  reads_run rows (truth l n) ts us st le free h = ap (λ z. run z (want st)) h.1 ∙ stepped (want st) (have st (truth l n)) h.0 us (leaf_step h.0.kind st h.0.line h.0.text (truth l n) h.2)
-  reads_run rows (query l) ts us st le free h = ap (λ z. run z (want st)) h.1 ∙ stepped (want st) (have st (query l)) h.0 us (leaf_step h.0.kind st h.0.line h.0.text (query l) h.2)
+  reads_run rows (name l n) ts us st le free h = ap (λ z. run z (want st)) h.1 ∙ stepped (want st) (have st (name l n)) h.0 us (leaf_step h.0.kind st (position_of h.0) h.0.text (name l n) h.2)
+  reads_run rows (number l n) ts us st le free h = ap (λ z. run z (want st)) h.1 ∙ stepped (want st) (have st (number l n)) h.0 us (leaf_step h.0.kind st (position_of h.0) h.0.text (number l n) h.2)
+  reads_run rows (text l n) ts us st le free h = ap (λ z. run z (want st)) h.1 ∙ stepped (want st) (have st (text l n)) h.0 us (leaf_step h.0.kind st (position_of h.0) h.0.text (text l n) h.2)
+  reads_run rows (truth l n) ts us st le free h = ap (λ z. run z (want st)) h.1 ∙ stepped (want st) (have st (truth l n)) h.0 us (leaf_step h.0.kind st (position_of h.0) h.0.text (truth l n) h.2)
+  reads_run rows (query l) ts us st le free h = ap (λ z. run z (want st)) h.1 ∙ stepped (want st) (have st (query l)) h.0 us (leaf_step h.0.kind st (position_of h.0) h.0.text (query l) h.2)
   reads_run rows (parens l x) ts us st le free h =
       let a : step (want st) h.0 ≡ Some (want (in_parens l st)) = rw (h.4, h.5) refl in
       let b : step (have (in_parens l st) x) h.2 ≡ Some (have st (parens l x)) = rw h.6 refl in
@@ -243,24 +244,24 @@ mutual
   reads_run rows (binary l o.Both s x (binary m q n b c)) ts us st le free (inl h) =
       let is : infix_of h.1.kind ≡ Some o.Both = ap infix_of h.3 in
       reads_run 9 x ts (h.1 ∷ h.2) st (omega arith) (at_infix st o.Both h.1 h.2 is) h.6
-      ∙ joins st l s x (binary m q n b c) o.Both h.1 h.2 us is h.4 h.5 (omega arith) (λ r. absurd cc) (reads_run 8 (binary m q n b c) h.2 us (in_binary o.Both h.1.line x st) (omega arith) free h.7) h.8
+      ∙ joins st l s x (binary m q n b c) o.Both h.1 h.2 us is h.4 h.5 (omega arith) (λ r. absurd cc) (reads_run 8 (binary m q n b c) h.2 us (in_binary o.Both (position_of h.1) x st) (omega arith) free h.7) h.8
   reads_run rows (binary l o.Both s x (binary m q n b c)) ts us st le free (inr h) =
       let six = row_6 q h.8 in
       reads_run 6 x ts (h.1 ∷ h.2) st (omega arith) (at_infix st q h.1 h.2 h.3) h.10
-      ∙ joins_chain st l s m n x b c q h.1 h.2 us h.3 h.4 h.5 h.6 h.7 (omega arith) h.8 h.9 (reads_run 5 c h.2 us (in_chain q h.1.line x b st) (omega arith) free h.11) h.12
+      ∙ joins_chain st l s m n x b c q h.1 h.2 us h.3 h.4 h.5 h.6 h.7 (omega arith) h.8 h.9 (reads_run 5 c h.2 us (in_chain q (position_of h.1) x b st) (omega arith) free h.11) h.12
   reads_run rows (binary l q s a b) ts us st le free h =
       reads_run (left q) a ts (h.1 ∷ h.2) st (omega (arith, left_le q)) (at_infix st q h.1 h.2 h.3) h.6
-      ∙ joins st l s a b q h.1 h.2 us h.3 h.4 h.5 (omega arith) (free_left q a ts (h.1 ∷ h.2) h.6) (reads_run (inner q) b h.2 us (in_binary q h.1.line a st) (omega arith) free h.7) h.8
+      ∙ joins st l s a b q h.1 h.2 us h.3 h.4 h.5 (omega arith) (free_left q a ts (h.1 ∷ h.2) h.6) (reads_run (inner q) b h.2 us (in_binary q (position_of h.1) a st) (omega arith) free h.7) h.8
   reads_run rows (choice l s c a b) ts us st le free h =
       let e : step (have st c) h.1 ≡ Some (want (in_then s c st)) = rw (h.5, h.6) (pushes st c s h.1.text k.Arrow (lt-ltb 11 (limit st) (omega arith))) in
       let d : step (have (in_then s c st) a) h.3 ≡ Some (want (in_else s c a st)) = rw h.8 refl in
       reads_run 11 c ts (h.1 ∷ h.2) st (omega arith) (at_arrow st h.1 h.2 h.5) h.9 ∙ stepped (have st c) _ h.1 h.2 e
       ∙ reads_run 12 a h.2 (h.3 ∷ h.4) (in_then s c st) (omega arith) (at_comma (in_then s c st) h.3 h.4 h.8) h.10 ∙ stepped (have (in_then s c st) a) _ h.3 h.4 d
       ∙ reads_run 12 b h.4 us (in_else s c a st) (omega arith) free h.11
-      ∙ stops_alike 12 us (have (in_else s c a st) b) (have st (choice (line_of c) s c a b)) h.12 (λ m y t g. rw g refl) ∙ ap (λ z. run us (have st (choice z s c a b))) (sym h.7)
+      ∙ stops_alike 12 us (have (in_else s c a st) b) (have st (choice (at_expression c) s c a b)) h.12 (λ m y t g. rw g refl) ∙ ap (λ z. run us (have st (choice z s c a b))) (sym h.7)
   reads_run rows (apply l s f none) ts us st le free h =
       let e : step (have st f) h.0 ≡ Some (want (in_args s f none st)) = rw (h.2, h.3) (pushes st f s h.0.text k.Open refl) in
-      let d : step (want (in_args s f none st)) h.1 ≡ Some (have st (apply (line_of f) s f none)) = rw h.5 refl in
+      let d : step (want (in_args s f none st)) h.1 ≡ Some (have st (apply (at_expression f) s f none)) = rw h.5 refl in
       reads_run 0 f ts (h.0 ∷ h.1 ∷ us) st (omega arith) (at_open st h.0 (h.1 ∷ us) h.2) h.6 ∙ stepped (have st f) _ h.0 (h.1 ∷ us) e ∙ stepped (want (in_args s f none st)) _ h.1 us d
       ∙ ap (λ z. run us (have st (apply z s f none))) (sym h.4)
   reads_run rows (apply l s f (more x xs)) ts us st le free h =
@@ -276,15 +277,15 @@ mutual
       ap (λ z. run z (want st)) h.2 ∙ stepped (want st) _ h.0 h.1 e ∙ table_run l xs none h.1 us st h.5 h.6
 
   pub args_run : (s : ℕ) (f : Expression) (xs es : Expressions) (ts : List Symbol) (c : Symbol) (us : List Symbol) (st : Stack) → c.kind ≡ k.Close → Each xs ts (c ∷ us)
-      → run ts (want (in_args s f es st)) ≡ run us (have st (apply (line_of f) s f (each_then es xs)))
+      → run ts (want (in_args s f es st)) ≡ run us (have st (apply (at_expression f) s f (each_then es xs)))
   args_run s f none es ts c us st shuts h = absurd h
   args_run s f (more x none) es ts c us st shuts h =
-      let e : step (have (in_args s f es st) x) c ≡ Some (have st (apply (line_of f) s f (each_then es (more x none)))) = rw shuts refl in
+      let e : step (have (in_args s f es st) x) c ≡ Some (have st (apply (at_expression f) s f (each_then es (more x none)))) = rw shuts refl in
       reads_run 12 x ts (c ∷ us) (in_args s f es st) (omega arith) (λ a b. refl) h.0 ∙ stepped (have (in_args s f es st) x) _ c us e
   args_run s f (more x (more y ys)) es ts c us st shuts h =
       let e : step (have (in_args s f es st) x) h.0 ≡ Some (want (in_args s f (each_then es (more x none)) st)) = rw h.2 refl in
       reads_run 12 x ts (h.0 ∷ h.1) (in_args s f es st) (omega arith) (λ a b. refl) h.3 ∙ stepped (have (in_args s f es st) x) _ h.0 h.1 e
-      ∙ args_run s f (more y ys) (each_then es (more x none)) h.1 c us st shuts h.4 ∙ ap (λ z. run us (have st (apply (line_of f) s f z))) (each_end es x (more y ys))
+      ∙ args_run s f (more y ys) (each_then es (more x none)) h.1 c us st shuts h.4 ∙ ap (λ z. run us (have st (apply (at_expression f) s f z))) (each_end es x (more y ys))
 
   pub table_run : (l : ℕ) (xs es : Expressions) (ts us : List Symbol) (st : Stack) → Each xs ts us → Fails is_comma us
       → run ts (want (in_table l es st)) ≡ run us (have st (table l (each_then es xs)))
@@ -296,21 +297,21 @@ mutual
       reads_run 12 x ts (h.0 ∷ h.1) (in_table l es st) (omega arith) (λ a b. refl) h.3 ∙ stepped (have (in_table l es st) x) _ h.0 h.1 e
       ∙ table_run l (more y ys) (each_then es (more x none)) h.1 us st h.4 bare ∙ ap (λ z. run us (have st (table l z))) (each_end es x (more y ys))
 
-  pub does_run : (c : Action) (ts us : List Symbol) (st : Stack) → Filled c → Does c ts us → run ts (begin st) ≡ run us (did st c)
+  pub does_run : (c : Command) (ts us : List Symbol) (st : Stack) → Filled c → Does c ts us → run ts (begin st) ≡ run us (did st c)
   does_run empty ts us st full h = absurd full
   does_run (assign l xs ys) ts us st full h =
       opened st ts (opens_each xs ts (h.0 ∷ h.1) h.5) ∙ dests_run xs ts h.0 h.1 st h.2 h.5 ∙ values_run xs ys none h.1 us st (omega (arith, h.3)) h.6
       ∙ ap (λ z. run us (did st (assign z xs ys))) (sym h.4)
   does_run (call l f none) ts us st full h =
-      let e : step (have (in_start st) f) h.0 ≡ Some (want (in_args h.0.line f none (in_start st))) = rw h.2 refl in
-      let d : step (want (in_args h.0.line f none (in_start st))) h.1 ≡ Some (have (in_start st) (apply (line_of f) h.0.line f none)) = rw h.4 refl in
+      let e : step (have (in_start st) f) h.0 ≡ Some (want (in_args (position_of h.0) f none (in_start st))) = rw h.2 refl in
+      let d : step (want (in_args (position_of h.0) f none (in_start st))) h.1 ≡ Some (have (in_start st) (apply (at_expression f) (position_of h.0) f none)) = rw h.4 refl in
       opened st ts (opens_read 0 f ts (h.0 ∷ h.1 ∷ us) h.5) ∙ reads_run 0 f ts (h.0 ∷ h.1 ∷ us) (in_start st) (omega arith) (λ a b. refl) h.5
-      ∙ stepped (have (in_start st) f) _ h.0 (h.1 ∷ us) e ∙ stepped (want (in_args h.0.line f none (in_start st))) _ h.1 us d ∙ call_ends st (line_of f) h.0.line f none us h.6 h.7
+      ∙ stepped (have (in_start st) f) _ h.0 (h.1 ∷ us) e ∙ stepped (want (in_args (position_of h.0) f none (in_start st))) _ h.1 us d ∙ call_ends st (at_expression f) (position_of h.0) f none us h.6 h.7
       ∙ ap (λ z. run us (did st (call z f none))) (sym h.3)
   does_run (call l f (more x xs)) ts us st full h =
-      let e : step (have (in_start st) f) h.0 ≡ Some (want (in_args h.0.line f none (in_start st))) = rw h.3 refl in
+      let e : step (have (in_start st) f) h.0 ≡ Some (want (in_args (position_of h.0) f none (in_start st))) = rw h.3 refl in
       opened st ts (opens_read 0 f ts (h.0 ∷ h.1) h.6) ∙ reads_run 0 f ts (h.0 ∷ h.1) (in_start st) (omega arith) (λ a b. refl) h.6
-      ∙ stepped (have (in_start st) f) _ h.0 h.1 e ∙ args_run h.0.line f (more x xs) none h.1 h.2 us (in_start st) h.5 h.7 ∙ call_ends st (line_of f) h.0.line f (more x xs) us h.8 h.9
+      ∙ stepped (have (in_start st) f) _ h.0 h.1 e ∙ args_run (position_of h.0) f (more x xs) none h.1 h.2 us (in_start st) h.5 h.7 ∙ call_ends st (at_expression f) (position_of h.0) f (more x xs) us h.8 h.9
       ∙ ap (λ z. run us (did st (call z f (more x xs)))) (sym h.4)
   does_run (goto l x) ts us st full h =
       let e : step (begin st) h.0 ≡ Some (due (at_goto l st)) = rw (h.3, h.4) refl in
@@ -323,7 +324,7 @@ mutual
       ∙ perhaps c h.2 us (in_label l x st) st (label l x) (λ m y t. refl) (λ a m y t g. rw g refl) (λ filled. does_run c h.2 us (in_label l x st) filled h.6) h.6 h.7
   does_run (case_of l e c) ts us st full h =
       let o : step (begin st) h.0 ≡ Some (want (in_guard (g.Case) l st)) = rw h.6 (guard_step h.0.kind st l h.0.text (g.Case) h.5) in
-      let d : step (have (in_guard (g.Case) l st) e) h.2 ≡ Some (behind_sign (g.Case) (in_guarded (g.Case) l e st)) = sign_step (g.Case) h.2.kind l e st h.2.line h.2.text h.8 in
+      let d : step (have (in_guard (g.Case) l st) e) h.2 ≡ Some (behind_sign (g.Case) (in_guarded (g.Case) l e st)) = sign_step (g.Case) h.2.kind l e st (position_of h.2) h.2.text h.8 in
       ap (λ z. run z (begin st)) h.4 ∙ stepped (begin st) _ h.0 h.1 o ∙ reads_run 12 e h.1 (h.2 ∷ h.3) (in_guard (g.Case) l st) (omega arith) (λ a b. refl) h.7
       ∙ stepped (have (in_guard (g.Case) l st) e) _ h.2 h.3 d ∙ perhaps c h.3 us (in_guarded g.Case l e st) st (case_of l e) (λ m y t. refl) (λ a m y t f. rw f refl) (λ filled. does_run c h.3 us (in_guarded g.Case l e st) filled h.9) h.9 h.10
   does_run (default l c) ts us st full h =
@@ -333,19 +334,19 @@ mutual
       ∙ perhaps c h.2 us (in_default l st) st (default l) (λ m y t. refl) (λ a m y t g. rw g refl) (λ filled. does_run c h.2 us (in_default l st) filled h.7) h.7 h.8
   does_run (when l b e c) ts us st full h =
       let o : step (begin st) h.0 ≡ Some (want (in_guard (if_or_unless b) l st)) = rw h.6 (guard_step h.0.kind st l h.0.text (if_or_unless b) h.5) in
-      let d : step (have (in_guard (if_or_unless b) l st) e) h.2 ≡ Some (behind_sign (if_or_unless b) (in_guarded (if_or_unless b) l e st)) = sign_step (if_or_unless b) h.2.kind l e st h.2.line h.2.text h.8 in
+      let d : step (have (in_guard (if_or_unless b) l st) e) h.2 ≡ Some (behind_sign (if_or_unless b) (in_guarded (if_or_unless b) l e st)) = sign_step (if_or_unless b) h.2.kind l e st (position_of h.2) h.2.text h.8 in
       ap (λ z. run z (begin st)) h.4 ∙ stepped (begin st) _ h.0 h.1 o ∙ reads_run 12 e h.1 (h.2 ∷ h.3) (in_guard (if_or_unless b) l st) (omega arith) (λ a b. refl) h.7
       ∙ stepped (have (in_guard (if_or_unless b) l st) e) _ h.2 h.3 d ∙ ap (run h.3) (begins_if b (in_guarded (if_or_unless b) l e st)) ∙ does_run c h.3 us (in_guarded (if_or_unless b) l e st) (full_filled c us h.10) h.9
       ∙ repeats_alike us (did (in_guarded (if_or_unless b) l e st) c) (did st (guarded (if_or_unless b) l e c)) (full_fails c us h.10) (λ m x t g. rw g refl) ∙ ap (λ z. run us (did st z)) (guarded_when b l e c)
   does_run (while l b e c) ts us st full h =
       let o : step (begin st) h.0 ≡ Some (want (in_guard (while_or_until b) l st)) = rw h.6 (guard_step h.0.kind st l h.0.text (while_or_until b) h.5) in
-      let d : step (have (in_guard (while_or_until b) l st) e) h.2 ≡ Some (behind_sign (while_or_until b) (in_guarded (while_or_until b) l e st)) = sign_step (while_or_until b) h.2.kind l e st h.2.line h.2.text h.8 in
+      let d : step (have (in_guard (while_or_until b) l st) e) h.2 ≡ Some (behind_sign (while_or_until b) (in_guarded (while_or_until b) l e st)) = sign_step (while_or_until b) h.2.kind l e st (position_of h.2) h.2.text h.8 in
       ap (λ z. run z (begin st)) h.4 ∙ stepped (begin st) _ h.0 h.1 o ∙ reads_run 12 e h.1 (h.2 ∷ h.3) (in_guard (while_or_until b) l st) (omega arith) (λ a b. refl) h.7
       ∙ stepped (have (in_guard (while_or_until b) l st) e) _ h.2 h.3 d ∙ ap (run h.3) (begins_while b (in_guarded (while_or_until b) l e st)) ∙ does_run c h.3 us (in_guarded (while_or_until b) l e st) (full_filled c us h.10) h.9
       ∙ repeats_alike us (did (in_guarded (while_or_until b) l e st) c) (did st (guarded (while_or_until b) l e c)) (full_fails c us h.10) (λ m x t g. rw g refl) ∙ ap (λ z. run us (did st z)) (guarded_while b l e c)
   does_run (switch l e c) ts us st full h =
       let o : step (begin st) h.0 ≡ Some (want (in_guard (g.SwitchOn) l st)) = rw h.6 (guard_step h.0.kind st l h.0.text (g.SwitchOn) h.5) in
-      let d : step (have (in_guard (g.SwitchOn) l st) e) h.2 ≡ Some (behind_sign (g.SwitchOn) (in_guarded (g.SwitchOn) l e st)) = sign_step (g.SwitchOn) h.2.kind l e st h.2.line h.2.text h.8 in
+      let d : step (have (in_guard (g.SwitchOn) l st) e) h.2 ≡ Some (behind_sign (g.SwitchOn) (in_guarded (g.SwitchOn) l e st)) = sign_step (g.SwitchOn) h.2.kind l e st (position_of h.2) h.2.text h.8 in
       ap (λ z. run z (begin st)) h.4 ∙ stepped (begin st) _ h.0 h.1 o ∙ reads_run 12 e h.1 (h.2 ∷ h.3) (in_guard (g.SwitchOn) l st) (omega arith) (λ a b. refl) h.7
       ∙ stepped (have (in_guard (g.SwitchOn) l st) e) _ h.2 h.3 d ∙ does_run c h.3 us (in_guarded g.SwitchOn l e st) (full_filled c us h.10) h.9
       ∙ repeats_alike us (did (in_guarded g.SwitchOn l e st) c) (did st (switch l e c)) (full_fails c us h.10) (λ m x t f. rw f refl)
@@ -389,19 +390,19 @@ mutual
   does_run (simple l w) ts us st full h =
       let o : step (begin st) h.0 ≡ Some (did st (simple l w)) = rw h.3 (simple_step h.0.kind st l h.0.text w h.2) in ap (λ z. run z (begin st)) h.1 ∙ stepped (begin st) _ h.0 us o
   does_run (block l no_declarations cs) ts us st full h =
-      let o : step (begin st) h.0 ≡ Some (due (in_block l true no_declarations no_actions st)) = rw (h.4, h.5) refl in
+      let o : step (begin st) h.0 ≡ Some (due (in_block l true no_declarations no_commands st)) = rw (h.4, h.5) refl in
       ap (λ z. run z (begin st)) h.3 ∙ stepped (begin st) _ h.0 h.1 o ∙ body_run l cs h.1 h.2 us st h.6 h.7
   does_run (block l (declare d ds) cs) ts us st full h =
-      let o : step (begin st) h.0 ≡ Some (due (in_block l true no_declarations no_actions st)) = rw (h.5, h.6) refl in
+      let o : step (begin st) h.0 ≡ Some (due (in_block l true no_declarations no_commands st)) = rw (h.5, h.6) refl in
       ap (λ z. run z (begin st)) h.4 ∙ stepped (begin st) _ h.0 h.1 o ∙ heads_run l true no_declarations (declare d ds) h.1 h.2 st tt h.8
       ∙ headed_run l (declare d ds) cs h.2 h.3 us st h.7 h.9
   does_run (repeat l c) ts us st full h =
-      does_run c ts (h.0 ∷ us) st h.3 h.4 ∙ stepped (did st c) (did st (repeat (line_of_action c) c)) h.0 us (repeated st c h.0.line h.0.text h.0.kind (ap repeats h.1) ∙ ap (again st c) h.1)
+      does_run c ts (h.0 ∷ us) st h.3 h.4 ∙ stepped (did st c) (did st (repeat (at_command c) c)) h.0 us (repeated st c (position_of h.0) h.0.text h.0.kind (ap repeats h.1) ∙ ap (again st c) h.1)
       ∙ ap (λ z. run us (did st (repeat z c))) (sym h.2)
   does_run (repeat_while l b c e) ts us st full h =
-      does_run c ts (h.0 ∷ h.1) st h.4 h.5 ∙ stepped (did st c) (want (in_while b c st)) h.0 h.1 (repeats_step b st c h.0.line h.0.text h.0.kind h.2)
+      does_run c ts (h.0 ∷ h.1) st h.4 h.5 ∙ stepped (did st c) (want (in_while b c st)) h.0 h.1 (repeats_step b st c (position_of h.0) h.0.text h.0.kind h.2)
       ∙ reads_run 12 e h.1 us (in_while b c st) (omega arith) (λ a b. refl) h.6
-      ∙ stops_alike 12 us (have (in_while b c st) e) (did st (repeat_while (line_of_action c) b c e)) h.7 (λ m x t g. rw g refl)
+      ∙ stops_alike 12 us (have (in_while b c st) e) (did st (repeat_while (at_command c) b c e)) h.7 (λ m x t g. rw g refl)
       ∙ ap (λ z. run us (did st (repeat_while z b c e))) (sym h.3)
 
   pub dests_run : (xs : Expressions) (ts : List Symbol) (t : Symbol) (ms : List Symbol) (st : Stack) → t.kind ≡ k.Assign → Each xs ts (t ∷ ms) → run ts (want (in_start st)) ≡ run ms (want (in_values xs none st))
@@ -423,38 +424,38 @@ mutual
       reads_run 12 x ts (h.0 ∷ h.1) (in_dests es st) (omega arith) (λ a b. refl) h.3 ∙ stepped (have (in_dests es st) x) _ h.0 h.1 e ∙ further_run (more y ys) (each_then es (more x none)) h.1 t ms st is h.4
       ∙ ap (λ z. run ms (want (in_values z none st))) (each_end es x (more y ys))
 
-  pub values_run : (xs ys zs : Expressions) (ts us : List Symbol) (st : Stack) → size zs + size ys ≡ size xs → Each ys ts us → run ts (want (in_values xs zs st)) ≡ run us (did st (assign (line_of_first xs) xs (each_then zs ys)))
+  pub values_run : (xs ys zs : Expressions) (ts us : List Symbol) (st : Stack) → size zs + size ys ≡ size xs → Each ys ts us → run ts (want (in_values xs zs st)) ≡ run us (did st (assign (at_expressions xs) xs (each_then zs ys)))
   values_run xs none zs ts us st n h = absurd h
   values_run xs (more y none) zs ts us st n h =
       reads_run 12 y ts us (in_values xs zs st) (omega arith) (λ a b. le-ltb _ _ (omega arith)) h.0 ∙ value_ends xs zs y us st (omega arith) h.1
   values_run xs (more y (more x ys)) zs ts us st n h =
-      let e : step (have (in_values xs zs st) y) h.0 ≡ Some (want (in_values xs (each_then zs (more y none)) st)) = value_more xs zs y h.0.line h.0.text h.0.kind st (omega arith) h.2 in
+      let e : step (have (in_values xs zs st) y) h.0 ≡ Some (want (in_values xs (each_then zs (more y none)) st)) = value_more xs zs y (position_of h.0) h.0.text h.0.kind st (omega arith) h.2 in
       reads_run 12 y ts (h.0 ∷ h.1) (in_values xs zs st) (omega arith) (at_comma (in_values xs zs st) h.0 h.1 h.2) h.3 ∙ stepped (have (in_values xs zs st) y) _ h.0 h.1 e
-      ∙ values_run xs (more x ys) (each_then zs (more y none)) h.1 us st (omega (arith, size_then zs (more y none))) h.4 ∙ ap (λ z. run us (did st (assign (line_of_first xs) xs z))) (each_end zs y (more x ys))
+      ∙ values_run xs (more x ys) (each_then zs (more y none)) h.1 us st (omega (arith, size_then zs (more y none))) h.4 ∙ ap (λ z. run us (did st (assign (at_expressions xs) xs z))) (each_end zs y (more x ys))
 
-  pub body_run : (l : ℕ) (cs : Actions) (ts : List Symbol) (x : Symbol) (us : List Symbol) (st : Stack) → x.kind ≡ k.SectionClose → Body cs ts (x ∷ us) → run ts (due (in_block l true no_declarations no_actions st)) ≡ run us (did st (block l no_declarations cs))
-  body_run l no_actions ts x us st is h = head_semis l true no_declarations ts x us st is h
+  pub body_run : (l : ℕ) (cs : Commands) (ts : List Symbol) (x : Symbol) (us : List Symbol) (st : Stack) → x.kind ≡ k.SectionClose → Body cs ts (x ∷ us) → run ts (due (in_block l true no_declarations no_commands st)) ≡ run us (did st (block l no_declarations cs))
+  body_run l no_commands ts x us st is h = head_semis l true no_declarations ts x us st is h
   body_run l (also c cs) ts x us st is h =
-      semis_run l no_declarations no_actions ts h.0 st h.2 ∙ item_starts l no_declarations no_actions st h.0 (opens_does c h.0 h.1 (full_filled c h.1 h.4) h.3)
-      ∙ does_run c h.0 h.1 (in_block l true no_declarations no_actions st) (full_filled c h.1 h.4) h.3 ∙ parted_run l true no_declarations no_actions c cs h.1 x us st is h.5
+      semis_run l no_declarations no_commands ts h.0 st h.2 ∙ item_starts l no_declarations no_commands st h.0 (opens_does c h.0 h.1 (full_filled c h.1 h.4) h.3)
+      ∙ does_run c h.0 h.1 (in_block l true no_declarations no_commands st) (full_filled c h.1 h.4) h.3 ∙ parted_run l true no_declarations no_commands c cs h.1 x us st is h.5
 
-  pub headed_run : (l : ℕ) (ds : Declarations) (cs : Actions) (ts : List Symbol) (x : Symbol) (us : List Symbol) (st : Stack) → x.kind ≡ k.SectionClose → Parted cs ts (x ∷ us) → run ts (due (in_block l false ds no_actions st)) ≡ run us (did st (block l ds cs))
-  headed_run l ds no_actions ts x us st is h = head_semis l false ds ts x us st is h
+  pub headed_run : (l : ℕ) (ds : Declarations) (cs : Commands) (ts : List Symbol) (x : Symbol) (us : List Symbol) (st : Stack) → x.kind ≡ k.SectionClose → Parted cs ts (x ∷ us) → run ts (due (in_block l false ds no_commands st)) ≡ run us (did st (block l ds cs))
+  headed_run l ds no_commands ts x us st is h = head_semis l false ds ts x us st is h
   headed_run l ds (also c cs) ts x us st is h =
-      let e : step (due (in_block l false ds no_actions st)) h.0 ≡ Some (due (in_block l true ds no_actions st)) = rw h.5 refl in
-      ap (λ z. run z (due (in_block l false ds no_actions st))) h.4 ∙ stepped (due (in_block l false ds no_actions st)) _ h.0 h.1 e ∙ semis_run l ds no_actions h.1 h.2 st h.6
-      ∙ item_starts l ds no_actions st h.2 (opens_does c h.2 h.3 (full_filled c h.3 h.8) h.7)
-      ∙ does_run c h.2 h.3 (in_block l true ds no_actions st) (full_filled c h.3 h.8) h.7 ∙ parted_run l true ds no_actions c cs h.3 x us st is h.9
+      let e : step (due (in_block l false ds no_commands st)) h.0 ≡ Some (due (in_block l true ds no_commands st)) = rw h.5 refl in
+      ap (λ z. run z (due (in_block l false ds no_commands st))) h.4 ∙ stepped (due (in_block l false ds no_commands st)) _ h.0 h.1 e ∙ semis_run l ds no_commands h.1 h.2 st h.6
+      ∙ item_starts l ds no_commands st h.2 (opens_does c h.2 h.3 (full_filled c h.3 h.8) h.7)
+      ∙ does_run c h.2 h.3 (in_block l true ds no_commands st) (full_filled c h.3 h.8) h.7 ∙ parted_run l true ds no_commands c cs h.3 x us st is h.9
 
-  pub parted_run : (l : ℕ) (f : Bool) (ds : Declarations) (bs : Actions) (c : Action) (cs : Actions) (ts : List Symbol) (x : Symbol) (us : List Symbol) (st : Stack) → x.kind ≡ k.SectionClose → Parted cs ts (x ∷ us)
-      → run ts (did (in_block l f ds bs st) c) ≡ run us (did st (block l ds (actions_then bs (also c cs))))
-  parted_run l f ds bs c no_actions ts x us st is h = last_semis l f ds bs c ts x us st is h
+  pub parted_run : (l : ℕ) (f : Bool) (ds : Declarations) (bs : Commands) (c : Command) (cs : Commands) (ts : List Symbol) (x : Symbol) (us : List Symbol) (st : Stack) → x.kind ≡ k.SectionClose → Parted cs ts (x ∷ us)
+      → run ts (did (in_block l f ds bs st) c) ≡ run us (did st (block l ds (commands_then bs (also c cs))))
+  parted_run l f ds bs c no_commands ts x us st is h = last_semis l f ds bs c ts x us st is h
   parted_run l f ds bs c (also d cs) ts x us st is h =
-      let e : step (did (in_block l f ds bs st) c) h.0 ≡ Some (due (in_block l true ds (actions_then bs (also c no_actions)) st)) = rw h.5 refl in
-      ap (λ z. run z (did (in_block l f ds bs st) c)) h.4 ∙ stepped (did (in_block l f ds bs st) c) _ h.0 h.1 e ∙ semis_run l ds (actions_then bs (also c no_actions)) h.1 h.2 st h.6
-      ∙ item_starts l ds (actions_then bs (also c no_actions)) st h.2 (opens_does d h.2 h.3 (full_filled d h.3 h.8) h.7)
-      ∙ does_run d h.2 h.3 (in_block l true ds (actions_then bs (also c no_actions)) st) (full_filled d h.3 h.8) h.7
-      ∙ parted_run l true ds (actions_then bs (also c no_actions)) d cs h.3 x us st is h.9 ∙ ap (λ z. run us (did st (block l ds z))) (actions_end bs c (also d cs))
+      let e : step (did (in_block l f ds bs st) c) h.0 ≡ Some (due (in_block l true ds (commands_then bs (also c no_commands)) st)) = rw h.5 refl in
+      ap (λ z. run z (did (in_block l f ds bs st) c)) h.4 ∙ stepped (did (in_block l f ds bs st) c) _ h.0 h.1 e ∙ semis_run l ds (commands_then bs (also c no_commands)) h.1 h.2 st h.6
+      ∙ item_starts l ds (commands_then bs (also c no_commands)) st h.2 (opens_does d h.2 h.3 (full_filled d h.3 h.8) h.7)
+      ∙ does_run d h.2 h.3 (in_block l true ds (commands_then bs (also c no_commands)) st) (full_filled d h.3 h.8) h.7
+      ∙ parted_run l true ds (commands_then bs (also c no_commands)) d cs h.3 x us st is h.9 ∙ ap (λ z. run us (did st (block l ds z))) (commands_end bs c (also d cs))
 
   pub declares_run : (inside : Bool) (d : Declaration) (ts us : List Symbol) (fr : Stack) → Head inside fr → Declares inside d ts us → run ts (due fr) ≡ run us (due (after fr d))
   declares_run inside (constants l s is) ts us fr head h =
@@ -470,16 +471,16 @@ mutual
   listed_run inside l s zs no_items ts c us fr head shuts h = absurd h
   listed_run inside l s zs (item m x e no_items) ts c us fr head shuts h =
       ap (λ z. run z (due (at_items l s zs fr))) h.4 ∙ stepped (due (at_items l s zs fr)) _ h.0 (h.1 ∷ h.2) (item_name l s zs fr h.0 m x h.5)
-      ∙ stepped (due (at_sign l s zs (record { line = m; letters = x }) fr)) _ h.1 h.2 (sign_taken l s zs (record { line = m; letters = x }) fr h.1 h.6)
-      ∙ reads_run 12 e h.2 h.3 (in_item l s zs (record { line = m; letters = x }) fr) (omega arith) (λ a b. refl) h.7
-      ∙ items_close l s zs (record { line = m; letters = x }) e fr inside h.3 c us head shuts h.9
+      ∙ stepped (due (at_sign l s zs (record { at = m; letters = x }) fr)) _ h.1 h.2 (sign_taken l s zs (record { at = m; letters = x }) fr h.1 h.6)
+      ∙ reads_run 12 e h.2 h.3 (in_item l s zs (record { at = m; letters = x }) fr) (omega arith) (λ a b. refl) h.7
+      ∙ items_close l s zs (record { at = m; letters = x }) e fr inside h.3 c us head shuts h.9
   listed_run inside l s zs (item m x e (item n y f is)) ts c us fr head shuts h =
       let ys = items_then zs (item m x e no_items) in
-      let d : step (have (in_item l s zs (record { line = m; letters = x }) fr) e) h.3 ≡ Some (due (at_items l s ys fr)) = rw h.10 refl in
+      let d : step (have (in_item l s zs (record { at = m; letters = x }) fr) e) h.3 ≡ Some (due (at_items l s ys fr)) = rw h.10 refl in
       ap (λ z. run z (due (at_items l s zs fr))) h.6 ∙ stepped (due (at_items l s zs fr)) _ h.0 (h.1 ∷ h.2) (item_name l s zs fr h.0 m x h.7)
-      ∙ stepped (due (at_sign l s zs (record { line = m; letters = x }) fr)) _ h.1 h.2 (sign_taken l s zs (record { line = m; letters = x }) fr h.1 h.8)
-      ∙ reads_run 12 e h.2 (h.3 ∷ h.4) (in_item l s zs (record { line = m; letters = x }) fr) (omega arith) (λ a b. refl) h.9
-      ∙ stepped (have (in_item l s zs (record { line = m; letters = x }) fr) e) _ h.3 h.4 d ∙ items_semis l s ys fr h.4 h.5 (then_some zs m x e) h.11
+      ∙ stepped (due (at_sign l s zs (record { at = m; letters = x }) fr)) _ h.1 h.2 (sign_taken l s zs (record { at = m; letters = x }) fr h.1 h.8)
+      ∙ reads_run 12 e h.2 (h.3 ∷ h.4) (in_item l s zs (record { at = m; letters = x }) fr) (omega arith) (λ a b. refl) h.9
+      ∙ stepped (have (in_item l s zs (record { at = m; letters = x }) fr) e) _ h.3 h.4 d ∙ items_semis l s ys fr h.4 h.5 (then_some zs m x e) h.11
       ∙ listed_run inside l s ys (item n y f is) h.5 c us fr head shuts h.12 ∙ ap (λ z. run us (due (after fr (constants l s z)))) (items_end zs m x e (item n y f is))
 
   pub defined_run : (inside : Bool) (l : ℕ) (es ds : Definitions) (ts us : List Symbol) (fr : Stack) → Head inside fr → Defined inside ds ts us → run ts (due (in_let l es fr)) ≡ run us (due (after fr (definitions l (definitions_then es ds))))
@@ -491,14 +492,14 @@ mutual
       (failing is_and us (due (after fr D)) (defined_by (in_let l es fr) d) refl h.1 (λ m x t f. rw f (sym (declared_by_is inside fr D m x t head))))
   defined_run inside l es (define d (define e ds)) ts us fr head h =
       let y = define_run inside l es d ts (h.0 ∷ h.1) fr head h.3 in
-      let b : defined_by (in_let l es fr) d h.0.line h.0.text h.0.kind ≡ Some (due (in_let l (definitions_then es (define d no_definitions)) fr)) = rw h.2 refl in
+      let b : defined_by (in_let l es fr) d (position_of h.0) h.0.text h.0.kind ≡ Some (due (in_let l (definitions_then es (define d no_definitions)) fr)) = rw h.2 refl in
       y.1 ∙ stepped y.0 _ h.0 h.1 (y.2 ∙ b) ∙ defined_run inside l (definitions_then es (define d no_definitions)) (define e ds) h.1 us fr head h.4
       ∙ ap (λ z. run us (due (after fr (definitions l z)))) (definitions_end es d (define e ds))
 
   pub define_run : (inside : Bool) (l : ℕ) (es : Definitions) (d : Definition) (ts us : List Symbol) (fr : Stack) → Head inside fr → Defines inside d ts us
       → (y : State) × (run ts (due (in_let l es fr)) ≡ run us y) × Takes us y (defined_by (in_let l es fr) d)
   define_run inside l es (routine m x fs c) ts us fr head h =
-      let n : Mention = record { line = m; letters = x } in
+      let n : Mention = record { at = m; letters = x } in
       let L = in_let l es fr in
       let a : step (due L) h.0 ≡ Some (due (at_name n L)) = named_step h.0 m x (λ z. due (at_name z L)) h.6 in
       let b : step (due (at_name n L)) h.1 ≡ Some (due (at_formals n L)) = rw h.7 refl in
@@ -509,7 +510,7 @@ mutual
         failing repeats us (did (in_routine n fs L) c) (defined_by L (routine m x fs c)) refl (full_fails c us h.11) (λ p s q f. rw f refl),
       )
   define_run inside l es (function m x fs e) ts us fr head h =
-      let n : Mention = record { line = m; letters = x } in
+      let n : Mention = record { at = m; letters = x } in
       let L = in_let l es fr in
       let a : step (due L) h.0 ≡ Some (due (at_name n L)) = named_step h.0 m x (λ z. due (at_name z L)) h.6 in
       let b : step (due (at_name n L)) h.1 ≡ Some (due (at_formals n L)) = rw h.7 refl in
@@ -527,16 +528,16 @@ mutual
       (y.0, names_run l es fr xs ts h.1 h.2 (subst P h.0 head) h.3 h.6 ∙ y.1, subst Q (sym h.4) y.2)
 
   pub starts_run : (xs : List Mention) (is zs : Starts) (ts us : List Symbol) (L : Stack) → start_count zs + start_count is ≡ length xs → Started is ts us
-      → (y : State) × (run ts (due (at_starts xs zs L)) ≡ run us y) × Takes us y (defined_by L (variables (line_of_names xs) xs (starts_then zs is)))
+      → (y : State) × (run ts (due (at_starts xs zs L)) ≡ run us y) × Takes us y (defined_by L (variables (at_names xs) xs (starts_then zs is)))
   starts_run xs no_starts zs ts us L n h = absurd h
   starts_run xs (value e no_starts) zs ts us L n h = (
     have (in_value xs zs L) e,
     starts_value xs zs L ts (opens_read 12 e ts us h.0) ∙ reads_run 12 e ts us (in_value xs zs L) (omega arith) (λ a b. le-ltb _ _ (omega arith)) h.0,
-    failing (goes 12) us (have (in_value xs zs L) e) (defined_by L (variables (line_of_names xs) xs (starts_then zs (value e no_starts)))) refl h.1 (λ p s q f. rw (f, same_eq (length xs) (start_count zs + 1) (omega arith)) refl),
+    failing (goes 12) us (have (in_value xs zs L) e) (defined_by L (variables (at_names xs) xs (starts_then zs (value e no_starts)))) refl h.1 (λ p s q f. rw (f, same_eq (length xs) (start_count zs + 1) (omega arith)) refl),
   )
   starts_run xs (value e (value f is)) zs ts us L n h =
       let y = starts_run xs (value f is) (starts_then zs (value e no_starts)) h.1 us L (omega (arith, count_then zs (value e no_starts))) h.4 in
-      let Q : Starts → Type 0 = λ z. Takes us y.0 (defined_by L (variables (line_of_names xs) xs z)) in (
+      let Q : Starts → Type 0 = λ z. Takes us y.0 (defined_by L (variables (at_names xs) xs z)) in (
         y.0,
         starts_value xs zs L ts (opens_read 12 e ts (h.0 ∷ h.1) h.3) ∙ reads_run 12 e ts (h.0 ∷ h.1) (in_value xs zs L) (omega arith) (at_comma (in_value xs zs L) h.0 h.1 h.2) h.3
             ∙ stepped (have (in_value xs zs L) e) _ h.0 h.1 (more_values xs zs L e h.0 (omega arith) h.2) ∙ y.1,
@@ -544,7 +545,7 @@ mutual
       )
   starts_run xs (value e (vector m f is)) zs ts us L n h =
       let y = starts_run xs (vector m f is) (starts_then zs (value e no_starts)) h.1 us L (omega (arith, count_then zs (value e no_starts))) h.4 in
-      let Q : Starts → Type 0 = λ z. Takes us y.0 (defined_by L (variables (line_of_names xs) xs z)) in (
+      let Q : Starts → Type 0 = λ z. Takes us y.0 (defined_by L (variables (at_names xs) xs z)) in (
         y.0,
         starts_value xs zs L ts (opens_read 12 e ts (h.0 ∷ h.1) h.3) ∙ reads_run 12 e ts (h.0 ∷ h.1) (in_value xs zs L) (omega arith) (at_comma (in_value xs zs L) h.0 h.1 h.2) h.3
             ∙ stepped (have (in_value xs zs L) e) _ h.0 h.1 (more_values xs zs L e h.0 (omega arith) h.2) ∙ y.1,
@@ -554,12 +555,12 @@ mutual
       let a : step (due (at_starts xs zs L)) h.0 ≡ Some (want (in_vector l xs zs L)) = rw (h.3, h.4) refl in (
         have (in_vector l xs zs L) e,
         ap (λ z. run z (due (at_starts xs zs L))) h.2 ∙ stepped (due (at_starts xs zs L)) _ h.0 h.1 a ∙ reads_run 12 e h.1 us (in_vector l xs zs L) (omega arith) (λ a b. le-ltb _ _ (omega arith)) h.5,
-        failing (goes 12) us (have (in_vector l xs zs L) e) (defined_by L (variables (line_of_names xs) xs (starts_then zs (vector l e no_starts)))) refl h.6 (λ p s q f. rw (f, same_eq (length xs) (start_count zs + 1) (omega arith)) refl),
+        failing (goes 12) us (have (in_vector l xs zs L) e) (defined_by L (variables (at_names xs) xs (starts_then zs (vector l e no_starts)))) refl h.6 (λ p s q f. rw (f, same_eq (length xs) (start_count zs + 1) (omega arith)) refl),
       )
   starts_run xs (vector l e (value f is)) zs ts us L n h =
       let y = starts_run xs (value f is) (starts_then zs (vector l e no_starts)) h.3 us L (omega (arith, count_then zs (vector l e no_starts))) h.9 in
       let a : step (due (at_starts xs zs L)) h.0 ≡ Some (want (in_vector l xs zs L)) = rw (h.5, h.6) refl in
-      let Q : Starts → Type 0 = λ z. Takes us y.0 (defined_by L (variables (line_of_names xs) xs z)) in (
+      let Q : Starts → Type 0 = λ z. Takes us y.0 (defined_by L (variables (at_names xs) xs z)) in (
         y.0,
         ap (λ z. run z (due (at_starts xs zs L))) h.4 ∙ stepped (due (at_starts xs zs L)) _ h.0 h.1 a
             ∙ reads_run 12 e h.1 (h.2 ∷ h.3) (in_vector l xs zs L) (omega arith) (at_comma (in_vector l xs zs L) h.2 h.3 h.7) h.8
@@ -569,7 +570,7 @@ mutual
   starts_run xs (vector l e (vector m f is)) zs ts us L n h =
       let y = starts_run xs (vector m f is) (starts_then zs (vector l e no_starts)) h.3 us L (omega (arith, count_then zs (vector l e no_starts))) h.9 in
       let a : step (due (at_starts xs zs L)) h.0 ≡ Some (want (in_vector l xs zs L)) = rw (h.5, h.6) refl in
-      let Q : Starts → Type 0 = λ z. Takes us y.0 (defined_by L (variables (line_of_names xs) xs z)) in (
+      let Q : Starts → Type 0 = λ z. Takes us y.0 (defined_by L (variables (at_names xs) xs z)) in (
         y.0,
         ap (λ z. run z (due (at_starts xs zs L))) h.4 ∙ stepped (due (at_starts xs zs L)) _ h.0 h.1 a
             ∙ reads_run 12 e h.1 (h.2 ∷ h.3) (in_vector l xs zs L) (omega arith) (at_comma (in_vector l xs zs L) h.2 h.3 h.7) h.8
@@ -578,15 +579,15 @@ mutual
       )
 
   pub heads_run : (l : ℕ) (f : Bool) (es ds : Declarations) (ts us : List Symbol) (st : Stack) → Some_declarations ds → Heads true ds ts us
-      → run ts (due (in_block l f es no_actions st)) ≡ run us (due (in_block l false (declarations_then es ds) no_actions st))
+      → run ts (due (in_block l f es no_commands st)) ≡ run us (due (in_block l false (declarations_then es ds) no_commands st))
   heads_run l f es no_declarations ts us st some h = absurd some
   heads_run l f es (declare d no_declarations) ts us st some h =
       let b = before_run ts h.0 l f es st h.2 in
-      b.1 ∙ declares_run true d h.0 h.1 (in_block l b.0 es no_actions st) tt h.3 ∙ ap (λ z. run z (due (in_block l false (declarations_then es (declare d no_declarations)) no_actions st))) h.4
+      b.1 ∙ declares_run true d h.0 h.1 (in_block l b.0 es no_commands st) tt h.3 ∙ ap (λ z. run z (due (in_block l false (declarations_then es (declare d no_declarations)) no_commands st))) h.4
   heads_run l f es (declare d (declare e ds)) ts us st some h =
       let b = before_run ts h.0 l f es st h.2 in
-      b.1 ∙ declares_run true d h.0 h.1 (in_block l b.0 es no_actions st) tt h.3 ∙ heads_run l false (declarations_then es (declare d no_declarations)) (declare e ds) h.1 us st tt h.4
-      ∙ ap (λ z. run us (due (in_block l false z no_actions st))) (declarations_end es d (declare e ds))
+      b.1 ∙ declares_run true d h.0 h.1 (in_block l b.0 es no_commands st) tt h.3 ∙ heads_run l false (declarations_then es (declare d no_declarations)) (declare e ds) h.1 us st tt h.4
+      ∙ ap (λ z. run us (due (in_block l false z no_commands st))) (declarations_end es d (declare e ds))
 
 heads_section : (es ds : Declarations) (ts us : List Symbol) → Heads false ds ts us → run ts (due (in_section es)) ≡ run us (due (in_section (declarations_then es ds)))
 heads_section es no_declarations ts us h = ap (λ z. run z (due (in_section es))) h ∙ ap (λ z. run us (due (in_section z))) (sym (declarations_all es))

@@ -1,10 +1,11 @@
 -- Each step of the machine leads from a state that fits to one that fits.
-use Rattle.bk_grammar.proofs.Terms.{◌≡◌, ℕ, ◌+◌, ◌<◌, Bool, true, false, cond, List, [], ◌∷◌, ◌++◌, ◌==◌, length, length-append, Option, Some, None, refl, sym, subst, arith, nat_tests, Kind, Kind as k, Symbol, Operator, Sort, Guard, Guard as g, Mention, Expression, Expressions, Action, Actions, Declaration, Declarations, Items, Definition, name, parens, unary, binary, choice, apply, valof, table, none, more, empty, assign, label, default, test, for_loop, result, block, repeat_while, no_actions, also, constants, definitions, no_declarations, declare, no_items, item, routine, function, variables, no_definitions, define, no_starts, value, vector, inner, behind, is_relation, infix_of, sort_of, sign_of, begins_command, repeats, assigns, is_and, is_comma, goes, last, line_of, line_of_first, line_of_names, line_of_action, size, start_count, Stack, in_section, in_block, in_let, at_name, at_formals, at_formal, at_formal_end, at_head, at_variable, at_variable_end, at_starts, at_opening, at_items, at_sign, at_goto, at_for, at_forward, at_default, in_parens, in_unary, in_binary, in_chain, in_then, in_else, in_args, in_table, in_start, in_dests, in_values, in_guard, in_test, in_result, in_while, in_from, in_to, in_by, in_item, in_function, in_value, in_vector, in_valof, in_label, in_guarded, in_default, in_do, in_or, in_for, in_routine, State, want, have, begin, maybe, did, due, linked, infixed, push, is_close, is_colon, is_do, is_or, is_to, is_equal, is_semicolon, opens, closes, is_vec, is_let, is_open, is_sign_of, if_is, named, guarded, behind_sign, no_args, bars, take_operand, take_command, sorted, take_declaration, take_in_section, in_head, take_in_block, declared, declared_by, defined_by, again, dests, labelled, is_call, call_of, in_constants, to_or_do, give, finish, without, inside, in_names, in_formals, headed, take_item, take_due, step, each_then, actions_then, declarations_then, items_then, definitions_then, starts_then}
+use Rattle.bk_grammar.proofs.Terms.{◌≡◌, ℕ, ◌+◌, ◌<◌, Bool, true, false, cond, List, [], ◌∷◌, ◌++◌, ◌==◌, length, length-append, Option, Some, None, refl, sym, subst, arith, nat_tests, Kind, Kind as k, Symbol, Operator, Sort, Guard, Guard as g, Mention, Expression, Expressions, Command, Commands, Declaration, Declarations, Items, Definition, name, parens, unary, binary, choice, apply, valof, table, none, more, empty, assign, label, default, test, for_loop, result, block, repeat_while, no_commands, also, constants, definitions, no_declarations, declare, no_items, item, routine, function, variables, no_definitions, define, no_starts, value, vector, inner, behind, is_relation, infix_of, sort_of, sign_of, begins_command, repeats, assigns, is_and, is_comma, goes, last, at_expression, at_expressions, at_names, at_command, size, start_count, Stack, in_section, in_block, in_let, at_name, at_formals, at_formal, at_formal_end, at_head, at_variable, at_variable_end, at_starts, at_opening, at_items, at_sign, at_goto, at_for, at_forward, at_default, in_parens, in_unary, in_binary, in_chain, in_then, in_else, in_args, in_table, in_start, in_dests, in_values, in_guard, in_test, in_result, in_while, in_from, in_to, in_by, in_item, in_function, in_value, in_vector, in_valof, in_label, in_guarded, in_default, in_do, in_or, in_for, in_routine, State, want, have, begin, maybe, did, due, linked, infixed, push, is_close, is_colon, is_do, is_or, is_to, is_equal, is_semicolon, opens, closes, is_vec, is_let, is_open, is_sign_of, if_is, named, guarded, behind_sign, no_args, bars, take_operand, take_command, sorted, take_declaration, take_in_section, in_head, take_in_block, declared, declared_by, defined_by, again, dests, labelled, is_call, call_of, in_constants, to_or_do, give, finish, without, inside, in_names, in_formals, headed, take_item, take_due, step, each_then, commands_then, declarations_then, items_then, definitions_then, starts_then}
 use Rattle.bk_tree.specs.declared.tree.Operator.TheVariants.{Both}
 use Rattle.bk_grammar.proofs.Steps.{size_then, count_then}
 use Rattle.bk_grammar.proofs.Before.{is_close_kind, is_comma_kind, is_colon_kind, is_do_kind, is_or_kind, is_to_kind, is_and_kind, is_equal_kind, is_semicolon_kind, opens_kind, closes_kind, is_vec_kind, is_let_kind, is_open_kind}
 use Rattle.bk_grammar.proofs.Moves.{sign_is}
 use Rattle.bk_grammar.proofs.Fits.{Under, ForExpression, ForCommand, ForDefinition, ForDeclaration, ForSymbol, Fits, Fit, FitUnder, After}
+use Rattle.bk_grammar.specs.Placed.{position_of}
 
 -- no state
 stuck : (t : Kind) (os : List (List ℕ)) → After t None os
@@ -99,7 +100,7 @@ command_fits k.SwitchOn st l x os h = h
 command_fits k.Case st l x os h = h
 command_fits t st l x os h = operand_fits t (in_start st) l x os h
 
-again_fits : (t : Kind) (st : Stack) (c : Action) (os : List (List ℕ)) → ForCommand st os → After t (again st c t) os
+again_fits : (t : Kind) (st : Stack) (c : Command) (os : List (List ℕ)) → ForCommand st os → After t (again st c t) os
 again_fits k.Repeat st c os h = h
 again_fits k.RepeatWhile st c os h = h
 again_fits k.RepeatUntil st c os h = h
@@ -108,7 +109,7 @@ again_fits k.SectionClose st c os h = tt
 again_fits _ st c os h = tt
 
 -- the command goes on, or not
-repeats_or : (b : Bool) (t : Kind) (st : Stack) (c : Action) (r : Option State) (os : List (List ℕ)) → ForCommand st os → After t r os → After t (cond b (again st c t) r) os
+repeats_or : (b : Bool) (t : Kind) (st : Stack) (c : Command) (r : Option State) (os : List (List ℕ)) → ForCommand st os → After t r os → After t (cond b (again st c t) r) os
 repeats_or b t st c r os h j = either b t (again st c t) r os (λ x. again_fits t st c os h) (λ x. j)
 
 dests_fits : (t : Kind) (xs : Expressions) (st : Stack) (os : List (List ℕ)) → 0 < size xs → ForCommand st os → After t (dests xs st t) os
@@ -160,7 +161,7 @@ declaration_fits t st l other os h j = sign_or (is_let t) k.Let t (due (in_let l
 section_fits : (t : Kind) (ds : Declarations) (l : ℕ) (os : List (List ℕ)) → os ≡ [] → After t (take_in_section ds l t) os
 section_fits t ds l os h = sign_or (is_semicolon t) k.Semicolon t (due (in_section ds)) _ os (is_semicolon_kind t) h (declaration_fits t (in_section ds) l None os h (stuck t os))
 
-block_fits : (t : Kind) (b : ℕ) (free : Bool) (ds : Declarations) (cs : Actions) (st : Stack) (l : ℕ) (x : List ℕ) (os : List (List ℕ)) → Under (ForCommand st) os → After t (take_in_block b free ds cs st l x t) os
+block_fits : (t : Kind) (b : ℕ) (free : Bool) (ds : Declarations) (cs : Commands) (st : Stack) (l : ℕ) (x : List ℕ) (os : List (List ℕ)) → Under (ForCommand st) os → After t (take_in_block b free ds cs st l x t) os
 block_fits t b free ds cs st l x os h =
     let here : Stack = in_block b free ds cs st in
     let rest : Option State = cond free (take_command here l x t) None in
@@ -189,13 +190,13 @@ mutual
   pub give_fits : (t : Kind) (st : Stack) (e : Expression) (l : ℕ) (x : List ℕ) (os : List (List ℕ)) → ForExpression st os → After t (give st e l x t) os
   give_fits t (in_parens m st) e l x os h = goes_or (goes 12 t) t (in_parens m st) e l _ os h (sign (is_close t) k.Close t (have st (parens m e)) os (is_close_kind t) h)
   give_fits t (in_unary m p st) e l x os h = goes_or (goes (behind p) t) t (in_unary m p st) e l _ os h (give_fits t st (unary m p e) l x os h)
-  give_fits t (in_binary q s a st) e l x os h = goes_or (goes (inner q) t) t (in_binary q s a st) e l _ os h (give_fits t st (binary (line_of a) q s a e) l x os h)
-  give_fits t (in_chain q s a b st) e l x os h = goes_or (goes 5 t) t (in_chain q s a b st) e l _ os h (give_fits t st (binary (line_of a) Both s a (binary (line_of b) q s b e)) l x os h)
+  give_fits t (in_binary q s a st) e l x os h = goes_or (goes (inner q) t) t (in_binary q s a st) e l _ os h (give_fits t st (binary (at_expression a) q s a e) l x os h)
+  give_fits t (in_chain q s a b st) e l x os h = goes_or (goes 5 t) t (in_chain q s a b st) e l _ os h (give_fits t st (binary (at_expression a) Both s a (binary (at_expression b) q s b e)) l x os h)
   give_fits t (in_then s c st) e l x os h = goes_or (goes 12 t) t (in_then s c st) e l _ os h (sign (is_comma t) k.Comma t (want (in_else s c e st)) os (is_comma_kind t) h)
-  give_fits t (in_else s c a st) e l x os h = goes_or (goes 12 t) t (in_else s c a st) e l _ os h (give_fits t st (choice (line_of c) s c a e) l x os h)
+  give_fits t (in_else s c a st) e l x os h = goes_or (goes 12 t) t (in_else s c a st) e l _ os h (give_fits t st (choice (at_expression c) s c a e) l x os h)
   give_fits t (in_args s f es st) e l x os h = goes_or (goes 12 t) t (in_args s f es st) e l _ os h
       (sign_or (is_comma t) k.Comma t (want (in_args s f (each_then es (more e none)) st)) _ os (is_comma_kind t) h
-      (sign (is_close t) k.Close t (have st (apply (line_of f) s f (each_then es (more e none)))) os (is_close_kind t) h))
+      (sign (is_close t) k.Close t (have st (apply (at_expression f) s f (each_then es (more e none)))) os (is_close_kind t) h))
   give_fits t (in_table m es st) e l x os h = goes_or (goes 12 t) t (in_table m es st) e l _ os h
       (sign_or (is_comma t) k.Comma t (want (in_table m (each_then es (more e none)) st)) _ os (is_comma_kind t) h (give_fits t st (table m (each_then es (more e none))) l x os h.1))
   give_fits t (in_start st) e l x os h = goes_or (goes 12 t) t (in_start st) e l _ os h
@@ -204,26 +205,26 @@ mutual
       (λ z. either (is_colon t) t (labelled e st) None os (λ d. as_kind k.Colon t (labelled e st) os (is_colon_kind t d) (labelled_fits e st os h)) (λ d. stuck t os))))
   give_fits t (in_dests xs st) e l x os h = goes_or (goes 12 t) t (in_dests xs st) e l _ os h (dests_fits t (each_then xs (more e none)) st os (let n = size_then xs (more e none) in omega arith) h)
   give_fits t (in_values xs ys st) e l x os h = goes_or (goes 12 t) t (in_values xs ys st) e l _ os h
-      (either (size xs == size ys + 1) t _ _ os (λ y. finish_fits t st (assign (line_of_first xs) xs (each_then ys (more e none))) l x os h.1)
+      (either (size xs == size ys + 1) t _ _ os (λ y. finish_fits t st (assign (at_expressions xs) xs (each_then ys (more e none))) l x os h.1)
       (λ y. sign (is_comma t) k.Comma t (want (in_values xs (each_then ys (more e none)) st)) os (is_comma_kind t) (fewer (size xs) (size ys) _ h.0 y (size_then ys (more e none)), h.1)))
   give_fits t (in_guard gd m st) e l x os h = goes_or (goes 12 t) t (in_guard gd m st) e l _ os h (sign (is_sign_of gd t) (sign_of gd) t (behind_sign gd (in_guarded gd m e st)) os (sign_is gd t) (guard_fits gd m e st os h))
   give_fits t (in_test m st) e l x os h = goes_or (goes 12 t) t (in_test m st) e l _ os h (sign (is_do t) k.Do t (begin (in_do m e st)) os (is_do_kind t) h)
   give_fits t (in_result m st) e l x os h = goes_or (goes 12 t) t (in_result m st) e l _ os h (finish_fits t st (result m e) l x os h)
-  give_fits t (in_while b c st) e l x os h = goes_or (goes 12 t) t (in_while b c st) e l _ os h (finish_fits t st (repeat_while (line_of_action c) b c e) l x os h)
+  give_fits t (in_while b c st) e l x os h = goes_or (goes 12 t) t (in_while b c st) e l _ os h (finish_fits t st (repeat_while (at_command c) b c e) l x os h)
   give_fits t (in_from m n st) e l x os h = goes_or (goes 12 t) t (in_from m n st) e l _ os h (sign (is_to t) k.To t (want (in_to m n e st)) os (is_to_kind t) h)
   give_fits t (in_to m n a st) e l x os h = goes_or (goes 12 t) t (in_to m n a st) e l _ os h (to_or_do_fits t m n a e st os h)
   give_fits t (in_by m n a b st) e l x os h = goes_or (goes 12 t) t (in_by m n a b st) e l _ os h (sign (is_do t) k.Do t (begin (in_for m n a b (more e none) st)) os (is_do_kind t) h)
-  give_fits t (in_item m s is n st) e l x os h = goes_or (goes 12 t) t (in_item m s is n st) e l _ os h (constants_fits t m s (items_then is (item n.line n.letters e no_items)) st os h)
-  give_fits t (in_function n fs st) e l x os h = goes_or (goes 12 t) t (in_function n fs st) e l _ os h (defined_fits t st (function n.line n.letters fs e) l x os h)
+  give_fits t (in_item m s is n st) e l x os h = goes_or (goes 12 t) t (in_item m s is n st) e l _ os h (constants_fits t m s (items_then is (item n.at n.letters e no_items)) st os h)
+  give_fits t (in_function n fs st) e l x os h = goes_or (goes 12 t) t (in_function n fs st) e l _ os h (defined_fits t st (function n.at n.letters fs e) l x os h)
   give_fits t (in_value ns is st) e l x os h = goes_or (goes 12 t) t (in_value ns is st) e l _ os h
-      (either (length ns == start_count is + 1) t _ _ os (λ y. defined_fits t st (variables (line_of_names ns) ns (starts_then is (value e no_starts))) l x os h.1)
+      (either (length ns == start_count is + 1) t _ _ os (λ y. defined_fits t st (variables (at_names ns) ns (starts_then is (value e no_starts))) l x os h.1)
       (λ y. sign (is_comma t) k.Comma t (due (at_starts ns (starts_then is (value e no_starts)) st)) os (is_comma_kind t) (fewer (length ns) (start_count is) _ h.0 y (count_then is (value e no_starts)), h.1)))
   give_fits t (in_vector m ns is st) e l x os h = goes_or (goes 12 t) t (in_vector m ns is st) e l _ os h
-      (either (length ns == start_count is + 1) t _ _ os (λ y. defined_fits t st (variables (line_of_names ns) ns (starts_then is (vector m e no_starts))) l x os h.1)
+      (either (length ns == start_count is + 1) t _ _ os (λ y. defined_fits t st (variables (at_names ns) ns (starts_then is (vector m e no_starts))) l x os h.1)
       (λ y. sign (is_comma t) k.Comma t (due (at_starts ns (starts_then is (vector m e no_starts)) st)) os (is_comma_kind t) (fewer (length ns) (start_count is) _ h.0 y (count_then is (vector m e no_starts)), h.1)))
   give_fits t _ e l x os h = absurd h
 
-  pub finish_fits : (t : Kind) (st : Stack) (c : Action) (l : ℕ) (x : List ℕ) (os : List (List ℕ)) → ForCommand st os → After t (finish st c l x t) os
+  pub finish_fits : (t : Kind) (st : Stack) (c : Command) (l : ℕ) (x : List ℕ) (os : List (List ℕ)) → ForCommand st os → After t (finish st c l x t) os
   finish_fits t (in_valof m st) c l x os h = repeats_or (repeats t) t (in_valof m st) c _ os h (give_fits t st (valof m c) l x os h)
   finish_fits t (in_label m n st) c l x os h = repeats_or (repeats t) t (in_label m n st) c _ os h (finish_fits t st (label m n c) l x os h)
   finish_fits t (in_guarded gd m e st) c l x os h = repeats_or (repeats t) t (in_guarded gd m e st) c _ os h (finish_fits t st (guarded gd m e c) l x os h)
@@ -231,10 +232,10 @@ mutual
   finish_fits t (in_do m e st) c l x os h = repeats_or (repeats t) t (in_do m e st) c _ os h (sign (is_or t) k.Or t (begin (in_or m e c st)) os (is_or_kind t) h)
   finish_fits t (in_or m e a st) c l x os h = repeats_or (repeats t) t (in_or m e a st) c _ os h (finish_fits t st (test m e a c) l x os h)
   finish_fits t (in_for m n a b y st) c l x os h = repeats_or (repeats t) t (in_for m n a b y st) c _ os h (finish_fits t st (for_loop m n a b y c) l x os h)
-  finish_fits t (in_routine n fs st) c l x os h = repeats_or (repeats t) t (in_routine n fs st) c _ os h (defined_fits t st (routine n.line n.letters fs c) l x os h)
+  finish_fits t (in_routine n fs st) c l x os h = repeats_or (repeats t) t (in_routine n fs st) c _ os h (defined_fits t st (routine n.at n.letters fs c) l x os h)
   finish_fits t (in_block b free ds cs st) c l x os h = repeats_or (repeats t) t (in_block b free ds cs st) c _ os h
-      (sign_or (is_semicolon t) k.Semicolon t (due (in_block b true ds (actions_then cs (also c no_actions)) st)) _ os (is_semicolon_kind t) h
-      (sign (closes t) k.SectionClose t (did st (block b ds (actions_then cs (also c no_actions)))) os (closes_kind t) h))
+      (sign_or (is_semicolon t) k.Semicolon t (due (in_block b true ds (commands_then cs (also c no_commands)) st)) _ os (is_semicolon_kind t) h
+      (sign (closes t) k.SectionClose t (did st (block b ds (commands_then cs (also c no_commands)))) os (closes_kind t) h))
   finish_fits t _ c l x os h = absurd h
 
 -- ---- one symbol
@@ -306,9 +307,9 @@ due_fits t (at_default m st) l x os h = sign (is_colon t) k.Colon t (maybe (in_d
 due_fits t _ l x os h = absurd h
 
 pub step_fits : (x : State) (t : Symbol) (os : List (List ℕ)) → Fits x os → After t.kind (step x t) os
-step_fits (want st) t os h = operand_fits t.kind st t.line t.text os h
-step_fits (have st e) t os h = give_fits t.kind st e t.line t.text os h
-step_fits (begin st) t os h = command_fits t.kind st t.line t.text os h
-step_fits (maybe st) t os h = either (begins_command t.kind) t.kind _ _ os (λ b. command_fits t.kind st t.line t.text os h.1) (λ b. without_fits t.kind st t.line t.text os h.1)
-step_fits (did st c) t os h = finish_fits t.kind st c t.line t.text os h
-step_fits (due st) t os h = due_fits t.kind st t.line t.text os h
+step_fits (want st) t os h = operand_fits t.kind st (position_of t) t.text os h
+step_fits (have st e) t os h = give_fits t.kind st e (position_of t) t.text os h
+step_fits (begin st) t os h = command_fits t.kind st (position_of t) t.text os h
+step_fits (maybe st) t os h = either (begins_command t.kind) t.kind _ _ os (λ b. command_fits t.kind st (position_of t) t.text os h.1) (λ b. without_fits t.kind st (position_of t) t.text os h.1)
+step_fits (did st c) t os h = finish_fits t.kind st c (position_of t) t.text os h
+step_fits (due st) t os h = due_fits t.kind st (position_of t) t.text os h

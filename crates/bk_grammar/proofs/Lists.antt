@@ -1,6 +1,7 @@
 -- What is read is in the grammar: lists, names and places.
-use Rattle.bk_grammar.proofs.Terms.{◌≡◌, ℕ, Bool, true, false, List, [], ◌∷◌, ◌++◌, refl, sym, ap, subst, ◌∙◌, ◌⊎◌, inl, inr, Kind as k, Symbol, Mention, Expression, Expressions, Action, Actions, Declaration, Declarations, Items, Definition, Definitions, Starts, none, more, block, no_actions, also, no_declarations, declare, no_items, item, no_definitions, define, no_starts, value, vector, is_and, goes, Fails, Stops, SpellsName, Names, Formals, Semis, Full, Reads, Each, Does, Body, Parted, Heads, Declares, Listed, Defined, Defines, Started, each_then, actions_then, declarations_then, items_then, definitions_then, starts_then}
+use Rattle.bk_grammar.proofs.Terms.{◌≡◌, ℕ, Bool, true, false, List, [], ◌∷◌, ◌++◌, refl, sym, ap, subst, ◌∙◌, ◌⊎◌, inl, inr, Kind as k, Symbol, Mention, Expression, Expressions, Command, Commands, Declaration, Declarations, Items, Definition, Definitions, Starts, none, more, block, no_commands, also, no_declarations, declare, no_items, item, no_definitions, define, no_starts, value, vector, is_and, goes, Fails, Stops, SpellsName, Names, Formals, Semis, Full, Reads, Each, Does, Body, Parted, Heads, Declares, Listed, Defined, Defines, Started, each_then, commands_then, declarations_then, items_then, definitions_then, starts_then}
 use Rattle.bk_grammar.proofs.Before.{Commas, NamesThen, StartsThen, ItemsThen, DefinitionsThen, PartedThen, BodyThen, Some_ds, Inside}
+use Rattle.bk_grammar.specs.Placed.{position_of}
 
 pub semis_refl : (a : List Symbol) → Semis a a
 semis_refl [] = refl
@@ -19,69 +20,69 @@ pub some_then : (ds : Declarations) (d : Declaration) → Some_ds (declarations_
 some_then no_declarations d = tt
 some_then (declare e ds) d = tt
 
-pub parted_semi : (cs : Actions) (a : List Symbol) (t : Symbol) (us : List Symbol) → PartedThen cs a (t ∷ us) → t.kind ≡ k.Semicolon → PartedThen cs a us
-parted_semi no_actions a t us h is = (h.0, h.1, h.2, h.3, semis_snoc h.1 t us h.4 is)
+pub parted_semi : (cs : Commands) (a : List Symbol) (t : Symbol) (us : List Symbol) → PartedThen cs a (t ∷ us) → t.kind ≡ k.Semicolon → PartedThen cs a us
+parted_semi no_commands a t us h is = (h.0, h.1, h.2, h.3, semis_snoc h.1 t us h.4 is)
 parted_semi (also c cs) a t us h is = (h.0, h.1, h.2, h.3, h.4, h.5, h.6, h.7, h.8, parted_semi cs h.3 t us h.9 is)
 
-pub body_semi : (cs : Actions) (a : List Symbol) (t : Symbol) (us : List Symbol) → BodyThen cs a (t ∷ us) → t.kind ≡ k.Semicolon → BodyThen cs a us
-body_semi no_actions a t us h is = semis_snoc a t us h is
+pub body_semi : (cs : Commands) (a : List Symbol) (t : Symbol) (us : List Symbol) → BodyThen cs a (t ∷ us) → t.kind ≡ k.Semicolon → BodyThen cs a us
+body_semi no_commands a t us h is = semis_snoc a t us h is
 body_semi (also c cs) a t us h is = (h.0, h.1, h.2, h.3, h.4, parted_semi cs h.1 t us h.5 is)
 
-pub parted_shut : (cs : Actions) (a z : List Symbol) → PartedThen cs a z → Parted cs a z
-parted_shut no_actions a z h = let P : List Symbol → Type 0 = λ y. Semis y z in subst P (sym h.2) (inr (h.3, h.4))
+pub parted_shut : (cs : Commands) (a z : List Symbol) → PartedThen cs a z → Parted cs a z
+parted_shut no_commands a z h = let P : List Symbol → Type 0 = λ y. Semis y z in subst P (sym h.2) (inr (h.3, h.4))
 parted_shut (also c cs) a z h = (h.0, h.1, h.2, h.3, h.4, h.5, h.6, h.7, h.8, parted_shut cs h.3 z h.9)
 
-pub body_shut : (cs : Actions) (a z : List Symbol) → BodyThen cs a z → Body cs a z
-body_shut no_actions a z h = h
+pub body_shut : (cs : Commands) (a z : List Symbol) → BodyThen cs a z → Body cs a z
+body_shut no_commands a z h = h
 body_shut (also c cs) a z h = (h.0, h.1, h.2, h.3, h.4, parted_shut cs h.1 z h.5)
 
 -- a command more, which the bracket follows
-pub parted_more : (cs : Actions) (c : Action) (a z w : List Symbol) → PartedThen cs a z → Does c z w → Full c w → Parted (actions_then cs (also c no_actions)) a w
-parted_more no_actions c a z w h does full = (h.0, h.1, z, w, h.2, h.3, h.4, does, full, semis_refl w)
+pub parted_more : (cs : Commands) (c : Command) (a z w : List Symbol) → PartedThen cs a z → Does c z w → Full c w → Parted (commands_then cs (also c no_commands)) a w
+parted_more no_commands c a z w h does full = (h.0, h.1, z, w, h.2, h.3, h.4, does, full, semis_refl w)
 parted_more (also d cs) c a z w h does full = (h.0, h.1, h.2, h.3, h.4, h.5, h.6, h.7, h.8, parted_more cs c h.3 z w h.9 does full)
 
-pub body_more : (cs : Actions) (c : Action) (a z w : List Symbol) → BodyThen cs a z → Does c z w → Full c w → Body (actions_then cs (also c no_actions)) a w
-body_more no_actions c a z w h does full = (z, w, h, does, full, semis_refl w)
+pub body_more : (cs : Commands) (c : Command) (a z w : List Symbol) → BodyThen cs a z → Does c z w → Full c w → Body (commands_then cs (also c no_commands)) a w
+body_more no_commands c a z w h does full = (z, w, h, does, full, semis_refl w)
 body_more (also d cs) c a z w h does full = (h.0, h.1, h.2, h.3, h.4, parted_more cs c h.1 z w h.5 does full)
 
 -- a command more, which a semicolon follows
-pub parted_then : (cs : Actions) (c : Action) (a z : List Symbol) (t : Symbol) (us : List Symbol) → PartedThen cs a z → Does c z (t ∷ us) → Full c (t ∷ us) → t.kind ≡ k.Semicolon → PartedThen (actions_then cs (also c no_actions)) a us
-parted_then no_actions c a z t us h does full is = (h.0, h.1, z, t ∷ us, h.2, h.3, h.4, does, full, (t, us, refl, is, semis_refl us))
+pub parted_then : (cs : Commands) (c : Command) (a z : List Symbol) (t : Symbol) (us : List Symbol) → PartedThen cs a z → Does c z (t ∷ us) → Full c (t ∷ us) → t.kind ≡ k.Semicolon → PartedThen (commands_then cs (also c no_commands)) a us
+parted_then no_commands c a z t us h does full is = (h.0, h.1, z, t ∷ us, h.2, h.3, h.4, does, full, (t, us, refl, is, semis_refl us))
 parted_then (also d cs) c a z t us h does full is = (h.0, h.1, h.2, h.3, h.4, h.5, h.6, h.7, h.8, parted_then cs c h.3 z t us h.9 does full is)
 
-pub body_then : (cs : Actions) (c : Action) (a z : List Symbol) (t : Symbol) (us : List Symbol) → BodyThen cs a z → Does c z (t ∷ us) → Full c (t ∷ us) → t.kind ≡ k.Semicolon → BodyThen (actions_then cs (also c no_actions)) a us
-body_then no_actions c a z t us h does full is = (z, t ∷ us, h, does, full, (t, us, refl, is, semis_refl us))
+pub body_then : (cs : Commands) (c : Command) (a z : List Symbol) (t : Symbol) (us : List Symbol) → BodyThen cs a z → Does c z (t ∷ us) → Full c (t ∷ us) → t.kind ≡ k.Semicolon → BodyThen (commands_then cs (also c no_commands)) a us
+body_then no_commands c a z t us h does full is = (z, t ∷ us, h, does, full, (t, us, refl, is, semis_refl us))
 body_then (also d cs) c a z t us h does full is = (h.0, h.1, h.2, h.3, h.4, parted_then cs c h.1 z t us h.5 does full is)
 
 -- the inside of a block, one symbol on
-pub inside_semi : (f : Bool) (ds : Declarations) (cs : Actions) (a : List Symbol) (t : Symbol) (us : List Symbol) → Inside f ds cs a (t ∷ us) → t.kind ≡ k.Semicolon → Inside true ds cs a us
-inside_semi false no_declarations no_actions a t us h is = absurd h.1
-inside_semi false (declare d ds) no_actions a t us h is = (t ∷ us, h.0, (t, us, refl, is, semis_refl us))
+pub inside_semi : (f : Bool) (ds : Declarations) (cs : Commands) (a : List Symbol) (t : Symbol) (us : List Symbol) → Inside f ds cs a (t ∷ us) → t.kind ≡ k.Semicolon → Inside true ds cs a us
+inside_semi false no_declarations no_commands a t us h is = absurd h.1
+inside_semi false (declare d ds) no_commands a t us h is = (t ∷ us, h.0, (t, us, refl, is, semis_refl us))
 inside_semi false ds (also c cs) a t us h is = absurd h
 inside_semi true no_declarations cs a t us h is = body_semi cs a t us h is
 inside_semi true (declare d ds) cs a t us h is = (h.0, h.1, parted_semi cs h.0 t us h.2 is)
 
-pub inside_declare : (f : Bool) (ds : Declarations) (d : Declaration) (a m z : List Symbol) → Inside f ds no_actions a m → Declares true d m z → Inside false (declarations_then ds (declare d no_declarations)) no_actions a z
+pub inside_declare : (f : Bool) (ds : Declarations) (d : Declaration) (a m z : List Symbol) → Inside f ds no_commands a m → Declares true d m z → Inside false (declarations_then ds (declare d no_declarations)) no_commands a z
 inside_declare false ds d a m z h r = (heads_snoc true ds d a m m z h.0 (semis_refl m) r, some_then ds d)
 inside_declare true no_declarations d a m z h r = (heads_snoc true no_declarations d a a m z refl h r, some_then no_declarations d)
 inside_declare true (declare e ds) d a m z h r =
     let P : List Symbol → Type 0 = λ y. Semis y m in
     (heads_snoc true (declare e ds) d a h.0 m z h.1 (subst P (sym h.2.2) (inr (h.2.3, h.2.4))) r, some_then (declare e ds) d)
 
-pub inside_shut : (l : ℕ) (f : Bool) (ds : Declarations) (cs : Actions) (t : Symbol) (ns : List Symbol) (c : Symbol) (us : List Symbol) → t.kind ≡ k.SectionOpen → t.line ≡ l → c.kind ≡ k.SectionClose → Inside f ds cs ns (c ∷ us) → Does (block l ds cs) (t ∷ ns) us
-inside_shut l false no_declarations no_actions t ns c us o at x h = absurd h.1
-inside_shut l false (declare d ds) no_actions t ns c us o at x h = (t, ns, c ∷ us, c, refl, o, at, x, h.0, semis_refl (c ∷ us))
+pub inside_shut : (l : ℕ) (f : Bool) (ds : Declarations) (cs : Commands) (t : Symbol) (ns : List Symbol) (c : Symbol) (us : List Symbol) → t.kind ≡ k.SectionOpen → position_of t ≡ l → c.kind ≡ k.SectionClose → Inside f ds cs ns (c ∷ us) → Does (block l ds cs) (t ∷ ns) us
+inside_shut l false no_declarations no_commands t ns c us o at x h = absurd h.1
+inside_shut l false (declare d ds) no_commands t ns c us o at x h = (t, ns, c ∷ us, c, refl, o, at, x, h.0, semis_refl (c ∷ us))
 inside_shut l false ds (also a cs) t ns c us o at x h = absurd h
 inside_shut l true no_declarations cs t ns c us o at x h = (t, ns, c, refl, o, at, x, body_shut cs ns (c ∷ us) h)
 inside_shut l true (declare d ds) cs t ns c us o at x h = (t, ns, h.0, c, refl, o, at, x, h.1, parted_shut cs h.0 (c ∷ us) h.2)
 
 -- a command more in a block, and the bracket
-pub inside_more : (l : ℕ) (ds : Declarations) (cs : Actions) (a : Action) (t : Symbol) (ns ms : List Symbol) (c : Symbol) (us : List Symbol) → t.kind ≡ k.SectionOpen → t.line ≡ l → c.kind ≡ k.SectionClose → Inside true ds cs ns ms
-    → Does a ms (c ∷ us) → Full a (c ∷ us) → Does (block l ds (actions_then cs (also a no_actions))) (t ∷ ns) us
+pub inside_more : (l : ℕ) (ds : Declarations) (cs : Commands) (a : Command) (t : Symbol) (ns ms : List Symbol) (c : Symbol) (us : List Symbol) → t.kind ≡ k.SectionOpen → position_of t ≡ l → c.kind ≡ k.SectionClose → Inside true ds cs ns ms
+    → Does a ms (c ∷ us) → Full a (c ∷ us) → Does (block l ds (commands_then cs (also a no_commands))) (t ∷ ns) us
 inside_more l no_declarations cs a t ns ms c us o at x h does full = (t, ns, c, refl, o, at, x, body_more cs a ns ms (c ∷ us) h does full)
 inside_more l (declare d ds) cs a t ns ms c us o at x h does full = (t, ns, h.0, c, refl, o, at, x, h.1, parted_more cs a h.0 ms (c ∷ us) h.2 does full)
 
-pub inside_then : (ds : Declarations) (cs : Actions) (a : Action) (ns ms : List Symbol) (t : Symbol) (us : List Symbol) → Inside true ds cs ns ms → Does a ms (t ∷ us) → Full a (t ∷ us) → t.kind ≡ k.Semicolon → Inside true ds (actions_then cs (also a no_actions)) ns us
+pub inside_then : (ds : Declarations) (cs : Commands) (a : Command) (ns ms : List Symbol) (t : Symbol) (us : List Symbol) → Inside true ds cs ns ms → Does a ms (t ∷ us) → Full a (t ∷ us) → t.kind ≡ k.Semicolon → Inside true ds (commands_then cs (also a no_commands)) ns us
 inside_then no_declarations cs a ns ms t us h does full is = body_then cs a ns ms t us h does full is
 inside_then (declare d ds) cs a ns ms t us h does full is = (h.0, h.1, parted_then cs a h.0 ms t us h.2 does full is)
 
@@ -103,7 +104,7 @@ each_of none e a y us h r stops = let P : List Symbol → Type 0 = λ x. Reads 1
 each_of (more x none) e a y us h r stops = (h.0, h.1, h.2, h.3, each_of none e h.1 y us h.4 r stops)
 each_of (more x (more z es)) e a y us h r stops = (h.0, h.1, h.2, h.3, each_of (more z es) e h.1 y us h.4 r stops)
 
-pub names_snoc : (xs : List Mention) (x : Mention) (a : List Symbol) (t : Symbol) (z : List Symbol) → NamesThen xs a (t ∷ z) → SpellsName x.line x.letters t → Names (xs ++ x ∷ []) a z
+pub names_snoc : (xs : List Mention) (x : Mention) (a : List Symbol) (t : Symbol) (z : List Symbol) → NamesThen xs a (t ∷ z) → SpellsName x.at x.letters t → Names (xs ++ x ∷ []) a z
 names_snoc [] x a t z h r = (t, h, r)
 names_snoc (y ∷ []) x a t z h r = (h.0, h.1, h.2, h.3, h.4, h.5, names_snoc [] x h.2 t z h.6 r)
 names_snoc (y ∷ (w ∷ ys)) x a t z h r = (h.0, h.1, h.2, h.3, h.4, h.5, names_snoc (w ∷ ys) x h.2 t z h.6 r)
@@ -145,7 +146,7 @@ value_snoc no_starts e a y d z h r c = let P : List Symbol → Type 0 = λ x. Re
 value_snoc (value x xs) e a y d z h r c = (h.0, h.1, h.2, h.3, value_snoc xs e h.1 y d z h.4 r c)
 value_snoc (vector l x xs) e a y d z h r c = (h.0, h.1, h.2, h.3, h.4, h.5, h.6, h.7, h.8, value_snoc xs e h.3 y d z h.9 r c)
 
-pub vector_snoc : (xs : Starts) (m : ℕ) (e : Expression) (a : List Symbol) (v : Symbol) (y : List Symbol) (d : Symbol) (z : List Symbol) → StartsThen xs a (v ∷ y) → v.kind ≡ k.Vec → v.line ≡ m → Reads 12 e y (d ∷ z) → d.kind ≡ k.Comma → StartsThen (starts_then xs (vector m e no_starts)) a z
+pub vector_snoc : (xs : Starts) (m : ℕ) (e : Expression) (a : List Symbol) (v : Symbol) (y : List Symbol) (d : Symbol) (z : List Symbol) → StartsThen xs a (v ∷ y) → v.kind ≡ k.Vec → position_of v ≡ m → Reads 12 e y (d ∷ z) → d.kind ≡ k.Comma → StartsThen (starts_then xs (vector m e no_starts)) a z
 vector_snoc no_starts m e a v y d z h w i r c = (v, y, d, z, h, w, i, c, r, refl)
 vector_snoc (value x xs) m e a v y d z h w i r c = (h.0, h.1, h.2, h.3, vector_snoc xs m e h.1 v y d z h.4 w i r c)
 vector_snoc (vector l x xs) m e a v y d z h w i r c = (h.0, h.1, h.2, h.3, h.4, h.5, h.6, h.7, h.8, vector_snoc xs m e h.3 v y d z h.9 w i r c)
@@ -159,7 +160,7 @@ value_last (vector m x no_starts) e a y us h r s = (h.0, h.1, h.2, h.3, h.4, h.5
 value_last (vector m x (value w xs)) e a y us h r s = (h.0, h.1, h.2, h.3, h.4, h.5, h.6, h.7, h.8, value_last (value w xs) e h.3 y us h.9 r s)
 value_last (vector m x (vector l w xs)) e a y us h r s = (h.0, h.1, h.2, h.3, h.4, h.5, h.6, h.7, h.8, value_last (vector l w xs) e h.3 y us h.9 r s)
 
-pub vector_last : (xs : Starts) (m : ℕ) (e : Expression) (a : List Symbol) (v : Symbol) (y us : List Symbol) → StartsThen xs a (v ∷ y) → v.kind ≡ k.Vec → v.line ≡ m → Reads 12 e y us → Stops 12 us → Started (starts_then xs (vector m e no_starts)) a us
+pub vector_last : (xs : Starts) (m : ℕ) (e : Expression) (a : List Symbol) (v : Symbol) (y us : List Symbol) → StartsThen xs a (v ∷ y) → v.kind ≡ k.Vec → position_of v ≡ m → Reads 12 e y us → Stops 12 us → Started (starts_then xs (vector m e no_starts)) a us
 vector_last no_starts m e a v y us h w i r s = (v, y, h, w, i, r, s)
 vector_last (value x no_starts) m e a v y us h w i r s = (h.0, h.1, h.2, h.3, vector_last no_starts m e h.1 v y us h.4 w i r s)
 vector_last (value x (value q xs)) m e a v y us h w i r s = (h.0, h.1, h.2, h.3, vector_last (value q xs) m e h.1 v y us h.4 w i r s)

@@ -1,5 +1,6 @@
 -- Steps of the machine, and where two states go on alike.
-use Rattle.bk_grammar.proofs.Terms.{◌≡◌, ℕ, ◌+◌, ◌<◌, ◌≤◌, Bool, true, false, cond, List, [], ◌∷◌, Option, Some, None, ◌==◌, refl, sym, ap, ◌∙◌, arith, lt-ltb, nat_tests, Kind, Kind as k, Symbol, Operator, Operator as o, Prefix, Simple, Guard, Guard as g, Expression, Expressions, Action, Actions, Declaration, Declarations, Items, Definition, Definitions, Starts, none, more, simple, no_actions, also, no_declarations, declare, no_items, item, no_definitions, define, no_starts, value, vector, row, inner, left, is_relation, infix_of, prefix_of, leaf, simple_of, guard_of, sign_of, begins_operand, begins_command, repeats, assigns, is_comma, goes, Fails, Stops, last, size, start_count, Stack, in_section, in_block, in_unary, in_binary, in_start, in_guard, in_guarded, State, want, have, did, limit, linked, infixed, push, behind_sign, prefixed, leaved, take_operand, take_start, take_command, in_head, take_in_block, again, give, finish, stepped_by, step, whole, going, run, each_then, actions_then, declarations_then, items_then, definitions_then, starts_then, nat_lt, ltb-true}
+use Rattle.bk_grammar.proofs.Terms.{◌≡◌, ℕ, ◌+◌, ◌<◌, ◌≤◌, Bool, true, false, cond, List, [], ◌∷◌, Option, Some, None, ◌==◌, refl, sym, ap, ◌∙◌, arith, lt-ltb, nat_tests, Kind, Kind as k, Symbol, Operator, Operator as o, Prefix, Simple, Guard, Guard as g, Expression, Expressions, Command, Commands, Declaration, Declarations, Items, Definition, Definitions, Starts, none, more, simple, no_commands, also, no_declarations, declare, no_items, item, no_definitions, define, no_starts, value, vector, row, inner, left, is_relation, infix_of, prefix_of, leaf, simple_of, guard_of, sign_of, begins_operand, begins_command, repeats, assigns, is_comma, goes, Fails, Stops, last, size, start_count, Stack, in_section, in_block, in_unary, in_binary, in_start, in_guard, in_guarded, State, want, have, did, limit, linked, infixed, push, behind_sign, prefixed, leaved, take_operand, take_start, take_command, in_head, take_in_block, again, give, finish, stepped_by, step, whole, going, run, each_then, commands_then, declarations_then, items_then, definitions_then, starts_then, nat_lt, ltb-true}
+use Rattle.bk_grammar.specs.Placed.{position_of}
 
 -- one step
 pub stepped : (x next : State) (t : Symbol) (ts : List Symbol) → step x t ≡ Some next → run (t ∷ ts) x ≡ run ts next
@@ -13,7 +14,7 @@ same_step t ts x y h = ap (λ z. going (t ∷ ts) (run ts) z) h
 -- what comes next, a symbol or the end, is taken so
 abbrev pub Takes : List Symbol → State → (ℕ → List ℕ → Kind → Option State) → Type 0
 Takes [] x f = stepped_by x 1 [] k.Semicolon ≡ f 1 [] k.Semicolon
-Takes (t ∷ us) x f = stepped_by x t.line t.text t.kind ≡ f t.line t.text t.kind
+Takes (t ∷ us) x f = stepped_by x (position_of t) t.text t.kind ≡ f (position_of t) t.text t.kind
 
 pub alike : (us : List Symbol) (x y : State) (f : ℕ → List ℕ → Kind → Option State) → Takes us x f → Takes us y f → run us x ≡ run us y
 unfolding run
@@ -28,12 +29,12 @@ takes (t ∷ us) x = refl
 pub failing : (passes : Kind → Bool) (us : List Symbol) (x : State) (f : ℕ → List ℕ → Kind → Option State) → passes k.Semicolon ≡ false → Fails passes us
     → ((l : ℕ) (s : List ℕ) (t : Kind) → passes t ≡ false → stepped_by x l s t ≡ f l s t) → Takes us x f
 failing passes [] x f semi h g = g 1 [] k.Semicolon semi
-failing passes (t ∷ us) x f semi h g = g t.line t.text t.kind h
+failing passes (t ∷ us) x f semi h g = g (position_of t) t.text t.kind h
 
 pub failing_both : (p q : Kind → Bool) (us : List Symbol) (x : State) (f : ℕ → List ℕ → Kind → Option State) → p k.Semicolon ≡ false → q k.Semicolon ≡ false → Fails p us → Fails q us
     → ((l : ℕ) (s : List ℕ) (t : Kind) → p t ≡ false → q t ≡ false → stepped_by x l s t ≡ f l s t) → Takes us x f
 failing_both p q [] x f a b h j g = g 1 [] k.Semicolon a b
-failing_both p q (t ∷ us) x f a b h j g = g t.line t.text t.kind h j
+failing_both p q (t ∷ us) x f a b h j g = g (position_of t) t.text t.kind h j
 
 -- two states that go on alike where an expression of these rows does not go on
 pub stops_alike : (rows : ℕ) (us : List Symbol) (x y : State) → Stops rows us → ((l : ℕ) (s : List ℕ) (t : Kind) → goes rows t ≡ false → stepped_by x l s t ≡ stepped_by y l s t) → run us x ≡ run us y
@@ -47,7 +48,7 @@ pub pushes : (st : Stack) (e : Expression) (l : ℕ) (x : List ℕ) (t : Kind) �
 pushes (in_section ds) e l x t h = rw h refl
 pushes _ e l x t h = rw h refl
 
-pub repeated : (st : Stack) (c : Action) (l : ℕ) (x : List ℕ) (t : Kind) → repeats t ≡ true → finish st c l x t ≡ again st c t
+pub repeated : (st : Stack) (c : Command) (l : ℕ) (x : List ℕ) (t : Kind) → repeats t ≡ true → finish st c l x t ≡ again st c t
 repeated (in_section ds) c l x t h = rw h refl
 repeated _ c l x t h = rw h refl
 
@@ -204,7 +205,7 @@ either true x y h = h
 either false x y h = refl
 
 -- a command in a block
-pub at_item : (t : Kind) (b : ℕ) (ds : Declarations) (cs : Actions) (st : Stack) (l : ℕ) (x : List ℕ) → begins_command t ≡ true
+pub at_item : (t : Kind) (b : ℕ) (ds : Declarations) (cs : Commands) (st : Stack) (l : ℕ) (x : List ℕ) → begins_command t ≡ true
     → take_in_block b true ds cs st l x t ≡ take_command (in_block b true ds cs st) l x t
 at_item k.Semicolon b ds cs st l x h = absurd cc
 at_item k.SectionClose b ds cs st l x h = absurd cc
@@ -224,9 +225,9 @@ pub each_end : (xs : Expressions) (e : Expression) (ys : Expressions) → each_t
 each_end none e ys = refl
 each_end (more x xs) e ys = ap (more x) (each_end xs e ys)
 
-pub actions_end : (xs : Actions) (e : Action) (ys : Actions) → actions_then (actions_then xs (also e no_actions)) ys ≡ actions_then xs (also e ys)
-actions_end no_actions e ys = refl
-actions_end (also x xs) e ys = ap (also x) (actions_end xs e ys)
+pub commands_end : (xs : Commands) (e : Command) (ys : Commands) → commands_then (commands_then xs (also e no_commands)) ys ≡ commands_then xs (also e ys)
+commands_end no_commands e ys = refl
+commands_end (also x xs) e ys = ap (also x) (commands_end xs e ys)
 
 pub declarations_end : (xs : Declarations) (e : Declaration) (ys : Declarations) → declarations_then (declarations_then xs (declare e no_declarations)) ys ≡ declarations_then xs (declare e ys)
 declarations_end no_declarations e ys = refl

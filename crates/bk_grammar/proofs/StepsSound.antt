@@ -4,15 +4,16 @@ use Rattle.bk_grammar.proofs.Before.{is_close_kind, is_colon_kind, is_equal_kind
 use Rattle.bk_grammar.proofs.Lists.{names_snoc, names_comma, formals_of, items_semi, items_shut}
 use Rattle.bk_grammar.proofs.Moves.{operand_at, command_at, section_at, block_at, declared_at}
 use Rattle.bk_grammar.proofs.Sound.{give_at, finish_at, low}
+use Rattle.bk_grammar.specs.Placed.{position_of}
 
-mention_at : (y : Kind) (l : ℕ) (x : List ℕ) (f : Mention → State) (n : State) → named y l x f ≡ Some n → (y ≡ k.Name) × (some_state (f (record { line = l; letters = upper_name x })) ≡ Some n)
+mention_at : (y : Kind) (l : ℕ) (x : List ℕ) (f : Mention → State) (n : State) → named y l x f ≡ Some n → (y ≡ k.Name) × (some_state (f (record { at = l; letters = upper_name x })) ≡ Some n)
 mention_at k.Name l x f n h = (refl, h)
 mention_at _ l x f n h = absurd cc
 
 -- a symbol that is a name
-as_name : (t : Symbol) (f : Mention → State) (n : State) (a us : List Symbol) → named t.kind t.line t.text f ≡ Some n
-    → ((m : Mention) → SpellsName m.line m.letters t → Inv (f m) a us) → Inv n a us
-as_name t f n a us h i = let m = mention_at t.kind t.line t.text f n h in to (f (record { line = t.line; letters = upper_name t.text })) n a us m.1 (i (record { line = t.line; letters = upper_name t.text }) (m.0, refl, refl))
+as_name : (t : Symbol) (f : Mention → State) (n : State) (a us : List Symbol) → named t.kind (position_of t) t.text f ≡ Some n
+    → ((m : Mention) → SpellsName m.at m.letters t → Inv (f m) a us) → Inv n a us
+as_name t f n a us h i = let m = mention_at t.kind (position_of t) t.text f n h in to (f (record { at = (position_of t); letters = upper_name t.text })) n a us m.1 (i (record { at = (position_of t); letters = upper_name t.text }) (m.0, refl, refl))
 
 names_at : (y : Kind) (xs : List Mention) (st : Stack) (n : State) (a us : List Symbol) → in_names xs st y ≡ Some n → (y ≡ k.Comma → Inv (due (at_variable xs st)) a us) → (y ≡ k.Equal → Inv (due (at_starts xs no_starts st)) a us) → Inv n a us
 names_at k.Comma xs st n a us h i j = to (due (at_variable xs st)) n a us h (i refl)
@@ -33,7 +34,7 @@ inside_at : (b : Bool) (y : Kind) (xs : List Mention) (st : Stack) (n : State) (
 inside_at true y xs st n a us h i = i refl h
 inside_at false y xs st n a us h i = absurd cc
 
-item_at : (m : ℕ) (s : Sort) (is : Items) (st : Stack) (t : Symbol) (n : State) (a us : List Symbol) → Before (at_items m s is st) a (t ∷ us) → take_item m s is st t.line t.text t.kind ≡ Some n → Inv n a us
+item_at : (m : ℕ) (s : Sort) (is : Items) (st : Stack) (t : Symbol) (n : State) (a us : List Symbol) → Before (at_items m s is st) a (t ∷ us) → take_item m s is st (position_of t) t.text t.kind ≡ Some n → Inv n a us
 item_at m s no_items st t n a us b h = as_name t (λ y. due (at_sign m s no_items y st)) n a us h (λ y sp. (b.0, b.1, b.2, t, b.3, b.4, b.5, b.6, b.7, b.8, sp))
 item_at m s (item l x e is) st t n a us b h = elim (split (is_semicolon t.kind) _ _ n h) [
   | inl z ↦ to (due (at_items m s (item l x e is) st)) n a us z.1 (b.0, b.1, b.2, b.3, b.4, b.5, b.6, b.7, items_semi l x e is b.2 t us b.8 (is_semicolon_kind t.kind z.0))
@@ -43,7 +44,7 @@ item_at m s (item l x e is) st t n a us b h = elim (split (is_semicolon t.kind) 
   ]
 ]
 
-due_at : (st : Stack) (t : Symbol) (n : State) (a us : List Symbol) → Before st a (t ∷ us) → take_due st t.line t.text t.kind ≡ Some n → Inv n a us
+due_at : (st : Stack) (t : Symbol) (n : State) (a us : List Symbol) → Before st a (t ∷ us) → take_due st (position_of t) t.text t.kind ≡ Some n → Inv n a us
 due_at (in_section ds) t n a us b h = section_at ds t n a us b h
 due_at (in_block l f ds cs st) t n a us b h = block_at l f ds cs st t n a us b h
 due_at (in_let l ds st) t n a us b h = as_name t (λ m. due (at_name m (in_let l ds st))) n a us h (λ m sp. (t, b, sp))
@@ -69,7 +70,7 @@ due_at (at_variable_end xs st) t n a us b h = names_at t.kind xs st n a us h
     (λ c. (b.0, b.1, b.2, names_comma xs b.0 t us b.3 c))
     (λ c. (b.0, t, us, b.1, b.2, c, b.3, refl))
 due_at (at_starts xs is st) t n a us b h = elim (split (is_vec t.kind) _ _ n h) [
-  | inl x ↦ to (want (in_vector t.line xs is st)) n a us x.1 (b.0, b.1, b.2, t, b.3, b.4, b.5, b.6, b.7, is_vec_kind t.kind x.0, refl)
+  | inl x ↦ to (want (in_vector (position_of t) xs is st)) n a us x.1 (b.0, b.1, b.2, t, b.3, b.4, b.5, b.6, b.7, is_vec_kind t.kind x.0, refl)
   | inr x ↦ operand_at t.kind (in_value xs is st) t n a us refl b x.1
 ]
 due_at (at_opening l s st) t n a us b h = if_at (opens t.kind) (due (at_items l s no_items st)) n a us h (λ c. (b.0, t, us, b.1, b.2, b.3, b.4, opens_kind t.kind c, refl))
@@ -84,7 +85,7 @@ due_at (at_forward l m st) t n a us b h = if_at (is_equal t.kind) (want (in_from
 due_at (at_default l st) t n a us b h = if_at (is_colon t.kind) (maybe (in_default l st)) n a us h (λ c. ((b.0, t, b.1, b.2, b.3, is_colon_kind t.kind c), tt))
 due_at _ t n a us b h = absurd cc
 
-without_at : (st : Stack) (t : Symbol) (n : State) (a us : List Symbol) → Before st a (t ∷ us) → May_miss st → begins_command t.kind ≡ false → without st t.line t.text t.kind ≡ Some n → Inv n a us
+without_at : (st : Stack) (t : Symbol) (n : State) (a us : List Symbol) → Before st a (t ∷ us) → May_miss st → begins_command t.kind ≡ false → without st (position_of t) t.text t.kind ≡ Some n → Inv n a us
 without_at (in_label l x st) t n a us b miss f h = finish_at st (label l x empty) t n a (b.0 ∷ b.1 ∷ t ∷ us) us b.2.0 b.2.1 tt (b.0, b.1, t ∷ us, refl, b.3, b.4, (refl, f), tt) h
 without_at (in_guarded g.Case l e st) t n a us b miss f h = finish_at st (case_of l e empty) t n a (b.0 ∷ b.1) us b.3.0 b.3.1 tt (b.0, b.1, b.2, t ∷ us, refl, b.4, b.5, b.6, b.7, (refl, f), tt) h
 without_at (in_guarded _ l e st) t n a us b miss f h = absurd miss

@@ -7,8 +7,8 @@ pub use Rattle.bk_lex.specs.Symbol.{Symbol}
 pub use Rattle.bk_lex.specs.Values.{upper_name, number_word, string_bytes, character_byte}
 pub use Rattle.bk_lex.specs.declared.token.Kind.{Kind}
 pub use Rattle.bk_tree.proofs.Lemmas.{eq_is}
-pub use Rattle.bk_tree.specs.Parts.{line_of, line_of_action, declarations_then, definitions_then, size, start_count, each_then, actions_then, items_then, starts_then, line_of_first, line_of_names}
-pub use Rattle.bk_tree.specs.Tree.{Mention, Expression, Expressions, Action, Actions, Declaration, Declarations, Items, Definition, name, number, text, truth, query, apply, none, more, empty, simple, block, repeat, no_actions, also, constants, definitions, no_declarations, declare, no_definitions, define, Definitions, Starts, no_items, item, no_starts, value, vector, parens, unary, binary, choice, valof, table, assign, call, goto, label, case_of, default, when, test, while, for_loop, switch, result, repeat_while, routine, function, variables}
+pub use Rattle.bk_tree.specs.Parts.{at_expression, at_command, declarations_then, definitions_then, size, start_count, each_then, commands_then, items_then, starts_then, at_expressions, at_names}
+pub use Rattle.bk_tree.specs.Tree.{Mention, Expression, Expressions, Command, Commands, Declaration, Declarations, Items, Definition, name, number, text, truth, query, apply, none, more, empty, simple, block, repeat, no_commands, also, constants, definitions, no_declarations, declare, no_definitions, define, Definitions, Starts, no_items, item, no_starts, value, vector, parens, unary, binary, choice, valof, table, assign, call, goto, label, case_of, default, when, test, while, for_loop, switch, result, repeat_while, routine, function, variables}
 pub use Rattle.bk_tree.specs.declared.tree.Operator.{Operator}
 pub use Rattle.bk_tree.specs.declared.tree.Prefix.{Prefix}
 pub use Rattle.bk_tree.specs.declared.tree.Simple.{Simple}

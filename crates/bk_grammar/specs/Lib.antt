@@ -1,4 +1,5 @@
 pub mod Spelling
+pub mod Placed
 pub mod Rows
 pub mod Brackets
 pub mod Grammar

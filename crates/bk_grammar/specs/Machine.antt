@@ -10,15 +10,16 @@ use Rattle.bk_tree.specs.declared.tree.Sort.{Sort}
 use Rattle.bk_tree.specs.declared.tree.Simple.{Simple}
 use Rattle.bk_grammar.specs.declared.symbols.Guard.{Guard}
 use Rattle.bk_grammar.specs.declared.symbols.Guard.TheVariants as g
-use Rattle.bk_tree.specs.Tree.{Mention, Expression, Expressions, Action, Actions, Declaration, Declarations, Items, Definition, Definitions, Starts, name, parens, unary, binary, choice, apply, valof, table, none, more, empty, assign, call, goto, label, case_of, default, when, test, while, for_loop, switch, result, simple, block, repeat, repeat_while, no_actions, also, constants, definitions, no_declarations, declare, no_items, item, routine, function, variables, no_definitions, define, no_starts, value, vector}
+use Rattle.bk_tree.specs.Tree.{Mention, Expression, Expressions, Command, Commands, Declaration, Declarations, Items, Definition, Definitions, Starts, name, parens, unary, binary, choice, apply, valof, table, none, more, empty, assign, call, goto, label, case_of, default, when, test, while, for_loop, switch, result, simple, block, repeat, repeat_while, no_commands, also, constants, definitions, no_declarations, declare, no_items, item, routine, function, variables, no_definitions, define, no_starts, value, vector}
 use Rattle.bk_lex.specs.Values.{upper_name}
 use Rattle.bk_grammar.specs.Rows.{inner, behind, is_relation, infix_of, prefix_of, leaf, simple_of, sort_of, guard_of, begins_command, repeats, assigns, is_and, is_comma, goes}
 use Rattle.bk_grammar.specs.Grammar.{last}
-use Rattle.bk_tree.specs.Parts.{line_of, line_of_first, line_of_names, line_of_action, size, start_count, actions_then, declarations_then, definitions_then, each_then, items_then, starts_then}
+use Rattle.bk_tree.specs.Parts.{at_expression, at_expressions, at_names, at_command, size, start_count, commands_then, declarations_then, definitions_then, each_then, items_then, starts_then}
+use Rattle.bk_grammar.specs.Placed.{position_of}
 
 pub data Stack : Type 0 where
   in_section : Declarations → Stack
-  in_block : ℕ → Bool → Declarations → Actions → Stack → Stack
+  in_block : ℕ → Bool → Declarations → Commands → Stack → Stack
   in_let : ℕ → Definitions → Stack → Stack
   at_name : Mention → Stack → Stack
   at_formals : Mention → Stack → Stack
@@ -49,7 +50,7 @@ pub data Stack : Type 0 where
   in_guard : Guard → ℕ → Stack → Stack
   in_test : ℕ → Stack → Stack
   in_result : ℕ → Stack → Stack
-  in_while : Bool → Action → Stack → Stack
+  in_while : Bool → Command → Stack → Stack
   in_from : ℕ → Mention → Stack → Stack
   in_to : ℕ → Mention → Expression → Stack → Stack
   in_by : ℕ → Mention → Expression → Expression → Stack → Stack
@@ -62,7 +63,7 @@ pub data Stack : Type 0 where
   in_guarded : Guard → ℕ → Expression → Stack → Stack
   in_default : ℕ → Stack → Stack
   in_do : ℕ → Expression → Stack → Stack
-  in_or : ℕ → Expression → Action → Stack → Stack
+  in_or : ℕ → Expression → Command → Stack → Stack
   in_for : ℕ → Mention → Expression → Expression → Expressions → Stack → Stack
   in_routine : Mention → List Mention → Stack → Stack
 
@@ -72,7 +73,7 @@ pub data State : Type 0 where
   have : Stack → Expression → State
   begin : Stack → State
   maybe : Stack → State
-  did : Stack → Action → State
+  did : Stack → Command → State
   due : Stack → State
 
 -- the rows that may be on top
@@ -167,11 +168,11 @@ if_is b x = cond b (Some x) None
 
 -- the name that a symbol is
 abbrev pub named : Kind → ℕ → List ℕ → (Mention → State) → Option State
-named k.Name l x f = Some (f (record { line = l; letters = upper_name x }))
+named k.Name l x f = Some (f (record { at = l; letters = upper_name x }))
 named _ l x f = None
 
 -- the command that a guard makes
-abbrev pub guarded : Guard → ℕ → Expression → Action → Action
+abbrev pub guarded : Guard → ℕ → Expression → Command → Command
 guarded g.If l e c = when l true e c
 guarded g.Unless l e c = when l false e c
 guarded g.While l e c = while l true e c
@@ -190,7 +191,7 @@ prefixed st l (Some p) = Some (want (in_unary l p st))
 
 -- no arguments
 abbrev pub no_args : Stack → Option State
-no_args (in_args s f none st) = Some (have st (apply (line_of f) s f none))
+no_args (in_args s f none st) = Some (have st (apply (at_expression f) s f none))
 no_args _ = None
 
 -- whether a comma is owed after this expression, so that no TABLE may end it
@@ -229,7 +230,7 @@ take_command st l x k.Test = Some (want (in_test l st))
 take_command st l x k.For = Some (due (at_for l st))
 take_command st l x k.ResultIs = Some (want (in_result l st))
 take_command st l x k.Default = Some (due (at_default l st))
-take_command st l x k.SectionOpen = Some (due (in_block l true no_declarations no_actions st))
+take_command st l x k.SectionOpen = Some (due (in_block l true no_declarations no_commands st))
 take_command st l x kind = take_start st l x kind (simple_of kind) (guard_of kind)
 
 abbrev pub sorted : Stack → ℕ → Option Sort → Option State → Option State
@@ -243,12 +244,12 @@ take_declaration st l kind other = cond (is_let kind) (Some (due (in_let l no_de
 abbrev pub take_in_section : Declarations → ℕ → Kind → Option State
 take_in_section ds l kind = cond (is_semicolon kind) (Some (due (in_section ds))) (take_declaration (in_section ds) l kind None)
 
-abbrev pub in_head : Actions → Bool
-in_head no_actions = true
+abbrev pub in_head : Commands → Bool
+in_head no_commands = true
 in_head (also c cs) = false
 
 -- a symbol in a block, where no command goes on
-abbrev pub take_in_block : ℕ → Bool → Declarations → Actions → Stack → ℕ → List ℕ → Kind → Option State
+abbrev pub take_in_block : ℕ → Bool → Declarations → Commands → Stack → ℕ → List ℕ → Kind → Option State
 take_in_block b free ds cs st l x kind =
     cond (is_semicolon kind) (Some (due (in_block b true ds cs st)))
     (cond (closes kind) (Some (did st (block b ds cs)))
@@ -276,7 +277,7 @@ defined_by (in_let m ds st) d l x kind =
 defined_by _ d l x kind = None
 
 -- a command of a block is complete
-abbrev pub in_commands : ℕ → Declarations → Actions → Stack → Kind → Option State
+abbrev pub in_commands : ℕ → Declarations → Commands → Stack → Kind → Option State
 in_commands b ds cs st kind = cond (is_semicolon kind) (Some (due (in_block b true ds cs st))) (cond (closes kind) (Some (did st (block b ds cs))) None)
 
 -- a value or an item of a LET is complete: it is the last, or a comma comes
@@ -284,8 +285,8 @@ abbrev pub counted : Bool → Option State → Kind → State → Option State
 counted complete whole kind next = cond complete whole (if_is (is_comma kind) next)
 
 -- the command goes on
-abbrev pub again : Stack → Action → Kind → Option State
-again st c k.Repeat = Some (did st (repeat (line_of_action c) c))
+abbrev pub again : Stack → Command → Kind → Option State
+again st c k.Repeat = Some (did st (repeat (at_command c) c))
 again st c k.RepeatWhile = Some (want (in_while true c st))
 again st c k.RepeatUntil = Some (want (in_while false c st))
 again st c _ = None
@@ -304,7 +305,7 @@ abbrev pub is_call : Expression → Bool
 is_call (apply l s f es) = true
 is_call _ = false
 
-abbrev pub call_of : Expression → Action
+abbrev pub call_of : Expression → Command
 call_of (apply l s f es) = call l f es
 call_of _ = empty
 
@@ -324,36 +325,36 @@ abbrev mutual
   pub give : Stack → Expression → ℕ → List ℕ → Kind → Option State
   give (in_parens m st) e l x t = cond (goes 12 t) (push (in_parens m st) e t l) (if_is (is_close t) (have st (parens m e)))
   give (in_unary m p st) e l x t = cond (goes (behind p) t) (push (in_unary m p st) e t l) (give st (unary m p e) l x t)
-  give (in_binary o s a st) e l x t = cond (goes (inner o) t) (push (in_binary o s a st) e t l) (give st (binary (line_of a) o s a e) l x t)
-  give (in_chain o s a b st) e l x t = cond (goes 5 t) (push (in_chain o s a b st) e t l) (give st (binary (line_of a) Both s a (binary (line_of b) o s b e)) l x t)
+  give (in_binary o s a st) e l x t = cond (goes (inner o) t) (push (in_binary o s a st) e t l) (give st (binary (at_expression a) o s a e) l x t)
+  give (in_chain o s a b st) e l x t = cond (goes 5 t) (push (in_chain o s a b st) e t l) (give st (binary (at_expression a) Both s a (binary (at_expression b) o s b e)) l x t)
   give (in_then s c st) e l x t = cond (goes 12 t) (push (in_then s c st) e t l) (if_is (is_comma t) (want (in_else s c e st)))
-  give (in_else s c a st) e l x t = cond (goes 12 t) (push (in_else s c a st) e t l) (give st (choice (line_of c) s c a e) l x t)
+  give (in_else s c a st) e l x t = cond (goes 12 t) (push (in_else s c a st) e t l) (give st (choice (at_expression c) s c a e) l x t)
   give (in_args s f es st) e l x t = cond (goes 12 t) (push (in_args s f es st) e t l)
-      (cond (is_comma t) (Some (want (in_args s f (each_then es (more e none)) st))) (if_is (is_close t) (have st (apply (line_of f) s f (each_then es (more e none))))))
+      (cond (is_comma t) (Some (want (in_args s f (each_then es (more e none)) st))) (if_is (is_close t) (have st (apply (at_expression f) s f (each_then es (more e none))))))
   give (in_table m es st) e l x t = cond (goes 12 t) (push (in_table m es st) e t l)
       (cond (is_comma t) (Some (want (in_table m (each_then es (more e none)) st))) (give st (table m (each_then es (more e none))) l x t))
   give (in_start st) e l x t = cond (goes 12 t) (push (in_start st) e t l)
       (cond (assigns t) (dests (more e none) st t) (cond (is_call e) (finish st (call_of e) l x t) (cond (is_colon t) (labelled e st) None)))
   give (in_dests xs st) e l x t = cond (goes 12 t) (push (in_dests xs st) e t l) (dests (each_then xs (more e none)) st t)
   give (in_values xs ys st) e l x t = cond (goes 12 t) (push (in_values xs ys st) e t l)
-      (counted (size xs == size ys + 1) (finish st (assign (line_of_first xs) xs (each_then ys (more e none))) l x t) t (want (in_values xs (each_then ys (more e none)) st)))
+      (counted (size xs == size ys + 1) (finish st (assign (at_expressions xs) xs (each_then ys (more e none))) l x t) t (want (in_values xs (each_then ys (more e none)) st)))
   give (in_guard gd m st) e l x t = cond (goes 12 t) (push (in_guard gd m st) e t l) (if_is (is_sign_of gd t) (behind_sign gd (in_guarded gd m e st)))
   give (in_test m st) e l x t = cond (goes 12 t) (push (in_test m st) e t l) (if_is (is_do t) (begin (in_do m e st)))
   give (in_result m st) e l x t = cond (goes 12 t) (push (in_result m st) e t l) (finish st (result m e) l x t)
-  give (in_while b c st) e l x t = cond (goes 12 t) (push (in_while b c st) e t l) (finish st (repeat_while (line_of_action c) b c e) l x t)
+  give (in_while b c st) e l x t = cond (goes 12 t) (push (in_while b c st) e t l) (finish st (repeat_while (at_command c) b c e) l x t)
   give (in_from m n st) e l x t = cond (goes 12 t) (push (in_from m n st) e t l) (if_is (is_to t) (want (in_to m n e st)))
   give (in_to m n a st) e l x t = cond (goes 12 t) (push (in_to m n a st) e t l) (to_or_do m n a e st t)
   give (in_by m n a b st) e l x t = cond (goes 12 t) (push (in_by m n a b st) e t l) (if_is (is_do t) (begin (in_for m n a b (more e none) st)))
-  give (in_item m s is n st) e l x t = cond (goes 12 t) (push (in_item m s is n st) e t l) (in_constants m s (items_then is (item n.line n.letters e no_items)) st t)
-  give (in_function n fs st) e l x t = cond (goes 12 t) (push (in_function n fs st) e t l) (defined_by st (function n.line n.letters fs e) l x t)
+  give (in_item m s is n st) e l x t = cond (goes 12 t) (push (in_item m s is n st) e t l) (in_constants m s (items_then is (item n.at n.letters e no_items)) st t)
+  give (in_function n fs st) e l x t = cond (goes 12 t) (push (in_function n fs st) e t l) (defined_by st (function n.at n.letters fs e) l x t)
   give (in_value ns is st) e l x t = cond (goes 12 t) (push (in_value ns is st) e t l)
-      (counted (length ns == start_count is + 1) (defined_by st (variables (line_of_names ns) ns (starts_then is (value e no_starts))) l x t) t (due (at_starts ns (starts_then is (value e no_starts)) st)))
+      (counted (length ns == start_count is + 1) (defined_by st (variables (at_names ns) ns (starts_then is (value e no_starts))) l x t) t (due (at_starts ns (starts_then is (value e no_starts)) st)))
   give (in_vector m ns is st) e l x t = cond (goes 12 t) (push (in_vector m ns is st) e t l)
-      (counted (length ns == start_count is + 1) (defined_by st (variables (line_of_names ns) ns (starts_then is (vector m e no_starts))) l x t) t (due (at_starts ns (starts_then is (vector m e no_starts)) st)))
+      (counted (length ns == start_count is + 1) (defined_by st (variables (at_names ns) ns (starts_then is (vector m e no_starts))) l x t) t (due (at_starts ns (starts_then is (vector m e no_starts)) st)))
   give st e l x t = cond (goes 12 t) (push st e t l) None
 
   -- a command is complete so far, and a symbol comes after it
-  pub finish : Stack → Action → ℕ → List ℕ → Kind → Option State
+  pub finish : Stack → Command → ℕ → List ℕ → Kind → Option State
   finish (in_valof m st) c l x t = cond (repeats t) (again (in_valof m st) c t) (give st (valof m c) l x t)
   finish (in_label m n st) c l x t = cond (repeats t) (again (in_label m n st) c t) (finish st (label m n c) l x t)
   finish (in_guarded gd m e st) c l x t = cond (repeats t) (again (in_guarded gd m e st) c t) (finish st (guarded gd m e c) l x t)
@@ -361,8 +362,8 @@ abbrev mutual
   finish (in_do m e st) c l x t = cond (repeats t) (again (in_do m e st) c t) (if_is (is_or t) (begin (in_or m e c st)))
   finish (in_or m e a st) c l x t = cond (repeats t) (again (in_or m e a st) c t) (finish st (test m e a c) l x t)
   finish (in_for m n a b h st) c l x t = cond (repeats t) (again (in_for m n a b h st) c t) (finish st (for_loop m n a b h c) l x t)
-  finish (in_routine n fs st) c l x t = cond (repeats t) (again (in_routine n fs st) c t) (defined_by st (routine n.line n.letters fs c) l x t)
-  finish (in_block b free ds cs st) c l x t = cond (repeats t) (again (in_block b free ds cs st) c t) (in_commands b ds (actions_then cs (also c no_actions)) st t)
+  finish (in_routine n fs st) c l x t = cond (repeats t) (again (in_routine n fs st) c t) (defined_by st (routine n.at n.letters fs c) l x t)
+  finish (in_block b free ds cs st) c l x t = cond (repeats t) (again (in_block b free ds cs st) c t) (in_commands b ds (commands_then cs (also c no_commands)) st t)
   finish st c l x t = cond (repeats t) (again st c t) None
 
 -- no command follows a colon, and this symbol comes
@@ -430,7 +431,7 @@ stepped_by (due st) l x t = take_due st l x t
 
 -- the next symbol
 abbrev pub step : State → Symbol → Option State
-step x t = stepped_by x t.line t.text t.kind
+step x t = stepped_by x (position_of t) t.text t.kind
 
 -- the end completes what a semicolon completes
 abbrev pub whole : Option State → Result Declarations (List Symbol)

@@ -123,14 +123,14 @@ prefix_of _ = None
 
 -- the operand that a symbol is by itself
 abbrev pub leaf : Kind → ℕ → List ℕ → Option Expression
-leaf k.Name line spelled = Some (name line (upper_name spelled))
-leaf k.Number line spelled = Some (number line (number_word spelled))
-leaf k.Text line spelled = Some (text line (string_bytes spelled))
-leaf k.Character line spelled = Some (number line (character_byte spelled))
-leaf k.True line spelled = Some (truth line true)
-leaf k.False line spelled = Some (truth line false)
-leaf k.Query line spelled = Some (query line)
-leaf _ line spelled = None
+leaf k.Name at spelled = Some (name at (upper_name spelled))
+leaf k.Number at spelled = Some (number at (number_word spelled))
+leaf k.Text at spelled = Some (text at (string_bytes spelled))
+leaf k.Character at spelled = Some (number at (character_byte spelled))
+leaf k.True at spelled = Some (truth at true)
+leaf k.False at spelled = Some (truth at false)
+leaf k.Query at spelled = Some (query at)
+leaf _ at spelled = None
 
 -- the command of one word that it is
 abbrev pub simple_of : Kind → Option Simple

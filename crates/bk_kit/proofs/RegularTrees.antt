@@ -1,8 +1,9 @@
 -- Trees of the grammar are regular: their numbers are words, an assignment and a LET have as many values as names, and a section's own
 -- LETs have no variables.
-use Rattle.bk_kit.proofs.Terms.{◌≡◌, ℕ, inl, inr, Bool, true, false, List, [], ◌∷◌, Some, None, cond, refl, subst, ◌∙◌, arith, Symbol, Mention, Expression, Expressions, Action, Actions, Declaration, Declarations, Items, Definition, Definitions, Starts, inner, left, behind, is_relation, start_count, IsSection, starts, Regular, RegularEach, RegularAction, RegularActions, RegularItems, RegularDeclaration, RegularDeclarations, RegularDefinition, RegularDefinitions, RegularStarts, DefineNoVariables, DeclareNoVariables, IsRegular}
+use Rattle.bk_kit.proofs.Terms.{◌≡◌, ℕ, inl, inr, Bool, true, false, List, [], ◌∷◌, Some, None, cond, refl, subst, ◌∙◌, arith, Symbol, Mention, Expression, Expressions, Command, Commands, Declaration, Declarations, Items, Definition, Definitions, Starts, inner, left, behind, is_relation, start_count, IsSection, starts, Regular, RegularEach, RegularCommand, RegularCommands, RegularItems, RegularDeclaration, RegularDeclarations, RegularDefinition, RegularDefinitions, RegularStarts, DefineNoVariables, DeclareNoVariables, IsRegular}
 use Rattle.bk_tree.specs.declared.tree.Operator.TheVariants as o
 use Rattle.bk_tree.specs.Tree as t
+use Rattle.bk_grammar.specs.Placed.{position_of}
 use Rattle.bk_grammar.specs.Grammar.{Names, Formals, Semis, last, Reads, Each, Does, Body, Parted, Heads, Declares, Listed, Defined, Defines, Started}
 use Rattle.bk_kit.proofs.SmallSymbols.{AreSmall, leaf_small, plain_small}
 
@@ -48,7 +49,7 @@ starts_counted (t.vector l e is) = let h = starts_counted is in omega (arith, h)
 mutual
   reads : (rows : ℕ) (e : Expression) (ts us : List Symbol) → AreSmall ts → Reads rows e ts us → Regular e × AreSmall us
   reads rows (t.name l x) ts us h j = (tt, (subst AreSmall j.1 h).1)
-  reads rows (t.number l n) ts us h j = let i = subst AreSmall j.1 h in (leaf_small j.0.kind j.0.line j.0.text l n i.0 j.2, i.1)
+  reads rows (t.number l n) ts us h j = let i = subst AreSmall j.1 h in (leaf_small j.0.kind (position_of j.0) j.0.text l n i.0 j.2, i.1)
   reads rows (t.text l x) ts us h j = (tt, (subst AreSmall j.1 h).1)
   reads rows (t.truth l x) ts us h j = (tt, (subst AreSmall j.1 h).1)
   reads rows (t.query l) ts us h j = (tt, (subst AreSmall j.1 h).1)
@@ -80,7 +81,7 @@ mutual
       let r = reads 12 e ts (j.0 ∷ j.1) h j.3 in let q = each (t.more f es) j.1 us r.1.1 j.4 in
       ((r.0, q.0), q.1)
 
-  does : (c : Action) (ts us : List Symbol) → AreSmall ts → Does c ts us → RegularAction c × AreSmall us
+  does : (c : Command) (ts us : List Symbol) → AreSmall ts → Does c ts us → RegularCommand c × AreSmall us
   does t.empty ts us h j = (tt, subst AreSmall j.0 h)
   does (t.assign l xs es) ts us h j =
       let r = each xs ts (j.0 ∷ j.1) h j.5 in let q = each es j.1 us r.1.1 j.6 in
@@ -126,14 +127,14 @@ mutual
       let r = does c ts (j.0 ∷ j.1) h j.5 in let q = reads 12 e j.1 us r.1.1 j.6 in
       ((r.0, q.0), q.1)
 
-  body : (cs : Actions) (ts us : List Symbol) → AreSmall ts → Body cs ts us → RegularActions cs × AreSmall us
-  body t.no_actions ts us h j = (tt, semis_left ts us h j)
+  body : (cs : Commands) (ts us : List Symbol) → AreSmall ts → Body cs ts us → RegularCommands cs × AreSmall us
+  body t.no_commands ts us h j = (tt, semis_left ts us h j)
   body (t.also c cs) ts us h j =
       let r = does c j.0 j.1 (semis_left ts j.0 h j.2) j.3 in let q = parted cs j.1 us r.1 j.5 in
       ((r.0, q.0), q.1)
 
-  parted : (cs : Actions) (ts us : List Symbol) → AreSmall ts → Parted cs ts us → RegularActions cs × AreSmall us
-  parted t.no_actions ts us h j = (tt, semis_left ts us h j)
+  parted : (cs : Commands) (ts us : List Symbol) → AreSmall ts → Parted cs ts us → RegularCommands cs × AreSmall us
+  parted t.no_commands ts us h j = (tt, semis_left ts us h j)
   parted (t.also c cs) ts us h j =
       let r = does c j.2 j.3 (semis_left j.1 j.2 (subst AreSmall j.4 h).1 j.6) j.7 in let q = parted cs j.3 us r.1 j.9 in
       ((r.0, q.0), q.1)

@@ -8,6 +8,9 @@ use Rattle.bk_syntax.specs.Parsing.{Parses, Gives}
 use Rattle.bk_scope.specs.Points.{first_told}
 use Rattle.bk_scope.specs.Faults.{faults}
 use Rattle.bk_scope.specs.FirstFault.{breach_of}
+use Rattle.bk_scope.specs.Wrong.{Breach}
+use Rattle.bk_tree.specs.declared.placed.PlacedFault.{PlacedFault}
+use Rattle.bk_tree.specs.Placed.{fault_on_line}
 use Rattle.bk_scope.specs.Resolution.{Resolves}
 
 module _ (symbols : List Symbol) (end : ℕ) (fault : SourceFault) where
@@ -18,16 +21,16 @@ module _ (symbols : List Symbol) (end : ℕ) (fault : SourceFault) where
 
   -- the section has a wrong name
   pub misnamed : (x : Section) → Parses (Ok x) symbols end → Within (declarations_of x) → ((tree : Declarations) → IsSection tree symbols → Gives (Ok x) tree)
-      → first_told (faults (declarations_of x)) ≡ Some (breach_of fault) → RefusesSymbols (Source fault) symbols end
-  misnamed x parses within only first = (
-    inr (inr record { tree = declarations_of x; section = parses; within = within; first = first }),
+      → (placed : PlacedFault) → first_told (faults (declarations_of x)) ≡ Some (breach_of placed) → fault ≡ fault_on_line placed → RefusesSymbols (Source fault) symbols end
+  misnamed x parses within only placed first line = (
+    inr (inr record { tree = declarations_of x; section = parses; within = within; placed = placed; first = first; line = line }),
     λ tree is.
         let same = only tree is.section in
         let none = ap (λ (t : Declarations). first_told (faults t)) same ∙ ap first_told is.faultless in
         absurd (differ (sym first ∙ none)),
   )
     where
-      differ : Some (breach_of fault) ≡ None → ⊥
+      differ : {b : Breach} → Some b ≡ None → ⊥
       differ is = cc
 
 -- what `parse` and `resolve` refuse
@@ -39,7 +42,7 @@ parse_refuses symbols end Device parses only = absurd parses
 
 pub resolve_refuses : (symbols : List Symbol) (end : ℕ) (x : Section) (refused : Refused SourceFault) → Parses (Ok x) symbols end → Within (declarations_of x)
     → ((tree : Declarations) → IsSection tree symbols → Gives (Ok x) tree) → Resolves (Err refused) (declarations_of x) → RefusesSymbols (source_refused refused) symbols end
-resolve_refuses symbols end x (Fault fault) parses within only resolves = misnamed symbols end fault x parses within only resolves
+resolve_refuses symbols end x (Fault fault) parses within only resolves = misnamed symbols end fault x parses within only resolves.0 resolves.1 resolves.2
 resolve_refuses symbols end x refusals.Memory parses within only resolves = tt
 resolve_refuses symbols end x Device parses within only resolves = absurd resolves
 

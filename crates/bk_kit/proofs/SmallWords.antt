@@ -1,5 +1,5 @@
 -- The words of a section's constants are words where its tree is regular.
-use Rattle.bk_kit.proofs.Terms.{◌≡◌, ℕ, zero, suc, ◌+◌, ◌<◌, ◌^◌, ◌==◌, nat_lt, Bool, true, false, List, [], ◌∷◌, ◌++◌, length, slice_get, Option, Some, None, cond, refl, subst, GLOBAL_NUMBER, VEC_NUMBER, FRAME_WORDS, Mention, Expression, Expressions, Action, Actions, Declaration, Declarations, Items, Definition, Definitions, Starts, line_of, size, Bound, Enclosing, Binding, bound_in, bind, has_address, constant_word, is_prefix_of_constants, is_infix_of_constants, divides_by_zero, labels_of, labels_of_each, with_formals, parenthesised, role_of_operand, role_of_operands, place_of_second, words_of_start, labels_in_scope, procedures_in_scope, place_behind_one_defined, scope_behind_one, place_behind_one, scope_behind, place_behind_all, Regular, RegularEach, RegularAction, RegularActions, RegularItems, RegularDeclaration, RegularDeclarations, RegularDefinition, RegularDefinitions, RegularStarts, Prefix, Prefix as q, Simple, Simple as w, Sort as sort, Bound as b}
+use Rattle.bk_kit.proofs.Terms.{◌≡◌, ℕ, zero, suc, ◌+◌, ◌<◌, ◌^◌, ◌==◌, nat_lt, Bool, true, false, List, [], ◌∷◌, ◌++◌, length, slice_get, Option, Some, None, cond, refl, subst, GLOBAL_NUMBER, VEC_NUMBER, FRAME_WORDS, Mention, Expression, Expressions, Command, Commands, Declaration, Declarations, Items, Definition, Definitions, Starts, at_expression, size, Bound, Enclosing, Binding, bound_in, bind, has_address, constant_word, is_prefix_of_constants, is_infix_of_constants, divides_by_zero, labels_of, labels_of_each, with_formals, parenthesised, role_of_operand, role_of_operands, place_of_second, words_of_start, labels_in_scope, procedures_in_scope, place_behind_one_defined, scope_behind_one, place_behind_one, scope_behind, place_behind_all, Regular, RegularEach, RegularCommand, RegularCommands, RegularItems, RegularDeclaration, RegularDeclarations, RegularDefinition, RegularDefinitions, RegularStarts, Prefix, Prefix as q, Simple, Simple as w, Sort as sort, Bound as b}
 use Rattle.bk_tree.specs.Tree as t
 use Rattle.bk_scope.specs.declared.role.Role.{Role}
 use Rattle.bk_scope.specs.declared.role.Role.TheVariants.{Value, Truth, Address, Destination}
@@ -118,7 +118,7 @@ one_of_small m n l x = record { all = tt }
 
 each_of_small : (m n : ℕ) (xs : List Mention) → Small (each_of m n xs)
 each_of_small m n [] = no_words
-each_of_small m n (x ∷ xs) = both (one_of_small m n x.line x.letters) (each_of_small m (n + 1) xs)
+each_of_small m n (x ∷ xs) = both (one_of_small m n x.at x.letters) (each_of_small m (n + 1) xs)
 
 meaning_small : (o : Option Bound) → Small (its_meaning o)
 meaning_small None = no_words
@@ -158,7 +158,7 @@ statics_small m bs k s (t.item l x e is) h r =
 globals_small : (m : ℕ) (bs : List Binding) (k : ℕ) (s : Spot) (is : Items) → Fit bs → RegularItems is → Small (global_items m bs k s is)
 globals_small m bs k s t.no_items h r = no_words
 globals_small m bs k s (t.item l x e is) h r =
-    both (both (both (one_of_small m s.place l x) (constant_told bs k (past 1 s) e h r.0)) (at_most_small GLOBAL_NUMBER (s.place + 1) (line_of e) global_out_of_range (constant_word bs e)))
+    both (both (both (one_of_small m s.place l x) (constant_told bs k (past 1 s) e h r.0)) (at_most_small GLOBAL_NUMBER (s.place + 1) (at_expression e) global_out_of_range (constant_word bs e)))
     (globals_small m bs k (behind_constant e (past 1 s)) is h r.1)
 
 pushed_small : (p : Enclosing) (d : ℕ) → Small (pushed p d)
@@ -196,13 +196,13 @@ mutual
   destinations_small : (bs : List Binding) (p : Enclosing) (s : Spot) (es : Expressions) → Fit bs → RegularEach es → Small (told_destinations bs p s es)
   destinations_small bs p s t.none h g = no_words
   destinations_small bs p s (t.more e es) h g =
-      both (both (unless_small (assigned bs e) (wrong_small s.place (line_of e) not_assignable)) (told_small (Destination false (line_of e)) bs p s e h g.0)) (destinations_small bs p (behind e s) es h g.1)
+      both (both (unless_small (assigned bs e) (wrong_small s.place (at_expression e) not_assignable)) (told_small (Destination false (at_expression e)) bs p s e h g.0)) (destinations_small bs p (behind e s) es h g.1)
 
-  done_small : (bs : List Binding) (p : Enclosing) (s : Spot) (c : Action) → Fit bs → RegularAction c → Small (told_done bs p s c)
+  done_small : (bs : List Binding) (p : Enclosing) (s : Spot) (c : Command) → Fit bs → RegularCommand c → Small (told_done bs p s c)
   done_small bs p s t.empty h g = no_words
   done_small bs p s (t.assign l xs es) h g = both (destinations_small bs (deeper 1 p) s xs h g.1) (each_small 0 bs p (behind_each xs s) es h g.2)
   done_small bs p s (t.call l e es) h g = both (told_small Value bs (deeper (size es + 2) p) s e h g.0) (each_small 1 bs (deeper 2 p) (behind e s) es h g.1)
-  done_small bs p s (t.goto l x) h g = gone_small p.procedure s.place x.line x.letters (bound_in bs x.letters)
+  done_small bs p s (t.goto l x) h g = gone_small p.procedure s.place x.at x.letters (bound_in bs x.letters)
   done_small bs p s (t.label l x c) h g = both (both (one_of_small p.labels s.place l x) (meaning_small (bound_in bs x))) (done_small bs p (past 1 s) c h g)
   done_small bs p s (t.case_of l e c) h g =
       both (both (chosen_small p.switch s.place l (constant_word bs e)) (constant_told bs p.procedure (past 1 s) e h g.0)) (done_small bs p (behind_constant e (past 1 s)) c h g.1)
@@ -220,19 +220,19 @@ mutual
   done_small bs p s (t.switch l e c) h g = both (told_small Value bs p s e h g.0) (done_small bs (switching (behind e s).number p) (numbered 1 (behind e s)) c h g.1)
   done_small bs p s (t.result l e) h g = both (unless_small p.in_valof (wrong_small s.place l no_result_or_return)) (told_small Value bs p (past 1 s) e h g)
   done_small bs p s (t.simple l x) h g = single_small p s.place l x
-  done_small bs p s (t.block l t.no_declarations cs) h g = actions_small bs p s cs h g.1
+  done_small bs p s (t.block l t.no_declarations cs) h g = commands_small bs p s cs h g.1
   done_small bs p s (t.block l (t.declare d ds) cs) h g =
       let u : Spot = behind_declared (t.declare d ds) s in
       both (declared_small bs p s (t.declare d ds) h g.0)
-      (actions_small (labels_in_scope p.procedure (u.number + 1) (labels_of_each cs) (scope_behind bs p s (t.declare d ds))) (labelled u.number (place_behind_all bs p s (t.declare d ds)))
+      (commands_small (labels_in_scope p.procedure (u.number + 1) (labels_of_each cs) (scope_behind bs p s (t.declare d ds))) (labelled u.number (place_behind_all bs p s (t.declare d ds)))
       (numbered (1 + length (labels_of_each cs)) u) cs
       (fit_labels p.procedure (u.number + 1) (labels_of_each cs) (scope_behind bs p s (t.declare d ds)) (fit_declared bs p s (t.declare d ds) h g.0)) g.1)
   done_small bs p s (t.repeat l c) h g = done_small bs (looping p) s c h g
   done_small bs p s (t.repeat_while l x c e) h g = both (done_small bs (looping p) s c h g.0) (told_small Truth bs p (behind_done c s) e h g.1)
 
-  actions_small : (bs : List Binding) (p : Enclosing) (s : Spot) (cs : Actions) → Fit bs → RegularActions cs → Small (told_done_each bs p s cs)
-  actions_small bs p s t.no_actions h g = no_words
-  actions_small bs p s (t.also c cs) h g = both (done_small bs p s c h g.0) (actions_small bs p (behind_done c s) cs h g.1)
+  commands_small : (bs : List Binding) (p : Enclosing) (s : Spot) (cs : Commands) → Fit bs → RegularCommands cs → Small (told_done_each bs p s cs)
+  commands_small bs p s t.no_commands h g = no_words
+  commands_small bs p s (t.also c cs) h g = both (done_small bs p s c h g.0) (commands_small bs p (behind_done c s) cs h g.1)
 
   declared_small : (bs : List Binding) (p : Enclosing) (s : Spot) (ds : Declarations) → Fit bs → RegularDeclarations ds → Small (told_declared bs p s ds)
   declared_small bs p s t.no_declarations h g = no_words
@@ -264,7 +264,7 @@ mutual
   started_small bs p s t.no_starts h g = no_words
   started_small bs p s (t.value e is) h g = both (told_small Value bs p s e h g.0) (started_small bs (deeper 1 p) (behind e s) is h g.1)
   started_small bs p s (t.vector l e is) h g =
-      both (both (both (constant_told bs p.procedure s e h g.0) (at_most_small VEC_NUMBER s.place (line_of e) vec_out_of_range (constant_word bs e))) (pushed_small p (words_of_start bs e + 1)))
+      both (both (both (constant_told bs p.procedure s e h g.0) (at_most_small VEC_NUMBER s.place (at_expression e) vec_out_of_range (constant_word bs e))) (pushed_small p (words_of_start bs e + 1)))
       (started_small bs (deeper (words_of_start bs e + 1) p) (behind_constant e s) is h g.1)
 
 each_word : (xs : List Point) (j v : ℕ) → SmallWords xs → slice_get (words_of xs) j ≡ Some v → v < 2 ^ 32

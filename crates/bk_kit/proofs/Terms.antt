@@ -50,10 +50,10 @@ pub use Rattle.bk_scope.specs.Scope.{Binding, bound_in, bind, bind_all, is_globa
 pub use Rattle.bk_scope.specs.Scoping.{labels_in_scope, procedure_in_scope, procedures_in_scope, variables_in_scope, manifests_in_scope, statics_in_scope, globals_in_scope, scope_behind_one, place_behind_one, scope_behind, place_behind_one_defined, place_behind_all}
 pub use Rattle.bk_scope.specs.declared.bound.Bound.{Bound}
 pub use Rattle.bk_scope.specs.declared.place.Enclosing.{Enclosing}
-pub use Rattle.bk_simulation.specs.Regular.{Regular, RegularItems, RegularDeclaration, RegularDeclarations, starts, RegularEach, RegularAction, RegularActions, RegularDefinition, RegularDefinitions, RegularStarts, DefineNoVariables, DeclareNoVariables, IsRegular}
-pub use Rattle.bk_tree.specs.Parts.{start_count, line_of, size}
+pub use Rattle.bk_simulation.specs.Regular.{Regular, RegularItems, RegularDeclaration, RegularDeclarations, starts, RegularEach, RegularCommand, RegularCommands, RegularDefinition, RegularDefinitions, RegularStarts, DefineNoVariables, DeclareNoVariables, IsRegular}
+pub use Rattle.bk_tree.specs.Parts.{start_count, at_expression, size}
 pub use Rattle.bk_tree.specs.Section.{declarations_of}
-pub use Rattle.bk_tree.specs.Tree.{Declarations, Mention, Expression, Declaration, Items, Definitions, Starts, Expressions, Action, Actions, Definition}
+pub use Rattle.bk_tree.specs.Tree.{Declarations, Mention, Expression, Declaration, Items, Definitions, Starts, Expressions, Command, Commands, Definition}
 pub use Rattle.bk_words.specs.TextEnd.{AtEnd}
 pub use Rattle.bk_words.specs.Words.{words_of}
 pub use Rattle.clap.proofs.WalkLemmas.{one_text-rows, first_value-rows}

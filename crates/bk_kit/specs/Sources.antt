@@ -8,6 +8,8 @@ use Rattle.bk_lex.specs.TextFault.{HasFault}
 use Rattle.bk_lex.specs.Telling.{Told}
 use Rattle.bk_tree.specs.Tree.{Declarations}
 use Rattle.bk_tree.specs.Limits.{Within}
+use Rattle.bk_tree.specs.declared.placed.PlacedFault.{PlacedFault}
+use Rattle.bk_tree.specs.Placed.{fault_on_line}
 use Rattle.bk_grammar.specs.SyntaxFault as syntax
 use Rattle.bk_syntax.specs.Parsing.{ToldAt, ToldAtEnd}
 use Rattle.bk_scope.specs.Points.{first_told}
@@ -42,12 +44,14 @@ stmts_of_tree tree = scheme (named_tree tree)
 abbrev pub codes_of_trees : List Declarations → List (List Stmt)
 codes_of_trees trees = map stmts_of_tree trees
 
--- The names of the section have this fault, which is their first.
+-- The names of the section have this fault, which is their first: at a symbol, and on its line.
 pub record Misnames (fault : SourceFault) (symbols : List Symbol) : Type 0 where
   pub tree : Declarations
   pub section : syntax.IsSection tree symbols
   pub within : Within tree
-  pub first : first_told (faults tree) ≡ Some (breach_of fault)
+  pub placed : PlacedFault
+  pub first : first_told (faults tree) ≡ Some (breach_of placed)
+  pub line : fault ≡ fault_on_line placed
 
 -- The first section of a text is refused for this fault: one of its tokens; or else, one of its syntax, at a symbol or at its
 -- end; or else, of its names.

@@ -181,7 +181,14 @@ fn report_at<E: ByteOut>(
 fn report_stop<E: ByteOut>(report: &Report, kind: &str, file: &str, err: &mut E)
     ensures { ReportsText (output E.ByteOut err.old) (output E.ByteOut err.new) }
 {
-    report_at(report.line, kind, &report.what, &report.calls, file, err)
+    report_at(
+        report.at.line(),
+        kind,
+        &report.what,
+        &report.calls,
+        file,
+        err,
+    )
 }
 
 /// Writes what is suspicious in the source, a line for each thing.
@@ -191,7 +198,7 @@ fn report_remarks<E: ByteOut>(remarks: &[Remark], file: &str, err: &mut E)
     match remarks.split_first() {
         None => {}
         Some((first, rest)) => {
-            report_at(first.line, "suspicious: ", &first.text, &[], file, err);
+            report_at(first.at.line(), "suspicious: ", &first.text, &[], file, err);
             report_remarks(rest, file, err)
         }
     }

@@ -1,6 +1,6 @@
 -- Names that are bound one after another: what is left of them, one further.
-use Rattle.bk_lasting.proofs.Terms.{◌≡◌, ℕ, ◌+◌, ◌<◌, List, [], ◌∷◌, ◌++◌, length, get_or, drop, refl, sym, ap, ◌∙◌, at_drop_more, append-nil, Decl, Action, Definition, Definitions, routine, function, variables, no_definitions, define, action, actions_in, declaration, declarations_in, definition, definitions_in, labels_of, labels_of_each, Environment, Sense, label, bind, bind_each, bind_procedure, bind_procedures, past_definition, variables_hidden, all_declared, declared, in_scope}
-use Rattle.bk_tree.specs.declared.tree.Command.{Command}
+use Rattle.bk_lasting.proofs.Terms.{◌≡◌, ℕ, ◌+◌, ◌<◌, List, [], ◌∷◌, ◌++◌, length, get_or, drop, refl, sym, ap, ◌∙◌, at_drop_more, append-nil, Decl, Command, Definition, Definitions, routine, function, variables, no_definitions, define, command_in, commands_in, declaration, declarations_in, definition, definitions_in, labels_of, labels_of_each, Environment, Sense, label, bind, bind_each, bind_procedure, bind_procedures, past_definition, variables_hidden, all_declared, declared, in_scope}
+use Rattle.bk_tree.specs.declared.tree.Command.{Command as CommandNode}
 use Rattle.bk_tree.specs.declared.tree.Def.{Def}
 
 -- what depends on the rest of a list, by the first of the rest
@@ -12,13 +12,13 @@ pub bind_stretches : (xs ys : List (List ℕ)) (m : Sense) (env : Environment) �
 bind_stretches [] ys m env = refl
 bind_stretches (x ∷ xs) ys m env = bind_stretches xs ys m (bind x m env)
 
-pub labels_next : (xs : List Command) (i : ℕ) (x : Command) (env : Environment) → i < length xs → x ≡ get_or xs i x
-    → bind_each (labels_of_each (actions_in (drop (i + 1) xs))) label (bind_each (labels_of (action x)) label env) ≡ bind_each (labels_of_each (actions_in (drop i xs))) label env
+pub labels_next : (xs : List CommandNode) (i : ℕ) (x : CommandNode) (env : Environment) → i < length xs → x ≡ get_or xs i x
+    → bind_each (labels_of_each (commands_in (drop (i + 1) xs))) label (bind_each (labels_of (command_in x)) label env) ≡ bind_each (labels_of_each (commands_in (drop i xs))) label env
 labels_next xs i x env lt is =
-    sym (bind_stretches (labels_of (action x)) (labels_of_each (actions_in (drop (i + 1) xs))) label env)
-    ∙ one_further (λ zs. bind_each (labels_of_each (actions_in zs)) label env) xs i x lt is
+    sym (bind_stretches (labels_of (command_in x)) (labels_of_each (commands_in (drop (i + 1) xs))) label env)
+    ∙ one_further (λ zs. bind_each (labels_of_each (commands_in zs)) label env) xs i x lt is
 
-pub labels_in_scope : (c : Action) (env : Environment) → bind_each (labels_of c) label env ≡ in_scope c env
+pub labels_in_scope : (c : Command) (env : Environment) → bind_each (labels_of c) label env ≡ in_scope c env
 labels_in_scope c env = ap (λ xs. bind_each xs label env) (sym (append-nil (labels_of c)))
 
 pub procedures_next : (xs : List Def) (i : ℕ) (x : Def) (env : Environment) → i < length xs → x ≡ get_or xs i x

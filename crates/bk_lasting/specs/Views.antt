@@ -2,7 +2,7 @@
 use Rattle.std.specs.Prelude.{Option, Some, None, List, [], ◌∷◌, map, Vec}
 use Rattle.std.specs.Global.{Global}
 use Rattle.std.specs.declared.rc.Rc.{Rc}
-use Rattle.bk_tree.specs.Tree.{mention, expression, action}
+use Rattle.bk_tree.specs.Tree.{mention, expression, command_in}
 use Rattle.bk_meaning.specs.Environment as n
 use Rattle.bk_meaning.specs.Environment.{Environment, Named, letters}
 use Rattle.bk_meaning.specs.Lasting as m
@@ -39,7 +39,7 @@ abbrev pub env_in : Env → Environment
 env_in e = record { names = names_in e.names; next = e.next }
 
 abbrev pub body_in : Body → m.Body
-body_in (b.Command c) = m.command (action c.now)
+body_in (b.Command c) = m.command (command_in c.now)
 body_in (b.Value e) = m.expression (expression e.now)
 
 abbrev pub procedure_in : Procedure → m.Procedure

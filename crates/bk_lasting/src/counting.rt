@@ -1,7 +1,7 @@
 //! How many objects that last for the whole run the parts of a tree have.
 ghost use Rattle.std.specs.Prelude.{◌≡◌, ℕ, ◌+◌, IfOk};
-ghost use Rattle.bk_tree.specs.Tree.{expression, expressions_in, action, actions_in, declaration, declarations_in, items_in, constants, definition, definitions_in, starts_in};
-ghost use Rattle.bk_meaning.specs.Environment.{objects, objects_of_each, objects_of_action, objects_of_actions, objects_of_declaration, objects_of_declarations, objects_of_definition, objects_of_definitions, objects_of_starts};
+ghost use Rattle.bk_tree.specs.Tree.{expression, expressions_in, command_in, commands_in, declaration, declarations_in, items_in, constants, definition, definitions_in, starts_in};
+ghost use Rattle.bk_meaning.specs.Environment.{objects, objects_of_each, objects_of_command, objects_of_commands, objects_of_declaration, objects_of_declarations, objects_of_definition, objects_of_definitions, objects_of_starts};
 
 use bk_tree::{Command, ConstItem, Decl, Def, Expr, Init, Sort};
 use std::alloc::AllocError;
@@ -19,17 +19,26 @@ pub fn count(expr: &Expr) -> Result<u64, AllocError>
     ensures { IfOk result (λ n. n ≡ objects (expression expr.now)) }
 {
     match expr {
-        Expr::Text(_, _) | Expr::Table(_, _) => Ok(1),
-        Expr::Parens(_, inside) => count(inside),
-        Expr::Unary(_, _, operand) => count(operand),
-        Expr::Binary(_, _, _, left, right) => add(count(left)?, count(right)?),
-        Expr::Choice(_, _, condition, yes, no) => {
+        Expr::Text { .. } | Expr::Table { .. } => Ok(1),
+        Expr::Parens { inside, .. } => count(inside),
+        Expr::Unary { operand, .. } => count(operand),
+        Expr::Binary { left, right, .. } => add(count(left)?, count(right)?),
+        Expr::Choice {
+            condition,
+            yes,
+            no,
+            ..
+        } => {
             let first = add(count(condition)?, count(yes)?)?;
             add(first, count(no)?)
         }
-        Expr::Apply(_, _, callee, arguments) => add(count(callee)?, count_each(arguments)?),
-        Expr::Valof(_, command) => count_command(command),
-        Expr::Name(_, _) | Expr::Number(_, _) | Expr::Truth(_, _) | Expr::Query(_) => Ok(0),
+        Expr::Apply {
+            callee,
+            arguments,
+            ..
+        } => add(count(callee)?, count_each(arguments)?),
+        Expr::Valof { command, .. } => count_command(command),
+        Expr::Name { .. } | Expr::Number { .. } | Expr::Truth { .. } | Expr::Query { .. } => Ok(0),
     }
 }
 
@@ -48,37 +57,66 @@ pub fn count_each(exprs: &[Expr]) -> Result<u64, AllocError>
 /// How many a command has.
 #[cycle(count)]
 pub fn count_command(command: &Command) -> Result<u64, AllocError>
-    ensures { IfOk result (λ n. n ≡ objects_of_action (action command.now)) }
+    ensures { IfOk result (λ n. n ≡ objects_of_command (command_in command.now)) }
 {
     match command {
-        Command::Assign(_, dests, values) => add(count_each(dests)?, count_each(values)?),
-        Command::Call(_, callee, arguments) => add(count(callee)?, count_each(arguments)?),
-        Command::Label(_, _, body)
-        | Command::Case(_, _, body)
-        | Command::Default(_, body)
-        | Command::Repeat(_, body) => count_command(body),
-        Command::If(_, _, value, body)
-        | Command::While(_, _, value, body)
-        | Command::SwitchOn(_, value, body) => add(count(value)?, count_command(body)?),
-        Command::Test(_, value, yes, no) => {
+        Command::Assign {
+            destinations: dests,
+            values,
+            ..
+        } => add(count_each(dests)?, count_each(values)?),
+        Command::Call {
+            callee,
+            arguments,
+            ..
+        } => add(count(callee)?, count_each(arguments)?),
+        Command::Label { body, .. }
+        | Command::Case { body, .. }
+        | Command::Default { body, .. }
+        | Command::Repeat { body, .. } => count_command(body),
+        Command::If {
+            condition: value,
+            body,
+            ..
+        }
+        | Command::While {
+            condition: value,
+            body,
+            ..
+        }
+        | Command::SwitchOn { value, body, .. } => add(count(value)?, count_command(body)?),
+        Command::Test {
+            condition: value,
+            yes,
+            no,
+            ..
+        } => {
             let first = add(count(value)?, count_command(yes)?)?;
             add(first, count_command(no)?)
         }
-        Command::For(_, _, from, to, _, body) => {
+        Command::For { from, to, body, .. } => {
             let first = add(count(from)?, count(to)?)?;
             add(first, count_command(body)?)
         }
-        Command::ResultIs(_, value) => count(value),
-        Command::Block(_, decls, commands) => add(count_decls(decls)?, count_commands(commands)?),
-        Command::RepeatWhile(_, _, body, value) => add(count_command(body)?, count(value)?),
-        Command::Empty | Command::Goto(_, _) | Command::Simple(_, _) => Ok(0),
+        Command::ResultIs { value, .. } => count(value),
+        Command::Block {
+            decls,
+            commands,
+            ..
+        } => add(count_decls(decls)?, count_commands(commands)?),
+        Command::RepeatWhile {
+            body,
+            condition: value,
+            ..
+        } => add(count_command(body)?, count(value)?),
+        Command::Empty | Command::Goto { .. } | Command::Simple { .. } => Ok(0),
     }
 }
 
 /// How many some commands have.
 #[cycle(count)]
 pub fn count_commands(commands: &[Command]) -> Result<u64, AllocError>
-    ensures { IfOk result (λ n. n ≡ objects_of_actions (actions_in commands.now)) }
+    ensures { IfOk result (λ n. n ≡ objects_of_commands (commands_in commands.now)) }
 {
     let mut total = 0;
     for command in commands {
@@ -93,8 +131,8 @@ pub fn count_decl(decl: &Decl) -> Result<u64, AllocError>
     ensures { IfOk result (λ n. n ≡ objects_of_declaration (declaration decl.now)) }
 {
     match decl {
-        Decl::Constants(_, sort, items) => Ok(count_items(*sort, items)),
-        Decl::Let(_, defs) => count_defs(defs),
+        Decl::Constants { sort, items, .. } => Ok(count_items(*sort, items)),
+        Decl::Let { defs, .. } => count_defs(defs),
     }
 }
 
@@ -116,9 +154,9 @@ pub fn count_def(def: &Def) -> Result<u64, AllocError>
     ensures { IfOk result (λ n. n ≡ objects_of_definition (definition def.now)) }
 {
     match def {
-        Def::Routine(_, _, _, body) => add(1, count_command(body)?),
-        Def::Function(_, _, _, body) => add(1, count(body)?),
-        Def::Variables(_, _, starts) => count_starts(starts),
+        Def::Routine { body, .. } => add(1, count_command(body)?),
+        Def::Function { body, .. } => add(1, count(body)?),
+        Def::Variables { inits: starts, .. } => count_starts(starts),
     }
 }
 

@@ -1,9 +1,9 @@
 //! What names mean in the parts of a program, as far as it is known before the run.
 ghost use Rattle.std.specs.Prelude.{◌≡◌, IfOk, Option, map};
 ghost use Rattle.std.specs.Option.{option_map};
-ghost use Rattle.bk_tree.specs.Tree.{expression, expressions_in, action, actions_in, declaration, declarations_in, items_in, definition, definitions_in, no_definitions, define, mention};
+ghost use Rattle.bk_tree.specs.Tree.{expression, expressions_in, command_in, commands_in, declaration, declarations_in, items_in, definition, definitions_in, no_definitions, define, mention};
 ghost use Rattle.bk_scope.specs.Entering.{labels_of};
-ghost use Rattle.bk_meaning.specs.Environment.{label, foreign, sense_of, bind_each, past, past_each, past_action, past_definition, word_named, constant_in, labelled, global_named, bind_procedure_as, bind_procedure, bind_procedures, within_let, sense_of_constant, sense_of_global, manifests, statics, globals, constants_declared, letters};
+ghost use Rattle.bk_meaning.specs.Environment.{label, foreign, sense_of, bind_each, past, past_each, past_command, past_definition, word_named, constant_in, labelled, global_named, bind_procedure_as, bind_procedure, bind_procedures, within_let, sense_of_constant, sense_of_global, manifests, statics, globals, constants_declared, letters};
 ghost use Rattle.bk_meaning.specs.Lasting.{variables_hidden, declared, all_declared, in_scope, in_for, inside};
 ghost use Rattle.bk_lasting.specs.Views.{env_in, sense_in};
 
@@ -29,20 +29,27 @@ pub fn constant(env: &Env, expr: &Expr) -> Option<u32>
     ensures { result ≡ constant_in (env_in env.now) (expression expr.now) }
 {
     match expr {
-        Expr::Name(_, letters) => word_named(env.sense(letters)),
-        Expr::Number(_, word) => Some(*word),
-        Expr::Truth(_, truth) => Some(word::truth_of(*truth)),
-        Expr::Parens(_, inside) => constant(env, inside),
-        Expr::Unary(_, prefix, operand) => prefixed(*prefix, constant(env, operand)),
-        Expr::Binary(_, operator, _, left, right) => {
-            infixed(*operator, constant(env, left), constant(env, right))
-        }
-        Expr::Text(_, _)
-        | Expr::Query(_)
-        | Expr::Choice(_, _, _, _, _)
-        | Expr::Apply(_, _, _, _)
-        | Expr::Valof(_, _)
-        | Expr::Table(_, _) => None,
+        Expr::Name { letters, .. } => word_named(env.sense(letters)),
+        Expr::Number { word, .. } => Some(*word),
+        Expr::Truth { truth, .. } => Some(word::truth_of(*truth)),
+        Expr::Parens { inside, .. } => constant(env, inside),
+        Expr::Unary {
+            prefix,
+            operand,
+            ..
+        } => prefixed(*prefix, constant(env, operand)),
+        Expr::Binary {
+            operator,
+            left,
+            right,
+            ..
+        } => { infixed(*operator, constant(env, left), constant(env, right)) }
+        Expr::Text { .. }
+        | Expr::Query { .. }
+        | Expr::Choice { .. }
+        | Expr::Apply { .. }
+        | Expr::Valof { .. }
+        | Expr::Table { .. } => None,
     }
 }
 
@@ -50,25 +57,29 @@ pub fn constant(env: &Env, expr: &Expr) -> Option<u32>
 #[cycle(labels)]
 #[tactic(auto, using(crate::proofs::Bound::bind_stretches))]
 fn bind_labels<'a>(alloc: Global, command: &'a Command, env: Env<'a>) -> Result<Env<'a>, AllocError>
-    ensures { IfOk result (λ after. env_in after ≡ bind_each (labels_of (action command.now)) label (env_in env.entry)) }
+    ensures { IfOk result (λ after. env_in after ≡ bind_each (labels_of (command_in command.now)) label (env_in env.entry)) }
 {
     match command {
-        Command::Label(_, letters, body) => {
+        Command::Label { letters, body, .. } => {
             let env = env.bind(alloc, letters, Sense::Label)?;
             bind_labels(alloc, body, env)
         }
-        Command::Case(_, _, body)
-        | Command::Default(_, body)
-        | Command::If(_, _, _, body)
-        | Command::While(_, _, _, body)
-        | Command::SwitchOn(_, _, body)
-        | Command::Repeat(_, body)
-        | Command::RepeatWhile(_, _, body, _) => bind_labels(alloc, body, env),
-        Command::Test(_, _, yes, no) => {
+        Command::Case { body, .. }
+        | Command::Default { body, .. }
+        | Command::If { body, .. }
+        | Command::While { body, .. }
+        | Command::SwitchOn { body, .. }
+        | Command::Repeat { body, .. }
+        | Command::RepeatWhile { body, .. } => bind_labels(alloc, body, env),
+        Command::Test { yes, no, .. } => {
             let env = bind_labels(alloc, yes, env)?;
             bind_labels(alloc, no, env)
         }
-        Command::Block(_, decls, commands) => {
+        Command::Block {
+            decls,
+            commands,
+            ..
+        } => {
             if decls.is_empty() {
                 labelled(alloc, commands, env)
             } else {
@@ -76,12 +87,12 @@ fn bind_labels<'a>(alloc: Global, command: &'a Command, env: Env<'a>) -> Result<
             }
         }
         Command::Empty
-        | Command::Assign(_, _, _)
-        | Command::Call(_, _, _)
-        | Command::Goto(_, _)
-        | Command::For(_, _, _, _, _, _)
-        | Command::ResultIs(_, _)
-        | Command::Simple(_, _) => Ok(env),
+        | Command::Assign { .. }
+        | Command::Call { .. }
+        | Command::Goto { .. }
+        | Command::For { .. }
+        | Command::ResultIs { .. }
+        | Command::Simple { .. } => Ok(env),
     }
 }
 
@@ -93,7 +104,7 @@ pub fn labelled<'a>(
     commands: &'a [Command],
     env: Env<'a>,
 ) -> Result<Env<'a>, AllocError>
-    ensures { IfOk result (λ after. env_in after ≡ labelled (actions_in commands.now) (env_in env.entry)) }
+    ensures { IfOk result (λ after. env_in after ≡ labelled (commands_in commands.now) (env_in env.entry)) }
 {
     let mut env = env;
     for command in commands {
@@ -109,7 +120,7 @@ pub fn in_scope<'a>(
     command: &'a Command,
     env: Env<'a>,
 ) -> Result<Env<'a>, AllocError>
-    ensures { IfOk result (λ after. env_in after ≡ in_scope (action command.now) (env_in env.entry)) }
+    ensures { IfOk result (λ after. env_in after ≡ in_scope (command_in command.now) (env_in env.entry)) }
 {
     bind_labels(alloc, command, env)
 }
@@ -148,10 +159,10 @@ fn bind_procedure<'a>(alloc: Global, def: &'a Def, env: Env<'a>) -> Result<Env<'
     ensures { IfOk result (λ after. env_in after ≡ bind_procedure (definition def.now) (env_in env.entry)) }
 {
     match def {
-        Def::Routine(_, name, _, _) | Def::Function(_, name, _, _) => {
+        Def::Routine { letters: name, .. } | Def::Function { letters: name, .. } => {
             bind_procedure_as(alloc, name, env)
         }
-        Def::Variables(_, _, _) => Ok(env),
+        Def::Variables { .. } => Ok(env),
     }
 }
 
@@ -202,7 +213,11 @@ fn manifests<'a>(alloc: Global, items: &'a [ConstItem], env: Env<'a>) -> Result<
     ensures { IfOk result (λ after. env_in after ≡ manifests (items_in items.now) (env_in env.entry)) }
 {
     let mut env = env;
-    for ConstItem::Item(_, name, expr) in items {
+    for ConstItem::Item {
+        letters: name,
+        expr,
+        ..
+    } in items {
         let sense = sense_of_constant(constant(&env, expr));
         env = env.bind(alloc, name, sense)?;
     }
@@ -214,7 +229,7 @@ fn statics<'a>(alloc: Global, items: &'a [ConstItem], env: Env<'a>) -> Result<En
     ensures { IfOk result (λ after. env_in after ≡ statics (items_in items.now) (env_in env.entry)) }
 {
     let mut env = env;
-    for ConstItem::Item(_, name, _) in items {
+    for ConstItem::Item { letters: name, .. } in items {
         let here = env.next;
         env = env.bind(alloc, name, Sense::Cell(here, 0))?.behind(1)?;
     }
@@ -227,7 +242,11 @@ fn globals<'a>(alloc: Global, items: &'a [ConstItem], env: Env<'a>) -> Result<En
 {
     let outer = env.again()?;
     let mut env = env;
-    for ConstItem::Item(_, name, expr) in items {
+    for ConstItem::Item {
+        letters: name,
+        expr,
+        ..
+    } in items {
         let sense = sense_of_global(constant(&outer, expr));
         env = env.bind(alloc, name, sense)?;
     }
@@ -266,8 +285,8 @@ fn hide_variables<'a>(alloc: Global, def: &'a Def, env: Env<'a>) -> Result<Env<'
     ensures { IfOk result (λ after. env_in after ≡ variables_hidden (define (definition def.now) no_definitions) (env_in env.entry)) }
 {
     match def {
-        Def::Variables(_, names, _) => hide(alloc, names, env),
-        Def::Routine(_, _, _, _) | Def::Function(_, _, _, _) => Ok(env),
+        Def::Variables { names, .. } => hide(alloc, names, env),
+        Def::Routine { .. } | Def::Function { .. } => Ok(env),
     }
 }
 
@@ -292,8 +311,8 @@ pub fn declared<'a>(alloc: Global, decl: &'a Decl, env: Env<'a>) -> Result<Env<'
     ensures { IfOk result (λ after. env_in after ≡ declared (declaration decl.now) (env_in env.entry)) }
 {
     match decl {
-        Decl::Constants(_, sort, items) => constants(alloc, *sort, items, env),
-        Decl::Let(_, defs) => {
+        Decl::Constants { sort, items, .. } => constants(alloc, *sort, items, env),
+        Decl::Let { defs, .. } => {
             let more = count_defs(defs)?;
             let inside = within_let(alloc, defs, env)?.behind(more)?;
             hide_all_variables(alloc, defs, inside)
@@ -335,7 +354,7 @@ pub fn past_each<'a>(env: &Env<'a>, exprs: &[Expr]) -> Result<Env<'a>, AllocErro
 
 /// What names mean after a command.
 pub fn past_command<'a>(env: &Env<'a>, command: &Command) -> Result<Env<'a>, AllocError>
-    ensures { IfOk result (λ after. env_in after ≡ past_action (action command.now) (env_in env.now)) }
+    ensures { IfOk result (λ after. env_in after ≡ past_command (command_in command.now) (env_in env.now)) }
 {
     let more = count_command(command)?;
     env.again()?.behind(more)
@@ -356,7 +375,7 @@ pub fn in_for<'a>(
     body: &'a Command,
     env: Env<'a>,
 ) -> Result<Env<'a>, AllocError>
-    ensures { IfOk result (λ inside. env_in inside ≡ in_for (mention name.now) (action body.now) (env_in env.entry)) }
+    ensures { IfOk result (λ inside. env_in inside ≡ in_for (mention name.now) (command_in body.now) (env_in env.entry)) }
 {
     let env = env.bind(alloc, &name.letters, Sense::Foreign)?;
     in_scope(alloc, body, env)
@@ -377,7 +396,7 @@ pub fn in_block<'a>(
     commands: &'a [Command],
     env: &Env<'a>,
 ) -> Result<Env<'a>, AllocError>
-    ensures { IfOk result (λ inside. env_in inside ≡ labelled (actions_in commands.now) (all_declared (declarations_in decls.now) (env_in env.now))) }
+    ensures { IfOk result (λ inside. env_in inside ≡ labelled (commands_in commands.now) (all_declared (declarations_in decls.now) (env_in env.now))) }
 {
     let env = all_declared(alloc, decls, env.again()?)?;
     labelled(alloc, commands, env)

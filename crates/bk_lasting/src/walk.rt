@@ -1,7 +1,7 @@
 //! Going through a program: what its parts have that lasts is listed, in the order of the source.
 ghost use Rattle.std.specs.Prelude.{◌≡◌, [], ◌∷◌, ◌++◌, map, IfOk, OnOk};
-ghost use Rattle.bk_tree.specs.Tree.{expression, expressions_in, action, actions_in, declaration, declarations_in, items_in, definition, definitions_in, starts_in, mention};
-ghost use Rattle.bk_meaning.specs.Lasting.{words, constant_words, static_words, of_items, procedure_here, of_expression, of_each, of_action, of_actions, of_declaration, of_declarations, of_definition, of_definitions, of_starts};
+ghost use Rattle.bk_tree.specs.Tree.{expression, expressions_in, command_in, commands_in, declaration, declarations_in, items_in, definition, definitions_in, starts_in, mention};
+ghost use Rattle.bk_meaning.specs.Lasting.{words, constant_words, static_words, of_items, procedure_here, of_expression, of_each, of_command, of_commands, of_declaration, of_declarations, of_definition, of_definitions, of_starts};
 ghost use Rattle.bk_lasting.specs.Views.{env_in, body_in, lasting_in, listed};
 
 use crate::env::Env;
@@ -68,7 +68,7 @@ fn list_statics(
 ) -> Result<(), AllocError>
     ensures { OnOk result (listed list.new ≡ listed list.old ++ static_words (env_in env.now) (items_in items.now)) }
 {
-    for ConstItem::Item(_, _, expr) in items {
+    for ConstItem::Item { expr, .. } in items {
         let word = constant(env, expr).unwrap_or(0);
         list_one(list, one_word(alloc, word)?)?;
     }
@@ -102,36 +102,47 @@ fn list_expr<'a>(
     ensures { OnOk result (listed list.new ≡ listed list.old ++ of_expression (env_in env.now) (expression expr.now)) }
 {
     match expr {
-        Expr::Text(_, bytes) => list_one(list, Lasting::Words(text_words(alloc, bytes)?)),
-        Expr::Table(_, exprs) => {
+        Expr::Text { bytes, .. } => list_one(list, Lasting::Words(text_words(alloc, bytes)?)),
+        Expr::Table { items: exprs, .. } => {
             let words = constant_words(alloc, env, exprs)?;
             list_one(list, Lasting::Words(words))
         }
-        Expr::Parens(_, operand) | Expr::Unary(_, _, operand) => {
-            list_expr(list, alloc, env, operand)
+        Expr::Parens {
+            inside: operand,
+            ..
         }
-        Expr::Binary(_, _, _, left, right) => {
+        | Expr::Unary { operand, .. } => { list_expr(list, alloc, env, operand) }
+        Expr::Binary { left, right, .. } => {
             list_expr(list, alloc, env, left)?;
             let next = past(env, left)?;
             list_expr(list, alloc, &next, right)
         }
-        Expr::Choice(_, _, condition, yes, no) => {
+        Expr::Choice {
+            condition,
+            yes,
+            no,
+            ..
+        } => {
             list_expr(list, alloc, env, condition)?;
             let next = past(env, condition)?;
             list_expr(list, alloc, &next, yes)?;
             let last = past(&next, yes)?;
             list_expr(list, alloc, &last, no)
         }
-        Expr::Apply(_, _, callee, arguments) => {
+        Expr::Apply {
+            callee,
+            arguments,
+            ..
+        } => {
             list_expr(list, alloc, env, callee)?;
             let next = past(env, callee)?;
             list_each(list, alloc, &next, arguments)
         }
-        Expr::Valof(_, command) => {
+        Expr::Valof { command, .. } => {
             let scope = in_scope(alloc, command, env.again()?)?;
             list_command(list, alloc, &scope, command)
         }
-        Expr::Name(_, _) | Expr::Number(_, _) | Expr::Truth(_, _) | Expr::Query(_) => Ok(()),
+        Expr::Name { .. } | Expr::Number { .. } | Expr::Truth { .. } | Expr::Query { .. } => Ok(()),
     }
 }
 
@@ -161,46 +172,77 @@ fn list_command<'a>(
     env: &Env<'a>,
     command: &'a Command,
 ) -> Result<(), AllocError>
-    ensures { OnOk result (listed list.new ≡ listed list.old ++ of_action (env_in env.now) (action command.now)) }
+    ensures { OnOk result (listed list.new ≡ listed list.old ++ of_command (env_in env.now) (command_in command.now)) }
 {
     match command {
-        Command::Assign(_, dests, values) => {
+        Command::Assign {
+            destinations: dests,
+            values,
+            ..
+        } => {
             list_each(list, alloc, env, dests)?;
             let next = past_each(env, dests)?;
             list_each(list, alloc, &next, values)
         }
-        Command::Call(_, callee, arguments) => {
+        Command::Call {
+            callee,
+            arguments,
+            ..
+        } => {
             list_expr(list, alloc, env, callee)?;
             let next = past(env, callee)?;
             list_each(list, alloc, &next, arguments)
         }
-        Command::Label(_, _, body)
-        | Command::Case(_, _, body)
-        | Command::Default(_, body)
-        | Command::Repeat(_, body) => list_command(list, alloc, env, body),
-        Command::If(_, _, value, body)
-        | Command::While(_, _, value, body)
-        | Command::SwitchOn(_, value, body) => {
+        Command::Label { body, .. }
+        | Command::Case { body, .. }
+        | Command::Default { body, .. }
+        | Command::Repeat { body, .. } => list_command(list, alloc, env, body),
+        Command::If {
+            condition: value,
+            body,
+            ..
+        }
+        | Command::While {
+            condition: value,
+            body,
+            ..
+        }
+        | Command::SwitchOn { value, body, .. } => {
             list_expr(list, alloc, env, value)?;
             let next = past(env, value)?;
             list_command(list, alloc, &next, body)
         }
-        Command::Test(_, value, yes, no) => {
+        Command::Test {
+            condition: value,
+            yes,
+            no,
+            ..
+        } => {
             list_expr(list, alloc, env, value)?;
             let next = past(env, value)?;
             list_command(list, alloc, &next, yes)?;
             let last = past_command(&next, yes)?;
             list_command(list, alloc, &last, no)
         }
-        Command::For(_, name, from, to, _, body) => {
+        Command::For {
+            name,
+            from,
+            to,
+            body,
+            ..
+        } => {
             list_expr(list, alloc, env, from)?;
             let next = past(env, from)?;
             list_expr(list, alloc, &next, to)?;
             let scope = in_for(alloc, name, body, past(&next, to)?)?;
             list_command(list, alloc, &scope, body)
         }
-        Command::ResultIs(_, value) => list_expr(list, alloc, env, value),
-        Command::Block(_, decls, commands) => {
+        Command::ResultIs { value, .. } => list_expr(list, alloc, env, value),
+        Command::Block {
+            decls,
+            commands,
+            ..
+        } => {
             if decls.is_empty() {
                 list_commands(list, alloc, env, commands)
             } else {
@@ -209,12 +251,16 @@ fn list_command<'a>(
                 list_commands(list, alloc, &scope, commands)
             }
         }
-        Command::RepeatWhile(_, _, body, value) => {
+        Command::RepeatWhile {
+            body,
+            condition: value,
+            ..
+        } => {
             list_command(list, alloc, env, body)?;
             let next = past_command(env, body)?;
             list_expr(list, alloc, &next, value)
         }
-        Command::Empty | Command::Goto(_, _) | Command::Simple(_, _) => Ok(()),
+        Command::Empty | Command::Goto { .. } | Command::Simple { .. } => Ok(()),
     }
 }
 
@@ -226,7 +272,7 @@ fn list_commands<'a>(
     env: &Env<'a>,
     commands: &'a [Command],
 ) -> Result<(), AllocError>
-    ensures { OnOk result (listed list.new ≡ listed list.old ++ of_actions (env_in env.now) (actions_in commands.now)) }
+    ensures { OnOk result (listed list.new ≡ listed list.old ++ of_commands (env_in env.now) (commands_in commands.now)) }
 {
     let mut here = env.again()?;
     for command in commands {
@@ -247,8 +293,8 @@ fn list_decl<'a>(
     ensures { OnOk result (listed list.new ≡ listed list.old ++ of_declaration (env_in env.now) (declaration decl.now)) }
 {
     match decl {
-        Decl::Constants(_, sort, items) => list_items(list, alloc, env, *sort, items),
-        Decl::Let(_, defs) => {
+        Decl::Constants { sort, items, .. } => list_items(list, alloc, env, *sort, items),
+        Decl::Let { defs, .. } => {
             let scope = within_let(alloc, defs, env.again()?)?;
             list_defs(list, alloc, &scope, defs)
         }
@@ -284,7 +330,12 @@ fn list_def<'a>(
     ensures { OnOk result (listed list.new ≡ listed list.old ++ of_definition (env_in env.now) (definition def.now)) }
 {
     match def {
-        Def::Routine(_, name, formals, body) => {
+        Def::Routine {
+            letters: name,
+            formals,
+            body,
+            ..
+        } => {
             list_one(
                 list,
                 procedure_here(name, formals, Body::Command(body), env)?,
@@ -292,12 +343,17 @@ fn list_def<'a>(
             let scope = in_scope(alloc, body, inside(alloc, formals, env)?)?;
             list_command(list, alloc, &scope, body)
         }
-        Def::Function(_, name, formals, body) => {
+        Def::Function {
+            letters: name,
+            formals,
+            body,
+            ..
+        } => {
             list_one(list, procedure_here(name, formals, Body::Value(body), env)?)?;
             let scope = inside(alloc, formals, env)?;
             list_expr(list, alloc, &scope, body)
         }
-        Def::Variables(_, _, starts) => list_starts(list, alloc, env, starts),
+        Def::Variables { inits: starts, .. } => list_starts(list, alloc, env, starts),
     }
 }
 

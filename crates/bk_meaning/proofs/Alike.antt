@@ -1,12 +1,12 @@
 -- Two meanings of the nodes inside that are the same while at most d turns are left give each form the same outcome then.
-use Rattle.bk_meaning.proofs.Terms.{◌≡◌, ℕ, zero, suc, ◌+◌, ◌≤◌, Bool, true, false, List, [], ◌∷◌, length, Option, Some, None, refl, sym, ap, subst, ◌∙◌, arith, Operator as o, Prefix as q, Expression, Expressions, Action, Actions, Declaration, Declarations, Definition, Definitions, Starts, Value, number, address, procedure, routine, unset, holds, World, Exit, break, loop, endcase, goto, result, return, Outcome, gives, leaves, ends, undefined, going, each_way, with, Done, done, given, either, turn, turn_of, making, closing, calling, calls_back, sum, operate, Environment, cell, bind, behind, past, past_each, past_action, past_definition, constant_in, labelled, within_let, objects_of_definitions, Body, command, expression, Procedure, Program, procedure_of, the_label, the_case, the_default, Mode, forwards, seeking, at_place, stands_in, stands_in_one, Meanings}
+use Rattle.bk_meaning.proofs.Terms.{◌≡◌, ℕ, zero, suc, ◌+◌, ◌≤◌, Bool, true, false, List, [], ◌∷◌, length, Option, Some, None, refl, sym, ap, subst, ◌∙◌, arith, Operator as o, Prefix as q, Expression, Expressions, Command, Commands, Declaration, Declarations, Definition, Definitions, Starts, Value, number, address, procedure, routine, unset, holds, World, Exit, break, loop, endcase, goto, result, return, Outcome, gives, leaves, ends, undefined, going, each_way, with, Done, done, given, either, turn, turn_of, making, closing, calling, calls_back, sum, operate, Environment, cell, bind, behind, past, past_each, past_command, past_definition, constant_in, labelled, within_let, objects_of_definitions, Body, command, expression, Procedure, Program, procedure_of, the_label, the_case, the_default, Mode, forwards, seeking, at_place, stands_in, stands_in_one, Meanings}
 use Rattle.bk_tree.specs.Tree as t
 use Rattle.bk_meaning.specs.Scopes
 use Rattle.bk_meaning.specs.Calls
 use Rattle.bk_meaning.specs.Expressions
 use Rattle.bk_meaning.specs.Loops
 use Rattle.bk_meaning.specs.Blocks
-use Rattle.bk_meaning.specs.Commands
+use Rattle.bk_meaning.specs.Commands as commands
 use Rattle.bk_meaning.proofs.Spending.{Spent, turn_spent, kept, given_spent}
 use Rattle.bk_meaning.proofs.NodeSpending as N
 use Rattle.bk_meaning.proofs.NodeSpending.{AllSpend}
@@ -27,10 +27,10 @@ pub record AllSame (d : ℕ) (m n : Meanings) : Type 0 where
   pub value : (e : Expression) (env : Environment) → Same d (m.value e env) (n.value e env)
   pub truth : (e : Expression) (env : Environment) → Same d (m.truth e env) (n.truth e env)
   pub target : (e : Expression) (env : Environment) → Same d (m.target e env) (n.target e env)
-  pub act : (c : Action) (mode : Mode) (env : Environment) → Same d (m.act c mode env) (n.act c mode env)
-  pub rounds : (c : Action) (mode : Mode) (env : Environment) → Under d (m.rounds c mode env) (n.rounds c mode env)
-  pub for_rounds : (c : Action) (object : ℕ) (limit : Value) (step : ℕ) (env : Environment) → Under d (m.for_rounds c object limit step env) (n.for_rounds c object limit step env)
-  pub scope : (cs : Actions) (mode : Mode) (env : Environment) → Under d (m.scope cs mode env) (n.scope cs mode env)
+  pub act : (c : Command) (mode : Mode) (env : Environment) → Same d (m.act c mode env) (n.act c mode env)
+  pub rounds : (c : Command) (mode : Mode) (env : Environment) → Under d (m.rounds c mode env) (n.rounds c mode env)
+  pub for_rounds : (c : Command) (object : ℕ) (limit : Value) (step : ℕ) (env : Environment) → Under d (m.for_rounds c object limit step env) (n.for_rounds c object limit step env)
+  pub scope : (cs : Commands) (mode : Mode) (env : Environment) → Under d (m.scope cs mode env) (n.scope cs mode env)
 
 each_way_one : {A B : Type 0} (w : World) (d : ℕ) (u : Outcome A) (on to : A → World → Outcome B) (out off : Exit → World → Outcome B) → w.turns ≤ d → Spent w.turns u → ((a : A) → Same d (on a) (to a)) → Out d out off → each_way on out u ≡ each_way to off u
 each_way_one w d (gives a x) on to out off le h go y = let less : x.turns ≤ w.turns = h.is in (go a).at x (omega (arith, le, less))
@@ -72,12 +72,12 @@ module _ (d : ℕ) (m n : Meanings) (s : AllSpend d m) (g : AllSame d m n) where
   values_same t.none env = it d _
   values_same (t.more e es) env = same _ _ _ (λ w le. with_same w d _ _ _ _ le ((s.value e env).at w le) ((g.value e env).at w le) (λ v. same _ _ _ (λ w le. with_same w d _ _ _ _ le ((N.values_spends d m s es (past e env)).at w le) ((values_same es (past e env)).at w le) (λ vs. it d _))))
 
-  pub in_order_same : (cs : Actions) (mode : Mode) (env : Environment) → Same d (Scopes.in_order m cs mode env) (Scopes.in_order n cs mode env)
-  in_order_same t.no_actions mode env = it d _
-  in_order_same (t.also c cs) forwards env = same _ _ _ (λ w le. with_same w d _ _ _ _ le ((s.act c forwards env).at w le) ((g.act c forwards env).at w le) (λ _. in_order_same cs forwards (past_action c env)))
-  in_order_same (t.also c cs) (seeking x) env = same _ _ _ (λ w le. either_same (stands_in x env c) d _ _ _ _ (same _ _ _ (λ w le. with_same w d _ _ _ _ le ((s.act c (seeking x) env).at w le) ((g.act c (seeking x) env).at w le) (λ _. in_order_same cs forwards (past_action c env)))) (in_order_same cs (seeking x) (past_action c env)) w le)
+  pub in_order_same : (cs : Commands) (mode : Mode) (env : Environment) → Same d (Scopes.in_order m cs mode env) (Scopes.in_order n cs mode env)
+  in_order_same t.no_commands mode env = it d _
+  in_order_same (t.also c cs) forwards env = same _ _ _ (λ w le. with_same w d _ _ _ _ le ((s.act c forwards env).at w le) ((g.act c forwards env).at w le) (λ _. in_order_same cs forwards (past_command c env)))
+  in_order_same (t.also c cs) (seeking x) env = same _ _ _ (λ w le. either_same (stands_in x env c) d _ _ _ _ (same _ _ _ (λ w le. with_same w d _ _ _ _ le ((s.act c (seeking x) env).at w le) ((g.act c (seeking x) env).at w le) (λ _. in_order_same cs forwards (past_command c env)))) (in_order_same cs (seeking x) (past_command c env)) w le)
 
-  landing_same : (cs : Actions) (env : Environment) (go to : List ℕ → World → Outcome Done) → ((x : List ℕ) → Under d (go x) (to x)) → Out d (Scopes.landing cs env go) (Scopes.landing cs env to)
+  landing_same : (cs : Commands) (env : Environment) (go to : List ℕ → World → Outcome Done) → ((x : List ℕ) → Under d (go x) (to x)) → Out d (Scopes.landing cs env go) (Scopes.landing cs env to)
   landing_same cs env go to h = record { at = by }
     where
       chosen : (b : Bool) (x : List ℕ) (v : World) → v.turns + 1 ≤ d → either b (go x) (λ w. leaves (goto x) w) v ≡ either b (to x) (λ w. leaves (goto x) w) v
@@ -88,7 +88,7 @@ module _ (d : ℕ) (m n : Meanings) (s : AllSpend d m) (g : AllSame d m n) where
       by (goto x) v lt = chosen (stands_in_one (the_label x) env cs) x v lt
       by _ v lt = refl
 
-  pub scope_same : (cs : Actions) (mode : Mode) (env : Environment) → Same d (Scopes.scope_of m cs mode env) (Scopes.scope_of n cs mode env)
+  pub scope_same : (cs : Commands) (mode : Mode) (env : Environment) → Same d (Scopes.scope_of m cs mode env) (Scopes.scope_of n cs mode env)
   scope_same cs mode env = same _ _ _ (λ w le. each_way_same w d _ _ _ _ _ _ le ((N.in_order_spends d m s cs mode (labelled cs env)).at w le) ((in_order_same cs mode (labelled cs env)).at w le) (λ _. it d done) (landing_same cs env _ _ (λ x. g.scope cs (seeking (the_label x)) env)))
 
   pub body_same : (b : Body) (env : Environment) → Same d (Calls.run_body m b env) (Calls.run_body n b env)
@@ -134,7 +134,7 @@ module _ (d : ℕ) (m n : Meanings) (s : AllSpend d m) (g : AllSame d m n) where
   target_of_same (t.binary i o.Byte j a b) env = same _ _ _ (λ w le. with_same w d _ _ _ _ le ((s.value a env).at w le) ((g.value a env).at w le) (λ x. same _ _ _ (λ w le. with_same w d _ _ _ _ le ((s.value b (past a env)).at w le) ((g.value b (past a env)).at w le) (λ y. it d _))))
   target_of_same e env = it d _
 
-  pub assigned_same : (xs : Expressions) (there : Environment) (es : Expressions) (env : Environment) → Same d (Commands.assigned m xs there es env) (Commands.assigned n xs there es env)
+  pub assigned_same : (xs : Expressions) (there : Environment) (es : Expressions) (env : Environment) → Same d (commands.assigned m xs there es env) (commands.assigned n xs there es env)
   assigned_same (t.more x xs) there (t.more e es) env = same _ _ _ (λ w le. with_same w d _ _ _ _ le ((s.value e env).at w le) ((g.value e env).at w le) (λ v. same _ _ _ (λ w le. with_same w d _ _ _ _ le ((s.target x there).at w le) ((g.target x there).at w le) (λ a. same _ _ _ (λ w le. same_with w d _ _ _ le ((N.store_spends d m s a v).at w le) (λ _. assigned_same xs (past x there) es (past e env)))))))
   assigned_same _ there _ env = it d _
 
@@ -155,25 +155,25 @@ module _ (d : ℕ) (m n : Meanings) (s : AllSpend d m) (g : AllSame d m n) where
   turns_same : (go to : World → Outcome Done) → Under d go to → Same d (λ w. turn w go) (λ w. turn w to)
   turns_same go to h = same _ _ _ (λ w le. turn_same d w go to le h)
 
-  pub rounds_of_same : (c : Action) (mode : Mode) (env : Environment) → Same d (Loops.rounds_of m c mode env) (Loops.rounds_of n c mode env)
+  pub rounds_of_same : (c : Command) (mode : Mode) (env : Environment) → Same d (Loops.rounds_of m c mode env) (Loops.rounds_of n c mode env)
   rounds_of_same (t.while i b e c) mode env = same _ _ _ (λ w le. again_same w _ _ _ _ le ((s.act c mode (past e env)).at w le) ((g.act c mode (past e env)).at w le) (where_truth_same b e env _ _ (turns_same _ _ (g.rounds (t.while i b e c) forwards env))))
   rounds_of_same (t.repeat i c) mode env = same _ _ _ (λ w le. again_same w _ _ _ _ le ((s.act c mode env).at w le) ((g.act c mode env).at w le) (turns_same _ _ (g.rounds (t.repeat i c) forwards env)))
-  rounds_of_same (t.repeat_while i b c e) mode env = same _ _ _ (λ w le. again_same w _ _ _ _ le ((s.act c mode env).at w le) ((g.act c mode env).at w le) (where_truth_same b e (past_action c env) _ _ (turns_same _ _ (g.rounds (t.repeat_while i b c e) forwards env))))
+  rounds_of_same (t.repeat_while i b c e) mode env = same _ _ _ (λ w le. again_same w _ _ _ _ le ((s.act c mode env).at w le) ((g.act c mode env).at w le) (where_truth_same b e (past_command c env) _ _ (turns_same _ _ (g.rounds (t.repeat_while i b c e) forwards env))))
   rounds_of_same c mode env = it d _
 
   pub for_test_same : (object : ℕ) (limit : Value) (step : ℕ) (go to : World → Outcome Done) → Same d go to → Same d (Loops.for_test object limit step go) (Loops.for_test object limit step to)
   for_test_same object limit step go to h = same _ _ _ (λ w le. same_with w d _ _ _ le ((N.fetch_spends d m s (address object 0)).at w le) (λ v. same _ _ _ (λ w le. same_with w d _ _ _ le ((N.operate_spends d m s (Loops.relation step) v limit).at w le) (λ v. same _ _ _ (λ w le. same_with w d _ _ _ le ((N.judged_spends d m s v).at w le) (λ b. same _ _ _ (λ w le. either_same b d _ _ _ _ h (it d done) w le)))))))
 
-  pub for_rounds_of_same : (c : Action) (object : ℕ) (limit : Value) (step : ℕ) (env : Environment) → Same d (Loops.for_rounds_of m c object limit step env) (Loops.for_rounds_of n c object limit step env)
+  pub for_rounds_of_same : (c : Command) (object : ℕ) (limit : Value) (step : ℕ) (env : Environment) → Same d (Loops.for_rounds_of m c object limit step env) (Loops.for_rounds_of n c object limit step env)
   for_rounds_of_same c object limit step env = same _ _ _ (λ w le. again_same w _ _ _ _ le ((N.scope_spends d m s (Scopes.alone c) forwards env).at w le) ((scope_same (Scopes.alone c) forwards env).at w le) (same _ _ _ (λ w le. same_with w d _ _ _ le ((N.for_step_spends d m s object step).at w le) (λ _. for_test_same object limit step _ _ (turns_same _ _ (g.for_rounds c object limit step env))))))
 
-  pub for_loop_same : (x : List ℕ) (c : Action) (start limit : Value) (step : ℕ) (env : Environment) → Same d (Loops.for_loop m x c start limit step env) (Loops.for_loop n x c start limit step env)
+  pub for_loop_same : (x : List ℕ) (c : Command) (start limit : Value) (step : ℕ) (env : Environment) → Same d (Loops.for_loop m x c start limit step env) (Loops.for_loop n x c start limit step env)
   for_loop_same x c start limit step env = same _ _ _ (λ w le. ap (closing (length w.memory)) ((for_test_same (length w.memory) limit step _ _ (for_rounds_of_same c (length w.memory) limit step (bind x (cell (length w.memory) 0) env))).at (making (holds start ∷ []) w) le))
 
-  pub ended_case_same : (c : Action) (mode : Mode) (env : Environment) → Same d (λ w. Commands.ended_case (m.act c mode env w)) (λ w. Commands.ended_case (n.act c mode env w))
-  ended_case_same c mode env = same _ _ _ (λ w le. ap Commands.ended_case ((g.act c mode env).at w le))
+  pub ended_case_same : (c : Command) (mode : Mode) (env : Environment) → Same d (λ w. commands.ended_case (m.act c mode env w)) (λ w. commands.ended_case (n.act c mode env w))
+  ended_case_same c mode env = same _ _ _ (λ w le. ap commands.ended_case ((g.act c mode env).at w le))
 
-  pub choose_case_same : (v : Value) (c : Action) (env : Environment) → Same d (Commands.choose_case m v c env) (Commands.choose_case n v c env)
+  pub choose_case_same : (v : Value) (c : Command) (env : Environment) → Same d (commands.choose_case m v c env) (commands.choose_case n v c env)
   choose_case_same (number i) c env = same _ _ _ (λ w le. either_same (stands_in (the_case (Some i)) env c) d _ _ _ _ (ended_case_same c (seeking (the_case (Some i))) env) (same _ _ _ (λ w le. either_same (stands_in the_default env c) d _ _ _ _ (ended_case_same c (seeking the_default) env) (it d done) w le)) w le)
   choose_case_same v c env = it d _
 
@@ -195,7 +195,7 @@ module _ (d : ℕ) (m n : Meanings) (s : AllSpend d m) (g : AllSame d m n) where
   declare_all_same t.no_declarations env = it d _
   declare_all_same (t.declare x ds) env = same _ _ _ (λ w le. with_same w d _ _ _ _ le ((N.declare_spends d m s x env).at w le) ((declare_same x env).at w le) (λ env. declare_all_same ds env))
 
-  pub act_of_same : (p : Program) (c : Action) (mode : Mode) (env : Environment) → Same d (Commands.act_of p m c mode env) (Commands.act_of p n c mode env)
+  pub act_of_same : (p : Program) (c : Command) (mode : Mode) (env : Environment) → Same d (commands.act_of p m c mode env) (commands.act_of p n c mode env)
   act_of_same p (t.assign i xs es) mode env = assigned_same xs env es (past_each xs env)
   act_of_same p (t.call i f es) mode env = same _ _ _ (λ w le. ap (λ u. with u (λ _ w. done w)) ((applied_same p f es env).at w le))
   act_of_same p (t.label i x c) mode env = g.act c (at_place (the_label x) mode) env
@@ -203,8 +203,8 @@ module _ (d : ℕ) (m n : Meanings) (s : AllSpend d m) (g : AllSame d m n) where
   act_of_same p (t.default i c) mode env = g.act c (at_place the_default mode) env
   act_of_same p (t.when i b e c) forwards env = where_truth_same b e env _ _ (g.act c forwards (past e env))
   act_of_same p (t.when i b e c) (seeking x) env = g.act c (seeking x) (past e env)
-  act_of_same p (t.test i e a b) forwards env = same _ _ _ (λ w le. with_same w d _ _ _ _ le ((s.truth e env).at w le) ((g.truth e env).at w le) (λ x. same _ _ _ (λ w le. either_same x d _ _ _ _ (g.act a forwards (past e env)) (g.act b forwards (past_action a (past e env))) w le)))
-  act_of_same p (t.test i e a b) (seeking x) env = same _ _ _ (λ w le. either_same (stands_in x env a) d _ _ _ _ (g.act a (seeking x) (past e env)) (g.act b (seeking x) (past_action a (past e env))) w le)
+  act_of_same p (t.test i e a b) forwards env = same _ _ _ (λ w le. with_same w d _ _ _ _ le ((s.truth e env).at w le) ((g.truth e env).at w le) (λ x. same _ _ _ (λ w le. either_same x d _ _ _ _ (g.act a forwards (past e env)) (g.act b forwards (past_command a (past e env))) w le)))
+  act_of_same p (t.test i e a b) (seeking x) env = same _ _ _ (λ w le. either_same (stands_in x env a) d _ _ _ _ (g.act a (seeking x) (past e env)) (g.act b (seeking x) (past_command a (past e env))) w le)
   act_of_same p (t.while i b e c) forwards env = where_truth_same b e env _ _ (rounds_of_same (t.while i b e c) forwards env)
   act_of_same p (t.while i b e c) (seeking x) env = rounds_of_same (t.while i b e c) (seeking x) env
   act_of_same p (t.for_loop i x a b h c) mode env = same _ _ _ (λ w le. with_same w d _ _ _ _ le ((s.value a env).at w le) ((g.value a env).at w le) (λ u. same _ _ _ (λ w le. with_same w d _ _ _ _ le ((s.value b (past a env)).at w le) ((g.value b (past a env)).at w le) (λ v. same _ _ _ (λ w le. same_with w d _ _ _ le (given_spent (Loops.step_of env h) w) (λ k. for_loop_same x.letters c u v k (past b (past a env))))))))

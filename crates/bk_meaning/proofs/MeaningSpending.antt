@@ -1,5 +1,5 @@
 -- A run is cut off only where no turn is left.
-use Rattle.bk_meaning.proofs.Terms.{ℕ, zero, suc, ◌≤◌, subst, arith, Action, World, Outcome, going, turn, Environment, Mode, Program, Meanings, act_of, turn_for, means_with, no_turn_for, no_turns, means, CutOnlyWithoutTurns}
+use Rattle.bk_meaning.proofs.Terms.{ℕ, zero, suc, ◌≤◌, subst, arith, Command, World, Outcome, going, turn, Environment, Mode, Program, Meanings, act_of, turn_for, means_with, no_turn_for, no_turns, means, CutOnlyWithoutTurns}
 use Rattle.bk_tree.specs.Tree as t
 use Rattle.bk_meaning.proofs.Spending.{Spent, Spends, spends, kept, turn_spent, gives_spent}
 use Rattle.bk_meaning.proofs.NodeSpending.{Under, AllSpend, scope_spends, call_spends, value_of_spends, truth_of_spends, target_of_spends, rounds_of_spends, for_rounds_of_spends, act_of_kept}
@@ -7,7 +7,7 @@ use Rattle.bk_meaning.proofs.NodeSpending.{Under, AllSpend, scope_spends, call_s
 none_left : {A : Type 0} (w : World) → w.turns ≤ 0 → Spent {A = A} w.turns (going w)
 none_left w le = record { is = omega (arith, le) }
 
-no_turn_spent : (c : Action) (w : World) → w.turns ≤ 0 → Spent w.turns (no_turn_for c w)
+no_turn_spent : (c : Command) (w : World) → w.turns ≤ 0 → Spent w.turns (no_turn_for c w)
 no_turn_spent t.empty w le = gives_spent tt w
 no_turn_spent c w le = none_left w le
 
@@ -31,7 +31,7 @@ turned n go h = spends _ _ (λ w le. turn_spent (suc n) go (λ w lt. kept _ _ (h
 under : {A : Type 0} (n : ℕ) (go : World → Outcome A) → Spends n go → Under (suc n) go
 under n go h = record { at = λ w lt. h.at w (omega (arith, lt)) }
 
-act_spends : (p : Program) (n : ℕ) (m : Meanings) → AllSpend n m → (c : Action) (mode : Mode) (env : Environment) (w : World) → w.turns ≤ suc n → Spent w.turns (turn_for c w (λ w. act_of p m c mode env w))
+act_spends : (p : Program) (n : ℕ) (m : Meanings) → AllSpend n m → (c : Command) (mode : Mode) (env : Environment) (w : World) → w.turns ≤ suc n → Spent w.turns (turn_for c w (λ w. act_of p m c mode env w))
 act_spends p n m g t.empty mode env w le = gives_spent tt w
 act_spends p n m g c mode env w le = turn_spent (suc n) _ (λ w lt. act_of_kept n m g p c mode env w (omega (arith, lt))) w le
 

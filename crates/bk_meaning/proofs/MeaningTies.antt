@@ -1,12 +1,12 @@
 -- More turns change nothing of what a program means.
-use Rattle.bk_meaning.proofs.Terms.{ℕ, zero, suc, ◌≤◌, List, [], length, Option, Some, None, arith, Expression, Action, Actions, Declarations, Value, address, read, World, Outcome, gives, leaves, ends, undefined, going, Done, Environment, globals_object, Program, program_of, Meanings, Mode, turn_for, means_with, no_turn_for, no_turns, means, run_of, first_world, started, call, History, history, sizes, Keeps, InItsWorld, After, Restores, Throughout, OutputOnlyGrows, CallsComeBack, MemoryNeverShrinks, WhatLastsLives, with_turns, shown, RunGoesOn, Continues, the_same, further, MoreTurns, ReadsFromTheFront}
+use Rattle.bk_meaning.proofs.Terms.{ℕ, zero, suc, ◌≤◌, List, [], length, Option, Some, None, arith, Expression, Command, Commands, Declarations, Value, address, read, World, Outcome, gives, leaves, ends, undefined, going, Done, Environment, globals_object, Program, program_of, Meanings, Mode, turn_for, means_with, no_turn_for, no_turns, means, run_of, first_world, started, call, History, history, sizes, Keeps, InItsWorld, After, Restores, Throughout, OutputOnlyGrows, CallsComeBack, MemoryNeverShrinks, WhatLastsLives, with_turns, shown, RunGoesOn, Continues, the_same, further, MoreTurns, ReadsFromTheFront}
 use Rattle.bk_tree.specs.Tree as t
 use Rattle.bk_meaning.proofs.After.{stays}
 use Rattle.bk_meaning.proofs.Objects.{kept_length, kept_lives, first_lives}
 use Rattle.bk_meaning.proofs.Ties.{Below, gives_more, leaves_more, ends_more, undefined_still, cut, Tied, Ties, ties, gives_tied, cut_tied, going_tied, turn_tied}
 use Rattle.bk_meaning.proofs.NodeTies.{AllTied, value_of_ties, truth_of_ties, target_of_ties, act_of_ties, rounds_of_ties, for_rounds_of_ties, scope_ties, call_ties}
 
-turn_for_tied : (c : Action) (go to : World → Outcome Done) → Ties go to → (w : World) (n : ℕ) → w.turns ≤ n → Tied w (turn_for c w go) (turn_for c (with_turns n w) to)
+turn_for_tied : (c : Command) (go to : World → Outcome Done) → Ties go to → (w : World) (n : ℕ) → w.turns ≤ n → Tied w (turn_for c w go) (turn_for c (with_turns n w) to)
 turn_for_tied t.empty go to h w n le = h.at w n le
 turn_for_tied c go to h w n le = turn_tied go to h w n le
 
@@ -25,7 +25,7 @@ means_with_tied p m l g = record {
 cut_by : {A : Type 0} (go to : World → Outcome A) → Ties go to → (w : World) (n : ℕ) → w.turns ≤ n → Tied w (going w) (to (with_turns n w))
 cut_by go to h w n le = let t : Tied w (go w) (to (with_turns n w)) = h.at w n le in cut_tied w _ t.on t.kept
 
-no_turn_tied : (c : Action) (w : World) (n : ℕ) → w.turns ≤ n → Tied w (no_turn_for c w) (no_turn_for c (with_turns n w))
+no_turn_tied : (c : Command) (w : World) (n : ℕ) → w.turns ≤ n → Tied w (no_turn_for c w) (no_turn_for c (with_turns n w))
 no_turn_tied t.empty w n le = gives_tied tt w n le
 no_turn_tied c w n le = going_tied w n
 
@@ -46,7 +46,7 @@ self_tied p zero = none_tied
 self_tied p (suc k) = means_with_tied p (means p k) (means p k) (self_tied p k)
 
 -- an empty command takes no turn
-act_still : (p : Program) (k : ℕ) (c : Action) (mode : Mode) (env : Environment) (w : World) (n : ℕ) → w.turns ≤ n → Tied w (no_turn_for c w) ((means p (suc k)).act c mode env (with_turns n w))
+act_still : (p : Program) (k : ℕ) (c : Command) (mode : Mode) (env : Environment) (w : World) (n : ℕ) → w.turns ≤ n → Tied w (no_turn_for c w) ((means p (suc k)).act c mode env (with_turns n w))
 act_still p k t.empty mode env w n le = gives_tied tt w n le
 act_still p k c mode env w n le = cut_by _ _ ((self_tied p (suc k)).act c mode env) w n le
 

@@ -1,5 +1,5 @@
 -- The meaning of a node takes a turn, and is that of its form from the meaning of the nodes inside, as deep as turns go.
-use Rattle.bk_meaning.proofs.Terms.{◌≡◌, ℕ, zero, suc, ◌+◌, ◌-◌, ◌<◌, ◌≤◌, List, refl, sym, ap, ◌∙◌, arith, Expression, Action, Actions, Value, World, Outcome, Done, going, turn, turn_of, Environment, Mode, Program, Meanings, call, act_of, turn_for, no_turn_for, means_with, means}
+use Rattle.bk_meaning.proofs.Terms.{◌≡◌, ℕ, zero, suc, ◌+◌, ◌-◌, ◌<◌, ◌≤◌, List, refl, sym, ap, ◌∙◌, arith, Expression, Command, Commands, Value, World, Outcome, Done, going, turn, turn_of, Environment, Mode, Program, Meanings, call, act_of, turn_for, no_turn_for, means_with, means}
 use Rattle.bk_tree.specs.Tree as t
 use Rattle.bk_meaning.specs.Scopes.{scope_of}
 use Rattle.bk_meaning.specs.Expressions.{value_of, truth_of, target_of}
@@ -13,7 +13,7 @@ use Rattle.bk_meaning.specs.Full.{full}
 none : {A : Type 0} (w : World) (go : World → Outcome A) → w.turns ≤ 0 → going w ≡ turn w go
 none w go le = let z : w.turns ≡ 0 = omega (arith, le) in sym (ap (λ n. turn_of n w go) z)
 
-none_act : (p : Program) (k : ℕ) (c : Action) (mode : Mode) (env : Environment) (w : World) → w.turns ≤ 0 → no_turn_for c w ≡ (means p k).act c mode env w
+none_act : (p : Program) (k : ℕ) (c : Command) (mode : Mode) (env : Environment) (w : World) → w.turns ≤ 0 → no_turn_for c w ≡ (means p k).act c mode env w
 none_act p zero c mode env w le = refl
 none_act p (suc k) t.empty mode env w le = refl
 none_act p (suc k) c mode env w le = none w (λ w. act_of p (means p k) c mode env w) le
@@ -50,7 +50,7 @@ less d go to h = record { at = λ w lt. h.at w (omega (arith, lt)) }
 turned : {A : Type 0} (d : ℕ) (go to : World → Outcome A) → Same d go to → Same (suc d) (λ w. turn w go) (λ w. turn w to)
 turned d go to h = record { at = λ w le. turn_same (suc d) w go to le (less d go to h) }
 
-next_act : (p : Program) (d : ℕ) (m n : Meanings) → AllSpend d m → AllSame d m n → (c : Action) (mode : Mode) (env : Environment) → Same (suc d) (λ w. turn_for c w (λ w. act_of p m c mode env w)) (λ w. turn_for c w (λ w. act_of p n c mode env w))
+next_act : (p : Program) (d : ℕ) (m n : Meanings) → AllSpend d m → AllSame d m n → (c : Command) (mode : Mode) (env : Environment) → Same (suc d) (λ w. turn_for c w (λ w. act_of p m c mode env w)) (λ w. turn_for c w (λ w. act_of p n c mode env w))
 next_act p d m n s g t.empty mode env = record { at = λ w le. refl }
 next_act p d m n s g c mode env = turned d _ _ (act_of_same d m n s g p c mode env)
 
@@ -94,20 +94,20 @@ pub full_target : (p : Program) (e : Expression) (env : Environment) (w : World)
 unfolding full
 full_target p e env w = turn_same w.turns w (λ x. target_of (means p w.turns) e env x) (λ x. target_of (full p) e env x) (omega arith) (under w.turns _ _ (target_of_same w.turns (means p w.turns) (full p) (means_spend p w.turns) (full_same p w.turns) e env))
 
-pub full_act : (p : Program) (c : Action) (mode : Mode) (env : Environment) (w : World) → (full p).act c mode env w ≡ turn_for c w (λ w. act_of p (full p) c mode env w)
+pub full_act : (p : Program) (c : Command) (mode : Mode) (env : Environment) (w : World) → (full p).act c mode env w ≡ turn_for c w (λ w. act_of p (full p) c mode env w)
 unfolding full
 full_act p t.empty mode env w = refl
 full_act p c mode env w = turn_same w.turns w (λ x. act_of p (means p w.turns) c mode env x) (λ x. act_of p (full p) c mode env x) (omega arith) (under w.turns _ _ (act_of_same w.turns (means p w.turns) (full p) (means_spend p w.turns) (full_same p w.turns) p c mode env))
 
-pub full_rounds : (p : Program) (c : Action) (mode : Mode) (env : Environment) (w : World) → (full p).rounds c mode env w ≡ rounds_of (full p) c mode env w
+pub full_rounds : (p : Program) (c : Command) (mode : Mode) (env : Environment) (w : World) → (full p).rounds c mode env w ≡ rounds_of (full p) c mode env w
 unfolding full
 full_rounds p c mode env w = (rounds_of_same w.turns (means p w.turns) (full p) (means_spend p w.turns) (full_same p w.turns) c mode env).at w (omega arith)
 
-pub full_for_rounds : (p : Program) (c : Action) (object : ℕ) (limit : Value) (step : ℕ) (env : Environment) (w : World) → (full p).for_rounds c object limit step env w ≡ for_rounds_of (full p) c object limit step env w
+pub full_for_rounds : (p : Program) (c : Command) (object : ℕ) (limit : Value) (step : ℕ) (env : Environment) (w : World) → (full p).for_rounds c object limit step env w ≡ for_rounds_of (full p) c object limit step env w
 unfolding full
 full_for_rounds p c object limit step env w = (for_rounds_of_same w.turns (means p w.turns) (full p) (means_spend p w.turns) (full_same p w.turns) c object limit step env).at w (omega arith)
 
-pub full_scope : (p : Program) (cs : Actions) (mode : Mode) (env : Environment) (w : World) → (full p).scope cs mode env w ≡ scope_of (full p) cs mode env w
+pub full_scope : (p : Program) (cs : Commands) (mode : Mode) (env : Environment) (w : World) → (full p).scope cs mode env w ≡ scope_of (full p) cs mode env w
 unfolding full
 full_scope p cs mode env w = (scope_same w.turns (means p w.turns) (full p) (means_spend p w.turns) (full_same p w.turns) cs mode env).at w (omega arith)
 

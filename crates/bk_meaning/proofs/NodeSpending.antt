@@ -1,5 +1,5 @@
 -- How each part of the meaning spends turns, if the nodes inside do so.
-use Rattle.bk_meaning.proofs.Terms.{ℕ, ◌+◌, ◌≤◌, Bool, true, false, not, List, [], ◌∷◌, length, Option, Some, None, arith, Operator, Operator as o, Prefix, Prefix as q, Simple, Simple as k, Mention, Expression, Expressions, Action, Actions, Declaration, Declarations, Definition, Definitions, Starts, divides_by_zero, Routine, stop, rdch, wrch, newline, writes, writen, writed, getbyte, putbyte, writef, Value, number, address, procedure, routine, unset, holds, read, World, status, Exit, break, loop, endcase, goto, result, return, Outcome, gives, leaves, ends, undefined, going, with, Done, done, either, turn, making, calling, sum, truth_of_value, on_numbers, operate, operate_prefix, Environment, Sense, constant, cell, label, foreign, sense_of, bind, behind, past, past_each, past_action, past_definition, constant_in, labelled, within_let, objects_of_definitions, Body, command, expression, Procedure, Program, procedure_of, library, writes_text, takes_byte, the_label, the_case, the_default, Mode, forwards, seeking, at_place, stands_in, stands_in_one, Target, at, byte_at, Meanings, Start}
+use Rattle.bk_meaning.proofs.Terms.{ℕ, ◌+◌, ◌≤◌, Bool, true, false, not, List, [], ◌∷◌, length, Option, Some, None, arith, Operator, Operator as o, Prefix, Prefix as q, Simple, Simple as k, Mention, Expression, Expressions, Command, Commands, Declaration, Declarations, Definition, Definitions, Starts, divides_by_zero, Routine, stop, rdch, wrch, newline, writes, writen, writed, getbyte, putbyte, writef, Value, number, address, procedure, routine, unset, holds, read, World, status, Exit, break, loop, endcase, goto, result, return, Outcome, gives, leaves, ends, undefined, going, with, Done, done, either, turn, making, calling, sum, truth_of_value, on_numbers, operate, operate_prefix, Environment, Sense, constant, cell, label, foreign, sense_of, bind, behind, past, past_each, past_command, past_definition, constant_in, labelled, within_let, objects_of_definitions, Body, command, expression, Procedure, Program, procedure_of, library, writes_text, takes_byte, the_label, the_case, the_default, Mode, forwards, seeking, at_place, stands_in, stands_in_one, Target, at, byte_at, Meanings, Start}
 use Rattle.bk_tree.specs.Tree as t
 use Rattle.bk_meaning.specs.Parts
 use Rattle.bk_meaning.specs.Scopes
@@ -7,7 +7,7 @@ use Rattle.bk_meaning.specs.Calls
 use Rattle.bk_meaning.specs.Expressions
 use Rattle.bk_meaning.specs.Loops
 use Rattle.bk_meaning.specs.Blocks
-use Rattle.bk_meaning.specs.Commands
+use Rattle.bk_meaning.specs.Commands as commands
 use Rattle.bk_meaning.proofs.Spending.{Spent, Kept, Spends, spends, SpendsOut, spent_more, kept, each_way_spent, with_spent, then_spends, either_spends, gives_spent, undefined_spent, ends_spent, given_spent, either_spent, turn_spent, closing_spent, changes_spent}
 
 -- where a turn fewer than d are left at most
@@ -19,10 +19,10 @@ pub record AllSpend (d : ℕ) (m : Meanings) : Type 0 where
   pub value : (e : Expression) (env : Environment) → Spends d (m.value e env)
   pub truth : (e : Expression) (env : Environment) → Spends d (m.truth e env)
   pub target : (e : Expression) (env : Environment) → Spends d (m.target e env)
-  pub act : (c : Action) (mode : Mode) (env : Environment) → Spends d (m.act c mode env)
-  pub rounds : (c : Action) (mode : Mode) (env : Environment) → Under d (m.rounds c mode env)
-  pub for_rounds : (c : Action) (object : ℕ) (limit : Value) (step : ℕ) (env : Environment) → Under d (m.for_rounds c object limit step env)
-  pub scope : (cs : Actions) (mode : Mode) (env : Environment) → Under d (m.scope cs mode env)
+  pub act : (c : Command) (mode : Mode) (env : Environment) → Spends d (m.act c mode env)
+  pub rounds : (c : Command) (mode : Mode) (env : Environment) → Under d (m.rounds c mode env)
+  pub for_rounds : (c : Command) (object : ℕ) (limit : Value) (step : ℕ) (env : Environment) → Under d (m.for_rounds c object limit step env)
+  pub scope : (cs : Commands) (mode : Mode) (env : Environment) → Under d (m.scope cs mode env)
 
 module _ (d : ℕ) (m : Meanings) (g : AllSpend d m) where
   pub fetch_spends : (a : Value) → Spends d (Parts.fetch a)
@@ -98,14 +98,14 @@ module _ (d : ℕ) (m : Meanings) (g : AllSpend d m) where
       with_spent w d _ _ le ((g.value e env).at w le) (λ v. spends _ _ (λ w le.
       with_spent w d _ _ le ((values_spends es (past e env)).at w le) (λ vs. spends _ _ (λ w le. gives_spent _ w)))))
 
-  pub in_order_spends : (cs : Actions) (mode : Mode) (env : Environment) → Spends d (Scopes.in_order m cs mode env)
-  in_order_spends t.no_actions mode env = done_spends
-  in_order_spends (t.also c cs) forwards env = then_spends (g.act c forwards env) (λ _. in_order_spends cs forwards (past_action c env))
+  pub in_order_spends : (cs : Commands) (mode : Mode) (env : Environment) → Spends d (Scopes.in_order m cs mode env)
+  in_order_spends t.no_commands mode env = done_spends
+  in_order_spends (t.also c cs) forwards env = then_spends (g.act c forwards env) (λ _. in_order_spends cs forwards (past_command c env))
   in_order_spends (t.also c cs) (seeking s) env =
-      either_spends (stands_in s env c) (then_spends (g.act c (seeking s) env) (λ _. in_order_spends cs forwards (past_action c env)))
-      (in_order_spends cs (seeking s) (past_action c env))
+      either_spends (stands_in s env c) (then_spends (g.act c (seeking s) env) (λ _. in_order_spends cs forwards (past_command c env)))
+      (in_order_spends cs (seeking s) (past_command c env))
 
-  pub landing_out : (cs : Actions) (env : Environment) (go : List ℕ → World → Outcome Done) → ((x : List ℕ) → Under d (go x)) → SpendsOut d (Scopes.landing cs env go)
+  pub landing_out : (cs : Commands) (env : Environment) (go : List ℕ → World → Outcome Done) → ((x : List ℕ) → Under d (go x)) → SpendsOut d (Scopes.landing cs env go)
   landing_out cs env go h = record { at = by }
     where
       chosen : (b : Bool) (x : List ℕ) (v : World) (n : ℕ) → v.turns + 1 ≤ n → n ≤ d → Spent n (either b (go x) (λ w. leaves (goto x) w) v)
@@ -116,7 +116,7 @@ module _ (d : ℕ) (m : Meanings) (g : AllSpend d m) where
       by (goto x) v n lt le = chosen (stands_in_one (the_label x) env cs) x v n lt le
       by _ v n lt le = record { is = lt }
 
-  pub scope_spends : (cs : Actions) (mode : Mode) (env : Environment) → Spends d (Scopes.scope_of m cs mode env)
+  pub scope_spends : (cs : Commands) (mode : Mode) (env : Environment) → Spends d (Scopes.scope_of m cs mode env)
   scope_spends cs mode env = spends _ _ (λ w le.
       each_way_spent w d _ _ _ le ((in_order_spends cs mode (labelled cs env)).at w le) (λ _. done_spends)
       (landing_out cs env _ (λ x. g.scope cs (seeking (the_label x)) env)))
@@ -206,7 +206,7 @@ module _ (d : ℕ) (m : Meanings) (g : AllSpend d m) where
   store_spends (at a) v = spends _ _ (λ w le. changes_spent _ w)
   store_spends (byte_at a i) v = spends _ _ (λ w le. changes_spent _ w)
 
-  pub assigned_spends : (xs : Expressions) (there : Environment) (es : Expressions) (env : Environment) → Spends d (Commands.assigned m xs there es env)
+  pub assigned_spends : (xs : Expressions) (there : Environment) (es : Expressions) (env : Environment) → Spends d (commands.assigned m xs there es env)
   assigned_spends (t.more x xs) there (t.more e es) env = spends _ _ (λ w le.
       with_spent w d _ _ le ((g.value e env).at w le) (λ v. spends _ _ (λ w le.
       with_spent w d _ _ le ((g.target x there).at w le) (λ a. spends _ _ (λ w le.
@@ -233,13 +233,13 @@ module _ (d : ℕ) (m : Meanings) (g : AllSpend d m) where
   in_turn : {A : Type 0} {go : World → Outcome A} → Spends d go → Spends d (λ w. turn w go)
   in_turn h = spends _ _ (λ w le. turn_spent d _ (λ w lt. kept _ _ (h.at w (omega (arith, lt)))) w le)
 
-  pub rounds_of_spends : (c : Action) (mode : Mode) (env : Environment) → Spends d (Loops.rounds_of m c mode env)
+  pub rounds_of_spends : (c : Command) (mode : Mode) (env : Environment) → Spends d (Loops.rounds_of m c mode env)
   rounds_of_spends (t.while i b e c) mode env = spends _ _ (λ w le.
       again_spent w _ _ le ((g.act c mode (past e env)).at w le) (where_truth_spends b e env _ (turn_spends _ (g.rounds (t.while i b e c) forwards env))))
   rounds_of_spends (t.repeat i c) mode env = spends _ _ (λ w le.
       again_spent w _ _ le ((g.act c mode env).at w le) (turn_spends _ (g.rounds (t.repeat i c) forwards env)))
   rounds_of_spends (t.repeat_while i b c e) mode env = spends _ _ (λ w le.
-      again_spent w _ _ le ((g.act c mode env).at w le) (where_truth_spends b e (past_action c env) _ (turn_spends _ (g.rounds (t.repeat_while i b c e) forwards env))))
+      again_spent w _ _ le ((g.act c mode env).at w le) (where_truth_spends b e (past_command c env) _ (turn_spends _ (g.rounds (t.repeat_while i b c e) forwards env))))
   rounds_of_spends c mode env = done_spends
 
   pub for_test_spends : (object : ℕ) (limit : Value) (step : ℕ) (go : World → Outcome Done) → Spends d go → Spends d (Loops.for_test object limit step go)
@@ -251,27 +251,27 @@ module _ (d : ℕ) (m : Meanings) (g : AllSpend d m) where
   for_step_spends object step =
       then_spends (fetch_spends (address object 0)) (λ v. then_spends (operate_spends o.Add v (number step)) (λ v. store_spends (at (address object 0)) v))
 
-  pub for_rounds_of_spends : (c : Action) (object : ℕ) (limit : Value) (step : ℕ) (env : Environment) → Spends d (Loops.for_rounds_of m c object limit step env)
+  pub for_rounds_of_spends : (c : Command) (object : ℕ) (limit : Value) (step : ℕ) (env : Environment) → Spends d (Loops.for_rounds_of m c object limit step env)
   for_rounds_of_spends c object limit step env = spends _ _ (λ w le.
       again_spent w _ _ le ((scope_spends (Scopes.alone c) forwards env).at w le) (spends _ _ (λ w le.
       with_spent w d _ _ le ((for_step_spends object step).at w le) (λ _. for_test_spends object limit step _ (turn_spends _ (g.for_rounds c object limit step env))))))
 
-  pub for_loop_spends : (x : List ℕ) (c : Action) (start limit : Value) (step : ℕ) (env : Environment) → Spends d (Loops.for_loop m x c start limit step env)
+  pub for_loop_spends : (x : List ℕ) (c : Command) (start limit : Value) (step : ℕ) (env : Environment) → Spends d (Loops.for_loop m x c start limit step env)
   for_loop_spends x c start limit step env = spends _ _ (λ w le.
       closing_spent w (length w.memory) _ (
       ((for_test_spends (length w.memory) limit step _ (for_rounds_of_spends c (length w.memory) limit step (bind x (cell (length w.memory) 0) env))).at (making (holds start ∷ []) w) le)))
 
-  pub case_out : SpendsOut d Commands.case_exit
+  pub case_out : SpendsOut d commands.case_exit
   case_out = record { at = by }
     where
-      by : (x : Exit) (v : World) (n : ℕ) → v.turns + 1 ≤ n → n ≤ d → Spent n (Commands.case_exit x v)
+      by : (x : Exit) (v : World) (n : ℕ) → v.turns + 1 ≤ n → n ≤ d → Spent n (commands.case_exit x v)
       by endcase v n lt le = record { is = omega (arith, lt) }
       by x v n lt le = record { is = lt }
 
-  pub ended_case_spends : (c : Action) (mode : Mode) (env : Environment) → Spends d (λ w. Commands.ended_case (m.act c mode env w))
+  pub ended_case_spends : (c : Command) (mode : Mode) (env : Environment) → Spends d (λ w. commands.ended_case (m.act c mode env w))
   ended_case_spends c mode env = spends _ _ (λ w le. each_way_spent w d _ _ _ le ((g.act c mode env).at w le) (λ _. done_spends) case_out)
 
-  pub choose_case_spends : (v : Value) (c : Action) (env : Environment) → Spends d (Commands.choose_case m v c env)
+  pub choose_case_spends : (v : Value) (c : Command) (env : Environment) → Spends d (commands.choose_case m v c env)
   choose_case_spends (number i) c env =
       either_spends (stands_in (the_case (Some i)) env c) (ended_case_spends c (seeking (the_case (Some i))) env)
       (either_spends (stands_in the_default env c) (ended_case_spends c (seeking the_default) env) done_spends)
@@ -308,7 +308,7 @@ module _ (d : ℕ) (m : Meanings) (g : AllSpend d m) where
   declare_all_spends t.no_declarations env = spends _ _ (λ w le. gives_spent env w)
   declare_all_spends (t.declare x ds) env = then_spends (declare_spends x env) (λ env. declare_all_spends ds env)
 
-  pub simple_exit_kept : (s : Simple) (w : World) → Kept w.turns (Commands.simple_exit s w)
+  pub simple_exit_kept : (s : Simple) (w : World) → Kept w.turns (commands.simple_exit s w)
   simple_exit_kept k.Finish w = record { is = omega arith }
   simple_exit_kept s w = record { is = omega arith }
 
@@ -317,7 +317,7 @@ module _ (d : ℕ) (m : Meanings) (g : AllSpend d m) where
   result_kept w undefined h = record { is = tt }
   result_kept w _ h = record { is = h.is }
 
-  pub act_of_kept : (p : Program) (c : Action) (mode : Mode) (env : Environment) (w : World) → w.turns ≤ d → Kept w.turns (Commands.act_of p m c mode env w)
+  pub act_of_kept : (p : Program) (c : Command) (mode : Mode) (env : Environment) (w : World) → w.turns ≤ d → Kept w.turns (commands.act_of p m c mode env w)
   act_of_kept p t.empty mode env w le = kept _ _ ((done_spends).at w le)
   act_of_kept p (t.assign i xs es) mode env w le = kept _ _ ((assigned_spends xs env es (past_each xs env)).at w le)
   act_of_kept p (t.call i f es) mode env w le = kept _ _ ((then_spends (applied_spends p f es env) (λ _. done_spends)).at w le)
@@ -328,9 +328,9 @@ module _ (d : ℕ) (m : Meanings) (g : AllSpend d m) where
   act_of_kept p (t.when i b e c) forwards env w le = kept _ _ ((where_truth_spends b e env _ (g.act c forwards (past e env))).at w le)
   act_of_kept p (t.when i b e c) (seeking s) env w le = kept _ _ ((g.act c (seeking s) (past e env)).at w le)
   act_of_kept p (t.test i e a b) forwards env w le =
-      kept _ _ ((then_spends (g.truth e env) (λ x. either_spends x (g.act a forwards (past e env)) (g.act b forwards (past_action a (past e env))))).at w le)
+      kept _ _ ((then_spends (g.truth e env) (λ x. either_spends x (g.act a forwards (past e env)) (g.act b forwards (past_command a (past e env))))).at w le)
   act_of_kept p (t.test i e a b) (seeking s) env w le =
-      kept _ _ ((either_spends (stands_in s env a) (g.act a (seeking s) (past e env)) (g.act b (seeking s) (past_action a (past e env)))).at w le)
+      kept _ _ ((either_spends (stands_in s env a) (g.act a (seeking s) (past e env)) (g.act b (seeking s) (past_command a (past e env)))).at w le)
   act_of_kept p (t.while i b e c) forwards env w le = kept _ _ ((where_truth_spends b e env _ (rounds_of_spends (t.while i b e c) forwards env)).at w le)
   act_of_kept p (t.while i b e c) (seeking s) env w le = kept _ _ ((rounds_of_spends (t.while i b e c) (seeking s) env).at w le)
   act_of_kept p (t.for_loop i x a b h c) mode env w le =

@@ -1,5 +1,5 @@
 -- Every part of the meaning with fewer turns and with more, if the nodes inside are so.
-use Rattle.bk_meaning.proofs.Terms.{◌≡◌, ℕ, ◌≤◌, Bool, true, false, not, List, [], ◌∷◌, length, Option, Some, None, refl, Operator, Operator as o, Prefix, Prefix as q, Simple, Simple as k, Mention, Expression, Expressions, Action, Actions, Declaration, Declarations, Definition, Definitions, Starts, divides_by_zero, Routine, stop, rdch, wrch, newline, writes, writen, writed, getbyte, putbyte, writef, Value, number, address, procedure, routine, unset, holds, Memory, read, World, given, status, Exit, break, loop, endcase, goto, result, return, Outcome, gives, Done, done, turn, making, calling, writing, sum, truth_of_value, on_numbers, operate, operate_prefix, Environment, Sense, constant, cell, label, foreign, sense_of, bind, behind, past, past_each, past_action, past_definition, constant_in, labelled, within_let, objects_of_definitions, Body, command, expression, Procedure, Program, procedure_of, library, writes_text, takes_byte, the_label, the_case, the_default, Mode, forwards, seeking, at_place, stands_in, stands_in_one, Target, at, byte_at, Meanings, Start, with_turns}
+use Rattle.bk_meaning.proofs.Terms.{◌≡◌, ℕ, ◌≤◌, Bool, true, false, not, List, [], ◌∷◌, length, Option, Some, None, refl, Operator, Operator as o, Prefix, Prefix as q, Simple, Simple as k, Mention, Expression, Expressions, Command, Commands, Declaration, Declarations, Definition, Definitions, Starts, divides_by_zero, Routine, stop, rdch, wrch, newline, writes, writen, writed, getbyte, putbyte, writef, Value, number, address, procedure, routine, unset, holds, Memory, read, World, given, status, Exit, break, loop, endcase, goto, result, return, Outcome, gives, Done, done, turn, making, calling, writing, sum, truth_of_value, on_numbers, operate, operate_prefix, Environment, Sense, constant, cell, label, foreign, sense_of, bind, behind, past, past_each, past_command, past_definition, constant_in, labelled, within_let, objects_of_definitions, Body, command, expression, Procedure, Program, procedure_of, library, writes_text, takes_byte, the_label, the_case, the_default, Mode, forwards, seeking, at_place, stands_in, stands_in_one, Target, at, byte_at, Meanings, Start, with_turns}
 use Rattle.bk_tree.specs.Tree as t
 use Rattle.bk_meaning.specs.Parts
 use Rattle.bk_meaning.specs.Scopes
@@ -7,7 +7,7 @@ use Rattle.bk_meaning.specs.Calls
 use Rattle.bk_meaning.specs.Expressions
 use Rattle.bk_meaning.specs.Loops
 use Rattle.bk_meaning.specs.Blocks
-use Rattle.bk_meaning.specs.Commands
+use Rattle.bk_meaning.specs.Commands as commands
 use Rattle.bk_meaning.proofs.Ties.{gives_more, Tied, Ties, ties, each_way_tied, with_tied, then_ties, either_ties, gives_tied, leaves_tied, ends_tied, undefined_tied, given_tied, either_tied, turn_tied, closing_tied, changes_tied, making_tied, call_tied, at_home}
 use Rattle.bk_meaning.proofs.After.{writing_on, taking_on}
 use Rattle.bk_meaning.proofs.Objects.{write_keeps, write_byte_keeps}
@@ -17,10 +17,10 @@ pub record AllTied (m l : Meanings) : Type 0 where
   pub value : (e : Expression) (env : Environment) → Ties (m.value e env) (l.value e env)
   pub truth : (e : Expression) (env : Environment) → Ties (m.truth e env) (l.truth e env)
   pub target : (e : Expression) (env : Environment) → Ties (m.target e env) (l.target e env)
-  pub act : (c : Action) (mode : Mode) (env : Environment) → Ties (m.act c mode env) (l.act c mode env)
-  pub rounds : (c : Action) (mode : Mode) (env : Environment) → Ties (m.rounds c mode env) (l.rounds c mode env)
-  pub for_rounds : (c : Action) (object : ℕ) (limit : Value) (step : ℕ) (env : Environment) → Ties (m.for_rounds c object limit step env) (l.for_rounds c object limit step env)
-  pub scope : (cs : Actions) (mode : Mode) (env : Environment) → Ties (m.scope cs mode env) (l.scope cs mode env)
+  pub act : (c : Command) (mode : Mode) (env : Environment) → Ties (m.act c mode env) (l.act c mode env)
+  pub rounds : (c : Command) (mode : Mode) (env : Environment) → Ties (m.rounds c mode env) (l.rounds c mode env)
+  pub for_rounds : (c : Command) (object : ℕ) (limit : Value) (step : ℕ) (env : Environment) → Ties (m.for_rounds c object limit step env) (l.for_rounds c object limit step env)
+  pub scope : (cs : Commands) (mode : Mode) (env : Environment) → Ties (m.scope cs mode env) (l.scope cs mode env)
 
 reads_ties : {A : Type 0} (x : Memory → Option A) → Ties (λ w. given (x w.memory) w) (λ w. given (x w.memory) w)
 reads_ties x = ties _ _ (λ w n le. given_tied (x w.memory) w n le)
@@ -106,18 +106,18 @@ module _ (m l : Meanings) (g : AllTied m l) where
       with_tied w _ _ _ _ ((g.value e env).at w n le) (λ v. ties _ _ (λ w n le.
       with_tied w _ _ _ _ ((values_ties es (past e env)).at w n le) (λ vs. ties _ _ (λ w n le. gives_tied _ w n le)))))
 
-  pub in_order_ties : (cs : Actions) (mode : Mode) (env : Environment) → Ties (Scopes.in_order m cs mode env) (Scopes.in_order l cs mode env)
-  in_order_ties t.no_actions mode env = done_ties
-  in_order_ties (t.also c cs) forwards env = then_ties (g.act c forwards env) (λ _. in_order_ties cs forwards (past_action c env))
+  pub in_order_ties : (cs : Commands) (mode : Mode) (env : Environment) → Ties (Scopes.in_order m cs mode env) (Scopes.in_order l cs mode env)
+  in_order_ties t.no_commands mode env = done_ties
+  in_order_ties (t.also c cs) forwards env = then_ties (g.act c forwards env) (λ _. in_order_ties cs forwards (past_command c env))
   in_order_ties (t.also c cs) (seeking s) env =
-      either_ties (stands_in s env c) (then_ties (g.act c (seeking s) env) (λ _. in_order_ties cs forwards (past_action c env)))
-      (in_order_ties cs (seeking s) (past_action c env))
+      either_ties (stands_in s env c) (then_ties (g.act c (seeking s) env) (λ _. in_order_ties cs forwards (past_command c env)))
+      (in_order_ties cs (seeking s) (past_command c env))
 
-  pub landing_ties : (cs : Actions) (env : Environment) (go to : List ℕ → World → Outcome Done) → ((x : List ℕ) → Ties (go x) (to x)) → (x : Exit) → Ties (Scopes.landing cs env go x) (Scopes.landing cs env to x)
+  pub landing_ties : (cs : Commands) (env : Environment) (go to : List ℕ → World → Outcome Done) → ((x : List ℕ) → Ties (go x) (to x)) → (x : Exit) → Ties (Scopes.landing cs env go x) (Scopes.landing cs env to x)
   landing_ties cs env go to h (goto x) = either_ties (stands_in_one (the_label x) env cs) (h x) (ties _ _ (λ w n le. leaves_tied (goto x) w n le))
   landing_ties cs env go to h x = ties _ _ (λ w n le. leaves_tied x w n le)
 
-  pub scope_ties : (cs : Actions) (mode : Mode) (env : Environment) → Ties (Scopes.scope_of m cs mode env) (Scopes.scope_of l cs mode env)
+  pub scope_ties : (cs : Commands) (mode : Mode) (env : Environment) → Ties (Scopes.scope_of m cs mode env) (Scopes.scope_of l cs mode env)
   scope_ties cs mode env = ties _ _ (λ w n le.
       each_way_tied w _ _ _ _ _ _ ((in_order_ties cs mode (labelled cs env)).at w n le) (λ _. done_ties)
       (landing_ties cs env _ _ (λ x. g.scope cs (seeking (the_label x)) env)))
@@ -196,7 +196,7 @@ module _ (m l : Meanings) (g : AllTied m l) where
   store_ties (at a) v = ties _ _ (λ w n le. changes_tied _ w n le (write_keeps w.memory a v))
   store_ties (byte_at a i) v = ties _ _ (λ w n le. changes_tied _ w n le (write_byte_keeps w.memory a i v))
 
-  pub assigned_ties : (xs : Expressions) (there : Environment) (es : Expressions) (env : Environment) → Ties (Commands.assigned m xs there es env) (Commands.assigned l xs there es env)
+  pub assigned_ties : (xs : Expressions) (there : Environment) (es : Expressions) (env : Environment) → Ties (commands.assigned m xs there es env) (commands.assigned l xs there es env)
   assigned_ties (t.more x xs) there (t.more e es) env = ties _ _ (λ w n le.
       with_tied w _ _ _ _ ((g.value e env).at w n le) (λ v. ties _ _ (λ w n le.
       with_tied w _ _ _ _ ((g.target x there).at w n le) (λ a. ties _ _ (λ w n le.
@@ -217,13 +217,13 @@ module _ (m l : Meanings) (g : AllTied m l) where
   pub turn_ties : (go to : World → Outcome Done) → Ties go to → Ties (λ w. turn w go) (λ w. turn w to)
   turn_ties go to h = ties _ _ (λ w n le. turn_tied go to h w n le)
 
-  pub rounds_of_ties : (c : Action) (mode : Mode) (env : Environment) → Ties (Loops.rounds_of m c mode env) (Loops.rounds_of l c mode env)
+  pub rounds_of_ties : (c : Command) (mode : Mode) (env : Environment) → Ties (Loops.rounds_of m c mode env) (Loops.rounds_of l c mode env)
   rounds_of_ties (t.while i b e c) mode env = ties _ _ (λ w n le.
       again_tied w _ _ _ _ ((g.act c mode (past e env)).at w n le) (where_truth_ties b e env _ _ (turn_ties _ _ (g.rounds (t.while i b e c) forwards env))))
   rounds_of_ties (t.repeat i c) mode env = ties _ _ (λ w n le.
       again_tied w _ _ _ _ ((g.act c mode env).at w n le) (turn_ties _ _ (g.rounds (t.repeat i c) forwards env)))
   rounds_of_ties (t.repeat_while i b c e) mode env = ties _ _ (λ w n le.
-      again_tied w _ _ _ _ ((g.act c mode env).at w n le) (where_truth_ties b e (past_action c env) _ _ (turn_ties _ _ (g.rounds (t.repeat_while i b c e) forwards env))))
+      again_tied w _ _ _ _ ((g.act c mode env).at w n le) (where_truth_ties b e (past_command c env) _ _ (turn_ties _ _ (g.rounds (t.repeat_while i b c e) forwards env))))
   rounds_of_ties c mode env = done_ties
 
   pub for_test_ties : (object : ℕ) (limit : Value) (step : ℕ) (go to : World → Outcome Done) → Ties go to → Ties (Loops.for_test object limit step go) (Loops.for_test object limit step to)
@@ -235,24 +235,24 @@ module _ (m l : Meanings) (g : AllTied m l) where
   for_step_ties object step =
       then_ties (fetch_ties (address object 0)) (λ v. then_ties (operate_ties o.Add v (number step)) (λ v. store_ties (at (address object 0)) v))
 
-  pub for_rounds_of_ties : (c : Action) (object : ℕ) (limit : Value) (step : ℕ) (env : Environment) → Ties (Loops.for_rounds_of m c object limit step env) (Loops.for_rounds_of l c object limit step env)
+  pub for_rounds_of_ties : (c : Command) (object : ℕ) (limit : Value) (step : ℕ) (env : Environment) → Ties (Loops.for_rounds_of m c object limit step env) (Loops.for_rounds_of l c object limit step env)
   for_rounds_of_ties c object limit step env = ties _ _ (λ w n le.
       again_tied w _ _ _ _ ((scope_ties (Scopes.alone c) forwards env).at w n le) (ties _ _ (λ w n le.
       with_tied w _ _ _ _ ((for_step_ties object step).at w n le) (λ _. for_test_ties object limit step _ _ (turn_ties _ _ (g.for_rounds c object limit step env))))))
 
-  pub for_loop_ties : (x : List ℕ) (c : Action) (start limit : Value) (step : ℕ) (env : Environment) → Ties (Loops.for_loop m x c start limit step env) (Loops.for_loop l x c start limit step env)
+  pub for_loop_ties : (x : List ℕ) (c : Command) (start limit : Value) (step : ℕ) (env : Environment) → Ties (Loops.for_loop m x c start limit step env) (Loops.for_loop l x c start limit step env)
   for_loop_ties x c start limit step env = ties _ _ (λ w n le.
       closing_tied w _ _ (making_tied (holds start ∷ []) w _ _
       ((for_test_ties (length w.memory) limit step _ _ (for_rounds_of_ties c (length w.memory) limit step (bind x (cell (length w.memory) 0) env))).at (making (holds start ∷ []) w) n le)))
 
-  pub case_exit_ties : (x : Exit) → Ties (Commands.case_exit x) (Commands.case_exit x)
+  pub case_exit_ties : (x : Exit) → Ties (commands.case_exit x) (commands.case_exit x)
   case_exit_ties endcase = done_ties
   case_exit_ties x = ties _ _ (λ w n le. leaves_tied x w n le)
 
-  pub ended_case_ties : (c : Action) (mode : Mode) (env : Environment) → Ties (λ w. Commands.ended_case (m.act c mode env w)) (λ w. Commands.ended_case (l.act c mode env w))
+  pub ended_case_ties : (c : Command) (mode : Mode) (env : Environment) → Ties (λ w. commands.ended_case (m.act c mode env w)) (λ w. commands.ended_case (l.act c mode env w))
   ended_case_ties c mode env = ties _ _ (λ w n le. each_way_tied w _ _ _ _ _ _ ((g.act c mode env).at w n le) (λ _. done_ties) case_exit_ties)
 
-  pub choose_case_ties : (v : Value) (c : Action) (env : Environment) → Ties (Commands.choose_case m v c env) (Commands.choose_case l v c env)
+  pub choose_case_ties : (v : Value) (c : Command) (env : Environment) → Ties (commands.choose_case m v c env) (commands.choose_case l v c env)
   choose_case_ties (number i) c env =
       either_ties (stands_in (the_case (Some i)) env c) (ended_case_ties c (seeking (the_case (Some i))) env)
       (either_ties (stands_in the_default env c) (ended_case_ties c (seeking the_default) env) done_ties)
@@ -290,14 +290,14 @@ module _ (m l : Meanings) (g : AllTied m l) where
   declare_all_ties t.no_declarations env = ties _ _ (λ w n le. gives_tied env w n le)
   declare_all_ties (t.declare x ds) env = then_ties (declare_ties x env) (λ env. declare_all_ties ds env)
 
-  pub simple_exit_ties : (s : Simple) → Ties (Commands.simple_exit s) (Commands.simple_exit s)
+  pub simple_exit_ties : (s : Simple) → Ties (commands.simple_exit s) (commands.simple_exit s)
   simple_exit_ties k.Break = ties _ _ (λ w n le. leaves_tied break w n le)
   simple_exit_ties k.Loop = ties _ _ (λ w n le. leaves_tied loop w n le)
   simple_exit_ties k.EndCase = ties _ _ (λ w n le. leaves_tied endcase w n le)
   simple_exit_ties k.Return = ties _ _ (λ w n le. leaves_tied return w n le)
   simple_exit_ties k.Finish = ties _ _ (λ w n le. ends_tied (status 0) w n le)
 
-  pub act_of_ties : (p : Program) (c : Action) (mode : Mode) (env : Environment) → Ties (Commands.act_of p m c mode env) (Commands.act_of p l c mode env)
+  pub act_of_ties : (p : Program) (c : Command) (mode : Mode) (env : Environment) → Ties (commands.act_of p m c mode env) (commands.act_of p l c mode env)
   act_of_ties p t.empty mode env = done_ties
   act_of_ties p (t.assign i xs es) mode env = assigned_ties xs env es (past_each xs env)
   act_of_ties p (t.call i f es) mode env = then_ties (applied_ties p f es env) (λ _. done_ties)
@@ -308,9 +308,9 @@ module _ (m l : Meanings) (g : AllTied m l) where
   act_of_ties p (t.when i b e c) forwards env = where_truth_ties b e env _ _ (g.act c forwards (past e env))
   act_of_ties p (t.when i b e c) (seeking s) env = g.act c (seeking s) (past e env)
   act_of_ties p (t.test i e a b) forwards env =
-      then_ties (g.truth e env) (λ x. either_ties x (g.act a forwards (past e env)) (g.act b forwards (past_action a (past e env))))
+      then_ties (g.truth e env) (λ x. either_ties x (g.act a forwards (past e env)) (g.act b forwards (past_command a (past e env))))
   act_of_ties p (t.test i e a b) (seeking s) env =
-      either_ties (stands_in s env a) (g.act a (seeking s) (past e env)) (g.act b (seeking s) (past_action a (past e env)))
+      either_ties (stands_in s env a) (g.act a (seeking s) (past e env)) (g.act b (seeking s) (past_command a (past e env)))
   act_of_ties p (t.while i b e c) forwards env = where_truth_ties b e env _ _ (rounds_of_ties (t.while i b e c) forwards env)
   act_of_ties p (t.while i b e c) (seeking s) env = rounds_of_ties (t.while i b e c) (seeking s) env
   act_of_ties p (t.for_loop i x a b h c) mode env =

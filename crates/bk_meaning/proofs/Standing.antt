@@ -1,8 +1,8 @@
 -- What lasts stands at its number.
-use Rattle.bk_meaning.proofs.Terms.{◌≡◌, ℕ, zero, suc, ◌+◌, List, [], ◌∷◌, ◌++◌, length, Some, refl, sym, ap, ◌∙◌, append_assoc, arith, append-nil, length-append, slice_get, Sort, Sort as s, Expression, Expressions, Action, Actions, Declaration, Declarations, Items, Definition, Definitions, Starts, Sense, cell, label, foreign, Environment, bind, bind_each, behind, count, letters, manifests, statics, globals, sense_of_constant, sense_of_global, past, past_each, past_action, past_definition, constant_in, labelled, within_let, objects_of_declaration, objects_of_declarations, objects_of_definitions, Lasting, global_vector, static_words, of_items, variables_hidden, declared, all_declared, inside, in_scope, in_for, of_expression, of_each, of_action, of_actions, of_declaration, of_declarations, of_definition, of_definitions, of_starts, of_sections, Program, program_of, StandsAt, InStatics, InItems, InExpression, InEach, InAction, InActions, InDeclaration, InDeclarations, InDefinition, InDefinitions, InStarts, InSections, WhatLastsStandsAtItsNumber}
+use Rattle.bk_meaning.proofs.Terms.{◌≡◌, ℕ, zero, suc, ◌+◌, List, [], ◌∷◌, ◌++◌, length, Some, refl, sym, ap, ◌∙◌, append_assoc, arith, append-nil, length-append, slice_get, Sort, Sort as s, Expression, Expressions, Command, Commands, Declaration, Declarations, Items, Definition, Definitions, Starts, Sense, cell, label, foreign, Environment, bind, bind_each, behind, count, letters, manifests, statics, globals, sense_of_constant, sense_of_global, past, past_each, past_command, past_definition, constant_in, labelled, within_let, objects_of_declaration, objects_of_declarations, objects_of_definitions, Lasting, global_vector, static_words, of_items, variables_hidden, declared, all_declared, inside, in_scope, in_for, of_expression, of_each, of_command, of_commands, of_declaration, of_declarations, of_definition, of_definitions, of_starts, of_sections, Program, program_of, StandsAt, InStatics, InItems, InExpression, InEach, InCommand, InCommands, InDeclaration, InDeclarations, InDefinition, InDefinitions, InStarts, InSections, WhatLastsStandsAtItsNumber}
 use Rattle.bk_tree.specs.Tree as t
 use Rattle.bk_scope.specs.Entering.{labels_of_each}
-use Rattle.bk_meaning.proofs.Numbers.{expression_counted, each_counted, action_counted, declaration_counted, declarations_counted, definition_counted}
+use Rattle.bk_meaning.proofs.Numbers.{expression_counted, each_counted, command_counted, declaration_counted, declarations_counted, definition_counted}
 
 -- these stand one after another in the list, the first at this number
 pub record Has (p : Program) (n : ℕ) (xs : List Lasting) : Type 0 where
@@ -57,11 +57,11 @@ pub bound-next : (xs : List (List ℕ)) (sense : Sense) (env : Environment) → 
 bound-next [] sense env = refl
 bound-next (x ∷ xs) sense env = bound-next xs sense (bind x sense env)
 
-pub labelled-next : (cs : Actions) (env : Environment) → (labelled cs env).next ≡ env.next
+pub labelled-next : (cs : Commands) (env : Environment) → (labelled cs env).next ≡ env.next
 labelled-next cs env = bound-next (labels_of_each cs) label env
 
-pub in_scope-next : (c : Action) (env : Environment) → (in_scope c env).next ≡ env.next
-in_scope-next c env = labelled-next (t.also c t.no_actions) env
+pub in_scope-next : (c : Command) (env : Environment) → (in_scope c env).next ≡ env.next
+in_scope-next c env = labelled-next (t.also c t.no_commands) env
 
 manifests-next : (is : Items) (env : Environment) → (manifests is env).next ≡ env.next
 manifests-next t.no_items env = refl
@@ -120,7 +120,7 @@ mutual
   )
   in_expression p env (t.apply l m f es) h =
       (in_expression p env f (left p env.next (of_expression env f) _ h), in_each p (past f env) es (second p env.next _ (of_expression env f) _ (expression_counted env f) h))
-  in_expression p env (t.valof l c) h = in_action p (in_scope c env) c (moved p env.next _ _ (in_scope-next c env) h)
+  in_expression p env (t.valof l c) h = in_command p (in_scope c env) c (moved p env.next _ _ (in_scope-next c env) h)
   in_expression p env (t.table l es) h = first p env.next _ [] h
   in_expression p env (t.name l x) h = tt
   in_expression p env _ h = tt
@@ -130,49 +130,49 @@ mutual
   in_each p env (t.more e es) h =
       (in_expression p env e (left p env.next (of_expression env e) _ h), in_each p (past e env) es (second p env.next _ (of_expression env e) _ (expression_counted env e) h))
 
-  pub in_action : (p : Program) (env : Environment) (c : Action) → Has p env.next (of_action env c) → InAction p env c
-  in_action p env (t.assign l xs es) h =
+  pub in_command : (p : Program) (env : Environment) (c : Command) → Has p env.next (of_command env c) → InCommand p env c
+  in_command p env (t.assign l xs es) h =
       (in_each p env xs (left p env.next (of_each env xs) _ h), in_each p (past_each xs env) es (second p env.next _ (of_each env xs) _ (each_counted env xs) h))
-  in_action p env (t.call l f es) h =
+  in_command p env (t.call l f es) h =
       (in_expression p env f (left p env.next (of_expression env f) _ h), in_each p (past f env) es (second p env.next _ (of_expression env f) _ (expression_counted env f) h))
-  in_action p env (t.label l x c) h = in_action p env c h
-  in_action p env (t.case_of l e c) h = in_action p env c h
-  in_action p env (t.default l c) h = in_action p env c h
-  in_action p env (t.when l b e c) h =
-      (in_expression p env e (left p env.next (of_expression env e) _ h), in_action p (past e env) c (second p env.next _ (of_expression env e) _ (expression_counted env e) h))
-  in_action p env (t.test l e a b) h = (
-    in_expression p env e (foremost p env.next (of_expression env e) (of_action (past e env) a) _ h),
-    in_action p (past e env) a (middle p env.next _ (of_expression env e) (of_action (past e env) a) _ (expression_counted env e) h),
-    in_action p (past_action a (past e env)) b (third p env.next _ _ (of_expression env e) (of_action (past e env) a) _ (expression_counted env e) (action_counted (past e env) a) h),
+  in_command p env (t.label l x c) h = in_command p env c h
+  in_command p env (t.case_of l e c) h = in_command p env c h
+  in_command p env (t.default l c) h = in_command p env c h
+  in_command p env (t.when l b e c) h =
+      (in_expression p env e (left p env.next (of_expression env e) _ h), in_command p (past e env) c (second p env.next _ (of_expression env e) _ (expression_counted env e) h))
+  in_command p env (t.test l e a b) h = (
+    in_expression p env e (foremost p env.next (of_expression env e) (of_command (past e env) a) _ h),
+    in_command p (past e env) a (middle p env.next _ (of_expression env e) (of_command (past e env) a) _ (expression_counted env e) h),
+    in_command p (past_command a (past e env)) b (third p env.next _ _ (of_expression env e) (of_command (past e env) a) _ (expression_counted env e) (command_counted (past e env) a) h),
   )
-  in_action p env (t.while l b e c) h =
-      (in_expression p env e (left p env.next (of_expression env e) _ h), in_action p (past e env) c (second p env.next _ (of_expression env e) _ (expression_counted env e) h))
-  in_action p env (t.for_loop l x a b k c) h = (
+  in_command p env (t.while l b e c) h =
+      (in_expression p env e (left p env.next (of_expression env e) _ h), in_command p (past e env) c (second p env.next _ (of_expression env e) _ (expression_counted env e) h))
+  in_command p env (t.for_loop l x a b k c) h = (
     in_expression p env a (foremost p env.next (of_expression env a) (of_expression (past a env) b) _ h),
     in_expression p (past a env) b (middle p env.next _ (of_expression env a) (of_expression (past a env) b) _ (expression_counted env a) h),
-    in_action p (in_for x c (past b (past a env))) c (moved p (past b (past a env)).next _ _ (in_scope-next c (bind x.letters foreign (past b (past a env)))) (third p env.next _ _ (of_expression env a) (of_expression (past a env) b) _ (expression_counted env a) (expression_counted (past a env) b) h)),
+    in_command p (in_for x c (past b (past a env))) c (moved p (past b (past a env)).next _ _ (in_scope-next c (bind x.letters foreign (past b (past a env)))) (third p env.next _ _ (of_expression env a) (of_expression (past a env) b) _ (expression_counted env a) (expression_counted (past a env) b) h)),
   )
-  in_action p env (t.switch l e c) h =
-      (in_expression p env e (left p env.next (of_expression env e) _ h), in_action p (past e env) c (second p env.next _ (of_expression env e) _ (expression_counted env e) h))
-  in_action p env (t.result l e) h = in_expression p env e h
-  in_action p env (t.block l t.no_declarations cs) h = in_actions p env cs h
-  in_action p env (t.block l (t.declare d ds) cs) h = (
+  in_command p env (t.switch l e c) h =
+      (in_expression p env e (left p env.next (of_expression env e) _ h), in_command p (past e env) c (second p env.next _ (of_expression env e) _ (expression_counted env e) h))
+  in_command p env (t.result l e) h = in_expression p env e h
+  in_command p env (t.block l t.no_declarations cs) h = in_commands p env cs h
+  in_command p env (t.block l (t.declare d ds) cs) h = (
     in_declarations p env (t.declare d ds) (left p env.next (of_declarations env (t.declare d ds)) _ h),
-    in_actions p (labelled cs (all_declared (t.declare d ds) env)) cs
+    in_commands p (labelled cs (all_declared (t.declare d ds) env)) cs
         (moved p (env.next + objects_of_declarations (t.declare d ds)) _ _ (labelled-next cs (all_declared (t.declare d ds) env) ∙ all_declared-next (t.declare d ds) env)
         (second p env.next _ (of_declarations env (t.declare d ds)) _ (declarations_counted env (t.declare d ds)) h)),
   )
-  in_action p env (t.repeat l c) h = in_action p env c h
-  in_action p env (t.repeat_while l b c e) h =
-      (in_action p env c (left p env.next (of_action env c) _ h), in_expression p (past_action c env) e (second p env.next _ (of_action env c) _ (action_counted env c) h))
-  in_action p env t.empty h = tt
-  in_action p env (t.goto l x) h = tt
-  in_action p env (t.simple l w) h = tt
+  in_command p env (t.repeat l c) h = in_command p env c h
+  in_command p env (t.repeat_while l b c e) h =
+      (in_command p env c (left p env.next (of_command env c) _ h), in_expression p (past_command c env) e (second p env.next _ (of_command env c) _ (command_counted env c) h))
+  in_command p env t.empty h = tt
+  in_command p env (t.goto l x) h = tt
+  in_command p env (t.simple l w) h = tt
 
-  pub in_actions : (p : Program) (env : Environment) (cs : Actions) → Has p env.next (of_actions env cs) → InActions p env cs
-  in_actions p env t.no_actions h = tt
-  in_actions p env (t.also c cs) h =
-      (in_action p env c (left p env.next (of_action env c) _ h), in_actions p (past_action c env) cs (second p env.next _ (of_action env c) _ (action_counted env c) h))
+  pub in_commands : (p : Program) (env : Environment) (cs : Commands) → Has p env.next (of_commands env cs) → InCommands p env cs
+  in_commands p env t.no_commands h = tt
+  in_commands p env (t.also c cs) h =
+      (in_command p env c (left p env.next (of_command env c) _ h), in_commands p (past_command c env) cs (second p env.next _ (of_command env c) _ (command_counted env c) h))
 
   pub in_declaration : (p : Program) (env : Environment) (d : Declaration) → Has p env.next (of_declaration env d) → InDeclaration p env d
   in_declaration p env (t.constants l sort is) h = in_items p env sort is h
@@ -187,7 +187,7 @@ mutual
 
   pub in_definition : (p : Program) (env : Environment) (d : Definition) → Has p env.next (of_definition env d) → InDefinition p env d
   in_definition p env (t.routine l x fs c) h =
-      (first p env.next _ _ h, in_action p (in_scope c (inside fs env)) c (behind_first p env.next _ _ _ (sym (in_scope-next c (inside fs env) ∙ bound-next (letters fs) foreign (behind 1 env))) h))
+      (first p env.next _ _ h, in_command p (in_scope c (inside fs env)) c (behind_first p env.next _ _ _ (sym (in_scope-next c (inside fs env) ∙ bound-next (letters fs) foreign (behind 1 env))) h))
   in_definition p env (t.function l x fs e) h =
       (first p env.next _ _ h, in_expression p (inside fs env) e (behind_first p env.next _ _ _ (sym (bound-next (letters fs) foreign (behind 1 env))) h))
   in_definition p env (t.variables l xs is) h = in_starts p env is h

@@ -3,7 +3,7 @@ pub use Rattle.std.proofs.Common.{ℕ, zero, suc, ◌+◌, ◌≤◌, Bool, true
 pub use Rattle.std.proofs.lemmas.List.{append-nil, length-append, map-append, length-map, length-set}
 pub use Rattle.std.specs.Prelude.{◌∷◌, unwrap_or, map, IsTrue, ◌%◌, is_some, option_and_then, slice_get, slice_set}
 pub use Rattle.bk_scope.specs.Constants.{divides_by_zero}
-pub use Rattle.bk_tree.specs.Tree.{Expression, Action, Actions, Declarations, Mention, Expressions, Declaration, Definition, Definitions, Starts, empty, Items}
+pub use Rattle.bk_tree.specs.Tree.{Expression, Command, Commands, Declarations, Mention, Expressions, Declaration, Definition, Definitions, Starts, empty, Items}
 pub use Rattle.bk_tree.specs.declared.tree.Operator.{Operator}
 pub use Rattle.bk_tree.specs.declared.tree.Prefix.{Prefix}
 pub use Rattle.bk_tree.specs.declared.tree.Simple.{Simple}
@@ -11,12 +11,12 @@ pub use Rattle.bk_tree.specs.declared.tree.Sort.{Sort}
 pub use Rattle.bk_meaning.specs.Blocks.{Start}
 pub use Rattle.bk_meaning.specs.Calls.{call}
 pub use Rattle.bk_meaning.specs.Commands.{act_of}
-pub use Rattle.bk_meaning.specs.Environment.{Environment, globals_object, Sense, constant, cell, label, foreign, sense_of, bind, behind, past, past_each, past_action, past_definition, constant_in, labelled, within_let, objects_of_definitions, objects, objects_of_each, objects_of_action, objects_of_actions, objects_of_declaration, objects_of_declarations, count, objects_of_definition, objects_of_starts, bind_each, letters, manifests, statics, globals, sense_of_constant, sense_of_global}
+pub use Rattle.bk_meaning.specs.Environment.{Environment, globals_object, Sense, constant, cell, label, foreign, sense_of, bind, behind, past, past_each, past_command, past_definition, constant_in, labelled, within_let, objects_of_definitions, objects, objects_of_each, objects_of_command, objects_of_commands, objects_of_declaration, objects_of_declarations, count, objects_of_definition, objects_of_starts, bind_each, letters, manifests, statics, globals, sense_of_constant, sense_of_global}
 pub use Rattle.bk_meaning.specs.Growing.{History, history, Grows, sizes, ComesBack, After, Restores, Keeps, InItsWorld, Throughout, OutputOnlyGrows, CallsComeBack, MemoryNeverShrinks, WhatLastsLives, size_of}
-pub use Rattle.bk_meaning.specs.Lasting.{Program, program_of, Body, command, expression, Procedure, procedure_of, Lasting, words, procedure_here, inside, in_scope, in_for, static_words, declared, all_declared, of_expression, of_each, of_action, of_actions, of_declaration, of_declarations, of_definition, of_definitions, of_starts, global_vector, code, objects_from, first_memory, of_items, variables_hidden, of_sections}
+pub use Rattle.bk_meaning.specs.Lasting.{Program, program_of, Body, command, expression, Procedure, procedure_of, Lasting, words, procedure_here, inside, in_scope, in_for, static_words, declared, all_declared, of_expression, of_each, of_command, of_commands, of_declaration, of_declarations, of_definition, of_definitions, of_starts, global_vector, code, objects_from, first_memory, of_items, variables_hidden, of_sections}
 pub use Rattle.bk_meaning.specs.Library.{library, writes_text, takes_byte, digits}
 pub use Rattle.bk_meaning.specs.Memory.{Memory, dead_from, read, living, dead, cells_of, cells_at, cell_at, replaced, with_cell, write, write_byte, cell_of_byte, lives, made}
-pub use Rattle.bk_meaning.specs.Numbering.{AsManyAsCounted, StandsAt, InStatics, InItems, InExpression, InEach, InAction, InActions, InDeclaration, InDeclarations, InDefinition, InDefinitions, InStarts, InSections, WhatLastsStandsAtItsNumber}
+pub use Rattle.bk_meaning.specs.Numbering.{AsManyAsCounted, StandsAt, InStatics, InItems, InExpression, InEach, InCommand, InCommands, InDeclaration, InDeclarations, InDefinition, InDefinitions, InStarts, InSections, WhatLastsStandsAtItsNumber}
 pub use Rattle.bk_meaning.specs.Operators.{sum, truth_of_value, on_numbers, operate, operate_prefix}
 pub use Rattle.bk_meaning.specs.Parts.{Meanings, Target, at, byte_at}
 pub use Rattle.bk_meaning.specs.Program.{turn_for, means_with, no_turn_for, no_turns, means, run_of, first_world, started, Ends, Going, Undefined, Run, meaning}

@@ -1,7 +1,7 @@
 -- Blocks: what the declarations at the head of one do.
 use Rattle.std.specs.Prelude.{ℕ, ◌+◌, Option, Some, None, List, [], ◌∷◌, ◌++◌, length, replicate}
 use Rattle.bk_tree.specs.Tree as t
-use Rattle.bk_tree.specs.Tree.{Mention, Expression, Expressions, Action, Actions, Declaration, Declarations, Definition, Definitions, Starts}
+use Rattle.bk_tree.specs.Tree.{Mention, Expression, Expressions, Command, Commands, Declaration, Declarations, Definition, Definitions, Starts}
 use Rattle.bk_meaning.specs.Values.{Value, address, unset, Cell, holds}
 use Rattle.bk_meaning.specs.World.{World, Outcome, gives, undefined, with, turn, making}
 use Rattle.bk_meaning.specs.Environment.{Environment, cell, bind, behind, past, past_definition, constant_in, within_let, constants_declared, letters, objects_of_definitions}

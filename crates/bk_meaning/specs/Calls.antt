@@ -1,7 +1,7 @@
 -- Calls, of a procedure of the program and of a library routine.
 use Rattle.std.specs.Prelude.{ℕ, suc, Option, Some, None, List, [], ◌∷◌, length}
 use Rattle.bk_tree.specs.Tree as t
-use Rattle.bk_tree.specs.Tree.{Mention, Expression, Expressions, Action, Actions, Declaration, Declarations, Definition, Definitions, Starts}
+use Rattle.bk_tree.specs.Tree.{Mention, Expression, Expressions, Command, Commands, Declaration, Declarations, Definition, Definitions, Starts}
 use Rattle.bk_meaning.specs.Values.{Value, procedure, routine, unset, Cell, holds}
 use Rattle.bk_meaning.specs.World.{World, Exit, return, Outcome, gives, leaves, undefined, each_way, with, making, closing, calling, calls_back}
 use Rattle.bk_meaning.specs.Environment.{Environment, cell, bind, past}

@@ -3,10 +3,10 @@ use Rattle.std.specs.Prelude.{Some, length}
 use Rattle.bk_tree.specs.declared.tree.Simple.{Simple}
 use Rattle.bk_tree.specs.declared.tree.Simple.TheVariants as k
 use Rattle.bk_tree.specs.Tree as t
-use Rattle.bk_tree.specs.Tree.{Mention, Expression, Expressions, Action, Actions, Declaration, Declarations, Definition, Definitions, Starts}
+use Rattle.bk_tree.specs.Tree.{Mention, Expression, Expressions, Command, Commands, Declaration, Declarations, Definition, Definitions, Starts}
 use Rattle.bk_meaning.specs.Values.{Value, number}
 use Rattle.bk_meaning.specs.World.{World, status, Exit, break, loop, endcase, goto, result, return, Outcome, leaves, ends, undefined, each_way, with, Done, done, given, either, closing}
-use Rattle.bk_meaning.specs.Environment.{Environment, past, past_each, past_action, constant_in}
+use Rattle.bk_meaning.specs.Environment.{Environment, past, past_each, past_command, constant_in}
 use Rattle.bk_meaning.specs.Lasting.{Program}
 use Rattle.bk_meaning.specs.Seeking.{the_label, the_case, the_default, Mode, forwards, seeking, at_place, stands_in}
 use Rattle.bk_meaning.specs.Parts.{store, Meanings}
@@ -30,7 +30,7 @@ case_exit x w = leaves x w
 abbrev pub ended_case : Outcome Done → Outcome Done
 ended_case u = each_way (λ _ w. done w) case_exit u
 
-abbrev pub choose_case : Meanings → Value → Action → Environment → World → Outcome Done
+abbrev pub choose_case : Meanings → Value → Command → Environment → World → Outcome Done
 choose_case m (number n) c env w =
     either (stands_in (the_case (Some n)) env c) (λ w. ended_case (m.act c (seeking (the_case (Some n))) env w))
     (λ w. either (stands_in the_default env c) (λ w. ended_case (m.act c (seeking the_default) env w)) done w) w
@@ -44,7 +44,7 @@ simple_exit k.Return w = leaves return w
 simple_exit k.Finish w = ends (status 0) w
 
 -- What a command does, forwards or seeking a place that is in it.
-abbrev pub act_of : Program → Meanings → Action → Mode → Environment → World → Outcome Done
+abbrev pub act_of : Program → Meanings → Command → Mode → Environment → World → Outcome Done
 act_of p m t.empty mode env w = done w
 act_of p m (t.assign l xs es) mode env w = assigned m xs env es (past_each xs env) w
 act_of p m (t.call l f es) mode env w = with (applied p m f es env w) (λ _ w. done w)
@@ -55,9 +55,9 @@ act_of p m (t.default l c) mode env w = m.act c (at_place the_default mode) env 
 act_of p m (t.when l b e c) forwards env w = where_truth m b e env (λ w. m.act c forwards (past e env) w) w
 act_of p m (t.when l b e c) (seeking s) env w = m.act c (seeking s) (past e env) w
 act_of p m (t.test l e a b) forwards env w =
-    with (m.truth e env w) (λ x w. either x (λ w. m.act a forwards (past e env) w) (λ w. m.act b forwards (past_action a (past e env)) w) w)
+    with (m.truth e env w) (λ x w. either x (λ w. m.act a forwards (past e env) w) (λ w. m.act b forwards (past_command a (past e env)) w) w)
 act_of p m (t.test l e a b) (seeking s) env w =
-    either (stands_in s env a) (λ w. m.act a (seeking s) (past e env) w) (λ w. m.act b (seeking s) (past_action a (past e env)) w) w
+    either (stands_in s env a) (λ w. m.act a (seeking s) (past e env) w) (λ w. m.act b (seeking s) (past_command a (past e env)) w) w
 act_of p m (t.while l b e c) forwards env w = where_truth m b e env (λ w. rounds_of m (t.while l b e c) forwards env w) w
 act_of p m (t.while l b e c) (seeking s) env w = rounds_of m (t.while l b e c) (seeking s) env w
 act_of p m (t.for_loop l x a b h c) mode env w =

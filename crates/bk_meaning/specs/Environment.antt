@@ -7,7 +7,7 @@ use Rattle.bk_base.specs.Word.{truth as truth_word}
 use Rattle.bk_tree.specs.declared.tree.Sort.{Sort}
 use Rattle.bk_tree.specs.declared.tree.Sort.TheVariants as s
 use Rattle.bk_tree.specs.Tree as t
-use Rattle.bk_tree.specs.Tree.{Mention, Expression, Expressions, Action, Actions, Declaration, Declarations, Items, Definition, Definitions, Starts}
+use Rattle.bk_tree.specs.Tree.{Mention, Expression, Expressions, Command, Commands, Declaration, Declarations, Items, Definition, Definitions, Starts}
 use Rattle.bk_scope.specs.Constants.{prefix_word, infix_word}
 use Rattle.bk_scope.specs.Entering.{labels_of_each}
 
@@ -60,7 +60,7 @@ abbrev mutual
   objects (t.binary l q m a b) = objects a + objects b
   objects (t.choice l m c a b) = objects c + objects a + objects b
   objects (t.apply l m f es) = objects f + objects_of_each es
-  objects (t.valof l c) = objects_of_action c
+  objects (t.valof l c) = objects_of_command c
   objects (t.table l es) = 1
   objects _ = 0
 
@@ -68,26 +68,26 @@ abbrev mutual
   objects_of_each t.none = 0
   objects_of_each (t.more e es) = objects e + objects_of_each es
 
-  pub objects_of_action : Action → ℕ
-  objects_of_action (t.assign l xs es) = objects_of_each xs + objects_of_each es
-  objects_of_action (t.call l f es) = objects f + objects_of_each es
-  objects_of_action (t.label l x c) = objects_of_action c
-  objects_of_action (t.case_of l e c) = objects_of_action c
-  objects_of_action (t.default l c) = objects_of_action c
-  objects_of_action (t.when l b e c) = objects e + objects_of_action c
-  objects_of_action (t.test l e a b) = objects e + objects_of_action a + objects_of_action b
-  objects_of_action (t.while l b e c) = objects e + objects_of_action c
-  objects_of_action (t.for_loop l x a b h c) = objects a + objects b + objects_of_action c
-  objects_of_action (t.switch l e c) = objects e + objects_of_action c
-  objects_of_action (t.result l e) = objects e
-  objects_of_action (t.block l ds cs) = objects_of_declarations ds + objects_of_actions cs
-  objects_of_action (t.repeat l c) = objects_of_action c
-  objects_of_action (t.repeat_while l b c e) = objects_of_action c + objects e
-  objects_of_action _ = 0
+  pub objects_of_command : Command → ℕ
+  objects_of_command (t.assign l xs es) = objects_of_each xs + objects_of_each es
+  objects_of_command (t.call l f es) = objects f + objects_of_each es
+  objects_of_command (t.label l x c) = objects_of_command c
+  objects_of_command (t.case_of l e c) = objects_of_command c
+  objects_of_command (t.default l c) = objects_of_command c
+  objects_of_command (t.when l b e c) = objects e + objects_of_command c
+  objects_of_command (t.test l e a b) = objects e + objects_of_command a + objects_of_command b
+  objects_of_command (t.while l b e c) = objects e + objects_of_command c
+  objects_of_command (t.for_loop l x a b h c) = objects a + objects b + objects_of_command c
+  objects_of_command (t.switch l e c) = objects e + objects_of_command c
+  objects_of_command (t.result l e) = objects e
+  objects_of_command (t.block l ds cs) = objects_of_declarations ds + objects_of_commands cs
+  objects_of_command (t.repeat l c) = objects_of_command c
+  objects_of_command (t.repeat_while l b c e) = objects_of_command c + objects e
+  objects_of_command _ = 0
 
-  pub objects_of_actions : Actions → ℕ
-  objects_of_actions t.no_actions = 0
-  objects_of_actions (t.also c cs) = objects_of_action c + objects_of_actions cs
+  pub objects_of_commands : Commands → ℕ
+  objects_of_commands t.no_commands = 0
+  objects_of_commands (t.also c cs) = objects_of_command c + objects_of_commands cs
 
   pub objects_of_declaration : Declaration → ℕ
   objects_of_declaration (t.constants l s.Static is) = count is
@@ -103,7 +103,7 @@ abbrev mutual
   count (t.item l x e is) = 1 + count is
 
   pub objects_of_definition : Definition → ℕ
-  objects_of_definition (t.routine l x fs c) = 1 + objects_of_action c
+  objects_of_definition (t.routine l x fs c) = 1 + objects_of_command c
   objects_of_definition (t.function l x fs e) = 1 + objects e
   objects_of_definition (t.variables l xs is) = objects_of_starts is
 
@@ -123,8 +123,8 @@ past e env = behind (objects e) env
 abbrev pub past_each : Expressions → Environment → Environment
 past_each es env = behind (objects_of_each es) env
 
-abbrev pub past_action : Action → Environment → Environment
-past_action c env = behind (objects_of_action c) env
+abbrev pub past_command : Command → Environment → Environment
+past_command c env = behind (objects_of_command c) env
 
 abbrev pub past_definition : Definition → Environment → Environment
 past_definition d env = behind (objects_of_definition d) env
@@ -144,7 +144,7 @@ constant_in env (t.binary l q m a b) = option_and_then (λ x. option_and_then (i
 constant_in env _ = None
 
 -- In the commands of a scope, and there alone, a label hides the names declared at that scope's head.
-abbrev pub labelled : Actions → Environment → Environment
+abbrev pub labelled : Commands → Environment → Environment
 labelled cs env = bind_each (labels_of_each cs) label env
 
 -- A procedure whose name means a global goes on to mean it; any other name is a static word, the object of its number.

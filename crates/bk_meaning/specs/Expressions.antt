@@ -6,7 +6,7 @@ use Rattle.bk_tree.specs.declared.tree.Operator.{Operator}
 use Rattle.bk_tree.specs.declared.tree.Operator.TheVariants as o
 use Rattle.bk_tree.specs.declared.tree.Prefix.TheVariants as q
 use Rattle.bk_tree.specs.Tree as t
-use Rattle.bk_tree.specs.Tree.{Mention, Expression, Expressions, Action, Actions, Declaration, Declarations, Definition, Definitions, Starts}
+use Rattle.bk_tree.specs.Tree.{Mention, Expression, Expressions, Command, Commands, Declaration, Declarations, Definition, Definitions, Starts}
 use Rattle.bk_meaning.specs.Values.{Value, number, address, unset}
 use Rattle.bk_meaning.specs.Memory.{read_byte}
 use Rattle.bk_meaning.specs.World.{World, Exit, result, Outcome, gives, leaves, undefined, each_way, with, Done, given, either}

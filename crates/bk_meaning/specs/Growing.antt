@@ -1,6 +1,6 @@
 -- What only grows while a program runs, seen from any world on; and what a part of it that is gone through leaves as it was.
 use Rattle.std.specs.Prelude.{◌≡◌, ℕ, ◌≤◌, ◌<◌, IsTrue, Option, Some, None, List, [], ◌++◌, length, map}
-use Rattle.bk_tree.specs.Tree.{Expression, Action, Actions, Declarations}
+use Rattle.bk_tree.specs.Tree.{Expression, Command, Commands, Declarations}
 use Rattle.bk_meaning.specs.Values.{Value}
 use Rattle.bk_meaning.specs.Memory.{Object, living, dead, Memory, lives}
 use Rattle.bk_meaning.specs.World.{World, Outcome, gives, leaves, ends, undefined, going}
@@ -70,10 +70,10 @@ pub record Throughout (Holds : (A : Type 0) → World → Outcome A → Type 0) 
   pub value : (e : Expression) (env : Environment) (w : World) → Holds _ w (m.value e env w)
   pub truth : (e : Expression) (env : Environment) (w : World) → Holds _ w (m.truth e env w)
   pub target : (e : Expression) (env : Environment) (w : World) → Holds _ w (m.target e env w)
-  pub act : (c : Action) (mode : Mode) (env : Environment) (w : World) → Holds _ w (m.act c mode env w)
-  pub rounds : (c : Action) (mode : Mode) (env : Environment) (w : World) → Holds _ w (m.rounds c mode env w)
-  pub for_rounds : (c : Action) (object : ℕ) (limit : Value) (step : ℕ) (env : Environment) (w : World) → Holds _ w (m.for_rounds c object limit step env w)
-  pub scope : (cs : Actions) (mode : Mode) (env : Environment) (w : World) → Holds _ w (m.scope cs mode env w)
+  pub act : (c : Command) (mode : Mode) (env : Environment) (w : World) → Holds _ w (m.act c mode env w)
+  pub rounds : (c : Command) (mode : Mode) (env : Environment) (w : World) → Holds _ w (m.rounds c mode env w)
+  pub for_rounds : (c : Command) (object : ℕ) (limit : Value) (step : ℕ) (env : Environment) (w : World) → Holds _ w (m.for_rounds c object limit step env w)
+  pub scope : (cs : Commands) (mode : Mode) (env : Environment) (w : World) → Holds _ w (m.scope cs mode env w)
 
 abbrev pub OutputOnlyGrows : Type 0
 OutputOnlyGrows = (p : Program) (n : ℕ) → Throughout (λ A w u. After (history w) u) (means p n)

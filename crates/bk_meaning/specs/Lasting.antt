@@ -5,14 +5,14 @@ use Rattle.bk_base.specs.Strings.{string_words, first_bytes}
 use Rattle.bk_tree.specs.declared.tree.Sort.{Sort}
 use Rattle.bk_tree.specs.declared.tree.Sort.TheVariants as s
 use Rattle.bk_tree.specs.Tree as t
-use Rattle.bk_tree.specs.Tree.{Mention, Expression, Expressions, Action, Actions, Declaration, Declarations, Items, Definition, Definitions, Starts}
+use Rattle.bk_tree.specs.Tree.{Mention, Expression, Expressions, Command, Commands, Declaration, Declarations, Items, Definition, Definitions, Starts}
 use Rattle.bk_meaning.specs.Values.{stop, rdch, wrch, newline, writes, writen, writed, getbyte, putbyte, writef, number, procedure, routine, unset, Cell, holds}
 use Rattle.bk_meaning.specs.Memory.{Memory, Object, living}
-use Rattle.bk_meaning.specs.Environment.{Environment, foreign, sense_of, bind, bind_each, behind, past, past_each, past_action, past_definition, constant_in, labelled, global_named, within_let, constants_declared, letters, objects_of_definitions, objects_of_declarations}
+use Rattle.bk_meaning.specs.Environment.{Environment, foreign, sense_of, bind, bind_each, behind, past, past_each, past_command, past_definition, constant_in, labelled, global_named, within_let, constants_declared, letters, objects_of_definitions, objects_of_declarations}
 
 -- with BE a command, with `=` an expression
 pub data Body : Type 0 where
-  command : Action → Body
+  command : Command → Body
   expression : Expression → Body
 
 pub record Procedure : Type 0 where
@@ -66,10 +66,10 @@ abbrev pub inside : List Mention → Environment → Environment
 inside fs env = bind_each (letters fs) foreign (behind 1 env)
 
 -- the environment in a command that is a scope of its own, and in the body of a FOR with this variable
-abbrev pub in_scope : Action → Environment → Environment
-in_scope c env = labelled (t.also c t.no_actions) env
+abbrev pub in_scope : Command → Environment → Environment
+in_scope c env = labelled (t.also c t.no_commands) env
 
-abbrev pub in_for : Mention → Action → Environment → Environment
+abbrev pub in_for : Mention → Command → Environment → Environment
 in_for x c env = in_scope c (bind x.letters foreign env)
 
 abbrev mutual
@@ -80,7 +80,7 @@ abbrev mutual
   of_expression env (t.binary l q m a b) = of_expression env a ++ of_expression (past a env) b
   of_expression env (t.choice l m c a b) = of_expression env c ++ of_expression (past c env) a ++ of_expression (past a (past c env)) b
   of_expression env (t.apply l m f es) = of_expression env f ++ of_each (past f env) es
-  of_expression env (t.valof l c) = of_action (in_scope c env) c
+  of_expression env (t.valof l c) = of_command (in_scope c env) c
   of_expression env (t.table l es) = words (constant_words env es) ∷ []
   of_expression env _ = []
 
@@ -88,28 +88,28 @@ abbrev mutual
   of_each env t.none = []
   of_each env (t.more e es) = of_expression env e ++ of_each (past e env) es
 
-  pub of_action : Environment → Action → List Lasting
-  of_action env (t.assign l xs es) = of_each env xs ++ of_each (past_each xs env) es
-  of_action env (t.call l f es) = of_expression env f ++ of_each (past f env) es
-  of_action env (t.label l x c) = of_action env c
-  of_action env (t.case_of l e c) = of_action env c
-  of_action env (t.default l c) = of_action env c
-  of_action env (t.when l b e c) = of_expression env e ++ of_action (past e env) c
-  of_action env (t.test l e a b) = of_expression env e ++ of_action (past e env) a ++ of_action (past_action a (past e env)) b
-  of_action env (t.while l b e c) = of_expression env e ++ of_action (past e env) c
-  of_action env (t.for_loop l x a b h c) =
-      of_expression env a ++ of_expression (past a env) b ++ of_action (in_for x c (past b (past a env))) c
-  of_action env (t.switch l e c) = of_expression env e ++ of_action (past e env) c
-  of_action env (t.result l e) = of_expression env e
-  of_action env (t.block l t.no_declarations cs) = of_actions env cs
-  of_action env (t.block l ds cs) = of_declarations env ds ++ of_actions (labelled cs (all_declared ds env)) cs
-  of_action env (t.repeat l c) = of_action env c
-  of_action env (t.repeat_while l b c e) = of_action env c ++ of_expression (past_action c env) e
-  of_action env _ = []
+  pub of_command : Environment → Command → List Lasting
+  of_command env (t.assign l xs es) = of_each env xs ++ of_each (past_each xs env) es
+  of_command env (t.call l f es) = of_expression env f ++ of_each (past f env) es
+  of_command env (t.label l x c) = of_command env c
+  of_command env (t.case_of l e c) = of_command env c
+  of_command env (t.default l c) = of_command env c
+  of_command env (t.when l b e c) = of_expression env e ++ of_command (past e env) c
+  of_command env (t.test l e a b) = of_expression env e ++ of_command (past e env) a ++ of_command (past_command a (past e env)) b
+  of_command env (t.while l b e c) = of_expression env e ++ of_command (past e env) c
+  of_command env (t.for_loop l x a b h c) =
+      of_expression env a ++ of_expression (past a env) b ++ of_command (in_for x c (past b (past a env))) c
+  of_command env (t.switch l e c) = of_expression env e ++ of_command (past e env) c
+  of_command env (t.result l e) = of_expression env e
+  of_command env (t.block l t.no_declarations cs) = of_commands env cs
+  of_command env (t.block l ds cs) = of_declarations env ds ++ of_commands (labelled cs (all_declared ds env)) cs
+  of_command env (t.repeat l c) = of_command env c
+  of_command env (t.repeat_while l b c e) = of_command env c ++ of_expression (past_command c env) e
+  of_command env _ = []
 
-  pub of_actions : Environment → Actions → List Lasting
-  of_actions env t.no_actions = []
-  of_actions env (t.also c cs) = of_action env c ++ of_actions (past_action c env) cs
+  pub of_commands : Environment → Commands → List Lasting
+  of_commands env t.no_commands = []
+  of_commands env (t.also c cs) = of_command env c ++ of_commands (past_command c env) cs
 
   pub of_declaration : Environment → Declaration → List Lasting
   of_declaration env (t.constants l s is) = of_items env s is
@@ -121,7 +121,7 @@ abbrev mutual
 
   -- a procedure, and what its body has
   pub of_definition : Environment → Definition → List Lasting
-  of_definition env (t.routine l x fs c) = procedure_here x fs (command c) env ∷ of_action (in_scope c (inside fs env)) c
+  of_definition env (t.routine l x fs c) = procedure_here x fs (command c) env ∷ of_command (in_scope c (inside fs env)) c
   of_definition env (t.function l x fs e) = procedure_here x fs (expression e) env ∷ of_expression (inside fs env) e
   of_definition env (t.variables l xs is) = of_starts env is
 

@@ -3,11 +3,11 @@ use Rattle.std.specs.Prelude.{ℕ, ◌^◌, nat_lt, Bool, true, false, not, cond
 use Rattle.bk_tree.specs.declared.tree.Operator.{Operator}
 use Rattle.bk_tree.specs.declared.tree.Operator.TheVariants as o
 use Rattle.bk_tree.specs.Tree as t
-use Rattle.bk_tree.specs.Tree.{Mention, Expression, Expressions, Action, Actions, Declaration, Declarations, Definition, Definitions, Starts}
+use Rattle.bk_tree.specs.Tree.{Mention, Expression, Expressions, Command, Commands, Declaration, Declarations, Definition, Definitions, Starts}
 use Rattle.bk_meaning.specs.Values.{Value, number, address, holds}
 use Rattle.bk_meaning.specs.World.{World, Exit, break, loop, Outcome, leaves, each_way, with, Done, done, either, turn, making, closing}
 use Rattle.bk_meaning.specs.Operators.{operate}
-use Rattle.bk_meaning.specs.Environment.{Environment, cell, bind, past, past_action, constant_in}
+use Rattle.bk_meaning.specs.Environment.{Environment, cell, bind, past, past_command, constant_in}
 use Rattle.bk_meaning.specs.Seeking.{Mode, forwards}
 use Rattle.bk_meaning.specs.Parts.{store, Meanings, fetch, at}
 use Rattle.bk_meaning.specs.Scopes.{scope_of, alone}
@@ -31,12 +31,12 @@ abbrev pub where_truth : Meanings → Bool → Expression → Environment → (W
 where_truth m b e env go w = with (m.truth e env w) (λ x w. either (same_truth b x) go done w)
 
 -- A round, and those after it: a further one takes a turn. The first may begin at a place that is sought; then the loop goes on.
-abbrev pub rounds_of : Meanings → Action → Mode → Environment → World → Outcome Done
+abbrev pub rounds_of : Meanings → Command → Mode → Environment → World → Outcome Done
 rounds_of m (t.while l b e c) mode env w =
     again (m.act c mode (past e env) w) (λ w. where_truth m b e env (λ w. turn w (λ w. m.rounds (t.while l b e c) forwards env w)) w)
 rounds_of m (t.repeat l c) mode env w = again (m.act c mode env w) (λ w. turn w (λ w. m.rounds (t.repeat l c) forwards env w))
 rounds_of m (t.repeat_while l b c e) mode env w =
-    again (m.act c mode env w) (λ w. where_truth m b e (past_action c env) (λ w. turn w (λ w. m.rounds (t.repeat_while l b c e) forwards env w)) w)
+    again (m.act c mode env w) (λ w. where_truth m b e (past_command c env) (λ w. turn w (λ w. m.rounds (t.repeat_while l b c e) forwards env w)) w)
 rounds_of m c mode env w = done w
 
 -- FOR: the variable, which is an object, is compared with the limit, and the step is added to it.
@@ -55,12 +55,12 @@ abbrev pub for_step : ℕ → ℕ → World → Outcome Done
 for_step object step w =
     with (fetch (address object 0) w) (λ v w. with (operate o.Add v (number step) w) (λ v w. store (at (address object 0)) v w))
 
-abbrev pub for_rounds_of : Meanings → Action → ℕ → Value → ℕ → Environment → World → Outcome Done
+abbrev pub for_rounds_of : Meanings → Command → ℕ → Value → ℕ → Environment → World → Outcome Done
 for_rounds_of m c object limit step env w =
     again (scope_of m (alone c) forwards env w) (λ w. with (for_step object step w) (λ _ w.
     for_test object limit step (λ w. turn w (λ w. m.for_rounds c object limit step env w)) w))
 
-abbrev pub for_loop : Meanings → List ℕ → Action → Value → Value → ℕ → Environment → World → Outcome Done
+abbrev pub for_loop : Meanings → List ℕ → Command → Value → Value → ℕ → Environment → World → Outcome Done
 for_loop m x c start limit step env w =
     let object : ℕ = length w.memory in
     closing object (for_test object limit step (λ w. for_rounds_of m c object limit step (bind x (cell object 0) env) w) (making (holds start ∷ []) w))

@@ -4,8 +4,8 @@ use Rattle.std.specs.Prelude.{◌≡◌, ℕ, suc, ◌+◌, Some, unwrap_or, Lis
 use Rattle.bk_tree.specs.declared.tree.Sort.{Sort}
 use Rattle.bk_tree.specs.declared.tree.Sort.TheVariants as s
 use Rattle.bk_tree.specs.Tree as t
-use Rattle.bk_tree.specs.Tree.{Mention, Expression, Expressions, Action, Actions, Declaration, Declarations, Items, Definition, Definitions, Starts}
-use Rattle.bk_meaning.specs.Environment.{Environment, past, past_each, past_action, past_definition, constant_in, labelled, within_let, objects_of_declarations}
+use Rattle.bk_tree.specs.Tree.{Mention, Expression, Expressions, Command, Commands, Declaration, Declarations, Items, Definition, Definitions, Starts}
+use Rattle.bk_meaning.specs.Environment.{Environment, past, past_each, past_command, past_definition, constant_in, labelled, within_let, objects_of_declarations}
 use Rattle.bk_meaning.specs.Lasting.{command, expression, Lasting, words, text_words, constant_words, declared, all_declared, procedure_here, inside, in_scope, in_for, of_declarations, Program, program_of}
 
 abbrev pub AsManyAsCounted : Type 0
@@ -31,7 +31,7 @@ abbrev mutual
   InExpression p env (t.binary l q m a b) = InExpression p env a × InExpression p (past a env) b
   InExpression p env (t.choice l m c a b) = InExpression p env c × InExpression p (past c env) a × InExpression p (past a (past c env)) b
   InExpression p env (t.apply l m f es) = InExpression p env f × InEach p (past f env) es
-  InExpression p env (t.valof l c) = InAction p (in_scope c env) c
+  InExpression p env (t.valof l c) = InCommand p (in_scope c env) c
   InExpression p env (t.table l es) = StandsAt p env.next (words (constant_words env es))
   InExpression p env _ = Unit {0}
 
@@ -39,28 +39,28 @@ abbrev mutual
   InEach p env t.none = Unit {0}
   InEach p env (t.more e es) = InExpression p env e × InEach p (past e env) es
 
-  pub InAction : Program → Environment → Action → Type 0
-  InAction p env (t.assign l xs es) = InEach p env xs × InEach p (past_each xs env) es
-  InAction p env (t.call l f es) = InExpression p env f × InEach p (past f env) es
-  InAction p env (t.label l x c) = InAction p env c
-  InAction p env (t.case_of l e c) = InAction p env c
-  InAction p env (t.default l c) = InAction p env c
-  InAction p env (t.when l b e c) = InExpression p env e × InAction p (past e env) c
-  InAction p env (t.test l e a b) = InExpression p env e × InAction p (past e env) a × InAction p (past_action a (past e env)) b
-  InAction p env (t.while l b e c) = InExpression p env e × InAction p (past e env) c
-  InAction p env (t.for_loop l x a b h c) =
-      InExpression p env a × InExpression p (past a env) b × InAction p (in_for x c (past b (past a env))) c
-  InAction p env (t.switch l e c) = InExpression p env e × InAction p (past e env) c
-  InAction p env (t.result l e) = InExpression p env e
-  InAction p env (t.block l t.no_declarations cs) = InActions p env cs
-  InAction p env (t.block l ds cs) = InDeclarations p env ds × InActions p (labelled cs (all_declared ds env)) cs
-  InAction p env (t.repeat l c) = InAction p env c
-  InAction p env (t.repeat_while l b c e) = InAction p env c × InExpression p (past_action c env) e
-  InAction p env _ = Unit {0}
+  pub InCommand : Program → Environment → Command → Type 0
+  InCommand p env (t.assign l xs es) = InEach p env xs × InEach p (past_each xs env) es
+  InCommand p env (t.call l f es) = InExpression p env f × InEach p (past f env) es
+  InCommand p env (t.label l x c) = InCommand p env c
+  InCommand p env (t.case_of l e c) = InCommand p env c
+  InCommand p env (t.default l c) = InCommand p env c
+  InCommand p env (t.when l b e c) = InExpression p env e × InCommand p (past e env) c
+  InCommand p env (t.test l e a b) = InExpression p env e × InCommand p (past e env) a × InCommand p (past_command a (past e env)) b
+  InCommand p env (t.while l b e c) = InExpression p env e × InCommand p (past e env) c
+  InCommand p env (t.for_loop l x a b h c) =
+      InExpression p env a × InExpression p (past a env) b × InCommand p (in_for x c (past b (past a env))) c
+  InCommand p env (t.switch l e c) = InExpression p env e × InCommand p (past e env) c
+  InCommand p env (t.result l e) = InExpression p env e
+  InCommand p env (t.block l t.no_declarations cs) = InCommands p env cs
+  InCommand p env (t.block l ds cs) = InDeclarations p env ds × InCommands p (labelled cs (all_declared ds env)) cs
+  InCommand p env (t.repeat l c) = InCommand p env c
+  InCommand p env (t.repeat_while l b c e) = InCommand p env c × InExpression p (past_command c env) e
+  InCommand p env _ = Unit {0}
 
-  pub InActions : Program → Environment → Actions → Type 0
-  InActions p env t.no_actions = Unit {0}
-  InActions p env (t.also c cs) = InAction p env c × InActions p (past_action c env) cs
+  pub InCommands : Program → Environment → Commands → Type 0
+  InCommands p env t.no_commands = Unit {0}
+  InCommands p env (t.also c cs) = InCommand p env c × InCommands p (past_command c env) cs
 
   pub InDeclaration : Program → Environment → Declaration → Type 0
   InDeclaration p env (t.constants l s is) = InItems p env s is
@@ -71,7 +71,7 @@ abbrev mutual
   InDeclarations p env (t.declare d ds) = InDeclaration p env d × InDeclarations p (declared d env) ds
 
   pub InDefinition : Program → Environment → Definition → Type 0
-  InDefinition p env (t.routine l x fs c) = StandsAt p env.next (procedure_here x fs (command c) env) × InAction p (in_scope c (inside fs env)) c
+  InDefinition p env (t.routine l x fs c) = StandsAt p env.next (procedure_here x fs (command c) env) × InCommand p (in_scope c (inside fs env)) c
   InDefinition p env (t.function l x fs e) = StandsAt p env.next (procedure_here x fs (expression e) env) × InExpression p (inside fs env) e
   InDefinition p env (t.variables l xs is) = InStarts p env is
 

@@ -1,7 +1,7 @@
 -- The parts of the meaning: where the nodes inside a node have theirs, each node has its own. From here on p is the program, m
 -- the meanings of the nodes inside, env what the names mean, w the world before and u an outcome.
 use Rattle.std.specs.Prelude.{ℕ, Bool, Option, Some}
-use Rattle.bk_tree.specs.Tree.{Expression, Action, Actions}
+use Rattle.bk_tree.specs.Tree.{Expression, Command, Commands}
 use Rattle.bk_meaning.specs.Values.{Value, number, address}
 use Rattle.bk_meaning.specs.Memory.{read, write, write_byte}
 use Rattle.bk_meaning.specs.World.{World, Outcome, gives, undefined, Done, given, changes}
@@ -18,13 +18,13 @@ pub record Meanings : Type 0 where
   pub value : Expression → Environment → World → Outcome Value
   pub truth : Expression → Environment → World → Outcome Bool
   pub target : Expression → Environment → World → Outcome Target
-  pub act : Action → Mode → Environment → World → Outcome Done
+  pub act : Command → Mode → Environment → World → Outcome Done
   -- a round of a loop, and those after it
-  pub rounds : Action → Mode → Environment → World → Outcome Done
+  pub rounds : Command → Mode → Environment → World → Outcome Done
   -- a round of a FOR with this body, variable, limit and step, and those after it
-  pub for_rounds : Action → ℕ → Value → ℕ → Environment → World → Outcome Done
+  pub for_rounds : Command → ℕ → Value → ℕ → Environment → World → Outcome Done
   -- the commands of a scope
-  pub scope : Actions → Mode → Environment → World → Outcome Done
+  pub scope : Commands → Mode → Environment → World → Outcome Done
 
 -- what is at an address
 abbrev pub fetch : Value → World → Outcome Value

@@ -1,7 +1,7 @@
 -- What a program means: its sections, the input, and how many turns there are.
 use Rattle.std.specs.Prelude.{ℕ, zero, suc, Option, Some, None, List, []}
 use Rattle.bk_tree.specs.Tree as t
-use Rattle.bk_tree.specs.Tree.{Expression, Action, Declarations}
+use Rattle.bk_tree.specs.Tree.{Expression, Command, Declarations}
 use Rattle.bk_meaning.specs.Values.{Value, address}
 use Rattle.bk_meaning.specs.Memory.{read}
 use Rattle.bk_meaning.specs.World.{World, End, status, no_start, Outcome, gives, leaves, ends, undefined, going, Done, done, turn}
@@ -15,7 +15,7 @@ use Rattle.bk_meaning.specs.Loops.{rounds_of, for_rounds_of}
 use Rattle.bk_meaning.specs.Commands.{act_of}
 
 -- a command takes a turn, unless it is empty
-abbrev pub turn_for : Action → World → (World → Outcome Done) → Outcome Done
+abbrev pub turn_for : Command → World → (World → Outcome Done) → Outcome Done
 turn_for t.empty w go = go w
 turn_for c w go = turn w go
 
@@ -32,7 +32,7 @@ means_with p m = record {
 }
 
 -- where no turn is left
-abbrev pub no_turn_for : Action → World → Outcome Done
+abbrev pub no_turn_for : Command → World → Outcome Done
 no_turn_for t.empty w = done w
 no_turn_for c w = going w
 

@@ -2,29 +2,29 @@
 -- declarations own their labels.
 use Rattle.std.specs.Prelude.{ℕ, List}
 use Rattle.bk_tree.specs.Tree as t
-use Rattle.bk_tree.specs.Tree.{Mention, Expression, Expressions, Action, Actions, Declaration, Declarations, Definition, Definitions, Starts}
+use Rattle.bk_tree.specs.Tree.{Mention, Expression, Expressions, Command, Commands, Declaration, Declarations, Definition, Definitions, Starts}
 use Rattle.bk_meaning.specs.World.{World, Exit, goto, Outcome, leaves, each_way, with, Done, done, either}
-use Rattle.bk_meaning.specs.Environment.{Environment, past_action, labelled}
+use Rattle.bk_meaning.specs.Environment.{Environment, past_command, labelled}
 use Rattle.bk_meaning.specs.Seeking.{the_label, Mode, forwards, seeking, stands_in, stands_in_one}
 use Rattle.bk_meaning.specs.Parts.{Meanings}
 
 -- Commands in order. Seeking passes over those in which the place is not, and goes on forwards from it.
-abbrev pub in_order : Meanings → Actions → Mode → Environment → World → Outcome Done
-in_order m t.no_actions mode env w = done w
-in_order m (t.also c cs) forwards env w = with (m.act c forwards env w) (λ _ w. in_order m cs forwards (past_action c env) w)
+abbrev pub in_order : Meanings → Commands → Mode → Environment → World → Outcome Done
+in_order m t.no_commands mode env w = done w
+in_order m (t.also c cs) forwards env w = with (m.act c forwards env w) (λ _ w. in_order m cs forwards (past_command c env) w)
 in_order m (t.also c cs) (seeking s) env w =
-    either (stands_in s env c) (λ w. with (m.act c (seeking s) env w) (λ _ w. in_order m cs forwards (past_action c env) w))
-    (λ w. in_order m cs (seeking s) (past_action c env) w) w
+    either (stands_in s env c) (λ w. with (m.act c (seeking s) env w) (λ _ w. in_order m cs forwards (past_command c env) w))
+    (λ w. in_order m cs (seeking s) (past_command c env) w) w
 
 -- The commands of a scope. A GOTO to one of their labels runs them again, seeking it.
-abbrev pub landing : Actions → Environment → (List ℕ → World → Outcome Done) → Exit → World → Outcome Done
+abbrev pub landing : Commands → Environment → (List ℕ → World → Outcome Done) → Exit → World → Outcome Done
 landing cs env go (goto x) w = either (stands_in_one (the_label x) env cs) (go x) (λ w. leaves (goto x) w) w
 landing cs env go x w = leaves x w
 
-abbrev pub scope_of : Meanings → Actions → Mode → Environment → World → Outcome Done
+abbrev pub scope_of : Meanings → Commands → Mode → Environment → World → Outcome Done
 scope_of m cs mode env w =
     each_way (λ _ w. done w) (landing cs env (λ x w. m.scope cs (seeking (the_label x)) env w)) (in_order m cs mode (labelled cs env) w)
 
 -- one command as a scope of its own: the body of a procedure, a VALOF or a FOR
-abbrev pub alone : Action → Actions
-alone c = t.also c t.no_actions
+abbrev pub alone : Command → Commands
+alone c = t.also c t.no_commands

@@ -2,7 +2,7 @@
 use Rattle.std.specs.Prelude.{ℕ, ◌==◌, Bool, true, false, ◌||◌, cond, Option, Some, List}
 use Rattle.std.specs.Str.{bytes_eq}
 use Rattle.bk_tree.specs.Tree as t
-use Rattle.bk_tree.specs.Tree.{Action, Actions}
+use Rattle.bk_tree.specs.Tree.{Command, Commands}
 use Rattle.bk_meaning.specs.Environment.{Environment, constant_in}
 
 pub data Sought : Type 0 where
@@ -39,7 +39,7 @@ is_label _ = false
 -- Whether the place is in a command, where seeking comes to it: a block with declarations, the body of a FOR and of a VALOF
 -- keep their own.
 abbrev mutual
-  pub stands_in : Sought → Environment → Action → Bool
+  pub stands_in : Sought → Environment → Command → Bool
   stands_in s env (t.label l x c) = same_place s (the_label x) || stands_in s env c
   stands_in s env (t.case_of l e c) = same_place s (the_case (constant_in env e)) || stands_in s env c
   stands_in s env (t.default l c) = same_place s the_default || stands_in s env c
@@ -52,6 +52,6 @@ abbrev mutual
   stands_in s env (t.repeat_while l b c e) = stands_in s env c
   stands_in s env _ = false
 
-  pub stands_in_one : Sought → Environment → Actions → Bool
-  stands_in_one s env t.no_actions = false
+  pub stands_in_one : Sought → Environment → Commands → Bool
+  stands_in_one s env t.no_commands = false
   stands_in_one s env (t.also c cs) = stands_in s env c || stands_in_one s env cs

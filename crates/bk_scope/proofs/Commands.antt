@@ -1,5 +1,5 @@
 -- The pass and what is told: commands.
-use Rattle.bk_scope.proofs.Terms.{◌≡◌, ℕ, ◌+◌, ◌==◌, Bool, true, false, cond, Option, Some, None, List, [], ◌∷◌, ◌++◌, length, refl, sym, ap, ◌∙◌, subst, arith, append-nil, Simple, Simple as w, Mention, Expression, Expressions, Action, Actions, empty, assign, call, goto, label, case_of, default, when, test, while, for_loop, result, simple, block, repeat, repeat_while, no_actions, also, no_declarations, size, Bound, Constant, Global, Static, Variable, Label, Enclosing, Value, Truth, Binding, bound_in, bind, Wrong, text_of, case_repeated, default_repeated, dynamic_name, label_not_here, no_loop, no_switchon, no_result_or_return, constant_word, wrongs, Found, choosing, defaulting, is_claimed, else_first, first_of, breaks_first, breaks, claims_new, holds, reaches, deeper, looping, labelled, Stage, labels_of, evaluated, destinations, done, reached, listed, named_as, switched, chosen, defaulted, single, constant_found, constants_found, Spot, onward, past, numbered, behind, behind_each, behind_done, behind_constant, symbols_each, numbers, numbers_each, numbers_done, at, word, claim, in_order, first_told, labels_in_scope, unless, gone_to, chosen_at, defaulted_at, single_at, its_meaning, one_of, its_word, constant, each_constant, pushed, told, told_destinations, told_done}
+use Rattle.bk_scope.proofs.Terms.{◌≡◌, ℕ, ◌+◌, ◌==◌, Bool, true, false, cond, Option, Some, None, List, [], ◌∷◌, ◌++◌, length, refl, sym, ap, ◌∙◌, subst, arith, append-nil, Simple, Simple as w, Mention, Expression, Expressions, Command, Commands, empty, assign, call, goto, label, case_of, default, when, test, while, for_loop, result, simple, block, repeat, repeat_while, no_commands, also, no_declarations, size, Bound, Constant, Global, Static, Variable, Label, Enclosing, Value, Truth, Binding, bound_in, bind, Wrong, text_of, case_repeated, default_repeated, dynamic_name, label_not_here, no_loop, no_switchon, no_result_or_return, constant_word, wrongs, Found, choosing, defaulting, is_claimed, else_first, first_of, breaks_first, breaks, claims_new, holds, reaches, deeper, looping, labelled, Stage, labels_of, evaluated, destinations, done, reached, listed, named_as, switched, chosen, defaulted, single, constant_found, constants_found, Spot, onward, past, numbered, behind, behind_each, behind_done, behind_constant, symbols_each, numbers, numbers_each, numbers_done, at, word, claim, in_order, first_told, labels_in_scope, unless, gone_to, chosen_at, defaulted_at, single_at, its_meaning, one_of, its_word, constant, each_constant, pushed, told, told_destinations, told_done}
 use Rattle.bk_scope.proofs.Worded.{no_wrong}
 use Rattle.bk_scope.proofs.Tied.{Tied, Spans, broken, both, wider, behind_it, else_none, nothing_told}
 use Rattle.bk_scope.proofs.Operators.{ETied, EsTied, CTied}
@@ -43,16 +43,16 @@ single_tied p n l _ f = unless_broken p.in_loop n l no_loop f
 
 defaulted_tied : (m : Option ℕ) (n l : ℕ) (f : Found) → Tied (defaulted_at m n l) 0 f (defaulted m l (switched m l f))
 defaulted_tied None n l f = broken n l f
-defaulted_tied (Some m) n l f = claim_tied (defaulting m) (record { place = n; line = l; wrong = default_repeated }) f
+defaulted_tied (Some m) n l f = claim_tied (defaulting m) (record { place = n; at = l; wrong = default_repeated }) f
 
 -- The head of a CASE. The pass claims its word behind the constant, which is not wrong where it has a word.
 chosen_or_repeated : (q : Bool) (n l m v : ℕ) (f : Found) → is_claimed (choosing m v) f.claims ≡ q
-    → Tied (claim (choosing m v) (record { place = n; line = l; wrong = case_repeated }) ∷ word v ∷ []) 0 f
+    → Tied (claim (choosing m v) (record { place = n; at = l; wrong = case_repeated }) ∷ word v ∷ []) 0 f
     (cond q (breaks l case_repeated (holds (Some v) (breaks_first None f))) (claims_new (choosing m v) (holds (Some v) (breaks_first None f))))
 chosen_or_repeated true n l m v f e = rw-claimed where
-  rw-claimed : Tied (claim (choosing m v) (record { place = n; line = l; wrong = case_repeated }) ∷ word v ∷ []) 0 f (breaks l case_repeated (holds (Some v) (breaks_first None f)))
+  rw-claimed : Tied (claim (choosing m v) (record { place = n; at = l; wrong = case_repeated }) ∷ word v ∷ []) 0 f (breaks l case_repeated (holds (Some v) (breaks_first None f)))
   rw-claimed = record {
-    first = ap (λ c. else_first c (Some (record { line = l; wrong = case_repeated }))) (else_none f.first) ∙ ap (λ c. else_first f.first (first_told (in_order (cond c (record { place = n; line = l; wrong = case_repeated } ∷ []) [] ++ [])))) (sym e);
+    first = ap (λ c. else_first c (Some (record { at = l; wrong = case_repeated }))) (else_none f.first) ∙ ap (λ c. else_first f.first (first_told (in_order (cond c (record { place = n; at = l; wrong = case_repeated } ∷ []) [] ++ [])))) (sym e);
     claims = ap (λ c. cond c f.claims (choosing m v ∷ f.claims)) (sym e);
     meanings = sym (append-nil f.meanings);
     words = refl;
@@ -60,7 +60,7 @@ chosen_or_repeated true n l m v f e = rw-claimed where
     deepest = refl;
   }
 chosen_or_repeated false n l m v f e = record {
-  first = ap (λ c. else_first f.first (first_told (in_order (cond c (record { place = n; line = l; wrong = case_repeated } ∷ []) [] ++ [])))) (sym e);
+  first = ap (λ c. else_first f.first (first_told (in_order (cond c (record { place = n; at = l; wrong = case_repeated } ∷ []) [] ++ [])))) (sym e);
   claims = ap (λ c. cond c f.claims (choosing m v ∷ f.claims)) (sym e);
   meanings = sym (append-nil f.meanings);
   words = refl;
@@ -96,34 +96,34 @@ routine_call_tied l e es t u bs p s f a fits =
     behind_it (inside e Value bs w s) (each_inside es 1 bs (deeper 2 p) (behind e s)) (omega arith) one (u 1 bs (deeper 2 p) (behind e s) g (omega (arith, one.next, a)) (omega (arith, fits)))
 
 pub goto_tied : (l : ℕ) (x : Mention) → CTied (goto l x)
-goto_tied l x bs p s f e fits = gone_tied p.procedure s.place x.line x.letters (bound_in bs x.letters) f
+goto_tied l x bs p s f e fits = gone_tied p.procedure s.place x.at x.letters (bound_in bs x.letters) f
 
-pub label_tied : (l : ℕ) (x : List ℕ) (c : Action) → CTied c → CTied (label l x c)
+pub label_tied : (l : ℕ) (x : List ℕ) (c : Command) → CTied c → CTied (label l x c)
 label_tied l x c t bs p s f e fits =
     let g : Found = listed p.labels l x f in
     let h : Found = named_as (bound_in bs x) g in
     let head : Tied (one_of p.labels s.place l x ++ its_meaning (bound_in bs x)) 0 f h = recount 0 (behind_it (one_spans p.labels s.place l x) (meaning_spans (s.place + 1) (bound_in bs x)) (omega arith) (listed_tied p.labels s.place l x f) (named_tied (bound_in bs x) g)) (omega arith) in
     recount (numbers_done c) (behind_it (both (one_spans p.labels s.place l x) (meaning_spans (s.place + 1) (bound_in bs x)) (omega arith) (omega arith)) (done_inside c bs p (past 1 s)) (omega arith) head (t bs p (past 1 s) h (omega (arith, head.next, e)) (omega (arith, fits)))) (omega arith)
 
-pub case_tied : (l : ℕ) (e : Expression) (c : Action) → CTied c → CTied (case_of l e c)
+pub case_tied : (l : ℕ) (e : Expression) (c : Command) → CTied c → CTied (case_of l e c)
 case_tied l e c t bs p s f a fits =
     let h : Found = chosen p.switch l (constant_word bs e) (constant_found bs p.procedure e (switched p.switch l f)) in
     let head : Tied (chosen_at p.switch s.place l (constant_word bs e) ++ constant bs p.procedure (past 1 s) e) 0 f h = case_head e p.switch (constant_word bs e) l bs p.procedure s f refl in
     let u : Spot = behind_constant e (past 1 s) in
     recount (numbers_done c) (behind_it (both (chosen_spans p.switch s.place l (constant_word bs e)) (whole_spans e bs p.procedure (past 1 s)) (omega arith) (omega arith)) (done_inside c bs p u) (omega arith) head (t bs p u h (omega (arith, head.next, a)) (omega (arith, fits)))) (omega arith)
 
-pub default_tied : (l : ℕ) (c : Action) → CTied c → CTied (default l c)
+pub default_tied : (l : ℕ) (c : Command) → CTied c → CTied (default l c)
 default_tied l c t bs p s f e fits =
     let h : Found = defaulted p.switch l (switched p.switch l f) in
     let head : Tied (defaulted_at p.switch s.place l) 0 f h = defaulted_tied p.switch s.place l f in
     recount (numbers_done c) (behind_it (defaulted_spans p.switch s.place l) (done_inside c bs p (past 1 s)) (omega arith) head (t bs p (past 1 s) h (omega (arith, head.next, e)) (omega (arith, fits)))) (omega arith)
 
-pub when_tied : (l : ℕ) (b : Bool) (e : Expression) (c : Action) → ETied e → CTied c → CTied (when l b e c)
+pub when_tied : (l : ℕ) (b : Bool) (e : Expression) (c : Command) → ETied e → CTied c → CTied (when l b e c)
 when_tied l b e c t u bs p s f a fits =
     let one : Tied (told Truth bs p s e) (numbers e) f (evaluated Truth bs p e f) = t Truth tt bs p s f a (omega (arith, fits)) in
     behind_it (inside e Truth bs p s) (done_inside c bs p (behind e s)) (omega arith) one (u bs p (behind e s) (evaluated Truth bs p e f) (omega (arith, one.next, a)) (omega (arith, fits)))
 
-pub test_tied : (l : ℕ) (e : Expression) (c d : Action) → ETied e → CTied c → CTied d → CTied (test l e c d)
+pub test_tied : (l : ℕ) (e : Expression) (c d : Command) → ETied e → CTied c → CTied d → CTied (test l e c d)
 test_tied l e c d t u v bs p s f a fits =
     let g : Found = evaluated Truth bs p e f in
     let h : Found = done bs p c g in
@@ -133,12 +133,12 @@ test_tied l e c d t u v bs p s f a fits =
     recount _ (behind_it (both (inside e Truth bs p s) (done_inside c bs p (behind e s)) (omega arith) (omega arith)) (done_inside d bs p i) (omega arith)
     (behind_it (inside e Truth bs p s) (done_inside c bs p (behind e s)) (omega arith) one two) (v bs p i h (omega (arith, one.next, two.next, a)) (omega (arith, fits)))) (omega arith)
 
-pub while_tied : (l : ℕ) (b : Bool) (e : Expression) (c : Action) → ETied e → CTied c → CTied (while l b e c)
+pub while_tied : (l : ℕ) (b : Bool) (e : Expression) (c : Command) → ETied e → CTied c → CTied (while l b e c)
 while_tied l b e c t u bs p s f a fits =
     let one : Tied (told Truth bs p s e) (numbers e) f (evaluated Truth bs p e f) = t Truth tt bs p s f a (omega (arith, fits)) in
     behind_it (inside e Truth bs p s) (done_inside c bs (looping p) (behind e s)) (omega arith) one (u bs (looping p) (behind e s) (evaluated Truth bs p e f) (omega (arith, one.next, a)) (omega (arith, fits)))
 
-pub for_tied : (l : ℕ) (x : Mention) (a b : Expression) (h : Expressions) (c : Action) → ETied a → ETied b → CTied c → CTied (for_loop l x a b h c)
+pub for_tied : (l : ℕ) (x : Mention) (a b : Expression) (h : Expressions) (c : Command) → ETied a → ETied b → CTied c → CTied (for_loop l x a b h c)
 for_tied l x a b h c ta tb tc bs p s f e fits =
     let f1 : Found = evaluated Value bs p a f in
     let f2 : Found = evaluated Value bs (deeper 1 p) b f1 in
@@ -178,22 +178,22 @@ result_tied l e t bs p s f a fits =
 pub simple_tied : (l : ℕ) (k : Simple) → CTied (simple l k)
 simple_tied l k bs p s f e fits = single_tied p s.place l k f
 
-pub bare_tied : (l : ℕ) (cs : Actions) → CsTied cs → CTied (block l no_declarations cs)
+pub bare_tied : (l : ℕ) (cs : Commands) → CsTied cs → CTied (block l no_declarations cs)
 bare_tied l cs t bs p s f e fits = t bs p s f e fits
 
-pub repeat_tied : (l : ℕ) (c : Action) → CTied c → CTied (repeat l c)
+pub repeat_tied : (l : ℕ) (c : Command) → CTied c → CTied (repeat l c)
 repeat_tied l c t bs p s f e fits = t bs (looping p) s f e fits
 
-pub repeat_while_tied : (l : ℕ) (b : Bool) (c : Action) (e : Expression) → CTied c → ETied e → CTied (repeat_while l b c e)
+pub repeat_while_tied : (l : ℕ) (b : Bool) (c : Command) (e : Expression) → CTied c → ETied e → CTied (repeat_while l b c e)
 repeat_while_tied l b c e t u bs p s f a fits =
     let g : Found = done bs (looping p) c f in
     let one : Tied (told_done bs (looping p) s c) (numbers_done c) f g = t bs (looping p) s f a (omega (arith, fits)) in
     behind_it (done_inside c bs (looping p) s) (inside e Truth bs p (behind_done c s)) (omega arith) one (u Truth tt bs p (behind_done c s) g (omega (arith, one.next, a)) (omega (arith, fits)))
 
-pub no_actions_tied : CsTied no_actions
-no_actions_tied bs p s f e fits = nothing_told f
+pub no_commands_tied : CsTied no_commands
+no_commands_tied bs p s f e fits = nothing_told f
 
-pub also_tied : (c : Action) (cs : Actions) → CTied c → CsTied cs → CsTied (also c cs)
+pub also_tied : (c : Command) (cs : Commands) → CTied c → CsTied cs → CsTied (also c cs)
 also_tied c cs t u bs p s f e fits =
     let one : Tied (told_done bs p s c) (numbers_done c) f (done bs p c f) = t bs p s f e (omega (arith, fits)) in
     behind_it (done_inside c bs p s) (each_done_inside cs bs p (behind_done c s)) (omega arith) one (u bs p (behind_done c s) (done bs p c f) (omega (arith, one.next, e)) (omega (arith, fits)))

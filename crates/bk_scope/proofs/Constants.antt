@@ -148,10 +148,10 @@ not_lower : (v w : Wrong) → nat_lt (number_of v) (number_of w) ≡ true → na
 not_lower v w h = le-ltb (number_of w) (number_of v) (omega (arith, ltb-true (number_of v) (number_of w) h))
 
 -- two faults at one place
-pub lower_one : (n l m : ℕ) (v w : Wrong) (cs : List Claim) → nat_lt (number_of v) (number_of w) ≡ true → first_told (in_order (judged cs (at n m v ++ at n l w))) ≡ Some (record { line = m; wrong = v })
+pub lower_one : (n l m : ℕ) (v w : Wrong) (cs : List Claim) → nat_lt (number_of v) (number_of w) ≡ true → first_told (in_order (judged cs (at n m v ++ at n l w))) ≡ Some (record { at = m; wrong = v })
 lower_one n l m v w cs h = rw (eq-eqb n n refl) (rw (not_lower v w h) refl)
 
-variable_first : (b : Bool) (n l : ℕ) (x : List ℕ) → FirstIs (unless b (at n l (dynamic_name (text_of x))) ++ at n l not_constant) (first_of (cond b (record { line = l; wrong = not_constant } ∷ []) (record { line = l; wrong = dynamic_name (text_of x) } ∷ [])))
+variable_first : (b : Bool) (n l : ℕ) (x : List ℕ) → FirstIs (unless b (at n l (dynamic_name (text_of x))) ++ at n l not_constant) (first_of (cond b (record { at = l; wrong = not_constant } ∷ []) (record { at = l; wrong = dynamic_name (text_of x) } ∷ [])))
 variable_first true n l x cs = refl
 variable_first false n l x cs = lower_one n l l (dynamic_name (text_of x)) not_constant cs refl
 
@@ -160,13 +160,13 @@ name_first k n l x (Some (Variable j d)) cs = variable_first (j == k) n l x cs
 name_first k n l x (Some (Label j m)) cs = lower_one n l l not_constant (label_not_here (text_of x)) cs refl
 name_first k n l x _ cs = refl
 
-prefix_first : (b : Bool) (n l i : ℕ) (xs : List Point) (ws : List Breach) → Spans (n + 1) i xs → FirstIs xs (first_of ws) → FirstIs (unless b (at n l not_constant) ++ xs) (first_of (cond b ws (record { line = l; wrong = not_constant } ∷ [])))
+prefix_first : (b : Bool) (n l i : ℕ) (xs : List Point) (ws : List Breach) → Spans (n + 1) i xs → FirstIs xs (first_of ws) → FirstIs (unless b (at n l not_constant) ++ xs) (first_of (cond b ws (record { at = l; wrong = not_constant } ∷ [])))
 prefix_first true n l i xs ws a h cs = h cs
-prefix_first false n l i xs ws a h cs = joined (Some (record { line = l; wrong = not_constant })) (first_of ws) (at_spans n l not_constant) a (omega arith) (λ ds. refl) h cs
+prefix_first false n l i xs ws a h cs = joined (Some (record { at = l; wrong = not_constant })) (first_of ws) (at_spans n l not_constant) a (omega arith) (λ ds. refl) h cs
 
 infix_first : (q d : Bool) (n l t m i : ℕ) (xs ys : List Point) (us ws : List Breach) → n ≤ t → Spans n t xs → Spans (t + 1) i ys → FirstIs xs (first_of us) → FirstIs ys (first_of ws) → (d ≡ true → (q ≡ true) × (xs ≡ []) × (ys ≡ []))
     → FirstIs (cond d (at n l divided_by_zero) [] ++ xs ++ unless q (at t m not_constant) ++ ys)
-    (first_of (cond q (cond d (record { line = l; wrong = divided_by_zero } ∷ []) (us ++ ws)) (us ++ (record { line = m; wrong = not_constant } ∷ []))))
+    (first_of (cond q (cond d (record { at = l; wrong = divided_by_zero } ∷ []) (us ++ ws)) (us ++ (record { at = m; wrong = not_constant } ∷ []))))
 infix_first true true n l t m i xs ys us ws le a b f g h cs =
     let r : (true ≡ true) × (xs ≡ []) × (ys ≡ []) = h refl in
     rw r.1 (rw r.2 refl)
@@ -177,16 +177,16 @@ infix_first false true n l t m i xs ys us ws le a b f g h cs =
     let r : (false ≡ true) × (xs ≡ []) × (ys ≡ []) = h refl in
     absurd (false≢true r.0)
 infix_first false false n l t m i xs ys us ws le a b f g h cs =
-    joined (else_first (first_of us) (Some (record { line = m; wrong = not_constant }))) (first_of ws) (both a (at_spans t m not_constant) (omega arith) (omega arith)) b (omega arith)
-    (joined (first_of us) (Some (record { line = m; wrong = not_constant })) a (at_spans t m not_constant) (omega arith) f (λ ds. refl)) g cs
-    ∙ else_some (first_of us) (record { line = m; wrong = not_constant }) (first_of ws) ∙ sym (first_of-append us (record { line = m; wrong = not_constant } ∷ []))
+    joined (else_first (first_of us) (Some (record { at = m; wrong = not_constant }))) (first_of ws) (both a (at_spans t m not_constant) (omega arith) (omega arith)) b (omega arith)
+    (joined (first_of us) (Some (record { at = m; wrong = not_constant })) a (at_spans t m not_constant) (omega arith) f (λ ds. refl)) g cs
+    ∙ else_some (first_of us) (record { at = m; wrong = not_constant }) (first_of ws) ∙ sym (first_of-append us (record { at = m; wrong = not_constant } ∷ []))
 
 -- behind what no constant holds, the pass tells nothing more
-operator_first : (n t m i : ℕ) (xs ys : List Point) (us : List Breach) (c : Option Breach) → n ≤ t → Spans n t xs → Spans (t + 1) i ys → FirstIs xs (first_of us) → FirstIs ys c → FirstIs (xs ++ at t m not_constant ++ ys) (first_of (us ++ (record { line = m; wrong = not_constant } ∷ [])))
+operator_first : (n t m i : ℕ) (xs ys : List Point) (us : List Breach) (c : Option Breach) → n ≤ t → Spans n t xs → Spans (t + 1) i ys → FirstIs xs (first_of us) → FirstIs ys c → FirstIs (xs ++ at t m not_constant ++ ys) (first_of (us ++ (record { at = m; wrong = not_constant } ∷ [])))
 operator_first n t m i xs ys us c le a b f g cs =
-    joined (else_first (first_of us) (Some (record { line = m; wrong = not_constant }))) c (both a (at_spans t m not_constant) (omega arith) (omega arith)) b (omega arith)
-    (joined (first_of us) (Some (record { line = m; wrong = not_constant })) a (at_spans t m not_constant) (omega arith) f (λ ds. refl)) g cs
-    ∙ else_some (first_of us) (record { line = m; wrong = not_constant }) c ∙ sym (first_of-append us (record { line = m; wrong = not_constant } ∷ []))
+    joined (else_first (first_of us) (Some (record { at = m; wrong = not_constant }))) c (both a (at_spans t m not_constant) (omega arith) (omega arith)) b (omega arith)
+    (joined (first_of us) (Some (record { at = m; wrong = not_constant })) a (at_spans t m not_constant) (omega arith) f (λ ds. refl)) g cs
+    ∙ else_some (first_of us) (record { at = m; wrong = not_constant }) c ∙ sym (first_of-append us (record { at = m; wrong = not_constant } ∷ []))
 
 dividing : (b c : Bool) → cond b c false ≡ true → b ≡ true
 dividing true c e = refl
@@ -215,7 +215,7 @@ mutual
   constant_first (choice l m c a b) bs k s cs =
       let t : Spot = behind_constant c s in
       let u : Spot = behind_constant a (past 1 t) in
-      subst (λ zs. first_told (in_order (judged cs zs)) ≡ first_of (wrongs bs k c ++ (record { line = m; wrong = not_constant } ∷ [])))
+      subst (λ zs. first_told (in_order (judged cs zs)) ≡ first_of (wrongs bs k c ++ (record { at = m; wrong = not_constant } ∷ [])))
       (sym (append_assoc (constant_wrongs bs k s c ++ at t.place m not_constant) (constant_wrongs bs k (past 1 t) a) (constant_wrongs bs k u b)))
       (operator_first s.place t.place m (u.place + symbols b) (constant_wrongs bs k s c) (constant_wrongs bs k (past 1 t) a ++ constant_wrongs bs k u b) (wrongs bs k c) (else_first (first_of (wrongs bs k a)) (first_of (wrongs bs k b))) (omega arith)
       (constant_spans c bs k s) (both (constant_spans a bs k (past 1 t)) (constant_spans b bs k u) (omega arith) (omega arith))

@@ -1,5 +1,5 @@
 -- Four numbers a node at most, labels counted where their commands begin.
-use Rattle.bk_scope.proofs.Terms.{◌+◌, ◌*◌, ◌≤◌, length, arith, length-append, Sort as sort, Expression, Expressions, Action, Actions, Declaration, Declarations, Items, Definitions, Starts, name, number, text, truth, query, parens, unary, binary, choice, apply, valof, table, none, more, empty, assign, call, goto, label, case_of, default, when, test, while, for_loop, switch, result, simple, block, repeat, repeat_while, no_actions, also, constants, definitions, no_declarations, declare, no_items, item, routine, function, variables, no_definitions, define, no_starts, value, vector, nodes, nodes_of_each, nodes_of_action, nodes_of_actions, nodes_of_declaration, nodes_of_declarations, nodes_of_items, nodes_of_definitions, nodes_of_starts, labels_of, labels_of_each, procedures_in, numbers, numbers_each, numbers_done, numbers_done_each, numbers_declared, numbers_one_declared, numbers_items, numbers_defined, numbers_started}
+use Rattle.bk_scope.proofs.Terms.{◌+◌, ◌*◌, ◌≤◌, length, arith, length-append, Sort as sort, Expression, Expressions, Command, Commands, Declaration, Declarations, Items, Definitions, Starts, name, number, text, truth, query, parens, unary, binary, choice, apply, valof, table, none, more, empty, assign, call, goto, label, case_of, default, when, test, while, for_loop, switch, result, simple, block, repeat, repeat_while, no_commands, also, constants, definitions, no_declarations, declare, no_items, item, routine, function, variables, no_definitions, define, no_starts, value, vector, nodes, nodes_of_each, nodes_of_command, nodes_of_commands, nodes_of_declaration, nodes_of_declarations, nodes_of_items, nodes_of_definitions, nodes_of_starts, labels_of, labels_of_each, procedures_in, numbers, numbers_each, numbers_done, numbers_done_each, numbers_declared, numbers_one_declared, numbers_items, numbers_defined, numbers_started}
 use Rattle.bk_scope.specs.Few.{FewNumbers}
 
 few_items : (is : Items) → numbers_items sort.Static is ≤ nodes_of_items is
@@ -20,7 +20,7 @@ mutual
   few_each none = omega arith
   few_each (more e es) = omega (arith, few e, few_each es)
 
-  few_done : (c : Action) → numbers_done c + length (labels_of c) ≤ 4 * nodes_of_action c
+  few_done : (c : Command) → numbers_done c + length (labels_of c) ≤ 4 * nodes_of_command c
   few_done (assign l xs es) = omega (arith, few_each xs, few_each es)
   few_done (call l e es) = omega (arith, few e, few_each es)
   few_done (label l x c) = omega (arith, few_done c)
@@ -38,8 +38,8 @@ mutual
   few_done (repeat_while l b c e) = omega (arith, few_done c, few e)
   few_done _ = omega arith
 
-  few_done_each : (cs : Actions) → numbers_done_each cs + length (labels_of_each cs) ≤ 4 * nodes_of_actions cs
-  few_done_each no_actions = omega arith
+  few_done_each : (cs : Commands) → numbers_done_each cs + length (labels_of_each cs) ≤ 4 * nodes_of_commands cs
+  few_done_each no_commands = omega arith
   few_done_each (also c cs) = omega (arith, few_done c, few_done_each cs, length-append (labels_of c) (labels_of_each cs))
 
   few_declared : (ds : Declarations) → numbers_declared ds ≤ 4 * nodes_of_declarations ds

@@ -1,5 +1,5 @@
 -- The pass and what is told: items, what variables begin with, declarations.
-use Rattle.bk_scope.proofs.Terms.{◌≡◌, ℕ, ◌+◌, ◌^◌, ◌<◌, Bool, true, false, cond, Option, Some, None, List, [], ◌∷◌, ◌++◌, length, refl, sym, ap, ◌∙◌, append_assoc, subst, arith, nat_lt, append-nil, GLOBAL_NUMBER, VEC_NUMBER, Sort as sort, Mention, Expression, Declaration, Declarations, Items, Definitions, Starts, constants, definitions, no_declarations, declare, no_items, item, no_definitions, define, variables, no_starts, value, vector, line_of, Constant, Global, Static, Enclosing, Value, Binding, bind, Wrong, global_out_of_range, vec_out_of_range, constant_word, Found, breaks, means, takes, reaches, deeper, Stage, AfterDeclarations, evaluated, listed, all_listed, constant_found, bounded, within, words_of_start, manifests, statics, globals, started, declared, one_declared, Spot, past, numbered, behind, behind_constant, behind_one_declared, symbols, numbers, numbers_items, numbers_declared, numbers_one_declared, numbers_started, Point, at, meaning, word, manifests_in_scope, statics_in_scope, globals_in_scope, scope_behind_one, place_behind_one, scope_behind, place_behind_all, at_most, one_of, each_of, its_word, constant, pushed, manifest_items, static_items, global_items, told, told_declared, told_one_declared, told_started}
+use Rattle.bk_scope.proofs.Terms.{◌≡◌, ℕ, ◌+◌, ◌^◌, ◌<◌, Bool, true, false, cond, Option, Some, None, List, [], ◌∷◌, ◌++◌, length, refl, sym, ap, ◌∙◌, append_assoc, subst, arith, nat_lt, append-nil, GLOBAL_NUMBER, VEC_NUMBER, Sort as sort, Mention, Expression, Declaration, Declarations, Items, Definitions, Starts, constants, definitions, no_declarations, declare, no_items, item, no_definitions, define, variables, no_starts, value, vector, at_expression, Constant, Global, Static, Enclosing, Value, Binding, bind, Wrong, global_out_of_range, vec_out_of_range, constant_word, Found, breaks, means, takes, reaches, deeper, Stage, AfterDeclarations, evaluated, listed, all_listed, constant_found, bounded, within, words_of_start, manifests, statics, globals, started, declared, one_declared, Spot, past, numbered, behind, behind_constant, behind_one_declared, symbols, numbers, numbers_items, numbers_declared, numbers_one_declared, numbers_started, Point, at, meaning, word, manifests_in_scope, statics_in_scope, globals_in_scope, scope_behind_one, place_behind_one, scope_behind, place_behind_all, at_most, one_of, each_of, its_word, constant, pushed, manifest_items, static_items, global_items, told, told_declared, told_one_declared, told_started}
 use Rattle.bk_scope.proofs.Tied.{Tied, Spans, broken, both, among, wider, behind_it, nothing_told}
 use Rattle.bk_scope.proofs.Operators.{ETied}
 use Rattle.bk_scope.proofs.Scopes.{DsTied, moved_tied, recount, no_span, pushed_tied, pushed_spans}
@@ -18,20 +18,20 @@ most_tied true n l w f = broken n l f
 most_tied false n l w f = nothing_told f
 
 pub bounded_tied : (most : ℕ) (w : Wrong) (e : Expression) (bs : List Binding) (k : ℕ) (u : Spot) (f : Found)
-    → Tied (constant bs k u e ++ at_most most u.place (line_of e) w (constant_word bs e)) 0 f (bounded most (line_of e) w (constant_word bs e) (constant_found bs k e f))
+    → Tied (constant bs k u e ++ at_most most u.place (at_expression e) w (constant_word bs e)) 0 f (bounded most (at_expression e) w (constant_word bs e) (constant_found bs k e f))
 bounded_tied most w e bs k u f = by (constant_word bs e) refl where
-  by : (y : Option ℕ) → constant_word bs e ≡ y → Tied (constant bs k u e ++ at_most most u.place (line_of e) w y) 0 f (bounded most (line_of e) w y (constant_found bs k e f))
+  by : (y : Option ℕ) → constant_word bs e ≡ y → Tied (constant bs k u e ++ at_most most u.place (at_expression e) w y) 0 f (bounded most (at_expression e) w y (constant_found bs k e f))
   by None a = subst (λ xs. Tied xs 0 f (constant_found bs k e f)) (sym (append-nil (constant bs k u e))) (constant_tied e bs k u f)
   by (Some v) a =
       let same : constant bs k u e ≡ word v ∷ [] = ap (λ xs. xs ++ its_word (constant_word bs e)) (constant_right e bs k u v a) ∙ ap its_word a in
       let here : Spans u.place u.place (word v ∷ []) = record { inside = tt } in
-      subst (λ xs. Tied (xs ++ at_most most u.place (line_of e) w (Some v)) 0 f (bounded most (line_of e) w (Some v) (constant_found bs k e f))) (sym same)
-      (recount 0 (behind_it here (most_spans most u.place (line_of e) w (Some v)) (omega arith) (subst (λ xs. Tied xs 0 f (constant_found bs k e f)) same (constant_tied e bs k u f)) (most_tied (nat_lt most v) u.place (line_of e) w (constant_found bs k e f))) (omega arith))
+      subst (λ xs. Tied (xs ++ at_most most u.place (at_expression e) w (Some v)) 0 f (bounded most (at_expression e) w (Some v) (constant_found bs k e f))) (sym same)
+      (recount 0 (behind_it here (most_spans most u.place (at_expression e) w (Some v)) (omega arith) (subst (λ xs. Tied xs 0 f (constant_found bs k e f)) same (constant_tied e bs k u f)) (most_tied (nat_lt most v) u.place (at_expression e) w (constant_found bs k e f))) (omega arith))
 
-pub bounded_spans : (most : ℕ) (w : Wrong) (e : Expression) (bs : List Binding) (k : ℕ) (u : Spot) → Spans u.place (u.place + symbols e) (constant bs k u e ++ at_most most u.place (line_of e) w (constant_word bs e))
+pub bounded_spans : (most : ℕ) (w : Wrong) (e : Expression) (bs : List Binding) (k : ℕ) (u : Spot) → Spans u.place (u.place + symbols e) (constant bs k u e ++ at_most most u.place (at_expression e) w (constant_word bs e))
 bounded_spans most w e bs k u =
     let one = has_symbol e in
-    among (whole_spans e bs k u) (wider u.place (u.place + symbols e) (most_spans most u.place (line_of e) w (constant_word bs e)) (omega arith) (omega (arith, one)))
+    among (whole_spans e bs k u) (wider u.place (u.place + symbols e) (most_spans most u.place (at_expression e) w (constant_word bs e)) (omega arith) (omega (arith, one)))
 
 -- an item's name and constant
 item_tied : (m l : ℕ) (x : List ℕ) (e : Expression) (bs : List Binding) (k : ℕ) (s : Spot) (f : Found) → Tied (one_of m s.place l x ++ constant bs k (past 1 s) e) 0 f (constant_found bs k e (listed m l x f))
@@ -78,14 +78,14 @@ global_tied (item l x e is) m bs k s cs f =
     let w : Option ℕ = constant_word bs e in
     let v : Spot = past 1 s in
     let i : Found = listed m l x f in
-    let g : Found = bounded GLOBAL_NUMBER (line_of e) global_out_of_range w (constant_found bs k e i) in
+    let g : Found = bounded GLOBAL_NUMBER (at_expression e) global_out_of_range w (constant_found bs k e i) in
     let ds : List Binding = bind x (Global (within GLOBAL_NUMBER w)) cs in
     let u : Spot = behind_constant e v in
-    let xs : List Point = constant bs k v e ++ at_most GLOBAL_NUMBER v.place (line_of e) global_out_of_range w in
+    let xs : List Point = constant bs k v e ++ at_most GLOBAL_NUMBER v.place (at_expression e) global_out_of_range w in
     let r : Tied (global_items m bs k u is) 0 g (globals bs m k is (stage ds g)).found × ((globals bs m k is (stage ds g)).scope ≡ globals_in_scope bs is ds) = global_tied is m bs k u ds g in
     let z : Spans s.place u.place (one_of m s.place l x ++ xs) = both (one_spans m s.place l x) (bounded_spans GLOBAL_NUMBER global_out_of_range e bs k v) (omega arith) (omega arith) in
     let one : Tied (one_of m s.place l x ++ xs) 0 f g = recount 0 (behind_it (one_spans m s.place l x) (bounded_spans GLOBAL_NUMBER global_out_of_range e bs k v) (omega arith) (listed_tied m s.place l x f) (bounded_tied GLOBAL_NUMBER global_out_of_range e bs k v i)) (omega arith) in (
-      subst (λ ys. Tied (ys ++ global_items m bs k u is) 0 f (globals bs m k is (stage ds g)).found) (sym (append_assoc (one_of m s.place l x) (constant bs k v e) (at_most GLOBAL_NUMBER v.place (line_of e) global_out_of_range w)))
+      subst (λ ys. Tied (ys ++ global_items m bs k u is) 0 f (globals bs m k is (stage ds g)).found) (sym (append_assoc (one_of m s.place l x) (constant bs k v e) (at_most GLOBAL_NUMBER v.place (at_expression e) global_out_of_range w)))
           (recount 0 (behind_it z (global_spans is m bs k u) (omega arith) one r.0) (omega arith)),
       r.1,
     )
@@ -178,10 +178,10 @@ value_start_tied e is t u bs p s f a fits =
 pub vector_start_tied : (l : ℕ) (e : Expression) (is : Starts) → StartsTied is → StartsTied (vector l e is)
 vector_start_tied l e is u bs p s f a fits =
     let w : ℕ = words_of_start bs e in
-    let g : Found = bounded VEC_NUMBER (line_of e) vec_out_of_range (constant_word bs e) (constant_found bs p.procedure e f) in
+    let g : Found = bounded VEC_NUMBER (at_expression e) vec_out_of_range (constant_word bs e) (constant_found bs p.procedure e f) in
     let v : Spot = behind_constant e s in
     let q : Enclosing = deeper (w + 1) p in
-    let xs : List Point = constant bs p.procedure s e ++ at_most VEC_NUMBER s.place (line_of e) vec_out_of_range (constant_word bs e) in
+    let xs : List Point = constant bs p.procedure s e ++ at_most VEC_NUMBER s.place (at_expression e) vec_out_of_range (constant_word bs e) in
     let xs_spans : Spans s.place v.place xs = bounded_spans VEC_NUMBER vec_out_of_range e bs p.procedure s in
     let one : Tied (xs ++ pushed p (w + 1)) (0 + 0) f (reaches (p.depth + (w + 1)) g) =
     behind_it xs_spans (pushed_spans v.place p (w + 1)) (omega arith) (bounded_tied VEC_NUMBER vec_out_of_range e bs p.procedure s f) (pushed_tied p (w + 1) g) in

@@ -1,5 +1,5 @@
 -- The pass and what is told: expressions, in each role.
-use Rattle.bk_scope.proofs.Terms.{◌≡◌, ℕ, ◌+◌, ◌^◌, ◌<◌, ◌==◌, Bool, true, false, cond, Option, Some, None, List, [], ◌∷◌, ◌++◌, refl, sym, subst, arith, append-nil, Operator, Operator as o, Prefix, Prefix as q, Expression, Expressions, Action, name, number, text, truth, query, parens, unary, binary, choice, apply, valof, table, none, more, line_of, Bound, Constant, Global, Static, Variable, Label, Enclosing, Role, Value, Truth, Address, Destination, Binding, bound_in, has_address, Wrong, not_assignable, dynamic_name, text_of, Found, means, breaks, reaches, deeper, evaluated, destinations, used, unassignable, without_word, constants_found, parenthesised, Spot, past, behind, symbols_each, numbers, numbers_each, at, meaning, depth, unless, used_at, addressed, assigned, pushed, told, told_destinations}
+use Rattle.bk_scope.proofs.Terms.{◌≡◌, ℕ, ◌+◌, ◌^◌, ◌<◌, ◌==◌, Bool, true, false, cond, Option, Some, None, List, [], ◌∷◌, ◌++◌, refl, sym, subst, arith, append-nil, Operator, Operator as o, Prefix, Prefix as q, Expression, Expressions, Command, name, number, text, truth, query, parens, unary, binary, choice, apply, valof, table, none, more, at_expression, Bound, Constant, Global, Static, Variable, Label, Enclosing, Role, Value, Truth, Address, Destination, Binding, bound_in, has_address, Wrong, not_assignable, dynamic_name, text_of, Found, means, breaks, reaches, deeper, evaluated, destinations, used, unassignable, without_word, constants_found, parenthesised, Spot, past, behind, symbols_each, numbers, numbers_each, at, meaning, depth, unless, used_at, addressed, assigned, pushed, told, told_destinations}
 use Rattle.bk_scope.proofs.Tied.{Tied, broken, both, behind_it, else_none, nothing_told}
 use Rattle.bk_scope.proofs.Operators.{Plain, ETied, EsTied, CTied, binary_tied, apply_tied, without_plain}
 use Rattle.bk_scope.proofs.Scopes.{recount, pushed_tied, pushed_spans, valof_tied}
@@ -122,8 +122,8 @@ parens_tied l e t = record {
 unary_plain : (f : Prefix) (l : ℕ) (e : Expression) → ExpressionTied e → ETied (unary l f e)
 unary_plain q.Contents l e t r h bs p s f a fits = t.plain Value tt bs p (past 1 s) f (omega (arith, a)) (omega (arith, fits))
 unary_plain q.Address l e t r h bs p s f a fits =
-    subst (λ v. Tied (told r bs p s (unary l q.Address e)) (numbers e) f (evaluated (Address false (line_of e)) bs p e v)) (sym (without_plain r bs p.procedure (unary l q.Address e) f h))
-    (t.word.address false (line_of e) bs p (past 1 s) (past 1 s).place f refl (omega (arith, a)) (omega (arith, fits)))
+    subst (λ v. Tied (told r bs p s (unary l q.Address e)) (numbers e) f (evaluated (Address false (at_expression e)) bs p e v)) (sym (without_plain r bs p.procedure (unary l q.Address e) f h))
+    (t.word.address false (at_expression e) bs p (past 1 s) (past 1 s).place f refl (omega (arith, a)) (omega (arith, fits)))
 unary_plain q.Plus l e t r h bs p s f a fits = subst (λ v. Tied (told r bs p s (unary l q.Plus e)) (numbers e) f (evaluated Value bs p e v)) (sym (without_plain r bs p.procedure (unary l q.Plus e) f h)) (t.plain Value tt bs p (past 1 s) f (omega (arith, a)) (omega (arith, fits)))
 unary_plain q.Minus l e t r h bs p s f a fits = subst (λ v. Tied (told r bs p s (unary l q.Minus e)) (numbers e) f (evaluated Value bs p e v)) (sym (without_plain r bs p.procedure (unary l q.Minus e) f h)) (t.plain Value tt bs p (past 1 s) f (omega (arith, a)) (omega (arith, fits)))
 unary_plain q.Not l e t Value h bs p s f a fits = t.plain Value tt bs p (past 1 s) f (omega (arith, a)) (omega (arith, fits))
@@ -136,8 +136,8 @@ unary_word q.Contents l e t = record {
   destination = λ b i bs p s n f z a fits. t.plain Value tt bs p (past 1 s) f (omega (arith, a)) (omega (arith, fits));
 }
 unary_word q.Address l e t = record {
-  address = λ b i bs p s n f z a fits. unassignable_tied b (unary l q.Address e) (Address b i) bs p s n i (numbers e) f (λ h. evaluated (Address false (line_of e)) bs p e h) z (λ h c. t.word.address false (line_of e) bs p (past 1 s) (past 1 s).place h refl (omega (arith, c)) (omega (arith, fits))) a;
-  destination = λ b i bs p s n f z a fits. unassignable_tied b (unary l q.Address e) (Destination b i) bs p s n i (numbers e) f (λ h. evaluated (Address false (line_of e)) bs p e h) z (λ h c. t.word.address false (line_of e) bs p (past 1 s) (past 1 s).place h refl (omega (arith, c)) (omega (arith, fits))) a;
+  address = λ b i bs p s n f z a fits. unassignable_tied b (unary l q.Address e) (Address b i) bs p s n i (numbers e) f (λ h. evaluated (Address false (at_expression e)) bs p e h) z (λ h c. t.word.address false (at_expression e) bs p (past 1 s) (past 1 s).place h refl (omega (arith, c)) (omega (arith, fits))) a;
+  destination = λ b i bs p s n f z a fits. unassignable_tied b (unary l q.Address e) (Destination b i) bs p s n i (numbers e) f (λ h. evaluated (Address false (at_expression e)) bs p e h) z (λ h c. t.word.address false (at_expression e) bs p (past 1 s) (past 1 s).place h refl (omega (arith, c)) (omega (arith, fits))) a;
 }
 unary_word f l e t = record {
   address = λ b i bs p s n g z a fits. unassignable_tied b (unary l f e) (Address b i) bs p s n i (numbers e) g (λ h. evaluated Value bs p e h) z (λ h c. t.plain Value tt bs p (past 1 s) h (omega (arith, c)) (omega (arith, fits))) a;
@@ -191,7 +191,7 @@ call_tied l m e es t u =
     let z : ETied (apply l m e es) = apply_tied l m e es t.plain (inside e) u (each_inside es) in
     record { plain = z; word = record { address = without_tied (apply l m e es) z; destination = without_tied (apply l m e es) z } }
 
-pub value_tied : (l : ℕ) (c : Action) → CTied c → ExpressionTied (valof l c)
+pub value_tied : (l : ℕ) (c : Command) → CTied c → ExpressionTied (valof l c)
 value_tied l c t =
     let z : ETied (valof l c) = valof_tied l c t (done_inside c) in
     record { plain = z; word = record { address = without_tied (valof l c) z; destination = without_tied (valof l c) z } }
@@ -224,6 +224,6 @@ no_destinations_tied bs p s f e fits = nothing_told f
 
 pub destinations_tied : (e : Expression) (es : Expressions) → WTied e → DestinationsTied es → DestinationsTied (more e es)
 destinations_tied e es t u bs p s f a fits =
-    let g : Found = evaluated (Destination false (line_of e)) bs p e f in
-    let one : Tied (unless (assigned bs e) (at s.place (line_of e) not_assignable) ++ told (Destination false (line_of e)) bs p s e) (numbers e) f g = t.destination false (line_of e) bs p s s.place f refl a (omega (arith, fits)) in
+    let g : Found = evaluated (Destination false (at_expression e)) bs p e f in
+    let one : Tied (unless (assigned bs e) (at s.place (at_expression e) not_assignable) ++ told (Destination false (at_expression e)) bs p s e) (numbers e) f g = t.destination false (at_expression e) bs p s s.place f refl a (omega (arith, fits)) in
     behind_it (destination_inside e bs p s) (destinations_inside es bs p (behind e s)) (omega arith) one (u bs p (behind e s) g (omega (arith, one.next, a)) (omega (arith, fits)))

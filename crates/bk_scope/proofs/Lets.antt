@@ -1,5 +1,5 @@
 -- The pass and what is told: the definitions of a LET.
-use Rattle.bk_scope.proofs.Terms.{◌≡◌, ℕ, ◌+◌, ◌^◌, ◌<◌, List, [], ◌++◌, refl, sym, ap, ◌∙◌, subst, append_assoc, arith, append-nil, Mention, Expression, Action, Definition, Definitions, definitions, routine, function, variables, no_definitions, define, Enclosing, Binding, bind_all, Found, takes, Stage, with_procedures, Defined, variables_of, defined, one_defined, one_declared, Spot, procedures_in, numbered, behind_one_defined, symbols_defined, symbols_one_defined, numbers_defined, numbers_one_defined, numbers_one_declared, procedure_in_scope, procedures_in_scope, place_behind_one_defined, place_behind_defined, variables_in_scope, scope_behind_one, place_behind_one, told_one_defined, told_defined, told_one_declared}
+use Rattle.bk_scope.proofs.Terms.{◌≡◌, ℕ, ◌+◌, ◌^◌, ◌<◌, List, [], ◌++◌, refl, sym, ap, ◌∙◌, subst, append_assoc, arith, append-nil, Mention, Expression, Command, Definition, Definitions, definitions, routine, function, variables, no_definitions, define, Enclosing, Binding, bind_all, Found, takes, Stage, with_procedures, Defined, variables_of, defined, one_defined, one_declared, Spot, procedures_in, numbered, behind_one_defined, symbols_defined, symbols_one_defined, numbers_defined, numbers_one_defined, numbers_one_declared, procedure_in_scope, procedures_in_scope, place_behind_one_defined, place_behind_defined, variables_in_scope, scope_behind_one, place_behind_one, told_one_defined, told_defined, told_one_declared}
 use Rattle.bk_scope.proofs.Tied.{Tied, Spans, behind_it, nothing_told}
 use Rattle.bk_scope.proofs.Operators.{ETied, EInside, CTied, CInside}
 use Rattle.bk_scope.proofs.Scopes.{moved, moved_tied, no_span, taken}
@@ -47,7 +47,7 @@ pub record AllTied (ds : Definitions) : Type 0 where
 abbrev pub AllInside : Definitions → Type 0
 AllInside ds = (m : ℕ) (bs : List Binding) (p : Enclosing) (s : Spot) → Spans s.place (s.place + symbols_defined ds) (told_defined m bs p s ds)
 
-pub routine_one : (l : ℕ) (x : List ℕ) (fs : List Mention) (c : Action) → CTied c → CInside c → OneTied (routine l x fs c)
+pub routine_one : (l : ℕ) (x : List ℕ) (fs : List Mention) (c : Command) → CTied c → CInside c → OneTied (routine l x fs c)
 routine_one l x fs c t i = record { fresh = λ m bs p zs f. sym (append-nil zs); place = λ m bs p zs f. refl; found = λ m bs p s zs f e fits. routine_tied m l x fs c t i bs p s (start zs p f) e fits }
 
 pub function_one : (l : ℕ) (x : List ℕ) (fs : List Mention) (a : Expression) → ETied a → EInside a → OneTied (function l x fs a)

@@ -1,5 +1,5 @@
 -- Numbers rise in the order in which they are given, and so differ.
-use Rattle.bk_scope.proofs.Terms.{◌≡◌, ℕ, zero, suc, ◌+◌, ◌≤◌, ◌<◌, List, [], ◌∷◌, ◌++◌, length, refl, arith, Sort as sort, Expression, Expressions, Action, Actions, Declaration, Declarations, Definition, Definitions, Starts, name, number, text, truth, query, parens, unary, binary, choice, apply, valof, table, none, more, empty, assign, call, goto, label, case_of, default, when, test, while, for_loop, switch, result, simple, block, repeat, repeat_while, no_actions, also, constants, definitions, no_declarations, declare, no_items, item, routine, function, variables, no_definitions, define, no_starts, value, vector, labels_of, labels_of_each, Spot, procedures_in, numbers, numbers_each, numbers_done, numbers_done_each, numbers_declared, numbers_one_declared, numbers_items, numbers_defined, numbers_one_defined, numbers_started, numbered, behind, behind_each, behind_done, behind_declared, behind_one_declared, behind_one_defined, beginning, NoneOf, AllDiffer}
+use Rattle.bk_scope.proofs.Terms.{◌≡◌, ℕ, zero, suc, ◌+◌, ◌≤◌, ◌<◌, List, [], ◌∷◌, ◌++◌, length, refl, arith, Sort as sort, Expression, Expressions, Command, Commands, Declaration, Declarations, Definition, Definitions, Starts, name, number, text, truth, query, parens, unary, binary, choice, apply, valof, table, none, more, empty, assign, call, goto, label, case_of, default, when, test, while, for_loop, switch, result, simple, block, repeat, repeat_while, no_commands, also, constants, definitions, no_declarations, declare, no_items, item, routine, function, variables, no_definitions, define, no_starts, value, vector, labels_of, labels_of_each, Spot, procedures_in, numbers, numbers_each, numbers_done, numbers_done_each, numbers_declared, numbers_one_declared, numbers_items, numbers_defined, numbers_one_defined, numbers_started, numbered, behind, behind_each, behind_done, behind_declared, behind_one_declared, behind_one_defined, beginning, NoneOf, AllDiffer}
 use Rattle.bk_scope.specs.Given.{counted, given, given_each, given_done, given_done_each, given_declared, given_one_declared, given_defined, given_one_defined, given_started, NumbersDiffer}
 
 -- each is above the one before it, from n on and below m
@@ -71,7 +71,7 @@ mutual
   rise_each none s = nothing_rises _ _
   rise_each (more e es) s = both_rise (rise e s) (rise_each es (behind e s)) refl
 
-  rise_done : (c : Action) (s : Spot) → Rises s.number (numbers_done c) (given_done s c)
+  rise_done : (c : Command) (s : Spot) → Rises s.number (numbers_done c) (given_done s c)
   rise_done (assign l xs es) s = both_rise (rise_each xs s) (rise_each es (behind_each xs s)) refl
   rise_done (call l e es) s = both_rise (rise e s) (rise_each es (behind e s)) refl
   rise_done (label l x c) s = rise_done c s
@@ -99,8 +99,8 @@ mutual
   rise_done (repeat_while l b c e) s = both_rise (rise_done c s) (rise e (behind_done c s)) refl
   rise_done _ s = nothing_rises _ _
 
-  rise_done_each : (cs : Actions) (s : Spot) → Rises s.number (numbers_done_each cs) (given_done_each s cs)
-  rise_done_each no_actions s = nothing_rises _ _
+  rise_done_each : (cs : Commands) (s : Spot) → Rises s.number (numbers_done_each cs) (given_done_each s cs)
+  rise_done_each no_commands s = nothing_rises _ _
   rise_done_each (also c cs) s = both_rise (rise_done c s) (rise_done_each cs (behind_done c s)) refl
 
   rise_declared : (ds : Declarations) (s : Spot) → Rises s.number (numbers_declared ds) (given_declared s ds)

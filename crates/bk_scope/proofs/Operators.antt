@@ -1,5 +1,5 @@
 -- The pass and what is told: operators and calls.
-use Rattle.bk_scope.proofs.Terms.{◌≡◌, ℕ, ◌+◌, ◌^◌, ◌<◌, List, refl, sym, subst, arith, Operator, Operator as o, Expression, Expressions, Action, binary, apply, size, Enclosing, Role, Value, Truth, Address, Destination, Binding, Found, deeper, evaluated, each_evaluated, done, fit_infix, without_word, role_of_operands, place_of_second, Spot, past, behind, symbols, symbols_each, symbols_done, numbers, numbers_each, numbers_done, told, told_each, told_done}
+use Rattle.bk_scope.proofs.Terms.{◌≡◌, ℕ, ◌+◌, ◌^◌, ◌<◌, List, refl, sym, subst, arith, Operator, Operator as o, Expression, Expressions, Command, binary, apply, size, Enclosing, Role, Value, Truth, Address, Destination, Binding, Found, deeper, evaluated, each_evaluated, done, fit_infix, without_word, role_of_operands, place_of_second, Spot, past, behind, symbols, symbols_each, symbols_done, numbers, numbers_each, numbers_done, told, told_each, told_done}
 use Rattle.bk_scope.proofs.Tied.{Tied, Spans, behind_it}
 
 -- an expression that is there for its value or its truth
@@ -20,10 +20,10 @@ EsTied es = (n : ℕ) (bs : List Binding) (p : Enclosing) (s : Spot) (f : Found)
 abbrev pub EsInside : Expressions → Type 0
 EsInside es = (n : ℕ) (bs : List Binding) (p : Enclosing) (s : Spot) → Spans s.place (s.place + symbols_each es) (told_each n bs p s es)
 
-abbrev pub CTied : Action → Type 0
+abbrev pub CTied : Command → Type 0
 CTied c = (bs : List Binding) (p : Enclosing) (s : Spot) (f : Found) → f.next ≡ s.number → s.number + numbers_done c < 2 ^ 32 → Tied (told_done bs p s c) (numbers_done c) f (done bs p c f)
 
-abbrev pub CInside : Action → Type 0
+abbrev pub CInside : Command → Type 0
 CInside c = (bs : List Binding) (p : Enclosing) (s : Spot) → Spans s.place (s.place + symbols_done c) (told_done bs p s c)
 
 -- binary

@@ -1,5 +1,5 @@
 -- The pass and what is told: procedures.
-use Rattle.bk_scope.proofs.Terms.{◌≡◌, ℕ, ◌+◌, ◌*◌, ◌^◌, ◌≤◌, ◌<◌, Bool, true, false, cond, Option, Some, None, List, [], ◌∷◌, ◌++◌, length, refl, sym, ap, ◌∙◌, subst, append_assoc, arith, nat_lt, append-nil, FRAME_WORDS, Mention, Expression, Action, routine, function, Bound, Constant, Global, Static, Variable, Label, Enclosing, Value, Binding, bound_in, text_of, declared_twice, frame_too_large, two_procedures, kept, labelled, called, Stage, labels_of, with_labels, with_formals, Defined, evaluated, done, one_defined, listed, all_listed, sets, named_as, headed, frame_wrong, Spot, onward, symbols, symbols_done, numbers, numbers_done, Fault, Point, meaning, word, depth, wrong, claim, at, claimed, claims_behind, judged, in_order, first_told, meanings_of, words_of, deepest, without_depths, labels_in_scope, told, told_done, told_one_defined, one_of, each_of, its_meaning, its_global, its_frame, inside_procedure, procedure}
+use Rattle.bk_scope.proofs.Terms.{◌≡◌, ℕ, ◌+◌, ◌*◌, ◌^◌, ◌≤◌, ◌<◌, Bool, true, false, cond, Option, Some, None, List, [], ◌∷◌, ◌++◌, length, refl, sym, ap, ◌∙◌, subst, append_assoc, arith, nat_lt, append-nil, FRAME_WORDS, Mention, Expression, Command, routine, function, Bound, Constant, Global, Static, Variable, Label, Enclosing, Value, Binding, bound_in, text_of, declared_twice, frame_too_large, two_procedures, kept, labelled, called, Stage, labels_of, with_labels, with_formals, Defined, evaluated, done, one_defined, listed, all_listed, sets, named_as, headed, frame_wrong, Spot, onward, symbols, symbols_done, numbers, numbers_done, Fault, Point, meaning, word, depth, wrong, claim, at, claimed, claims_behind, judged, in_order, first_told, meanings_of, words_of, deepest, without_depths, labels_in_scope, told, told_done, told_one_defined, one_of, each_of, its_meaning, its_global, its_frame, inside_procedure, procedure}
 use Rattle.bk_scope.specs.Found.{Found, Claim, naming, setting, is_claimed, else_first, breaks, claims_new, claims_once, takes, opens, behind}
 use Rattle.bk_scope.proofs.Lists.{Inside, AllInside, inside_append, inside_wider, judged_inside, order_apart, first_append, meanings_append}
 use Rattle.bk_scope.proofs.Tied.{Tied, Spans, both, wider, behind_it, else_none, nothing_told, then}
@@ -7,40 +7,40 @@ use Rattle.bk_scope.proofs.Operators.{ETied, EInside, CTied, CInside}
 use Rattle.bk_scope.proofs.Scopes.{moved, moved_tied, recount, no_span, labels_taken}
 
 -- a claim
-once_first : (b : Bool) (c : Claim) (x : Fault) (f : Found) → (cond b (breaks x.line x.wrong f) (claims_new c f)).first ≡ else_first f.first (first_told (in_order (cond b (x ∷ []) [] ++ [])))
+once_first : (b : Bool) (c : Claim) (x : Fault) (f : Found) → (cond b (breaks x.at x.wrong f) (claims_new c f)).first ≡ else_first f.first (first_told (in_order (cond b (x ∷ []) [] ++ [])))
 once_first true c x f = refl
 once_first false c x f = sym (else_none f.first)
 
-once_claims : (b : Bool) (c : Claim) (x : Fault) (f : Found) → (cond b (breaks x.line x.wrong f) (claims_new c f)).claims ≡ cond b f.claims (c ∷ f.claims)
+once_claims : (b : Bool) (c : Claim) (x : Fault) (f : Found) → (cond b (breaks x.at x.wrong f) (claims_new c f)).claims ≡ cond b f.claims (c ∷ f.claims)
 once_claims true c x f = refl
 once_claims false c x f = refl
 
-once_rest : (b : Bool) (c : Claim) (x : Fault) (f : Found) → let g : Found = cond b (breaks x.line x.wrong f) (claims_new c f) in (g.meanings ≡ f.meanings) × (g.words ≡ f.words) × (g.next ≡ f.next) × (g.deepest ≡ f.deepest)
+once_rest : (b : Bool) (c : Claim) (x : Fault) (f : Found) → let g : Found = cond b (breaks x.at x.wrong f) (claims_new c f) in (g.meanings ≡ f.meanings) × (g.words ≡ f.words) × (g.next ≡ f.next) × (g.deepest ≡ f.deepest)
 once_rest true c x f = (refl, refl, refl, refl)
 once_rest false c x f = (refl, refl, refl, refl)
 
-pub claim_tied : (c : Claim) (x : Fault) (f : Found) → Tied (claim c x ∷ []) 0 f (claims_once c x.line x.wrong f)
+pub claim_tied : (c : Claim) (x : Fault) (f : Found) → Tied (claim c x ∷ []) 0 f (claims_once c x.at x.wrong f)
 claim_tied c x f =
-    let r : ((claims_once c x.line x.wrong f).meanings ≡ f.meanings) × ((claims_once c x.line x.wrong f).words ≡ f.words) × ((claims_once c x.line x.wrong f).next ≡ f.next) × ((claims_once c x.line x.wrong f).deepest ≡ f.deepest) = once_rest (is_claimed c f.claims) c x f in
+    let r : ((claims_once c x.at x.wrong f).meanings ≡ f.meanings) × ((claims_once c x.at x.wrong f).words ≡ f.words) × ((claims_once c x.at x.wrong f).next ≡ f.next) × ((claims_once c x.at x.wrong f).deepest ≡ f.deepest) = once_rest (is_claimed c f.claims) c x f in
     record { first = once_first (is_claimed c f.claims) c x f; claims = once_claims (is_claimed c f.claims) c x f; meanings = r.0 ∙ sym (append-nil f.meanings); words = r.1 ∙ sym (append-nil f.words); next = omega (arith, r.2); deepest = r.3 }
 
 pub listed_tied : (m n l : ℕ) (x : List ℕ) (f : Found) → Tied (one_of m n l x) 0 f (listed m l x f)
-listed_tied m n l x f = claim_tied (naming m x) (record { place = n; line = l; wrong = declared_twice (text_of x) }) f
+listed_tied m n l x f = claim_tied (naming m x) (record { place = n; at = l; wrong = declared_twice (text_of x) }) f
 
 pub one_spans : (m n l : ℕ) (x : List ℕ) → Spans n (n + 1) (one_of m n l x)
 one_spans m n l x = record { inside = (omega arith, omega arith, tt) }
 
 pub each_spans : (m n : ℕ) (xs : List Mention) → Spans n (n + length xs) (each_of m n xs)
 each_spans m n [] = wider n (n + 0) (no_span n) (omega arith) (omega arith)
-each_spans m n (x ∷ xs) = wider _ _ (both (one_spans m n x.line x.letters) (each_spans m (n + 1) xs) (omega arith) (omega arith)) (omega arith) (omega arith)
+each_spans m n (x ∷ xs) = wider _ _ (both (one_spans m n x.at x.letters) (each_spans m (n + 1) xs) (omega arith) (omega arith)) (omega arith) (omega arith)
 
 pub each_tied : (m n : ℕ) (xs : List Mention) (f : Found) → Tied (each_of m n xs) 0 f (all_listed m xs f)
 each_tied m n [] f = nothing_told f
 each_tied m n (x ∷ xs) f =
-    recount 0 (behind_it (one_spans m n x.line x.letters) (each_spans m (n + 1) xs) (omega arith) (listed_tied m n x.line x.letters f) (each_tied m (n + 1) xs (listed m x.line x.letters f))) (omega arith)
+    recount 0 (behind_it (one_spans m n x.at x.letters) (each_spans m (n + 1) xs) (omega arith) (listed_tied m n x.at x.letters f) (each_tied m (n + 1) xs (listed m x.at x.letters f))) (omega arith)
 
 global_tied : (n l : ℕ) (x : List ℕ) (b : Option Bound) (f : Found) → Tied (its_global n l x b) 0 f (sets l x b f)
-global_tied n l x (Some (Global (Some g))) f = claim_tied (setting g) (record { place = n; line = l; wrong = two_procedures (text_of x) }) f
+global_tied n l x (Some (Global (Some g))) f = claim_tied (setting g) (record { place = n; at = l; wrong = two_procedures (text_of x) }) f
 global_tied n l x _ f = nothing_told f
 
 global_inside : (n l : ℕ) (x : List ℕ) (b : Option Bound) → Inside (32 * n + 27) (32 * (n + 1)) (its_global n l x b)
@@ -48,7 +48,7 @@ global_inside n l x (Some (Global (Some g))) = (omega arith, omega arith, tt)
 global_inside n l x _ = tt
 
 module _ (n l : ℕ) (xs : List Point) where
-  frame_judged : (b : Bool) (cs : List Claim) → judged cs (cond b (at n l frame_too_large) [] ++ xs) ≡ cond b (record { place = n; line = l; wrong = frame_too_large } ∷ []) [] ++ judged cs xs
+  frame_judged : (b : Bool) (cs : List Claim) → judged cs (cond b (at n l frame_too_large) [] ++ xs) ≡ cond b (record { place = n; at = l; wrong = frame_too_large } ∷ []) [] ++ judged cs xs
   frame_judged true cs = refl
   frame_judged false cs = refl
 
@@ -61,11 +61,11 @@ module _ (n l : ℕ) (xs : List Point) where
   frame_inside true e h g = (omega arith, omega (arith, g), h)
   frame_inside false e h g = h
 
-frame_first : (b : Bool) (n l : ℕ) → first_told (in_order (cond b (record { place = n; line = l; wrong = frame_too_large } ∷ []) [])) ≡ cond b (Some (record { line = l; wrong = frame_too_large })) None
+frame_first : (b : Bool) (n l : ℕ) → first_told (in_order (cond b (record { place = n; at = l; wrong = frame_too_large } ∷ []) [])) ≡ cond b (Some (record { at = l; wrong = frame_too_large })) None
 frame_first true n l = refl
 frame_first false n l = refl
 
-frame_faults : (b : Bool) (n l : ℕ) → AllInside (32 * n + 15) (32 * n + 27) (cond b (record { place = n; line = l; wrong = frame_too_large } ∷ []) [])
+frame_faults : (b : Bool) (n l : ℕ) → AllInside (32 * n + 15) (32 * n + 27) (cond b (record { place = n; at = l; wrong = frame_too_large } ∷ []) [])
 frame_faults true n l = (omega arith, omega arith, tt)
 frame_faults false n l = tt
 
@@ -125,13 +125,13 @@ inside_tied n l j e d y xs f h fits a t =
     let rest : judged f.claims zs ≡ judged f.claims xs = (name_same y (without_depths xs)).judged_so f.claims ∙ (flat_same xs).judged_so f.claims in
     record {
       first =
-          ap (λ b. else_first f.first (else_first (cond (nat_lt FRAME_WORDS b) (Some (record { line = l; wrong = frame_too_large })) None) h.first)) t.deepest
-          ∙ ap (λ b. else_first f.first (else_first (cond q (Some (record { line = l; wrong = frame_too_large })) None) b)) (t.first ∙ ap (λ c. first_told (in_order (judged c xs))) v.0)
+          ap (λ b. else_first f.first (else_first (cond (nat_lt FRAME_WORDS b) (Some (record { at = l; wrong = frame_too_large })) None) h.first)) t.deepest
+          ∙ ap (λ b. else_first f.first (else_first (cond q (Some (record { at = l; wrong = frame_too_large })) None) b)) (t.first ∙ ap (λ c. first_told (in_order (judged c xs))) v.0)
           ∙ ap (λ b. else_first f.first (else_first b (first_told (in_order (judged f.claims xs))))) (sym (frame_first q n l))
           ∙ ap (else_first f.first) (sym (
-          ap (λ b. first_told (in_order b)) (frame_judged n l zs q f.claims ∙ ap (λ b. cond q (record { place = n; line = l; wrong = frame_too_large } ∷ []) [] ++ b) rest)
+          ap (λ b. first_told (in_order b)) (frame_judged n l zs q f.claims ∙ ap (λ b. cond q (record { place = n; at = l; wrong = frame_too_large } ∷ []) [] ++ b) rest)
           ∙ ap first_told (order_apart (32 * n + 15) (32 * n + 27) e _ (judged f.claims xs) (frame_faults q n l) (judged_inside _ _ xs f.claims a))
-          ∙ first_append (in_order (cond q (record { place = n; line = l; wrong = frame_too_large } ∷ []) [])) _));
+          ∙ first_append (in_order (cond q (record { place = n; at = l; wrong = frame_too_large } ∷ []) [])) _));
       claims = t.claims ∙ ap (λ c. claims_behind c xs) v.0 ∙ sym ((frame_silent n l zs q).0 f.claims ∙ (name_same y (without_depths xs)).claims_so f.claims ∙ (flat_same xs).claims_so f.claims);
       meanings =
           t.meanings ∙ ap (λ c. c ++ meanings_of xs) v.1 ∙ append_assoc f.meanings (meanings_of (its_meaning y)) (meanings_of xs)
@@ -183,7 +183,7 @@ function_tied m l x fs a ta ia bs p s d e fits =
     (procedure_tied m k l (symbols a) (numbers a) s x fs (bound_in bs x) (told Value cs q u a) d.found (evaluated Value cs q a g) (omega (arith, e, fits)) (wider _ _ (ia Value cs q u) (omega arith) (omega arith)) (ta Value tt cs q u g g_next (omega (arith, fits))))
 
 -- A ROUTINE
-pub routine_tied : (m l : ℕ) (x : List ℕ) (fs : List Mention) (c : Action) → CTied c → CInside c → (bs : List Binding) (p : Enclosing) (s : Spot) (d : Defined) → d.found.next ≡ s.number → s.number + ((2 + length (labels_of c)) + numbers_done c) < 2 ^ 32
+pub routine_tied : (m l : ℕ) (x : List ℕ) (fs : List Mention) (c : Command) → CTied c → CInside c → (bs : List Binding) (p : Enclosing) (s : Spot) (d : Defined) → d.found.next ≡ s.number → s.number + ((2 + length (labels_of c)) + numbers_done c) < 2 ^ 32
     → Tied (told_one_defined m bs p s (routine l x fs c)) ((2 + length (labels_of c)) + numbers_done c) d.found (one_defined m bs (routine l x fs c) d).found
 routine_tied m l x fs c tc ic bs p s d e fits =
     let f : Found = listed m l x d.found in

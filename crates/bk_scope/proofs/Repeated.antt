@@ -1,5 +1,5 @@
 -- Of the claims of a list without faults none is made twice: the CASEs and the DEFAULT of a SWITCHON.
-use Rattle.bk_scope.proofs.Terms.{◌≡◌, ℕ, zero, suc, ◌+◌, ◌≤◌, Bool, true, false, cond, Option, Some, None, List, [], ◌∷◌, ◌++◌, refl, sym, ap, ◌∙◌, subst, arith, eq-eqb, false≢true, append-nil, Action, Actions, empty, assign, call, goto, for_loop, result, simple, label, case_of, default, when, test, while, switch, block, repeat, repeat_while, no_actions, also, no_declarations, declare, Enclosing, Value, Truth, Binding, bound_in, case_repeated, default_repeated, constant_word, Claim, choosing, defaulting, same_claim, is_claimed, looping, switching, Spot, past, numbered, behind, behind_done, behind_constant, Fault, Point, meaning, word, depth, wrong, claim, claiming, claimed, claims_behind, chosen_at, defaulted_at, its_meaning, one_of, constant, told, told_done, told_done_each, Clean, word_if_any, case_words, case_words_each, defaults, defaults_each, NoneOf, AllDiffer, CasesDiffer}
+use Rattle.bk_scope.proofs.Terms.{◌≡◌, ℕ, zero, suc, ◌+◌, ◌≤◌, Bool, true, false, cond, Option, Some, None, List, [], ◌∷◌, ◌++◌, refl, sym, ap, ◌∙◌, subst, arith, eq-eqb, false≢true, append-nil, Command, Commands, empty, assign, call, goto, for_loop, result, simple, label, case_of, default, when, test, while, switch, block, repeat, repeat_while, no_commands, also, no_declarations, declare, Enclosing, Value, Truth, Binding, bound_in, case_repeated, default_repeated, constant_word, Claim, choosing, defaulting, same_claim, is_claimed, looping, switching, Spot, past, numbered, behind, behind_done, behind_constant, Fault, Point, meaning, word, depth, wrong, claim, claiming, claimed, claims_behind, chosen_at, defaulted_at, its_meaning, one_of, constant, told, told_done, told_done_each, Clean, word_if_any, case_words, case_words_each, defaults, defaults_each, NoneOf, AllDiffer, CasesDiffer}
 use Rattle.bk_scope.proofs.Lists.{claims_append}
 use Rattle.bk_scope.proofs.Parts.{first_clean, second_clean}
 
@@ -133,7 +133,7 @@ in_front : {m n : ℕ} {vs : List ℕ} {xs : List Point} (ys : List Point) → M
 in_front {m = m} {n = n} {vs = vs} {xs = xs} ys a = subst (λ i. Made m (xs ++ ys) vs i) (omega arith) (subst (λ us. Made m (xs ++ ys) us (n + 0)) (append-nil vs) (made_both a (made_none m ys)))
 
 mutual
-  made : (c : Action) (m : ℕ) (bs : List Binding) (p : Enclosing) (s : Spot) → p.switch ≡ Some m → Made m (told_done bs p s c) (case_words bs c) (defaults c)
+  made : (c : Command) (m : ℕ) (bs : List Binding) (p : Enclosing) (s : Spot) → p.switch ≡ Some m → Made m (told_done bs p s c) (case_words bs c) (defaults c)
   made (label l x c) m bs p s e = behind_other (one_of p.labels s.place l x ++ its_meaning (bound_in bs x)) (made c m bs p (past 1 s) e)
   made (case_of l f c) m bs p s e =
       let u : Spot = behind_constant f (past 1 s) in
@@ -148,8 +148,8 @@ mutual
   made (repeat_while l b c f) m bs p s e = in_front (told Truth bs p (behind_done c s) f) (made c m bs (looping p) s e)
   made _ m bs p s e = made_none m _
 
-  made_each : (cs : Actions) (m : ℕ) (bs : List Binding) (p : Enclosing) (s : Spot) → p.switch ≡ Some m → Made m (told_done_each bs p s cs) (case_words_each bs cs) (defaults_each cs)
-  made_each no_actions m bs p s e = made_none m _
+  made_each : (cs : Commands) (m : ℕ) (bs : List Binding) (p : Enclosing) (s : Spot) → p.switch ≡ Some m → Made m (told_done_each bs p s cs) (case_words_each bs cs) (defaults_each cs)
+  made_each no_commands m bs p s e = made_none m _
   made_each (also c cs) m bs p s e = made_both (made c m bs p s e) (made_each cs m bs p (behind_done c s) e)
 
 -- A SWITCHON

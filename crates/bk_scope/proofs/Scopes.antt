@@ -1,5 +1,5 @@
 -- The pass and what is told, where names come into scope: VALOF, SWITCHON, a block with declarations.
-use Rattle.bk_scope.proofs.Terms.{◌≡◌, ℕ, ◌+◌, ◌^◌, ◌<◌, List, [], ◌∷◌, length, refl, sym, ap, ◌∙◌, subst, arith, append-nil, Expression, Action, Actions, Declaration, Declarations, valof, switch, block, declare, Label, Enclosing, Value, Binding, bind, Found, takes, reaches, switching, labelled, valued, Stage, labels_of, labels_of_each, with_labels, AfterDeclarations, evaluated, done, each_done, declared, Spot, onward, numbered, behind, behind_declared, symbols, symbols_done, symbols_done_each, symbols_declared, numbers, numbers_done, numbers_done_each, numbers_declared, Point, labels_in_scope, scope_behind, place_behind_all, told, told_done, told_done_each, told_declared, pushed}
+use Rattle.bk_scope.proofs.Terms.{◌≡◌, ℕ, ◌+◌, ◌^◌, ◌<◌, List, [], ◌∷◌, length, refl, sym, ap, ◌∙◌, subst, arith, append-nil, Expression, Command, Commands, Declaration, Declarations, valof, switch, block, declare, Label, Enclosing, Value, Binding, bind, Found, takes, reaches, switching, labelled, valued, Stage, labels_of, labels_of_each, with_labels, AfterDeclarations, evaluated, done, each_done, declared, Spot, onward, numbered, behind, behind_declared, symbols, symbols_done, symbols_done_each, symbols_declared, numbers, numbers_done, numbers_done_each, numbers_declared, Point, labels_in_scope, scope_behind, place_behind_all, told, told_done, told_done_each, told_declared, pushed}
 use Rattle.bk_scope.proofs.Tied.{Tied, Spans, behind_it, else_none}
 use Rattle.bk_scope.proofs.Operators.{ETied, EInside, CTied, CInside, without_plain}
 
@@ -43,7 +43,7 @@ at_spot : {i : ℕ} {f g : Found} (told_at : Spot → List Point) → ((n : ℕ)
 at_spot {i = i} {f = f} {g = g} told_at t s e = subst (λ m. Tied (told_at (record { place = s.place; number = m })) i f g) e (t s.place)
 
 -- VALOF
-pub valof_tied : (l : ℕ) (c : Action) → CTied c → CInside c → ETied (valof l c)
+pub valof_tied : (l : ℕ) (c : Command) → CTied c → CInside c → ETied (valof l c)
 valof_tied l c tc ic r h bs p s f e fits = at_spot (λ u. told r bs p u (valof l c)) here s e where
   here : (n : ℕ) → Tied (told r bs p (record { place = n; number = f.next }) (valof l c)) (numbers (valof l c)) f (evaluated r bs p (valof l c) f)
   here n =
@@ -61,7 +61,7 @@ valof_tied l c tc ic r h bs p s f e fits = at_spot (λ u. told r bs p u (valof l
       (recount _ (behind_it (ic cs q u) (pushed_spans (u.place + symbols_done c) p 1) (omega arith) all (pushed_tied p 1 (done cs q c g))) (omega arith)))
 
 -- SWITCHON
-pub switch_tied : (l : ℕ) (a : Expression) (c : Action) → ETied a → EInside a → CTied c → CInside c → CTied (switch l a c)
+pub switch_tied : (l : ℕ) (a : Expression) (c : Command) → ETied a → EInside a → CTied c → CInside c → CTied (switch l a c)
 switch_tied l a c ta ia tc ic bs p s f e fits =
     let g : Found = evaluated Value bs p a f in
     let one : Tied (told Value bs p s a) (numbers a) f g = ta Value tt bs p s f e (omega (arith, fits)) in
@@ -82,13 +82,13 @@ pub record DsTied (ds : Declarations) : Type 0 where
 abbrev pub DsInside : Declarations → Type 0
 DsInside ds = (bs : List Binding) (p : Enclosing) (s : Spot) → Spans s.place (s.place + symbols_declared ds) (told_declared bs p s ds)
 
-abbrev pub CsTied : Actions → Type 0
+abbrev pub CsTied : Commands → Type 0
 CsTied cs = (bs : List Binding) (p : Enclosing) (s : Spot) (f : Found) → f.next ≡ s.number → s.number + numbers_done_each cs < 2 ^ 32 → Tied (told_done_each bs p s cs) (numbers_done_each cs) f (each_done bs p cs f)
 
-abbrev pub CsInside : Actions → Type 0
+abbrev pub CsInside : Commands → Type 0
 CsInside cs = (bs : List Binding) (p : Enclosing) (s : Spot) → Spans s.place (s.place + symbols_done_each cs) (told_done_each bs p s cs)
 
-pub block_tied : (l : ℕ) (d : Declaration) (ds : Declarations) (cs : Actions) → DsTied (declare d ds) → DsInside (declare d ds) → CsTied cs → CsInside cs → CTied (block l (declare d ds) cs)
+pub block_tied : (l : ℕ) (d : Declaration) (ds : Declarations) (cs : Commands) → DsTied (declare d ds) → DsInside (declare d ds) → CsTied cs → CsInside cs → CTied (block l (declare d ds) cs)
 block_tied l d ds cs td id tc ic bs p s f e fits =
     let b : AfterDeclarations = declared bs p (declare d ds) f in
     let u : Spot = behind_declared (declare d ds) s in

@@ -1,5 +1,5 @@
 -- Where nothing that is told is wrong, each node is sound.
-use Rattle.bk_scope.proofs.Terms.{◌≡◌, ℕ, ◌+◌, ◌≤◌, ◌<◌, ◌==◌, Bool, true, false, cond, Option, Some, None, List, [], ◌∷◌, ◌++◌, length, refl, sym, ap, ◌∙◌, subst, arith, eqb-true, le-ltb, false≢true, none-some, bytes_eq, bytes_eq-Decides, option_and_then, GLOBAL_NUMBER, VEC_NUMBER, FRAME_WORDS, Operator, Operator as o, Prefix, Prefix as q, Simple, Simple as w, Sort as sort, Mention, Expression, Expressions, Action, Actions, Declaration, Declarations, Items, Definition, Definitions, Starts, name, number, text, truth, query, parens, unary, binary, choice, apply, valof, table, none, more, empty, assign, call, goto, label, case_of, default, when, test, while, for_loop, switch, result, simple, block, repeat, repeat_while, no_actions, also, constants, definitions, no_declarations, declare, no_items, item, routine, function, variables, no_definitions, define, no_starts, value, vector, line_of, size, Bound, Constant, Global, Static, Variable, Label, Enclosing, Role, Value, Truth, Address, Destination, Binding, bound_in, bind, is_global, Wrong, text_of, dynamic_name, label_not_here, not_constant, divided_by_zero, not_assignable, no_loop, no_switchon, no_result_or_return, global_out_of_range, vec_out_of_range, named_word, prefix_word, infix_word, constant_word, is_prefix_of_constants, is_infix_of_constants, divides, divides_by_zero, kept, deeper, looping, switching, labelled, valued, called, outermost, labels_of, labels_of_each, with_formals, parenthesised, role_of_operand, role_of_operands, place_of_second, within, words_of_start, variables_of, place_behind, Spot, procedures_in, onward, past, numbered, behind, behind_each, behind_done, behind_declared, behind_one_declared, behind_one_defined, behind_constant, symbols_each, beginning, Point, meaning, at, labels_in_scope, procedure_in_scope, procedures_in_scope, place_behind_one_defined, place_behind_defined, variables_in_scope, manifests_in_scope, statics_in_scope, globals_in_scope, scope_behind_one, place_behind_one, scope_behind, place_behind_all, unless, used_at, gone_to, constant_name, constant_wrongs, its_word, constant, each_constant, at_most, addressed, assigned, prefixed, depth_named, pushed, chosen_at, defaulted_at, single_at, its_meaning, one_of, each_of, manifest_items, static_items, global_items, told, told_each, told_destinations, told_done, told_done_each, told_declared, told_one_declared, told_defined, told_one_defined, told_started, told_of, faults, Usable, GoesTo, HasWord, HasWordUpTo, HaveWords, Callable, PrefixSound, Stands, ManifestsSound, StaticsSound, GlobalsSound, FrameSound, Sound, SoundEach, SoundDestinations, SoundDone, SoundDoneEach, SoundDeclared, SoundOneDeclared, SoundDefined, SoundOneDefined, SoundStarted, SoundSection}
+use Rattle.bk_scope.proofs.Terms.{◌≡◌, ℕ, ◌+◌, ◌≤◌, ◌<◌, ◌==◌, Bool, true, false, cond, Option, Some, None, List, [], ◌∷◌, ◌++◌, length, refl, sym, ap, ◌∙◌, subst, arith, eqb-true, le-ltb, false≢true, none-some, bytes_eq, bytes_eq-Decides, option_and_then, GLOBAL_NUMBER, VEC_NUMBER, FRAME_WORDS, Operator, Operator as o, Prefix, Prefix as q, Simple, Simple as w, Sort as sort, Mention, Expression, Expressions, Command, Commands, Declaration, Declarations, Items, Definition, Definitions, Starts, name, number, text, truth, query, parens, unary, binary, choice, apply, valof, table, none, more, empty, assign, call, goto, label, case_of, default, when, test, while, for_loop, switch, result, simple, block, repeat, repeat_while, no_commands, also, constants, definitions, no_declarations, declare, no_items, item, routine, function, variables, no_definitions, define, no_starts, value, vector, at_expression, size, Bound, Constant, Global, Static, Variable, Label, Enclosing, Role, Value, Truth, Address, Destination, Binding, bound_in, bind, is_global, Wrong, text_of, dynamic_name, label_not_here, not_constant, divided_by_zero, not_assignable, no_loop, no_switchon, no_result_or_return, global_out_of_range, vec_out_of_range, named_word, prefix_word, infix_word, constant_word, is_prefix_of_constants, is_infix_of_constants, divides, divides_by_zero, kept, deeper, looping, switching, labelled, valued, called, outermost, labels_of, labels_of_each, with_formals, parenthesised, role_of_operand, role_of_operands, place_of_second, within, words_of_start, variables_of, place_behind, Spot, procedures_in, onward, past, numbered, behind, behind_each, behind_done, behind_declared, behind_one_declared, behind_one_defined, behind_constant, symbols_each, beginning, Point, meaning, at, labels_in_scope, procedure_in_scope, procedures_in_scope, place_behind_one_defined, place_behind_defined, variables_in_scope, manifests_in_scope, statics_in_scope, globals_in_scope, scope_behind_one, place_behind_one, scope_behind, place_behind_all, unless, used_at, gone_to, constant_name, constant_wrongs, its_word, constant, each_constant, at_most, addressed, assigned, prefixed, depth_named, pushed, chosen_at, defaulted_at, single_at, its_meaning, one_of, each_of, manifest_items, static_items, global_items, told, told_each, told_destinations, told_done, told_done_each, told_declared, told_one_declared, told_defined, told_one_defined, told_started, told_of, faults, Usable, GoesTo, HasWord, HasWordUpTo, HaveWords, Callable, PrefixSound, Stands, ManifestsSound, StaticsSound, GlobalsSound, FrameSound, Sound, SoundEach, SoundDestinations, SoundDone, SoundDoneEach, SoundDeclared, SoundOneDeclared, SoundDefined, SoundOneDefined, SoundStarted, SoundSection}
 use Rattle.bk_scope.proofs.Fits.{FitsBound, Fits, fits_more, fits_inner, bound_fits, labels_fit, procedures_fit, append_fits, all_fit, formals_fit}
 use Rattle.bk_scope.proofs.Parts.{section_clean, no_wrong}
 use Rattle.bk_scope.proofs.Safe.{safe_outside, Safe, in_first, in_second, in_both, in_three, unless_true, when_false, bounded_safe, begins_within, procedure_safe}
@@ -117,9 +117,9 @@ up_to : (y : Option ℕ) (most m l : ℕ) (k : ℕ) (v : Wrong) → HasWord y �
 up_to None most m l k v u h = absurd (none-some _ u.1)
 up_to (Some i) most m l k v u h = (i, refl, bounded_safe most m l v i h)
 
-bounded_worded : (e : Expression) (most : ℕ) (v : Wrong) (bs : List Binding) (k d n : ℕ) (s : Spot) → Fits k d n bs → Safe k (constant bs k s e ++ at_most most s.place (line_of e) v (constant_word bs e)) → HasWordUpTo most (constant_word bs e)
+bounded_worded : (e : Expression) (most : ℕ) (v : Wrong) (bs : List Binding) (k d n : ℕ) (s : Spot) → Fits k d n bs → Safe k (constant bs k s e ++ at_most most s.place (at_expression e) v (constant_word bs e)) → HasWordUpTo most (constant_word bs e)
 bounded_worded e most v bs k d n s f h =
-    up_to (constant_word bs e) most s.place (line_of e) k v (constant_worded e bs k d n s f (in_first (constant bs k s e) (at_most most s.place (line_of e) v (constant_word bs e)) h)) (in_second (constant bs k s e) (at_most most s.place (line_of e) v (constant_word bs e)) h)
+    up_to (constant_word bs e) most s.place (at_expression e) k v (constant_worded e bs k d n s f (in_first (constant bs k s e) (at_most most s.place (at_expression e) v (constant_word bs e)) h)) (in_second (constant bs k s e) (at_most most s.place (at_expression e) v (constant_word bs e)) h)
 
 -- AN EXPRESSION PUSHES A WORD, unless a value is put into it
 abbrev pub Pushing : Role → Type 0
@@ -227,7 +227,7 @@ variables_fit (vector l v is) (x ∷ xs) bs p s k n a e two most h =
     let w : ℕ = words_of_start bs v in
     let g : ((deeper (w + 1) p).depth ≤ (place_behind bs (deeper (w + 1) p) is).depth) × ((place_behind bs (deeper (w + 1) p) is).depth ≤ FRAME_WORDS + 1) = grow_starts is bs (deeper (w + 1) p) (omega arith) in
     let rest : List Point = told_started bs (deeper (w + 1) p) (behind_constant v s) is in
-    let ys : List Point = constant bs p.procedure s v ++ at_most VEC_NUMBER s.place (line_of v) vec_out_of_range (constant_word bs v) in (
+    let ys : List Point = constant bs p.procedure s v ++ at_most VEC_NUMBER s.place (at_expression v) vec_out_of_range (constant_word bs v) in (
       (
         omega (arith, a, e),
         λ c t.
@@ -293,10 +293,10 @@ global_sound (item l x e is) m bs k d n s cs f g h =
     let v : Spot = past 1 s in
     let xs : List Point = one_of m s.place l x in
     let ys : List Point = constant bs k v e in
-    let us : List Point = at_most GLOBAL_NUMBER v.place (line_of e) global_out_of_range (constant_word bs e) in
+    let us : List Point = at_most GLOBAL_NUMBER v.place (at_expression e) global_out_of_range (constant_word bs e) in
     let zs : List Point = global_items m bs k (behind_constant e v) is in
     let most : Safe k (xs ++ ys ++ us) = in_first (xs ++ ys ++ us) zs h in
-    let z : HasWordUpTo GLOBAL_NUMBER (constant_word bs e) = up_to (constant_word bs e) GLOBAL_NUMBER v.place (line_of e) k global_out_of_range (constant_worded e bs k d n v f (in_second xs ys (in_first (xs ++ ys) us most))) (in_second (xs ++ ys) us most) in
+    let z : HasWordUpTo GLOBAL_NUMBER (constant_word bs e) = up_to (constant_word bs e) GLOBAL_NUMBER v.place (at_expression e) k global_out_of_range (constant_worded e bs k d n v f (in_second xs ys (in_first (xs ++ ys) us most))) (in_second (xs ++ ys) us most) in
     let r : GlobalsSound bs is × Fits k d n (globals_in_scope bs is (bind x (Global (within GLOBAL_NUMBER (constant_word bs e))) cs)) = global_sound is m bs k d n (behind_constant e v) (bind x (Global (within GLOBAL_NUMBER (constant_word bs e))) cs) f (within_fits (constant_word bs e) z, g) (in_second (xs ++ ys ++ us) zs h) in
     ((z, r.0), r.1)
 
@@ -347,7 +347,7 @@ same_safe : {xs : List Point} (z p : Enclosing) → z.procedure ≡ p.procedure 
 same_safe {xs = xs} z p e a = subst (λ k. Safe k xs) (sym e) a
 
 prefix_sound : (f : Prefix) (bs : List Binding) (s : Spot) (e : Expression) (k : ℕ) → Safe k (prefixed f bs s e) → PrefixSound f bs e
-prefix_sound q.Address bs s e k h = unless_true (addressed bs e) s.place (line_of e) not_assignable h
+prefix_sound q.Address bs s e k h = unless_true (addressed bs e) s.place (at_expression e) not_assignable h
 prefix_sound _ bs s e k h = tt
 
 stands : (p : Enclosing) (n l : ℕ) (f : Simple) (k : ℕ) → Safe k (single_at p n l f) → Stands p f
@@ -499,13 +499,13 @@ mutual
   pub sound_destinations : (es : Expressions) (bs : List Binding) (p : Enclosing) (s : Spot) → Around bs p.procedure p.depth s.number → Safe p.procedure (told_destinations bs p s es) → SoundDestinations bs p s es
   sound_destinations none bs p s a h = tt
   sound_destinations (more e es) bs p s a h =
-      let i = in_three (unless (assigned bs e) (at s.place (line_of e) not_assignable)) (told (Destination false (line_of e)) bs p s e) _ h in (
-        unless_true (assigned bs e) s.place (line_of e) not_assignable i.0,
-        sound e (Destination false (line_of e)) bs p s a i.1,
+      let i = in_three (unless (assigned bs e) (at s.place (at_expression e) not_assignable)) (told (Destination false (at_expression e)) bs p s e) _ h in (
+        unless_true (assigned bs e) s.place (at_expression e) not_assignable i.0,
+        sound e (Destination false (at_expression e)) bs p s a i.1,
         sound_destinations es bs p (behind e s) (onto (behind e s).number a (omega arith)) i.2,
       )
 
-  pub sound_done : (c : Action) (bs : List Binding) (p : Enclosing) (s : Spot) → AllGo p.procedure (labels_of c) bs → Around bs p.procedure p.depth s.number → Safe p.procedure (told_done bs p s c) → SoundDone bs p s c
+  pub sound_done : (c : Command) (bs : List Binding) (p : Enclosing) (s : Spot) → AllGo p.procedure (labels_of c) bs → Around bs p.procedure p.depth s.number → Safe p.procedure (told_done bs p s c) → SoundDone bs p s c
   sound_done empty bs p s g a h = tt
   sound_done (assign l us es) bs p s g a h =
       let i = in_both (told_destinations bs (deeper 1 p) s us) _ h in
@@ -514,7 +514,7 @@ mutual
       let q : Enclosing = deeper (size es + 2) p in
       let i = in_both (told Value bs q s e) _ h in
       (sound e Value bs q s (below (size es + 2) s.number a (omega arith)) i.0, sound_each es 1 bs (deeper 2 p) (behind e s) (below 2 (behind e s).number a (omega arith)) i.1)
-  sound_done (goto l x) bs p s g a h = goes (bound_in bs x.letters) p.procedure s.place x.line x.letters h
+  sound_done (goto l x) bs p s g a h = goes (bound_in bs x.letters) p.procedure s.place x.at x.letters h
   sound_done (label l x c) bs p s g a h =
       let xs : List Point = one_of p.labels s.place l x ++ its_meaning (bound_in bs x) in
       (g.0, sound_done c bs p (past 1 s) g.1 (onto (past 1 s).number a (omega arith)) (in_second xs (told_done bs p (past 1 s) c) h))
@@ -594,8 +594,8 @@ mutual
       let i = in_both (told_done bs (looping p) s c) _ h in
       (sound_done c bs (looping p) s g a i.0, sound e Truth bs p (behind_done c s) (onto (behind_done c s).number a (omega arith)) i.1)
 
-  pub sound_done_each : (cs : Actions) (bs : List Binding) (p : Enclosing) (s : Spot) → AllGo p.procedure (labels_of_each cs) bs → Around bs p.procedure p.depth s.number → Safe p.procedure (told_done_each bs p s cs) → SoundDoneEach bs p s cs
-  sound_done_each no_actions bs p s g a h = tt
+  pub sound_done_each : (cs : Commands) (bs : List Binding) (p : Enclosing) (s : Spot) → AllGo p.procedure (labels_of_each cs) bs → Around bs p.procedure p.depth s.number → Safe p.procedure (told_done_each bs p s cs) → SoundDoneEach bs p s cs
+  sound_done_each no_commands bs p s g a h = tt
   sound_done_each (also c cs) bs p s g a h =
       let i = in_both (told_done bs p s c) _ h in
       (sound_done c bs p s (go_first p.procedure (labels_of c) (labels_of_each cs) bs g) a i.0, sound_done_each cs bs p (behind_done c s) (go_second p.procedure (labels_of c) (labels_of_each cs) bs g) (onto (behind_done c s).number a (omega arith)) i.1)
@@ -655,7 +655,7 @@ mutual
   sound_started (vector l e is) bs p s a h =
       let v : ℕ = words_of_start bs e in
       let us : List Point = constant bs p.procedure s e in
-      let xs : List Point = us ++ at_most VEC_NUMBER s.place (line_of e) vec_out_of_range (constant_word bs e) in
+      let xs : List Point = us ++ at_most VEC_NUMBER s.place (at_expression e) vec_out_of_range (constant_word bs e) in
       let ys : List Point = told_started bs (deeper (v + 1) p) (behind_constant e s) is in
       (bounded_worded e VEC_NUMBER vec_out_of_range bs p.procedure p.depth s.number s a.fits (in_first xs (pushed p (v + 1)) (in_first (xs ++ pushed p (v + 1)) ys h)), sound_started is bs (deeper (v + 1) p) (behind_constant e s) (below (v + 1) (behind_constant e s).number a (omega arith)) (in_second (xs ++ pushed p (v + 1)) ys h))
 

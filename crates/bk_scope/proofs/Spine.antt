@@ -59,12 +59,12 @@ put_is_early n f (g ∷ gs) h = put_early (comes_before g f) n f g gs (put f gs)
 order_early : (n : ℕ) (fs : List Fault) → Early n fs → Early n (in_order fs)
 order_early n fs h = subst (λ gs. Early n (in_order gs)) (sym h.are) (put_is_early n h.one (in_order h.rest) h.early)
 
-behind_early : (n l : ℕ) (fs : List Fault) → Early n fs → first_told (put (record { place = n; line = l; wrong = not_assignable }) fs) ≡ first_told fs
+behind_early : (n l : ℕ) (fs : List Fault) → Early n fs → first_told (put (record { place = n; at = l; wrong = not_assignable }) fs) ≡ first_told fs
 behind_early n l fs h =
-    let f : Fault = record { place = n; line = l; wrong = not_assignable } in
+    let f : Fault = record { place = n; at = l; wrong = not_assignable } in
     subst (λ gs. first_told (put f gs) ≡ first_told gs) (sym h.are) (rw (before h.one f (omega (arith, h.early))) refl)
 
 -- WHAT BEGINS WITH A WRONG NAME: that name is told
 pub not_assignable_behind : (e : Expression) (l : ℕ) (r : Role) (bs : List Binding) (p : Enclosing) (s : Spot) (cs : List Claim) → begins_wrong bs p.procedure e ≡ true
-    → first_told (in_order (record { place = s.place; line = l; wrong = not_assignable } ∷ judged cs (told r bs p s e))) ≡ first_told (in_order (judged cs (told r bs p s e)))
+    → first_told (in_order (record { place = s.place; at = l; wrong = not_assignable } ∷ judged cs (told r bs p s e))) ≡ first_told (in_order (judged cs (told r bs p s e)))
 not_assignable_behind e l r bs p s cs h = behind_early s.place l (in_order (judged cs (told r bs p s e))) (order_early s.place (judged cs (told r bs p s e)) (begins_early e r bs p s cs h))

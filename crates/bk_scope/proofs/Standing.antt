@@ -1,5 +1,5 @@
 -- Where each part's faults stand: from its first symbol on, before what follows.
-use Rattle.bk_scope.proofs.Terms.{ℕ, ◌+◌, ◌≤◌, ◌==◌, Bool, true, false, cond, Option, Some, None, List, [], ◌∷◌, ◌++◌, length, arith, nat_lt, GLOBAL_NUMBER, VEC_NUMBER, Prefix, Prefix as q, Simple, Simple as w, Sort as sort, Expression, Expressions, Action, Actions, Declaration, Declarations, Items, Definition, Definitions, Starts, name, number, text, truth, query, parens, unary, binary, choice, apply, valof, table, none, more, empty, assign, call, goto, label, case_of, default, when, test, while, for_loop, switch, result, simple, block, repeat, repeat_while, no_actions, also, constants, definitions, no_declarations, declare, no_items, item, routine, function, variables, no_definitions, define, no_starts, value, vector, line_of, size, Bound, Constant, Global, Static, Variable, Label, Enclosing, Role, Value, Truth, Address, Destination, Binding, bound_in, bind, has_address, Wrong, text_of, dynamic_name, label_not_here, no_switchon, no_loop, no_result_or_return, not_assignable, global_out_of_range, vec_out_of_range, constant_word, deeper, looping, switching, labelled, valued, called, labels_of, labels_of_each, with_formals, parenthesised, role_of_operand, role_of_operands, place_of_second, words_of_start, Spot, procedures_in, onward, past, numbered, behind, behind_each, behind_done, behind_declared, behind_one_declared, behind_one_defined, behind_constant, symbols, symbols_each, symbols_done, symbols_done_each, symbols_declared, symbols_one_declared, symbols_items, symbols_defined, symbols_one_defined, symbols_started, at, meaning, labels_in_scope, procedures_in_scope, place_behind_one_defined, scope_behind_one, place_behind_one, scope_behind, place_behind_all, unless, used_at, gone_to, at_most, addressed, assigned, prefixed, depth_named, pushed, chosen_at, defaulted_at, single_at, its_meaning, manifest_items, static_items, global_items, told, told_each, told_destinations, told_done, told_done_each, told_declared, told_one_declared, told_defined, told_one_defined, told_started}
+use Rattle.bk_scope.proofs.Terms.{ℕ, ◌+◌, ◌≤◌, ◌==◌, Bool, true, false, cond, Option, Some, None, List, [], ◌∷◌, ◌++◌, length, arith, nat_lt, GLOBAL_NUMBER, VEC_NUMBER, Prefix, Prefix as q, Simple, Simple as w, Sort as sort, Expression, Expressions, Command, Commands, Declaration, Declarations, Items, Definition, Definitions, Starts, name, number, text, truth, query, parens, unary, binary, choice, apply, valof, table, none, more, empty, assign, call, goto, label, case_of, default, when, test, while, for_loop, switch, result, simple, block, repeat, repeat_while, no_commands, also, constants, definitions, no_declarations, declare, no_items, item, routine, function, variables, no_definitions, define, no_starts, value, vector, at_expression, size, Bound, Constant, Global, Static, Variable, Label, Enclosing, Role, Value, Truth, Address, Destination, Binding, bound_in, bind, has_address, Wrong, text_of, dynamic_name, label_not_here, no_switchon, no_loop, no_result_or_return, not_assignable, global_out_of_range, vec_out_of_range, constant_word, deeper, looping, switching, labelled, valued, called, labels_of, labels_of_each, with_formals, parenthesised, role_of_operand, role_of_operands, place_of_second, words_of_start, Spot, procedures_in, onward, past, numbered, behind, behind_each, behind_done, behind_declared, behind_one_declared, behind_one_defined, behind_constant, symbols, symbols_each, symbols_done, symbols_done_each, symbols_declared, symbols_one_declared, symbols_items, symbols_defined, symbols_one_defined, symbols_started, at, meaning, labels_in_scope, procedures_in_scope, place_behind_one_defined, scope_behind_one, place_behind_one, scope_behind, place_behind_all, unless, used_at, gone_to, at_most, addressed, assigned, prefixed, depth_named, pushed, chosen_at, defaulted_at, single_at, its_meaning, manifest_items, static_items, global_items, told, told_each, told_destinations, told_done, told_done_each, told_declared, told_one_declared, told_defined, told_one_defined, told_started}
 use Rattle.bk_scope.proofs.Tied.{Spans, both, among, wider}
 use Rattle.bk_scope.proofs.Scopes.{no_span, pushed_spans}
 use Rattle.bk_scope.proofs.Procedures.{one_spans, each_spans, procedure_spans}
@@ -50,7 +50,7 @@ most_spans most n l w None = nothing_spans n (n + 1) (omega arith)
 most_spans most n l w (Some v) = when_spans (nat_lt most v) n l w
 
 pub prefixed_spans : (f : Prefix) (bs : List Binding) (s : Spot) (e : Expression) → Spans s.place (s.place + 1) (prefixed f bs s e)
-prefixed_spans q.Address bs s e = unless_spans (addressed bs e) s.place (line_of e) not_assignable
+prefixed_spans q.Address bs s e = unless_spans (addressed bs e) s.place (at_expression e) not_assignable
 prefixed_spans _ bs s e = nothing_spans _ _ (omega arith)
 
 pub chosen_spans : (m : Option ℕ) (n l : ℕ) (v : Option ℕ) → Spans n (n + 1) (chosen_at m n l v)
@@ -88,7 +88,7 @@ global_spans (item l x e is) m bs k s =
     let end : ℕ = s.place + symbols_items (item l x e is) in
     let one : 1 ≤ symbols e = has_symbol e in
     among (among (among (wider s.place end (one_spans m s.place l x) (omega arith) (omega arith)) (wider s.place end (whole_spans e bs k (past 1 s)) (omega arith) (omega arith)))
-    (wider s.place end (most_spans GLOBAL_NUMBER (s.place + 1) (line_of e) global_out_of_range (constant_word bs e)) (omega arith) (omega arith)))
+    (wider s.place end (most_spans GLOBAL_NUMBER (s.place + 1) (at_expression e) global_out_of_range (constant_word bs e)) (omega arith) (omega arith)))
     (wider s.place end (global_spans is m bs k (behind_constant e (past 1 s))) (omega arith) (omega arith))
 
 -- EACH NODE
@@ -122,14 +122,14 @@ mutual
   destinations_inside (more e es) bs p s =
       let one : 1 ≤ symbols e = has_symbol e in
       let end : ℕ = s.place + (symbols e + symbols_each es) in
-      among (among (wider s.place end (unless_spans (assigned bs e) s.place (line_of e) not_assignable) (omega arith) (omega arith)) (wider s.place end (inside e (Destination false (line_of e)) bs p s) (omega arith) (omega arith)))
+      among (among (wider s.place end (unless_spans (assigned bs e) s.place (at_expression e) not_assignable) (omega arith) (omega arith)) (wider s.place end (inside e (Destination false (at_expression e)) bs p s) (omega arith) (omega arith)))
       (wider s.place end (destinations_inside es bs p (behind e s)) (omega arith) (omega arith))
 
-  pub done_inside : (c : Action) (bs : List Binding) (p : Enclosing) (s : Spot) → Spans s.place (s.place + symbols_done c) (told_done bs p s c)
+  pub done_inside : (c : Command) (bs : List Binding) (p : Enclosing) (s : Spot) → Spans s.place (s.place + symbols_done c) (told_done bs p s c)
   done_inside empty bs p s = nothing_spans _ _ (omega arith)
   done_inside (assign l xs es) bs p s = wider _ _ (both (destinations_inside xs bs (deeper 1 p) s) (each_inside es 0 bs p (behind_each xs s)) (omega arith) (omega arith)) (omega arith) (omega arith)
   done_inside (call l e es) bs p s = wider _ _ (both (inside e Value bs (deeper (size es + 2) p) s) (each_inside es 1 bs (deeper 2 p) (behind e s)) (omega arith) (omega arith)) (omega arith) (omega arith)
-  done_inside (goto l x) bs p s = gone_spans p.procedure s.place x.line x.letters (bound_in bs x.letters)
+  done_inside (goto l x) bs p s = gone_spans p.procedure s.place x.at x.letters (bound_in bs x.letters)
   done_inside (label l x c) bs p s =
       wider _ _ (both (both (one_spans p.labels s.place l x) (meaning_spans (s.place + 1) (bound_in bs x)) (omega arith) (omega arith)) (done_inside c bs p (past 1 s)) (omega arith) (omega arith)) (omega arith) (omega arith)
   done_inside (case_of l e c) bs p s =
@@ -156,8 +156,8 @@ mutual
   done_inside (repeat l c) bs p s = done_inside c bs (looping p) s
   done_inside (repeat_while l b c e) bs p s = wider _ _ (both (done_inside c bs (looping p) s) (inside e Truth bs p (behind_done c s)) (omega arith) (omega arith)) (omega arith) (omega arith)
 
-  pub each_done_inside : (cs : Actions) (bs : List Binding) (p : Enclosing) (s : Spot) → Spans s.place (s.place + symbols_done_each cs) (told_done_each bs p s cs)
-  each_done_inside no_actions bs p s = nothing_spans _ _ (omega arith)
+  pub each_done_inside : (cs : Commands) (bs : List Binding) (p : Enclosing) (s : Spot) → Spans s.place (s.place + symbols_done_each cs) (told_done_each bs p s cs)
+  each_done_inside no_commands bs p s = nothing_spans _ _ (omega arith)
   each_done_inside (also c cs) bs p s = wider _ _ (both (done_inside c bs p s) (each_done_inside cs bs p (behind_done c s)) (omega arith) (omega arith)) (omega arith) (omega arith)
 
   pub declared_inside : (ds : Declarations) (bs : List Binding) (p : Enclosing) (s : Spot) → Spans s.place (s.place + symbols_declared ds) (told_declared bs p s ds)
@@ -192,11 +192,11 @@ mutual
   started_inside (vector l e is) bs p s =
       let one : 1 ≤ symbols e = has_symbol e in
       let end : ℕ = s.place + (symbols e + symbols_started is) in
-      among (among (among (wider s.place end (whole_spans e bs p.procedure s) (omega arith) (omega arith)) (wider s.place end (most_spans VEC_NUMBER s.place (line_of e) vec_out_of_range (constant_word bs e)) (omega arith) (omega arith)))
+      among (among (among (wider s.place end (whole_spans e bs p.procedure s) (omega arith) (omega arith)) (wider s.place end (most_spans VEC_NUMBER s.place (at_expression e) vec_out_of_range (constant_word bs e)) (omega arith) (omega arith)))
       (wider s.place end (pushed_spans s.place p (words_of_start bs e + 1)) (omega arith) (omega arith)))
       (wider s.place end (started_inside is bs (deeper (words_of_start bs e + 1) p) (behind_constant e s)) (omega arith) (omega arith))
 
-pub destination_inside : (e : Expression) (bs : List Binding) (p : Enclosing) (s : Spot) → Spans s.place (s.place + symbols e) (unless (assigned bs e) (at s.place (line_of e) not_assignable) ++ told (Destination false (line_of e)) bs p s e)
+pub destination_inside : (e : Expression) (bs : List Binding) (p : Enclosing) (s : Spot) → Spans s.place (s.place + symbols e) (unless (assigned bs e) (at s.place (at_expression e) not_assignable) ++ told (Destination false (at_expression e)) bs p s e)
 destination_inside e bs p s =
     let one : 1 ≤ symbols e = has_symbol e in
-    among (wider s.place (s.place + symbols e) (unless_spans (assigned bs e) s.place (line_of e) not_assignable) (omega arith) (omega arith)) (inside e (Destination false (line_of e)) bs p s)
+    among (wider s.place (s.place + symbols e) (unless_spans (assigned bs e) s.place (at_expression e) not_assignable) (omega arith) (omega arith)) (inside e (Destination false (at_expression e)) bs p s)

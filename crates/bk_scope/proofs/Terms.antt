@@ -17,9 +17,9 @@ pub use Rattle.std.specs.Str.{bytes_eq, encode_utf8_all}
 pub use Rattle.std.specs.Vec.{vec_len}
 pub use Rattle.bk_base.specs.declared.limit.TheConstants.{GLOBAL_NUMBER, VEC_NUMBER, FRAME_WORDS}
 pub use Rattle.bk_tree.proofs.Lemmas.{Block_is, is_zero, is_more, Constants_is, Let_is, Variables_is, Apply_is, Table_is, Assign_is, Call_is}
-pub use Rattle.bk_tree.specs.Limits.{Within, nodes, nodes_of_each, nodes_of_action, nodes_of_actions, nodes_of_declaration, nodes_of_declarations, nodes_of_items, nodes_of_definitions, nodes_of_starts}
-pub use Rattle.bk_tree.specs.Parts.{line_of, size}
-pub use Rattle.bk_tree.specs.Tree.{mention, Expression, Expressions, name, number, text, truth, query, parens, unary, binary, choice, apply, valof, table, none, more, Mention, Declaration, Declarations, Items, Definitions, Starts, constants, definitions, no_declarations, declare, no_items, item, no_definitions, define, variables, no_starts, value, vector, routine, function, action, actions_in, definitions_in, Action, Actions, block, declarations_in, definition, items_in, expressions_in, empty, assign, call, goto, label, case_of, default, when, while, for_loop, switch, result, simple, repeat, no_actions, also, Definition, test, repeat_while, starts_in, expression, declaration}
+pub use Rattle.bk_tree.specs.Limits.{Within, nodes, nodes_of_each, nodes_of_command, nodes_of_commands, nodes_of_declaration, nodes_of_declarations, nodes_of_items, nodes_of_definitions, nodes_of_starts}
+pub use Rattle.bk_tree.specs.Parts.{at_expression, size}
+pub use Rattle.bk_tree.specs.Tree.{mention, Expression, Expressions, name, number, text, truth, query, parens, unary, binary, choice, apply, valof, table, none, more, Mention, Declaration, Declarations, Items, Definitions, Starts, constants, definitions, no_declarations, declare, no_items, item, no_definitions, define, variables, no_starts, value, vector, routine, function, command_in, commands_in, definitions_in, Command, Commands, block, declarations_in, definition, items_in, expressions_in, empty, assign, call, goto, label, case_of, default, when, while, for_loop, switch, result, simple, repeat, no_commands, also, Definition, test, repeat_while, starts_in, expression, declaration}
 pub use Rattle.bk_tree.specs.declared.tree.ConstItem.{ConstItem}
 pub use Rattle.bk_tree.specs.declared.tree.Decl.{Decl}
 pub use Rattle.bk_tree.specs.declared.tree.Def.{Def}

@@ -1,7 +1,7 @@
 -- The CASEs that belong to a SWITCHON: those of the commands whose labels belong together with its own, but of no SWITCHON
 -- inside.
 use Rattle.std.specs.Prelude.{◌≡◌, ℕ, ◌+◌, ◌≤◌, Option, Some, None, List, [], ◌∷◌, ◌++◌}
-use Rattle.bk_tree.specs.Tree.{Expression, Action, Actions, label, case_of, default, when, test, while, switch, block, repeat, repeat_while, no_actions, also, no_declarations}
+use Rattle.bk_tree.specs.Tree.{Expression, Command, Commands, label, case_of, default, when, test, while, switch, block, repeat, repeat_while, no_commands, also, no_declarations}
 use Rattle.bk_scope.specs.declared.place.Enclosing.{Enclosing}
 use Rattle.bk_scope.specs.Scope.{Binding}
 use Rattle.bk_scope.specs.Constants.{constant_word}
@@ -16,7 +16,7 @@ word_if_any (Some w) = w ∷ []
 
 -- their words, in the source's order
 abbrev mutual
-  pub case_words : List Binding → Action → List ℕ
+  pub case_words : List Binding → Command → List ℕ
   case_words bs (label l x c) = case_words bs c
   case_words bs (case_of l e c) = word_if_any (constant_word bs e) ++ case_words bs c
   case_words bs (default l c) = case_words bs c
@@ -28,13 +28,13 @@ abbrev mutual
   case_words bs (repeat_while l b c e) = case_words bs c
   case_words bs _ = []
 
-  pub case_words_each : List Binding → Actions → List ℕ
-  case_words_each bs no_actions = []
+  pub case_words_each : List Binding → Commands → List ℕ
+  case_words_each bs no_commands = []
   case_words_each bs (also c cs) = case_words bs c ++ case_words_each bs cs
 
 -- how many DEFAULTs there are
 abbrev mutual
-  pub defaults : Action → ℕ
+  pub defaults : Command → ℕ
   defaults (label l x c) = defaults c
   defaults (case_of l e c) = defaults c
   defaults (default l c) = 1 + defaults c
@@ -46,8 +46,8 @@ abbrev mutual
   defaults (repeat_while l b c e) = defaults c
   defaults _ = 0
 
-  pub defaults_each : Actions → ℕ
-  defaults_each no_actions = 0
+  pub defaults_each : Commands → ℕ
+  defaults_each no_commands = 0
   defaults_each (also c cs) = defaults c + defaults_each cs
 
 -- a number that is none of these, and numbers of which none occurs twice
@@ -61,4 +61,4 @@ AllDiffer (x ∷ xs) = NoneOf x xs × AllDiffer xs
 
 -- THE CASES OF A SWITCHON DIFFER, where what is reported of it is clean, and there is one DEFAULT at most.
 abbrev pub CasesDiffer : Type 0
-CasesDiffer = (cs : List Claim) (bs : List Binding) (p : Enclosing) (s : Spot) (l : ℕ) (e : Expression) (c : Action) → Clean cs (told_done bs p s (switch l e c)) → AllDiffer (case_words bs c) × (defaults c ≤ 1)
+CasesDiffer = (cs : List Claim) (bs : List Binding) (p : Enclosing) (s : Spot) (l : ℕ) (e : Expression) (c : Command) → Clean cs (told_done bs p s (switch l e c)) → AllDiffer (case_words bs c) × (defaults c ≤ 1)

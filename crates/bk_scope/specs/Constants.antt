@@ -58,7 +58,7 @@ constant_word bs (binary l q s a b) = option_and_then (λ x. option_and_then (in
 constant_word bs _ = None
 
 abbrev breach : ℕ → Wrong → List Breach
-breach l w = record { line = l; wrong = w } ∷ []
+breach l w = record { at = l; wrong = w } ∷ []
 
 -- no constant holds these operators
 abbrev pub is_prefix_of_constants : Prefix → Bool

@@ -1,6 +1,6 @@
 -- Names that come into scope together: the labels of some commands, the formals of a procedure, the procedures of a LET.
 use Rattle.std.specs.Prelude.{ℕ, ◌+◌, cond, List, [], ◌∷◌, ◌++◌}
-use Rattle.bk_tree.specs.Tree.{Mention, Action, Actions, Definitions, label, case_of, default, when, test, while, switch, block, repeat, repeat_while, no_actions, also, no_declarations, routine, function, variables, no_definitions, define}
+use Rattle.bk_tree.specs.Tree.{Mention, Command, Commands, Definitions, label, case_of, default, when, test, while, switch, block, repeat, repeat_while, no_commands, also, no_declarations, routine, function, variables, no_definitions, define}
 use Rattle.bk_scope.specs.declared.bound.Bound.TheVariants.{Static, Variable, Label}
 use Rattle.bk_scope.specs.Scope.{Binding, bound_in, bind, is_global}
 use Rattle.bk_scope.specs.Places.{kept}
@@ -14,7 +14,7 @@ pub record Stage : Type 0 where
 -- the labels that belong to the same commands as this one, in the source's order: a block with declarations, the body of a
 -- FOR and of a VALOF have their own
 abbrev mutual
-  pub labels_of : Action → List (List ℕ)
+  pub labels_of : Command → List (List ℕ)
   labels_of (label l x c) = x ∷ labels_of c
   labels_of (case_of l e c) = labels_of c
   labels_of (default l c) = labels_of c
@@ -27,8 +27,8 @@ abbrev mutual
   labels_of (repeat_while l b c e) = labels_of c
   labels_of _ = []
 
-  pub labels_of_each : Actions → List (List ℕ)
-  labels_of_each no_actions = []
+  pub labels_of_each : Commands → List (List ℕ)
+  labels_of_each no_commands = []
   labels_of_each (also c cs) = labels_of c ++ labels_of_each cs
 
 -- labels of procedure k; each takes a number

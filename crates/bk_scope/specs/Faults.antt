@@ -7,8 +7,8 @@ use Rattle.bk_tree.specs.declared.tree.Prefix.TheVariants as q
 use Rattle.bk_tree.specs.declared.tree.Simple.{Simple}
 use Rattle.bk_tree.specs.declared.tree.Simple.TheVariants as w
 use Rattle.bk_tree.specs.declared.tree.Sort.TheVariants as sort
-use Rattle.bk_tree.specs.Tree.{Mention, Expression, Expressions, Action, Actions, Declaration, Declarations, Items, Definition, Definitions, Starts, name, number, text, truth, query, parens, unary, binary, choice, apply, valof, table, none, more, empty, assign, call, goto, label, case_of, default, when, test, while, for_loop, switch, result, simple, block, repeat, repeat_while, no_actions, also, constants, definitions, no_declarations, declare, no_items, item, routine, function, variables, no_definitions, define, no_starts, value, vector}
-use Rattle.bk_tree.specs.Parts.{line_of, size}
+use Rattle.bk_tree.specs.Tree.{Mention, Expression, Expressions, Command, Commands, Declaration, Declarations, Items, Definition, Definitions, Starts, name, number, text, truth, query, parens, unary, binary, choice, apply, valof, table, none, more, empty, assign, call, goto, label, case_of, default, when, test, while, for_loop, switch, result, simple, block, repeat, repeat_while, no_commands, also, constants, definitions, no_declarations, declare, no_items, item, routine, function, variables, no_definitions, define, no_starts, value, vector}
+use Rattle.bk_tree.specs.Parts.{at_expression, size}
 use Rattle.bk_scope.specs.declared.bound.Bound.{Bound}
 use Rattle.bk_scope.specs.declared.bound.Bound.TheVariants.{Constant, Global, Static, Variable, Label}
 use Rattle.bk_scope.specs.declared.place.Enclosing.{Enclosing}
@@ -107,7 +107,7 @@ assigned bs (binary l o.Byte m a b) = true
 assigned bs e = addressed bs e
 
 abbrev pub prefixed : Prefix → List Binding → Spot → Expression → List Point
-prefixed q.Address bs s e = unless (addressed bs e) (at s.place (line_of e) not_assignable)
+prefixed q.Address bs s e = unless (addressed bs e) (at s.place (at_expression e) not_assignable)
 prefixed _ bs s e = []
 
 -- how deep the frame is at a name: a destination that has an address pushes nothing
@@ -141,7 +141,7 @@ one_of m n l x = claiming (naming m x) n l (declared_twice (text_of x))
 
 abbrev pub each_of : ℕ → ℕ → List Mention → List Point
 each_of m n [] = []
-each_of m n (x ∷ xs) = one_of m n x.line x.letters ++ each_of m (n + 1) xs
+each_of m n (x ∷ xs) = one_of m n x.at x.letters ++ each_of m (n + 1) xs
 
 -- the items of a declaration, which are the list m
 abbrev pub manifest_items : ℕ → List Binding → ℕ → Spot → Items → List Point
@@ -156,7 +156,7 @@ static_items m bs k s (item l x e is) = one_of m s.place l x ++ constant bs k (p
 abbrev pub global_items : ℕ → List Binding → ℕ → Spot → Items → List Point
 global_items m bs k s no_items = []
 global_items m bs k s (item l x e is) =
-    one_of m s.place l x ++ constant bs k (past 1 s) e ++ at_most GLOBAL_NUMBER (s.place + 1) (line_of e) global_out_of_range (constant_word bs e)
+    one_of m s.place l x ++ constant bs k (past 1 s) e ++ at_most GLOBAL_NUMBER (s.place + 1) (at_expression e) global_out_of_range (constant_word bs e)
     ++ global_items m bs k (behind_constant e (past 1 s)) is
 
 -- a procedure's name: what it means, its frame, and the global that it sets
@@ -207,13 +207,13 @@ abbrev mutual
   pub told_destinations : List Binding → Enclosing → Spot → Expressions → List Point
   told_destinations bs p s none = []
   told_destinations bs p s (more e es) =
-      unless (assigned bs e) (at s.place (line_of e) not_assignable) ++ told (Destination false (line_of e)) bs p s e ++ told_destinations bs p (behind e s) es
+      unless (assigned bs e) (at s.place (at_expression e) not_assignable) ++ told (Destination false (at_expression e)) bs p s e ++ told_destinations bs p (behind e s) es
 
-  pub told_done : List Binding → Enclosing → Spot → Action → List Point
+  pub told_done : List Binding → Enclosing → Spot → Command → List Point
   told_done bs p s empty = []
   told_done bs p s (assign l xs es) = told_destinations bs (deeper 1 p) s xs ++ told_each 0 bs p (behind_each xs s) es
   told_done bs p s (call l e es) = told Value bs (deeper (size es + 2) p) s e ++ told_each 1 bs (deeper 2 p) (behind e s) es
-  told_done bs p s (goto l x) = gone_to p.procedure s.place x.line x.letters (bound_in bs x.letters)
+  told_done bs p s (goto l x) = gone_to p.procedure s.place x.at x.letters (bound_in bs x.letters)
   told_done bs p s (label l x c) = one_of p.labels s.place l x ++ its_meaning (bound_in bs x) ++ told_done bs p (past 1 s) c
   told_done bs p s (case_of l e c) =
       chosen_at p.switch s.place l (constant_word bs e) ++ constant bs p.procedure (past 1 s) e ++ told_done bs p (behind_constant e (past 1 s)) c
@@ -239,8 +239,8 @@ abbrev mutual
   told_done bs p s (repeat l c) = told_done bs (looping p) s c
   told_done bs p s (repeat_while l b c e) = told_done bs (looping p) s c ++ told Truth bs p (behind_done c s) e
 
-  pub told_done_each : List Binding → Enclosing → Spot → Actions → List Point
-  told_done_each bs p s no_actions = []
+  pub told_done_each : List Binding → Enclosing → Spot → Commands → List Point
+  told_done_each bs p s no_commands = []
   told_done_each bs p s (also c cs) = told_done bs p s c ++ told_done_each bs p (behind_done c s) cs
 
   pub told_declared : List Binding → Enclosing → Spot → Declarations → List Point
@@ -274,7 +274,7 @@ abbrev mutual
   told_started bs p s no_starts = []
   told_started bs p s (value e is) = told Value bs p s e ++ told_started bs (deeper 1 p) (behind e s) is
   told_started bs p s (vector l e is) =
-      constant bs p.procedure s e ++ at_most VEC_NUMBER s.place (line_of e) vec_out_of_range (constant_word bs e) ++ pushed p (words_of_start bs e + 1)
+      constant bs p.procedure s e ++ at_most VEC_NUMBER s.place (at_expression e) vec_out_of_range (constant_word bs e) ++ pushed p (words_of_start bs e + 1)
       ++ told_started bs (deeper (words_of_start bs e + 1) p) (behind_constant e s) is
 
 -- what is reported of a section

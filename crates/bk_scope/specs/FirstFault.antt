@@ -1,6 +1,6 @@
 -- The first fault, as what is wrong and where.
 use Rattle.std.specs.Prelude.{ℕ, Option, Some, None, List, string_bytes}
-use Rattle.bk_base.specs.declared.source_fault.SourceFault.{SourceFault}
+use Rattle.bk_tree.specs.declared.placed.PlacedFault.{PlacedFault}
 use Rattle.bk_base.specs.declared.source_fault.SourceKind.{SourceKind}
 use Rattle.bk_base.specs.declared.source_fault.SourceKind.TheVariants as k
 use Rattle.bk_scope.specs.declared.first_fault.FirstFault.{FirstFault}
@@ -36,10 +36,10 @@ misnamed m.Dynamic x = dynamic_name x
 misnamed m.LabelNotHere x = label_not_here x
 misnamed m.TwoProcedures x = two_procedures x
 
-abbrev pub breach_of : SourceFault → Breach
-breach_of f = record { line = f.line; wrong = wrong_of f.kind }
+abbrev pub breach_of : PlacedFault → Breach
+breach_of f = record { at = f.at; wrong = wrong_of f.kind }
 
-abbrev pub breach_told : Option SourceFault → Option Breach
+abbrev pub breach_told : Option PlacedFault → Option Breach
 breach_told None = None
 breach_told (Some f) = Some (breach_of f)
 

@@ -51,7 +51,7 @@ abbrev pub breaks_first : Option Breach → Found → Found
 breaks_first b f = record { first = else_first f.first b; claims = f.claims; meanings = f.meanings; words = f.words; next = f.next; deepest = f.deepest }
 
 abbrev pub breaks : ℕ → Wrong → Found → Found
-breaks l w f = breaks_first (Some (record { line = l; wrong = w })) f
+breaks l w f = breaks_first (Some (record { at = l; wrong = w })) f
 
 abbrev pub claims_new : Claim → Found → Found
 claims_new c f = record { first = f.first; claims = c ∷ f.claims; meanings = f.meanings; words = f.words; next = f.next; deepest = f.deepest }

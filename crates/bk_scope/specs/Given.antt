@@ -2,7 +2,7 @@
 -- the items of STATIC, and to each procedure as the owner of its frame and labels.
 use Rattle.std.specs.Prelude.{ℕ, zero, suc, ◌+◌, List, [], ◌∷◌, ◌++◌, length}
 use Rattle.bk_tree.specs.declared.tree.Sort.TheVariants as sort
-use Rattle.bk_tree.specs.Tree.{Expression, Expressions, Action, Actions, Declaration, Declarations, Definition, Definitions, Starts, parens, unary, binary, choice, apply, valof, none, more, assign, call, label, case_of, default, when, test, while, for_loop, switch, result, block, repeat, repeat_while, no_actions, also, constants, definitions, no_declarations, declare, routine, function, variables, no_definitions, define, no_starts, value, vector}
+use Rattle.bk_tree.specs.Tree.{Expression, Expressions, Command, Commands, Declaration, Declarations, Definition, Definitions, Starts, parens, unary, binary, choice, apply, valof, none, more, assign, call, label, case_of, default, when, test, while, for_loop, switch, result, block, repeat, repeat_while, no_commands, also, constants, definitions, no_declarations, declare, routine, function, variables, no_definitions, define, no_starts, value, vector}
 use Rattle.bk_scope.specs.Entering.{labels_of, labels_of_each}
 use Rattle.bk_scope.specs.Spots.{Spot, procedures_in, numbers_items, numbered, behind, behind_each, behind_done, behind_declared, behind_one_declared, behind_one_defined, beginning}
 use Rattle.bk_scope.specs.Cases.{AllDiffer}
@@ -26,7 +26,7 @@ abbrev mutual
   given_each s none = []
   given_each s (more e es) = given s e ++ given_each (behind e s) es
 
-  pub given_done : Spot → Action → List ℕ
+  pub given_done : Spot → Command → List ℕ
   given_done s (assign l xs es) = given_each s xs ++ given_each (behind_each xs s) es
   given_done s (call l e es) = given s e ++ given_each (behind e s) es
   given_done s (label l x c) = given_done s c
@@ -48,8 +48,8 @@ abbrev mutual
   given_done s (repeat_while l b c e) = given_done s c ++ given (behind_done c s) e
   given_done s _ = []
 
-  pub given_done_each : Spot → Actions → List ℕ
-  given_done_each s no_actions = []
+  pub given_done_each : Spot → Commands → List ℕ
+  given_done_each s no_commands = []
   given_done_each s (also c cs) = given_done s c ++ given_done_each (behind_done c s) cs
 
   pub given_declared : Spot → Declarations → List ℕ

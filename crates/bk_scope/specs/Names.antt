@@ -14,8 +14,8 @@ use Rattle.bk_tree.specs.declared.tree.Prefix.TheVariants as q
 use Rattle.bk_tree.specs.declared.tree.Simple.{Simple}
 use Rattle.bk_tree.specs.declared.tree.Simple.TheVariants as w
 use Rattle.bk_tree.specs.declared.tree.Sort.TheVariants as s
-use Rattle.bk_tree.specs.Tree.{Mention, Expression, Expressions, Action, Actions, Declaration, Declarations, Items, Definition, Definitions, Starts, name, number, text, truth, query, parens, unary, binary, choice, apply, valof, table, none, more, empty, assign, call, goto, label, case_of, default, when, test, while, for_loop, switch, result, simple, block, repeat, repeat_while, no_actions, also, constants, definitions, no_declarations, declare, no_items, item, routine, function, variables, no_definitions, define, no_starts, value, vector}
-use Rattle.bk_tree.specs.Parts.{line_of, size}
+use Rattle.bk_tree.specs.Tree.{Mention, Expression, Expressions, Command, Commands, Declaration, Declarations, Items, Definition, Definitions, Starts, name, number, text, truth, query, parens, unary, binary, choice, apply, valof, table, none, more, empty, assign, call, goto, label, case_of, default, when, test, while, for_loop, switch, result, simple, block, repeat, repeat_while, no_commands, also, constants, definitions, no_declarations, declare, no_items, item, routine, function, variables, no_definitions, define, no_starts, value, vector}
+use Rattle.bk_tree.specs.Parts.{at_expression, size}
 use Rattle.bk_scope.specs.declared.bound.Bound.{Bound}
 use Rattle.bk_scope.specs.declared.bound.Bound.TheVariants.{Constant, Global, Static, Variable, Label}
 use Rattle.bk_scope.specs.declared.place.Enclosing.{Enclosing}
@@ -73,7 +73,7 @@ parenthesised (Destination b l) = Destination true l
 -- the role of a prefix's operand
 abbrev pub role_of_operand : Prefix → Role → Expression → Role
 role_of_operand q.Not Truth e = Truth
-role_of_operand q.Address r e = Address false (line_of e)
+role_of_operand q.Address r e = Address false (at_expression e)
 role_of_operand q r e = Value
 
 -- the role of an operator's operands, and the place of the second
@@ -164,7 +164,7 @@ listed n l x f = claims_once (naming n x) l (declared_twice (text_of x)) f
 
 abbrev pub all_listed : ℕ → List Mention → Found → Found
 all_listed n [] f = f
-all_listed n (x ∷ xs) f = all_listed n xs (listed n x.line x.letters f)
+all_listed n (x ∷ xs) f = all_listed n xs (listed n x.at x.letters f)
 
 -- the words of a VEC that a variable begins with; one that is wrong counts as VEC 0
 abbrev pub words_of_start : List Binding → Expression → ℕ
@@ -203,7 +203,7 @@ abbrev pub headed : ℕ → ℕ → List ℕ → List Mention → Option Bound �
 headed n l x fs b f = all_listed n fs (sets l x b (opens (kept (length fs + 2)) (named_as b f)))
 
 abbrev pub frame_wrong : ℕ → Found → Option Breach
-frame_wrong l g = cond (nat_lt FRAME_WORDS g.deepest) (Some (record { line = l; wrong = frame_too_large })) None
+frame_wrong l g = cond (nat_lt FRAME_WORDS g.deepest) (Some (record { at = l; wrong = frame_too_large })) None
 
 -- the items of a declaration, which are the list n: an item of MANIFEST is in scope in the later ones
 abbrev pub manifests : ℕ → ℕ → Items → Stage → Stage
@@ -223,7 +223,7 @@ globals bs n k no_items s = s
 globals bs n k (item l x e is) s =
     globals bs n k is (record {
       scope = bind x (Global (within GLOBAL_NUMBER (constant_word bs e))) s.scope;
-      found = bounded GLOBAL_NUMBER (line_of e) global_out_of_range (constant_word bs e) (constant_found bs k e (listed n l x s.found));
+      found = bounded GLOBAL_NUMBER (at_expression e) global_out_of_range (constant_word bs e) (constant_found bs k e (listed n l x s.found));
     })
 
 -- what follows some definitions of a LET: the variables, which come into scope after all of them, the first one first
@@ -267,13 +267,13 @@ abbrev mutual
 
   pub destinations : List Binding → Enclosing → Expressions → Found → Found
   destinations bs p none f = f
-  destinations bs p (more e es) f = destinations bs p es (evaluated (Destination false (line_of e)) bs p e f)
+  destinations bs p (more e es) f = destinations bs p es (evaluated (Destination false (at_expression e)) bs p e f)
 
-  pub done : List Binding → Enclosing → Action → Found → Found
+  pub done : List Binding → Enclosing → Command → Found → Found
   done bs p empty f = f
   done bs p (assign l xs es) f = each_evaluated 0 bs p es (destinations bs (deeper 1 p) xs f)
   done bs p (call l e es) f = each_evaluated 1 bs (deeper 2 p) es (evaluated Value bs (deeper (size es + 2) p) e f)
-  done bs p (goto l x) f = reached p.procedure x.line x.letters (bound_in bs x.letters) f
+  done bs p (goto l x) f = reached p.procedure x.at x.letters (bound_in bs x.letters) f
   done bs p (label l x c) f = done bs p c (named_as (bound_in bs x) (listed p.labels l x f))
   done bs p (case_of l e c) f = done bs p c (chosen p.switch l (constant_word bs e) (constant_found bs p.procedure e (switched p.switch l f)))
   done bs p (default l c) f = done bs p c (defaulted p.switch l (switched p.switch l f))
@@ -297,8 +297,8 @@ abbrev mutual
   done bs p (repeat l c) f = done bs (looping p) c f
   done bs p (repeat_while l b c e) f = evaluated Truth bs p e (done bs (looping p) c f)
 
-  pub each_done : List Binding → Enclosing → Actions → Found → Found
-  each_done bs p no_actions f = f
+  pub each_done : List Binding → Enclosing → Commands → Found → Found
+  each_done bs p no_commands f = f
   each_done bs p (also c cs) f = each_done bs p cs (done bs p c f)
 
   pub declared : List Binding → Enclosing → Declarations → Found → AfterDeclarations
@@ -348,7 +348,7 @@ abbrev mutual
   started bs p (value e is) f = started bs (deeper 1 p) is (evaluated Value bs p e f)
   started bs p (vector l e is) f =
       started bs (deeper (words_of_start bs e + 1) p) is
-      (reaches (p.depth + words_of_start bs e + 1) (bounded VEC_NUMBER (line_of e) vec_out_of_range (constant_word bs e) (constant_found bs p.procedure e f)))
+      (reaches (p.depth + words_of_start bs e + 1) (bounded VEC_NUMBER (at_expression e) vec_out_of_range (constant_word bs e) (constant_found bs p.procedure e f)))
 
 -- nothing yet; no procedure has the number 0
 abbrev pub nothing : Found

@@ -9,7 +9,7 @@ use Rattle.bk_scope.specs.Wrong.{Wrong, Breach, not_declared, declared_twice, dy
 
 pub record Fault : Type 0 where
   pub place : ℕ
-  pub line : ℕ
+  pub at : ℕ
   pub wrong : Wrong
 
 pub data Point : Type 0 where
@@ -45,10 +45,10 @@ number_of elsewhere = 29
 
 -- at this place, on this line
 abbrev pub at : ℕ → ℕ → Wrong → List Point
-at n l w = wrong (record { place = n; line = l; wrong = w }) ∷ []
+at n l w = wrong (record { place = n; at = l; wrong = w }) ∷ []
 
 abbrev pub claiming : Claim → ℕ → ℕ → Wrong → List Point
-claiming c n l w = claim c (record { place = n; line = l; wrong = w }) ∷ []
+claiming c n l w = claim c (record { place = n; at = l; wrong = w }) ∷ []
 
 -- the claims after one more, and after some points
 abbrev pub claimed : Claim → List Claim → List Claim
@@ -80,7 +80,7 @@ in_order [] = []
 in_order (f ∷ fs) = put f (in_order fs)
 
 abbrev pub breach : Fault → Breach
-breach f = record { line = f.line; wrong = f.wrong }
+breach f = record { at = f.at; wrong = f.wrong }
 
 abbrev pub all_told : List Fault → List Breach
 all_told [] = []

@@ -9,8 +9,8 @@ use Rattle.bk_tree.specs.declared.tree.Prefix.TheVariants as q
 use Rattle.bk_tree.specs.declared.tree.Simple.{Simple}
 use Rattle.bk_tree.specs.declared.tree.Simple.TheVariants as w
 use Rattle.bk_tree.specs.declared.tree.Sort.TheVariants as sort
-use Rattle.bk_tree.specs.Tree.{Expression, Expressions, Action, Actions, Declaration, Declarations, Items, Definition, Definitions, Starts, name, number, text, truth, query, parens, unary, binary, choice, apply, valof, table, none, more, empty, assign, call, goto, label, case_of, default, when, test, while, for_loop, switch, result, simple, block, repeat, repeat_while, no_actions, also, constants, definitions, no_declarations, declare, no_items, item, routine, function, variables, no_definitions, define, no_starts, value, vector}
-use Rattle.bk_tree.specs.Parts.{line_of, size}
+use Rattle.bk_tree.specs.Tree.{Expression, Expressions, Command, Commands, Declaration, Declarations, Items, Definition, Definitions, Starts, name, number, text, truth, query, parens, unary, binary, choice, apply, valof, table, none, more, empty, assign, call, goto, label, case_of, default, when, test, while, for_loop, switch, result, simple, block, repeat, repeat_while, no_commands, also, constants, definitions, no_declarations, declare, no_items, item, routine, function, variables, no_definitions, define, no_starts, value, vector}
+use Rattle.bk_tree.specs.Parts.{at_expression, size}
 use Rattle.bk_scope.specs.declared.bound.Bound.{Bound}
 use Rattle.bk_scope.specs.declared.bound.Bound.TheVariants.{Constant, Global, Static, Variable, Label}
 use Rattle.bk_scope.specs.declared.place.Enclosing.{Enclosing}
@@ -108,9 +108,9 @@ abbrev mutual
 
   pub SoundDestinations : List Binding → Enclosing → Spot → Expressions → Type 0
   SoundDestinations bs p s none = Unit {0}
-  SoundDestinations bs p s (more e es) = (assigned bs e ≡ true) × Sound (Destination false (line_of e)) bs p s e × SoundDestinations bs p (behind e s) es
+  SoundDestinations bs p s (more e es) = (assigned bs e ≡ true) × Sound (Destination false (at_expression e)) bs p s e × SoundDestinations bs p (behind e s) es
 
-  pub SoundDone : List Binding → Enclosing → Spot → Action → Type 0
+  pub SoundDone : List Binding → Enclosing → Spot → Command → Type 0
   SoundDone bs p s empty = Unit {0}
   SoundDone bs p s (assign l xs es) = SoundDestinations bs (deeper 1 p) s xs × SoundEach 0 bs p (behind_each xs s) es
   SoundDone bs p s (call l e es) = Sound Value bs (deeper (size es + 2) p) s e × SoundEach 1 bs (deeper 2 p) (behind e s) es
@@ -136,8 +136,8 @@ abbrev mutual
   SoundDone bs p s (repeat l c) = SoundDone bs (looping p) s c
   SoundDone bs p s (repeat_while l b c e) = SoundDone bs (looping p) s c × Sound Truth bs p (behind_done c s) e
 
-  pub SoundDoneEach : List Binding → Enclosing → Spot → Actions → Type 0
-  SoundDoneEach bs p s no_actions = Unit {0}
+  pub SoundDoneEach : List Binding → Enclosing → Spot → Commands → Type 0
+  SoundDoneEach bs p s no_commands = Unit {0}
   SoundDoneEach bs p s (also c cs) = SoundDone bs p s c × SoundDoneEach bs p (behind_done c s) cs
 
   pub SoundDeclared : List Binding → Enclosing → Spot → Declarations → Type 0

@@ -24,7 +24,7 @@ pub data Wrong : Type 0 where
   elsewhere : Wrong
 
 pub record Breach : Type 0 where
-  pub line : ℕ
+  pub at : ℕ
   pub wrong : Wrong
 
 -- The text of a name: each byte is the character of that number. Names of a source have letters, digits and dots alone, and

@@ -11,8 +11,8 @@ ghost use Rattle.bk_scope.specs.Found.{first_of, else_first};
 use crate::bound::Bound;
 use crate::first_fault::{FirstFault, Misnaming};
 use crate::table::Table;
-use bk_base::{Line, SourceKind, word};
-use bk_tree::{Expr, Operator, Prefix};
+use bk_base::{SourceKind, word};
+use bk_tree::{Expr, Operator, Position, Prefix};
 use std::alloc::{AllocError, Global};
 
 /// The word of an expression where a constant is asked for, with these declarations in scope, in the procedure of this number.
@@ -28,80 +28,100 @@ pub fn constant_of<'a>(
     ensures wrong { OnOk result (first_fault first.new ≡ else_first (first_fault first.old) (first_of (wrongs table.now procedure (expression expr.now)))) }
 {
     match expr {
-        Expr::Name(line, letters) => named(
+        Expr::Name { at, letters } => named(
             alloc,
-            *line,
+            *at,
             letters,
             table.find(letters),
             procedure,
             first,
         ),
-        Expr::Number(_, number) => Ok(Some(*number)),
-        Expr::Truth(_, truth) => Ok(Some(word::truth_of(*truth))),
-        Expr::Parens(_, inside) => constant_of(alloc, inside, table, procedure, first),
-        Expr::Unary(line, prefix, operand) => {
+        Expr::Number { word: number, .. } => Ok(Some(*number)),
+        Expr::Truth { truth, .. } => Ok(Some(word::truth_of(*truth))),
+        Expr::Parens { inside, .. } => constant_of(alloc, inside, table, procedure, first),
+        Expr::Unary {
+            at,
+            prefix,
+            operand,
+        } => {
             if is_prefix_of_constants(*prefix) {
                 let word = constant_of(alloc, operand, table, procedure, first)?;
                 Ok(prefixed(*prefix, word))
             } else {
-                Ok(no_constant(*line, first))
+                Ok(no_constant(*at, first))
             }
         }
-        Expr::Binary(line, operator, sign, left, right) => {
+        Expr::Binary {
+            at,
+            operator,
+            sign,
+            left,
+            right,
+        } => {
             let x = constant_of(alloc, left, table, procedure, first)?;
             if is_infix_of_constants(*operator) {
                 let y = constant_of(alloc, right, table, procedure, first)?;
-                Ok(infixed(*line, *operator, x, y, first))
+                Ok(infixed(*at, *operator, x, y, first))
             } else {
                 Ok(no_constant(*sign, first))
             }
         }
-        Expr::Choice(_, sign, operand, _, _) | Expr::Apply(_, sign, operand, _) => {
+        Expr::Choice {
+            sign,
+            condition: operand,
+            ..
+        }
+        | Expr::Apply {
+            sign,
+            callee: operand,
+            ..
+        } => {
             let _word = constant_of(alloc, operand, table, procedure, first)?;
             Ok(no_constant(*sign, first))
         }
-        Expr::Text(line, _) | Expr::Query(line) | Expr::Valof(line, _) | Expr::Table(line, _) => {
-            Ok(no_constant(*line, first))
-        }
+        Expr::Text { at, .. }
+        | Expr::Query { at }
+        | Expr::Valof { at, .. }
+        | Expr::Table { at, .. } => { Ok(no_constant(*at, first)) }
     }
 }
 
-/// Reports that this line has what no constant holds.
-fn no_constant(line: Line, first: &mut FirstFault) -> Option<u32>
+/// Reports that at this position is what no constant holds.
+fn no_constant(at: Position, first: &mut FirstFault) -> Option<u32>
     ensures word { result ≡ None }
-    ensures wrong { first_fault first.new ≡ else_first (first_fault first.old) (Some (record { line = line; wrong = not_constant })) }
+    ensures wrong { first_fault first.new ≡ else_first (first_fault first.old) (Some (record { at = at; wrong = not_constant })) }
 {
-    first.record_first(line, SourceKind::NotConstant);
+    first.record_first(at, SourceKind::NotConstant);
     None
 }
 
 /// The word of a name that means this.
 fn named(
     alloc: Global,
-    line: Line,
+    at: Position,
     letters: &[u8],
     bound: Option<Bound>,
     procedure: u32,
     first: &mut FirstFault,
 ) -> Result<Option<u32>, AllocError>
     ensures word { IfOk result (λ word. word ≡ named_word bound) }
-    ensures wrong { OnOk result (first_fault first.new ≡ else_first (first_fault first.old) (first_of (wrong_name procedure line letters.now bound))) }
+    ensures wrong { OnOk result (first_fault first.new ≡ else_first (first_fault first.old) (first_of (wrong_name procedure at letters.now bound))) }
 {
     match bound {
         None => {
-            first.record_name(alloc, line, Misnaming::NotDeclared, letters)?;
+            first.record_name(alloc, at, Misnaming::NotDeclared, letters)?;
             Ok(None)
         }
         Some(Bound::Constant(word)) => Ok(word),
         Some(Bound::Variable(owner, _)) => {
             if owner == procedure {
-                Ok(no_constant(line, first))
+                Ok(no_constant(at, first))
             } else {
-                first.record_name(alloc, line, Misnaming::Dynamic, letters)?;
+                first.record_name(alloc, at, Misnaming::Dynamic, letters)?;
                 Ok(None)
             }
         }
-        Some(_) => Ok(no_constant(line, first)),
+        Some(_) => Ok(no_constant(at, first)),
     }
 }
 
@@ -132,9 +152,9 @@ pub(crate) fn prefixed(prefix: Prefix, word: Option<u32>) -> Option<u32>
     }
 }
 
-/// The word of an operator between two words; that it divides by zero is reported on this line.
+/// The word of an operator between two words; that it divides by zero is reported at this position.
 fn infixed(
-    line: Line,
+    at: Position,
     operator: Operator,
     left: Option<u32>,
     right: Option<u32>,
@@ -142,12 +162,12 @@ fn infixed(
 ) -> Option<u32>
     ensures word { result ≡ option_and_then (λ x. option_and_then (infix_word operator x) right) left }
     ensures wrong { first_fault first.new ≡ cond (divides_by_zero operator left right)
-        (else_first (first_fault first.old) (Some (record { line = line; wrong = divided_by_zero }))) (first_fault first.old) }
+        (else_first (first_fault first.old) (Some (record { at = at; wrong = divided_by_zero }))) (first_fault first.old) }
 {
     let x = left?;
     let y = right?;
     if divides(operator) && y == 0 {
-        first.record_first(line, SourceKind::ConstantDividedByZero);
+        first.record_first(at, SourceKind::ConstantDividedByZero);
     }
     calculated(operator, x, y)
 }

@@ -1,6 +1,6 @@
 //! Names that come into scope together.
 ghost use Rattle.std.specs.Prelude.{◌≡◌, [], ◌∷◌, OnOk, map};
-ghost use Rattle.bk_tree.specs.Tree.{mention, action, actions_in, definitions_in};
+ghost use Rattle.bk_tree.specs.Tree.{mention, command_in, commands_in, definitions_in};
 ghost use Rattle.bk_scope.specs.Entering.{with_labels, labels_of, labels_of_each, with_formals, with_procedure, with_procedures};
 ghost use Rattle.bk_scope.specs.Names.{all_listed};
 
@@ -27,25 +27,29 @@ pub fn enter_labels<'a>(
     procedure: u32,
     command: &'a Command,
 ) -> Result<(), AllocError>
-    ensures { OnOk result (walk.new ≡ with_labels procedure (labels_of (action command.now)) walk.old) }
+    ensures { OnOk result (walk.new ≡ with_labels procedure (labels_of (command_in command.now)) walk.old) }
 {
     match command {
-        Command::Label(_, letters, body) => {
+        Command::Label { letters, body, .. } => {
             enter_label(walk, procedure, letters)?;
             enter_labels(walk, procedure, body)
         }
-        Command::Case(_, _, body)
-        | Command::Default(_, body)
-        | Command::If(_, _, _, body)
-        | Command::While(_, _, _, body)
-        | Command::SwitchOn(_, _, body)
-        | Command::Repeat(_, body)
-        | Command::RepeatWhile(_, _, body, _) => enter_labels(walk, procedure, body),
-        Command::Test(_, _, yes, no) => {
+        Command::Case { body, .. }
+        | Command::Default { body, .. }
+        | Command::If { body, .. }
+        | Command::While { body, .. }
+        | Command::SwitchOn { body, .. }
+        | Command::Repeat { body, .. }
+        | Command::RepeatWhile { body, .. } => enter_labels(walk, procedure, body),
+        Command::Test { yes, no, .. } => {
             enter_labels(walk, procedure, yes)?;
             enter_labels(walk, procedure, no)
         }
-        Command::Block(_, decls, commands) => {
+        Command::Block {
+            decls,
+            commands,
+            ..
+        } => {
             if decls.is_empty() {
                 enter_labels_of_each(walk, procedure, commands)
             } else {
@@ -53,12 +57,12 @@ pub fn enter_labels<'a>(
             }
         }
         Command::Empty
-        | Command::Assign(_, _, _)
-        | Command::Call(_, _, _)
-        | Command::Goto(_, _)
-        | Command::For(_, _, _, _, _, _)
-        | Command::ResultIs(_, _)
-        | Command::Simple(_, _) => Ok(()),
+        | Command::Assign { .. }
+        | Command::Call { .. }
+        | Command::Goto { .. }
+        | Command::For { .. }
+        | Command::ResultIs { .. }
+        | Command::Simple { .. } => Ok(()),
     }
 }
 
@@ -70,7 +74,7 @@ pub fn enter_labels_of_each<'a>(
     procedure: u32,
     commands: &'a [Command],
 ) -> Result<(), AllocError>
-    ensures { OnOk result (walk.new ≡ with_labels procedure (labels_of_each (actions_in commands.now)) walk.old) }
+    ensures { OnOk result (walk.new ≡ with_labels procedure (labels_of_each (commands_in commands.now)) walk.old) }
 {
     for command in commands {
         enter_labels(walk, procedure, command)?;
@@ -114,10 +118,10 @@ pub fn enter_procedures<'a>(walk: &mut Walk<'a>, defs: &'a [Def]) -> Result<(), 
 {
     for def in defs {
         match def {
-            Def::Routine(_, letters, _, _) | Def::Function(_, letters, _, _) => {
+            Def::Routine { letters, .. } | Def::Function { letters, .. } => {
                 enter_procedure(walk, letters)?;
             }
-            Def::Variables(_, _, _) => {}
+            Def::Variables { .. } => {}
         }
     }
     Ok(())
@@ -133,7 +137,7 @@ pub fn list_names<'a>(
     ensures { OnOk result (findings.new ≡ all_listed list (map mention names.now) findings.old) }
 {
     for name in names {
-        findings.lists(list, name.line, &name.letters)?;
+        findings.lists(list, name.at, &name.letters)?;
     }
     Ok(())
 }

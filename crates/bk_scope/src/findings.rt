@@ -15,10 +15,10 @@ use crate::first_fault::{FirstFault, Misnaming};
 use crate::name_key::NameKey;
 use crate::place::kept_depth;
 use crate::table::Table;
+use bk_base::SourceKind;
 use bk_base::limit::FRAME_WORDS;
-use bk_base::{Line, SourceFault, SourceKind};
 use bk_tables::KeyedHashers;
-use bk_tree::Expr;
+use bk_tree::{Expr, PlacedFault, Position};
 use std::alloc::{AllocError, Global};
 use std::marker::Model;
 use std::mem;
@@ -97,31 +97,31 @@ impl<'a> Findings<'a> {
         self.alloc
     }
 
-    /// Something is wrong on this line, by a kind that keeps no name.
-    pub fn breaks(&mut self, line: Line, kind: SourceKind)
-        ensures { self.new ≡ breaks line (wrong_of kind) self.old }
+    /// Something is wrong at this position, by a kind that keeps no name.
+    pub fn breaks(&mut self, at: Position, kind: SourceKind)
+        ensures { self.new ≡ breaks at (wrong_of kind) self.old }
     {
-        self.first.record_first(line, kind);
+        self.first.record_first(at, kind);
     }
 
-    /// A name on this line is wrong.
+    /// A name at this position is wrong.
     pub fn misnames(
         &mut self,
-        line: Line,
+        at: Position,
         misnaming: Misnaming,
         name: &[u8],
     ) -> Result<(), AllocError>
-        ensures { OnOk result (self.new ≡ breaks line (misnamed misnaming (text_of name.now)) self.old) }
+        ensures { OnOk result (self.new ≡ breaks at (misnamed misnaming (text_of name.now)) self.old) }
     {
-        self.first.record_name(self.alloc, line, misnaming, name)
+        self.first.record_name(self.alloc, at, misnaming, name)
     }
 
     /// A name in the list of this number, in which no name occurs twice.
-    pub fn lists(&mut self, list: u32, line: Line, name: &'a [u8]) -> Result<(), AllocError>
-        ensures { OnOk result (self.new ≡ listed list line name.now self.old) }
+    pub fn lists(&mut self, list: u32, at: Position, name: &'a [u8]) -> Result<(), AllocError>
+        ensures { OnOk result (self.new ≡ listed list at name.now self.old) }
     {
         if !self.claims.claim(Claim::Naming(list, NameKey::new(name)))? {
-            self.misnames(line, Misnaming::DeclaredTwice, name)?;
+            self.misnames(at, Misnaming::DeclaredTwice, name)?;
         }
         Ok(())
     }
@@ -129,15 +129,15 @@ impl<'a> Findings<'a> {
     /// A procedure of this name, which means this: one at most sets a global.
     pub fn sets(
         &mut self,
-        line: Line,
+        at: Position,
         name: &'a [u8],
         bound: Option<Bound>,
     ) -> Result<(), AllocError>
-        ensures { OnOk result (self.new ≡ sets line name.now bound self.old) }
+        ensures { OnOk result (self.new ≡ sets at name.now bound self.old) }
     {
         if let Some(Bound::Global(Some(global))) = bound {
             if !self.claims.claim(Claim::Setting(global))? {
-                self.misnames(line, Misnaming::TwoProcedures, name)?;
+                self.misnames(at, Misnaming::TwoProcedures, name)?;
             }
         }
         Ok(())
@@ -147,13 +147,13 @@ impl<'a> Findings<'a> {
     pub fn chooses(
         &mut self,
         claim: Claim<'a>,
-        line: Line,
+        at: Position,
         kind: SourceKind,
     ) -> Result<(), AllocError>
-        ensures { OnOk result (self.new ≡ claims_once (claim_of claim.entry) line (wrong_of kind) self.old) }
+        ensures { OnOk result (self.new ≡ claims_once (claim_of claim.entry) at (wrong_of kind) self.old) }
     {
         if !self.claims.claim(claim)? {
-            self.breaks(line, kind);
+            self.breaks(at, kind);
         }
         Ok(())
     }
@@ -217,13 +217,13 @@ impl<'a> Findings<'a> {
         OuterFindings { first, deepest }
     }
 
-    /// The frame of the procedure whose name is on this line ends.
-    pub fn closes(&mut self, opened: OuterFindings, line: Line)
-        ensures { self.new ≡ behind (first_fault opened.first) opened.deepest (frame_wrong line self.old) self.old }
+    /// The frame of the procedure whose name is at this position ends.
+    pub fn closes(&mut self, opened: OuterFindings, at: Position)
+        ensures { self.new ≡ behind (first_fault opened.first) opened.deepest (frame_wrong at self.old) self.old }
     {
         let inner = mem::replace(&mut self.first, opened.first);
         if self.deepest > FRAME_WORDS {
-            self.first.record_first(line, SourceKind::FrameTooLarge);
+            self.first.record_first(at, SourceKind::FrameTooLarge);
         }
         self.first.then(inner);
         self.deepest = opened.deepest;
@@ -245,7 +245,7 @@ impl<'a> Findings<'a> {
     }
 
     /// All of it is found: what the section says, or what is wrong first.
-    pub fn end(self) -> Result<Known, SourceFault>
+    pub fn end(self) -> Result<Known, PlacedFault>
         ensures right { OnOk result (self.entry.first ≡ None) }
         ensures known { IfOk result (λ known. (known.meanings.items ≡ self.entry.meanings) × (known.words.items ≡ self.entry.words)) }
         ensures wrong { IfErr result (λ fault. self.entry.first ≡ Some (breach_of fault)) }

@@ -4,7 +4,8 @@ ghost use Rattle.bk_scope.specs.FirstFault.{first_fault, breach_told, wrong_of, 
 ghost use Rattle.bk_scope.specs.Found.{else_first};
 ghost use Rattle.bk_scope.specs.Wrong.{text_of};
 
-use bk_base::{Line, SourceFault, SourceKind};
+use bk_base::SourceKind;
+use bk_tree::{PlacedFault, Position};
 use std::alloc::{AllocError, Global};
 
 /// What is wrong with a name.
@@ -25,7 +26,7 @@ pub enum Misnaming {
 /// The first fault of those that were reported, if any was.
 #[derive(Drop)]
 pub struct FirstFault {
-    fault: Option<SourceFault>,
+    fault: Option<PlacedFault>,
 }
 
 impl FirstFault {
@@ -36,17 +37,17 @@ impl FirstFault {
         FirstFault { fault: None }
     }
 
-    /// Reports a fault of a kind that keeps no name, on this line.
-    pub fn record_first(&mut self, line: Line, kind: SourceKind)
-        ensures { first_fault self.new ≡ else_first (first_fault self.old) (Some (record { line = line; wrong = wrong_of kind })) }
+    /// Reports a fault of a kind that keeps no name, at this position.
+    pub fn record_first(&mut self, at: Position, kind: SourceKind)
+        ensures { first_fault self.new ≡ else_first (first_fault self.old) (Some (record { at = at; wrong = wrong_of kind })) }
     {
         if self.fault.is_none() {
-            self.fault = Some(SourceFault { line, kind });
+            self.fault = Some(PlacedFault { at, kind });
         }
     }
 
     /// The fault, if any was reported.
-    pub fn fault(self) -> Option<SourceFault>
+    pub fn fault(self) -> Option<PlacedFault>
         ensures { breach_told result ≡ first_fault self }
     {
         self.fault
@@ -61,20 +62,20 @@ impl FirstFault {
         }
     }
 
-    /// Reports what is wrong with a name, on this line.
+    /// Reports what is wrong with a name, at this position.
     pub fn record_name(
         &mut self,
         alloc: Global,
-        line: Line,
+        at: Position,
         misnaming: Misnaming,
         name: &[u8],
     ) -> Result<(), AllocError>
         ensures { OnOk result (first_fault self.new ≡ else_first (first_fault self.old)
-            (Some (record { line = line; wrong = misnamed misnaming (text_of name.now) }))) }
+            (Some (record { at = at; wrong = misnamed misnaming (text_of name.now) }))) }
     {
         if self.fault.is_none() {
             let kind = kind_of(misnaming, spelled(alloc, name)?);
-            self.fault = Some(SourceFault { line, kind });
+            self.fault = Some(PlacedFault { at, kind });
         }
         Ok(())
     }

@@ -8,20 +8,19 @@ ghost use Rattle.bk_scope.specs.Entering.{with_formals};
 ghost use Rattle.bk_scope.specs.Names.{switched, chosen, defaulted, single as Single, listed, all_listed, sets, named_as, headed, frame_wrong, bounded, words_of_start, constant_found, constants_found};
 ghost use Rattle.bk_scope.specs.Wrong.{vec_out_of_range, no_result_or_return};
 ghost use Rattle.bk_scope.specs.Constants.{constant_word};
-ghost use Rattle.bk_tree.specs.Parts.{line_of as LineOf};
+ghost use Rattle.bk_tree.specs.Parts.{at_expression};
 ghost use Rattle.bk_base.specs.declared.limit.TheConstants.{VEC_NUMBER as VecNumber};
 
 use crate::bound::Bound;
 use crate::claims::Claim;
 use crate::entering::{enter_formals, list_names};
 use crate::findings::{Findings, OuterFindings};
-use crate::items::line_of;
 use crate::place::{Enclosing, kept_depth};
 use crate::table::Table;
 use crate::walk::Walk;
+use bk_base::SourceKind;
 use bk_base::limit::VEC_NUMBER;
-use bk_base::{Line, SourceKind};
-use bk_tree::{Expr, Name, Simple};
+use bk_tree::{Expr, Name, Position, Simple};
 use std::alloc::AllocError;
 
 /// A label, in the list of this number, and what it means.
@@ -30,22 +29,22 @@ pub fn label<'a>(
     findings: &mut Findings<'a>,
     table: &Table<'a>,
     list: u32,
-    line: Line,
+    at: Position,
     letters: &'a [u8],
 ) -> Result<(), AllocError>
-    ensures { OnOk result (findings.new ≡ named_as (bound_in table.now letters.now) (listed list line letters.now findings.old)) }
+    ensures { OnOk result (findings.new ≡ named_as (bound_in table.now letters.now) (listed list at letters.now findings.old)) }
 {
-    findings.lists(list, line, letters)?;
+    findings.lists(list, at, letters)?;
     findings.names(table.find(letters))
 }
 
 /// A CASE or a DEFAULT is wrong where it is in no SWITCHON.
 #[inline]
-pub fn in_switch(findings: &mut Findings, switch: Option<u32>, line: Line)
-    ensures { findings.new ≡ switched switch line findings.old }
+pub fn in_switch(findings: &mut Findings, switch: Option<u32>, at: Position)
+    ensures { findings.new ≡ switched switch at findings.old }
 {
     if switch.is_none() {
-        findings.breaks(line, SourceKind::NoSwitchon);
+        findings.breaks(at, SourceKind::NoSwitchon);
     }
 }
 
@@ -54,18 +53,18 @@ pub fn in_switch(findings: &mut Findings, switch: Option<u32>, line: Line)
 pub fn case<'a>(
     walk: &mut Walk<'a>,
     place: Enclosing,
-    line: Line,
+    at: Position,
     expr: &'a Expr,
 ) -> Result<(), AllocError>
     ensures { OnOk result (walk.new ≡ record {
       scope = walk.old.scope;
-      found = chosen place.switch line (constant_word walk.old.scope (expression expr.now))
-          (constant_found walk.old.scope place.procedure (expression expr.now) (switched place.switch line walk.old.found));
+      found = chosen place.switch at (constant_word walk.old.scope (expression expr.now))
+          (constant_found walk.old.scope place.procedure (expression expr.now) (switched place.switch at walk.old.found));
     }) }
 {
-    in_switch(&mut walk.findings, place.switch, line);
+    in_switch(&mut walk.findings, place.switch, at);
     let word = walk.findings.constant(&walk.table, place.procedure, expr)?;
-    choose(&mut walk.findings, place.switch, line, word)
+    choose(&mut walk.findings, place.switch, at, word)
 }
 
 /// What is before the command of a DEFAULT.
@@ -73,12 +72,12 @@ pub fn case<'a>(
 pub fn default<'a>(
     findings: &mut Findings<'a>,
     switch: Option<u32>,
-    line: Line,
+    at: Position,
 ) -> Result<(), AllocError>
-    ensures { OnOk result (findings.new ≡ defaulted switch line (switched switch line findings.old)) }
+    ensures { OnOk result (findings.new ≡ defaulted switch at (switched switch at findings.old)) }
 {
-    in_switch(findings, switch, line);
-    choose_default(findings, switch, line)
+    in_switch(findings, switch, at);
+    choose_default(findings, switch, at)
 }
 
 /// The step of a FOR, if it has one; the words of its frame are reached.
@@ -102,11 +101,11 @@ pub fn step<'a>(
 
 /// A RESULTIS is wrong where it is in no VALOF.
 #[inline]
-pub fn in_valof(findings: &mut Findings, place: Enclosing, line: Line)
-    ensures { findings.new ≡ cond place.in_valof findings.old (breaks line no_result_or_return findings.old) }
+pub fn in_valof(findings: &mut Findings, place: Enclosing, at: Position)
+    ensures { findings.new ≡ cond place.in_valof findings.old (breaks at no_result_or_return findings.old) }
 {
     if !place.in_valof {
-        findings.breaks(line, SourceKind::NoResultOrReturn);
+        findings.breaks(at, SourceKind::NoResultOrReturn);
     }
 }
 
@@ -115,17 +114,13 @@ pub fn in_valof(findings: &mut Findings, place: Enclosing, line: Line)
 pub fn choose<'a>(
     findings: &mut Findings<'a>,
     switch: Option<u32>,
-    line: Line,
+    at: Position,
     word: Option<u32>,
 ) -> Result<(), AllocError>
-    ensures { OnOk result (findings.new ≡ chosen switch line word findings.old) }
+    ensures { OnOk result (findings.new ≡ chosen switch at word findings.old) }
 {
     if let (Some(switch), Some(word)) = (switch, word) {
-        findings.chooses(
-            Claim::Choosing(switch, word),
-            line,
-            SourceKind::CaseRepeated,
-        )?;
+        findings.chooses(Claim::Choosing(switch, word), at, SourceKind::CaseRepeated)?;
     }
     Ok(())
 }
@@ -135,34 +130,34 @@ pub fn choose<'a>(
 pub fn choose_default<'a>(
     findings: &mut Findings<'a>,
     switch: Option<u32>,
-    line: Line,
+    at: Position,
 ) -> Result<(), AllocError>
-    ensures { OnOk result (findings.new ≡ defaulted switch line findings.old) }
+    ensures { OnOk result (findings.new ≡ defaulted switch at findings.old) }
 {
     if let Some(switch) = switch {
-        findings.chooses(Claim::Defaulting(switch), line, SourceKind::DefaultRepeated)?;
+        findings.chooses(Claim::Defaulting(switch), at, SourceKind::DefaultRepeated)?;
     }
     Ok(())
 }
 
 /// A command of one word.
-pub fn single(findings: &mut Findings, place: Enclosing, line: Line, word: Simple)
-    ensures { findings.new ≡ Single place line word findings.old }
+pub fn single(findings: &mut Findings, place: Enclosing, at: Position, word: Simple)
+    ensures { findings.new ≡ Single place at word findings.old }
 {
     match word {
         Simple::Break | Simple::Loop => {
             if !place.in_loop {
-                findings.breaks(line, SourceKind::NoLoop);
+                findings.breaks(at, SourceKind::NoLoop);
             }
         }
         Simple::EndCase => {
             if !place.in_switch {
-                findings.breaks(line, SourceKind::NoSwitchon);
+                findings.breaks(at, SourceKind::NoSwitchon);
             }
         }
         Simple::Return => {
             if !place.in_routine {
-                findings.breaks(line, SourceKind::NoResultOrReturn);
+                findings.breaks(at, SourceKind::NoResultOrReturn);
             }
         }
         Simple::Finish => {}
@@ -174,7 +169,7 @@ pub fn vector<'a>(walk: &mut Walk<'a>, procedure: u32, expr: &'a Expr) -> Result
     ensures words { IfOk result (λ words. words ≡ words_of_start walk.old.scope (expression expr.now)) }
     ensures walk { OnOk result (walk.new ≡ record {
       scope = walk.old.scope;
-      found = bounded VecNumber (LineOf (expression expr.now)) vec_out_of_range
+      found = bounded VecNumber (at_expression (expression expr.now)) vec_out_of_range
           (constant_word walk.old.scope (expression expr.now))
           (constant_found walk.old.scope procedure (expression expr.now) walk.old.found);
     }) }
@@ -184,8 +179,7 @@ pub fn vector<'a>(walk: &mut Walk<'a>, procedure: u32, expr: &'a Expr) -> Result
         None => Ok(1),
         Some(word) => {
             if word > VEC_NUMBER {
-                walk.findings
-                    .breaks(line_of(expr), SourceKind::VecOutOfRange);
+                walk.findings.breaks(expr.at(), SourceKind::VecOutOfRange);
                 Ok(1)
             } else {
                 Ok(word as usize + 1)
@@ -199,14 +193,14 @@ pub fn vector<'a>(walk: &mut Walk<'a>, procedure: u32, expr: &'a Expr) -> Result
 fn formals_of<'a>(
     findings: &mut Findings<'a>,
     list: u32,
-    line: Line,
+    at: Position,
     name: &'a [u8],
     bound: Option<Bound>,
     formals: &'a [Name],
 ) -> Result<(), AllocError>
-    ensures { OnOk result (findings.new ≡ all_listed list (map mention formals.now) (sets line name.now bound findings.old)) }
+    ensures { OnOk result (findings.new ≡ all_listed list (map mention formals.now) (sets at name.now bound findings.old)) }
 {
-    findings.sets(line, name, bound)?;
+    findings.sets(at, name, bound)?;
     list_names(findings, list, formals)
 }
 
@@ -215,13 +209,13 @@ fn formals_of<'a>(
 pub fn head<'a>(
     walk: &mut Walk<'a>,
     list: u32,
-    line: Line,
+    at: Position,
     name: &'a [u8],
     formals: &'a [Name],
 ) -> Result<OuterFindings, AllocError>
     ensures walk { OnOk result (walk.new ≡ record {
       scope = walk.old.scope;
-      found = headed list line name.now (map mention formals.now) (bound_in walk.old.scope name.now) walk.old.found;
+      found = headed list at name.now (map mention formals.now) (bound_in walk.old.scope name.now) walk.old.found;
     }) }
     ensures first { IfOk result (λ opened. first_fault opened.first ≡ walk.old.found.first) }
     ensures deepest { IfOk result (λ opened. opened.deepest ≡ walk.old.found.deepest) }
@@ -229,7 +223,7 @@ pub fn head<'a>(
     let bound = walk.table.find(name);
     walk.findings.names(bound)?;
     let opened = walk.findings.opens(kept_depth(formals.len() + 2));
-    formals_of(&mut walk.findings, list, line, name, bound, formals)?;
+    formals_of(&mut walk.findings, list, at, name, bound, formals)?;
     Ok(opened)
 }
 
@@ -249,24 +243,24 @@ pub struct Procedure {
 pub fn begin<'a>(
     walk: &mut Walk<'a>,
     list: u32,
-    line: Line,
+    at: Position,
     name: &'a [u8],
     formals: &'a [Name],
 ) -> Result<Procedure, AllocError>
-    ensures walk { let f : Found = listed list line name.now walk.old.found in OnOk result (walk.new
+    ensures walk { let f : Found = listed list at name.now walk.old.found in OnOk result (walk.new
         ≡ record {
           scope = with_formals f.next 2 (map mention formals.now) walk.old.scope;
-          found = headed f.next line name.now (map mention formals.now) (bound_in walk.old.scope name.now) (takes f);
+          found = headed f.next at name.now (map mention formals.now) (bound_in walk.old.scope name.now) (takes f);
         }) }
-    ensures number { IfOk result (λ procedure. procedure.number ≡ (listed list line name.now walk.old.found).next) }
+    ensures number { IfOk result (λ procedure. procedure.number ≡ (listed list at name.now walk.old.found).next) }
     ensures mark { IfOk result (λ procedure. procedure.mark ≡ length walk.old.scope) }
-    ensures first { IfOk result (λ procedure. first_fault procedure.opened.first ≡ (listed list line name.now walk.old.found).first) }
-    ensures deepest { IfOk result (λ procedure. procedure.opened.deepest ≡ (listed list line name.now walk.old.found).deepest) }
+    ensures first { IfOk result (λ procedure. first_fault procedure.opened.first ≡ (listed list at name.now walk.old.found).first) }
+    ensures deepest { IfOk result (λ procedure. procedure.opened.deepest ≡ (listed list at name.now walk.old.found).deepest) }
 {
     let mark = walk.table.mark();
-    walk.findings.lists(list, line, name)?;
+    walk.findings.lists(list, at, name)?;
     let number = walk.findings.takes();
-    let opened = head(walk, number, line, name, formals)?;
+    let opened = head(walk, number, at, name, formals)?;
     enter_formals(walk, number, formals)?;
     Ok(Procedure {
         number,
@@ -275,15 +269,15 @@ pub fn begin<'a>(
     })
 }
 
-/// The procedure whose name is on this line ends: its formals are no longer in scope.
+/// The procedure whose name is at this position ends: its formals are no longer in scope.
 #[inline]
-pub fn end(walk: &mut Walk, procedure: Procedure, line: Line)
+pub fn end(walk: &mut Walk, procedure: Procedure, at: Position)
     requires { procedure.mark ≤ length walk.old.scope }
     ensures { walk.new ≡ record {
       scope = drop (length walk.old.scope - procedure.mark) walk.old.scope;
-      found = behind (first_fault procedure.opened.first) procedure.opened.deepest (frame_wrong line walk.old.found) walk.old.found;
+      found = behind (first_fault procedure.opened.first) procedure.opened.deepest (frame_wrong at walk.old.found) walk.old.found;
     } }
 {
     walk.table.leave(procedure.mark);
-    walk.findings.closes(procedure.opened, line);
+    walk.findings.closes(procedure.opened, at);
 }

@@ -1,7 +1,7 @@
 //! The items of MANIFEST, STATIC and GLOBAL, and other places where constants are asked for.
 ghost use Rattle.std.specs.Prelude.{◌≡◌, List, OnOk, IfOk};
 ghost use Rattle.bk_tree.specs.Tree.{expression, expressions_in, items_in};
-ghost use Rattle.bk_tree.specs.Parts.{line_of as first_line};
+ghost use Rattle.bk_tree.specs.Parts.{at_expression};
 ghost use Rattle.bk_scope.specs.Scope.{Binding, bind_all};
 ghost use Rattle.bk_scope.specs.Found.{Found, takes, means};
 ghost use Rattle.bk_scope.specs.Constants.{constant_word};
@@ -15,9 +15,9 @@ use crate::findings::Findings;
 use crate::fresh::Fresh;
 use crate::table::Table;
 use crate::walk::Walk;
+use bk_base::SourceKind;
 use bk_base::limit::GLOBAL_NUMBER;
-use bk_base::{Line, SourceKind};
-use bk_tree::{ConstItem, Expr};
+use bk_tree::{ConstItem, Expr, Position};
 use std::alloc::AllocError;
 
 /// Expressions where constants are asked for.
@@ -46,32 +46,16 @@ pub fn manifests<'a>(
 ) -> Result<(), AllocError>
     ensures { OnOk result (walk.new ≡ through_manifests list procedure (items_in items.now) walk.old) }
 {
-    for ConstItem::Item(line, name, expr) in items {
-        walk.findings.lists(list, *line, name)?;
+    for ConstItem::Item {
+        at,
+        letters: name,
+        expr,
+    } in items {
+        walk.findings.lists(list, *at, name)?;
         let word = walk.findings.constant(&walk.table, procedure, expr)?;
         walk.table.bind(name, Bound::Constant(word))?;
     }
     Ok(())
-}
-
-/// The line of an expression's first symbol.
-pub fn line_of(expr: &Expr) -> Line
-    ensures { result ≡ first_line (expression expr.now) }
-{
-    match expr {
-        Expr::Name(line, _)
-        | Expr::Number(line, _)
-        | Expr::Text(line, _)
-        | Expr::Truth(line, _)
-        | Expr::Query(line)
-        | Expr::Parens(line, _)
-        | Expr::Unary(line, _, _)
-        | Expr::Binary(line, _, _, _, _)
-        | Expr::Choice(line, _, _, _, _)
-        | Expr::Apply(line, _, _, _)
-        | Expr::Valof(line, _)
-        | Expr::Table(line, _) => *line,
-    }
 }
 
 /// The items of a STATIC, which are the list of this number. They come into scope together, after the last.
@@ -113,8 +97,12 @@ fn fresh_statics<'a>(
         ≡ record { scope = bind_all fresh scope; found = findings.new }) }
 {
     let mut fresh = Fresh::with_capacity(findings.alloc(), items.len())?;
-    for ConstItem::Item(line, name, expr) in items {
-        let bound = static_of(findings, table, list, procedure, *line, name, expr)?;
+    for ConstItem::Item {
+        at,
+        letters: name,
+        expr,
+    } in items {
+        let bound = static_of(findings, table, list, procedure, *at, name, expr)?;
         fresh.add(name, bound)?;
     }
     Ok(fresh)
@@ -127,16 +115,16 @@ fn static_of<'a>(
     table: &Table<'a>,
     list: u32,
     procedure: u32,
-    line: Line,
+    at: Position,
     name: &'a [u8],
     expr: &'a Expr,
 ) -> Result<Bound, AllocError>
     ensures bound { let g : Found = constant_found table.now procedure (expression expr.now)
-        (listed list line name.now findings.old) in IfOk result (λ bound. bound ≡ Static g.next) }
+        (listed list at name.now findings.old) in IfOk result (λ bound. bound ≡ Static g.next) }
     ensures found { let g : Found = constant_found table.now procedure (expression expr.now)
-        (listed list line name.now findings.old) in OnOk result (findings.new ≡ takes (means (Static g.next) g)) }
+        (listed list at name.now findings.old) in OnOk result (findings.new ≡ takes (means (Static g.next) g)) }
 {
-    findings.lists(list, line, name)?;
+    findings.lists(list, at, name)?;
     let _word = findings.constant(table, procedure, expr)?;
     let bound = Bound::Static(findings.takes());
     findings.means(bound)?;
@@ -156,8 +144,12 @@ fn fresh_globals<'a>(
         ≡ record { scope = bind_all fresh scope; found = findings.new }) }
 {
     let mut fresh = Fresh::with_capacity(findings.alloc(), items.len())?;
-    for ConstItem::Item(line, name, expr) in items {
-        let bound = named_global(findings, table, list, procedure, *line, name, expr)?;
+    for ConstItem::Item {
+        at,
+        letters: name,
+        expr,
+    } in items {
+        let bound = named_global(findings, table, list, procedure, *at, name, expr)?;
         fresh.add(name, bound)?;
     }
     Ok(fresh)
@@ -170,28 +162,28 @@ fn named_global<'a>(
     table: &Table<'a>,
     list: u32,
     procedure: u32,
-    line: Line,
+    at: Position,
     name: &'a [u8],
     expr: &'a Expr,
 ) -> Result<Bound, AllocError>
     ensures bound { IfOk result (λ bound. bound ≡ Global (within GLOBAL_NUMBER (constant_word table.now (expression expr.now)))) }
-    ensures found { OnOk result (findings.new ≡ bounded GLOBAL_NUMBER (first_line (expression expr.now)) global_out_of_range
+    ensures found { OnOk result (findings.new ≡ bounded GLOBAL_NUMBER (at_expression (expression expr.now)) global_out_of_range
         (constant_word table.now (expression expr.now)) (constant_found table.now procedure (expression expr.now)
-        (listed list line name.now findings.old))) }
+        (listed list at name.now findings.old))) }
 {
-    findings.lists(list, line, name)?;
+    findings.lists(list, at, name)?;
     let word = findings.constant(table, procedure, expr)?;
-    Ok(Bound::Global(global_of(findings, line_of(expr), word)))
+    Ok(Bound::Global(global_of(findings, expr.at(), word)))
 }
 
-/// The number of a global whose constant has this word, if it has one; that it is too large is reported on this line.
-fn global_of(findings: &mut Findings, line: Line, word: Option<u32>) -> Option<u32>
+/// The number of a global whose constant has this word, if it has one; that it is too large is reported at this position.
+fn global_of(findings: &mut Findings, at: Position, word: Option<u32>) -> Option<u32>
     ensures number { result ≡ within GLOBAL_NUMBER word }
-    ensures found { findings.new ≡ bounded GLOBAL_NUMBER line global_out_of_range word findings.old }
+    ensures found { findings.new ≡ bounded GLOBAL_NUMBER at global_out_of_range word findings.old }
 {
     let number = word?;
     if number > GLOBAL_NUMBER {
-        findings.breaks(line, SourceKind::GlobalOutOfRange);
+        findings.breaks(at, SourceKind::GlobalOutOfRange);
         return None;
     }
     Some(number)

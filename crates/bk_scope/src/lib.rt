@@ -27,5 +27,5 @@ pub use laws::{
     cases_differ, faultless_is_sound, numbers_differ, parts_are_clean, parts_have_stretches,
     sections_are_clean, takes_few_numbers,
 };
-pub use resolving::{resolve, resolve_keyed};
+pub use resolving::{resolve, resolve_keyed, resolve_placed};
 pub use section_names::Resolved;

@@ -10,30 +10,30 @@ use crate::first_fault::Misnaming;
 use crate::place::Enclosing;
 use crate::role::Role;
 use crate::table::Table;
-use bk_base::{Line, SourceKind};
-use bk_tree::Expr;
+use bk_base::SourceKind;
+use bk_tree::{Expr, Position};
 use std::alloc::AllocError;
 
 /// A name that means this is used in a procedure: another one's variable and a label are wrong.
 pub fn use_name(
     findings: &mut Findings,
     procedure: u32,
-    line: Line,
+    at: Position,
     name: &[u8],
     bound: Option<Bound>,
 ) -> Result<(), AllocError>
-    ensures { OnOk result (findings.new ≡ used procedure line name.now bound findings.old) }
+    ensures { OnOk result (findings.new ≡ used procedure at name.now bound findings.old) }
 {
     match bound {
-        None => findings.misnames(line, Misnaming::NotDeclared, name),
+        None => findings.misnames(at, Misnaming::NotDeclared, name),
         Some(Bound::Variable(owner, depth)) => {
             if owner == procedure {
                 findings.means(Bound::Variable(owner, depth))
             } else {
-                findings.misnames(line, Misnaming::Dynamic, name)
+                findings.misnames(at, Misnaming::Dynamic, name)
             }
         }
-        Some(Bound::Label(_, _)) => findings.misnames(line, Misnaming::LabelNotHere, name),
+        Some(Bound::Label(_, _)) => findings.misnames(at, Misnaming::LabelNotHere, name),
         Some(other) => findings.means(other),
     }
 }
@@ -42,29 +42,29 @@ pub fn use_name(
 pub fn go_to(
     findings: &mut Findings,
     procedure: u32,
-    line: Line,
+    at: Position,
     name: &[u8],
     bound: Option<Bound>,
 ) -> Result<(), AllocError>
-    ensures { OnOk result (findings.new ≡ reached procedure line name.now bound findings.old) }
+    ensures { OnOk result (findings.new ≡ reached procedure at name.now bound findings.old) }
 {
     match bound {
-        None => findings.misnames(line, Misnaming::NotDeclared, name),
+        None => findings.misnames(at, Misnaming::NotDeclared, name),
         Some(Bound::Label(owner, number)) => {
             if owner == procedure {
                 findings.means(Bound::Label(owner, number))
             } else {
-                findings.misnames(line, Misnaming::LabelNotHere, name)
+                findings.misnames(at, Misnaming::LabelNotHere, name)
             }
         }
         Some(Bound::Variable(owner, _)) => {
             if owner == procedure {
-                findings.misnames(line, Misnaming::LabelNotHere, name)
+                findings.misnames(at, Misnaming::LabelNotHere, name)
             } else {
-                findings.misnames(line, Misnaming::Dynamic, name)
+                findings.misnames(at, Misnaming::Dynamic, name)
             }
         }
-        Some(_) => findings.misnames(line, Misnaming::LabelNotHere, name),
+        Some(_) => findings.misnames(at, Misnaming::LabelNotHere, name),
     }
 }
 
@@ -94,27 +94,30 @@ fn begins_wrong<'a>(table: &Table<'a>, procedure: u32, expr: &'a Expr) -> bool
     ensures { result ≡ BeginsWrong table.now procedure (expression expr.now) }
 {
     match expr {
-        Expr::Name(_, letters) => !is_usable(procedure, table.find(letters)),
-        Expr::Binary(_, _, _, first, _)
-        | Expr::Choice(_, _, first, _, _)
-        | Expr::Apply(_, _, first, _) => begins_wrong(table, procedure, first),
+        Expr::Name { letters, .. } => !is_usable(procedure, table.find(letters)),
+        Expr::Binary { left: first, .. }
+        | Expr::Choice {
+            condition: first,
+            ..
+        }
+        | Expr::Apply { callee: first, .. } => begins_wrong(table, procedure, first),
         _ => false,
     }
 }
 
-/// An expression has no address where one is asked for; its first symbol is on this line, and may be a parenthesis.
+/// An expression has no address where one is asked for; its first symbol is at this position, and may be a parenthesis.
 fn unassignable<'a>(
     table: &Table<'a>,
     findings: &mut Findings,
     procedure: u32,
     parenthesis: bool,
-    line: Line,
+    at: Position,
     expr: &'a Expr,
 )
-    ensures { findings.new ≡ Unassignable table.now procedure parenthesis line (expression expr.now) findings.old }
+    ensures { findings.new ≡ Unassignable table.now procedure parenthesis at (expression expr.now) findings.old }
 {
     if parenthesis || !begins_wrong(table, procedure, expr) {
-        findings.breaks(line, SourceKind::NotAssignable);
+        findings.breaks(at, SourceKind::NotAssignable);
     }
 }
 
@@ -130,8 +133,8 @@ pub fn without_word<'a>(
 {
     match role {
         Role::Value | Role::Truth => {}
-        Role::Address(parenthesis, line) | Role::Destination(parenthesis, line) => {
-            unassignable(table, findings, procedure, *parenthesis, *line, expr);
+        Role::Address(parenthesis, at) | Role::Destination(parenthesis, at) => {
+            unassignable(table, findings, procedure, *parenthesis, *at, expr);
         }
     }
 }
@@ -146,8 +149,8 @@ pub fn without_address<'a>(
 )
     ensures { findings.new ≡ WithoutAddress role.now table.now procedure (expression expr.now) findings.old }
 {
-    if let Role::Address(parenthesis, line) = role {
-        unassignable(table, findings, procedure, *parenthesis, *line, expr);
+    if let Role::Address(parenthesis, at) = role {
+        unassignable(table, findings, procedure, *parenthesis, *at, expr);
     }
 }
 
@@ -157,33 +160,33 @@ pub fn name_at<'a>(
     findings: &mut Findings,
     role: &Role,
     place: Enclosing,
-    line: Line,
+    at: Position,
     letters: &'a [u8],
     expr: &'a Expr,
 ) -> Result<(), AllocError>
-    requires { expression expr.now ≡ name line letters.now }
-    ensures { OnOk result (findings.new ≡ Named role.now table.now place line letters.now (bound_in table.now letters.now) findings.old) }
+    requires { expression expr.now ≡ name at letters.now }
+    ensures { OnOk result (findings.new ≡ Named role.now table.now place at letters.now (bound_in table.now letters.now) findings.old) }
 {
     let bound = table.find(letters);
     let procedure = place.procedure;
     match role {
         Role::Value | Role::Truth => {
-            use_name(findings, procedure, line, letters, bound)?;
+            use_name(findings, procedure, at, letters, bound)?;
             findings.reaches(place.depth, 1);
         }
         Role::Address(_, _) => {
             if !has_address(bound) {
                 without_word(table, findings, role, procedure, expr);
             }
-            use_name(findings, procedure, line, letters, bound)?;
+            use_name(findings, procedure, at, letters, bound)?;
             findings.reaches(place.depth, 1);
         }
         Role::Destination(_, _) => {
             if has_address(bound) {
-                use_name(findings, procedure, line, letters, bound)?;
+                use_name(findings, procedure, at, letters, bound)?;
             } else {
                 without_word(table, findings, role, procedure, expr);
-                use_name(findings, procedure, line, letters, bound)?;
+                use_name(findings, procedure, at, letters, bound)?;
                 findings.reaches(place.depth, 1);
             }
         }

@@ -1,6 +1,6 @@
 //! Going through the nodes of a section.
 ghost use Rattle.std.specs.Prelude.{◌≡◌, ◌++◌, [], ◌∷◌, map, OnOk, IfOk};
-ghost use Rattle.bk_tree.specs.Tree.{expression, expressions_in, action, actions_in, declaration, declarations_in, definition, definitions_in, starts_in, mention};
+ghost use Rattle.bk_tree.specs.Tree.{expression, expressions_in, command_in, commands_in, declaration, declarations_in, definition, definitions_in, starts_in, mention};
 ghost use Rattle.bk_scope.specs.Scope.{bind};
 ghost use Rattle.bk_scope.specs.Found.{takes};
 ghost use Rattle.bk_scope.specs.Places.{deeper, looping, labelled};
@@ -13,7 +13,7 @@ use crate::claims::Claim;
 use crate::entering::{enter_labels, enter_labels_of_each, enter_procedures, list_names};
 use crate::fresh::Fresh;
 use crate::heads::{begin, case, default, end, in_valof, label, single, step, vector};
-use crate::items::{constants, globals, line_of, manifests, statics};
+use crate::items::{constants, globals, manifests, statics};
 use crate::naming::{go_to, name_at, without_word};
 use crate::operands::{fit_infix, fit_prefix, place_of_second, role_of_operand, role_of_operands};
 use crate::place::Enclosing;
@@ -33,25 +33,29 @@ pub fn evaluate<'a>(
     ensures { OnOk result (walk.new ≡ record { scope = walk.old.scope; found = evaluated role.now walk.old.scope place (expression expr.now) walk.old.found }) }
 {
     match expr {
-        Expr::Name(line, letters) => name_at(
+        Expr::Name { at, letters } => name_at(
             &walk.table,
             &mut walk.findings,
             role,
             place,
-            *line,
+            *at,
             letters,
             expr,
         ),
-        Expr::Number(_, _) | Expr::Text(_, _) | Expr::Truth(_, _) | Expr::Query(_) => {
+        Expr::Number { .. } | Expr::Text { .. } | Expr::Truth { .. } | Expr::Query { .. } => {
             without_word(&walk.table, &mut walk.findings, role, place.procedure, expr);
             walk.findings.reaches(place.depth, 1);
             Ok(())
         }
-        Expr::Parens(_, inside) => {
+        Expr::Parens { inside, .. } => {
             let inner = role.parenthesised();
             evaluate(walk, &inner, place, inside)
         }
-        Expr::Unary(_, prefix, operand) => {
+        Expr::Unary {
+            prefix,
+            operand,
+            ..
+        } => {
             let inner = role_of_operand(*prefix, role, operand);
             fit_prefix(
                 &walk.table,
@@ -63,7 +67,12 @@ pub fn evaluate<'a>(
             );
             evaluate(walk, &inner, place, operand)
         }
-        Expr::Binary(_, operator, _, left, right) => {
+        Expr::Binary {
+            operator,
+            left,
+            right,
+            ..
+        } => {
             let inner = role_of_operands(*operator, role);
             let second = place_of_second(*operator, role, place);
             fit_infix(
@@ -77,26 +86,35 @@ pub fn evaluate<'a>(
             evaluate(walk, &inner, place, left)?;
             evaluate(walk, &inner, second, right)
         }
-        Expr::Choice(_, _, condition, yes, no) => {
+        Expr::Choice {
+            condition,
+            yes,
+            no,
+            ..
+        } => {
             without_word(&walk.table, &mut walk.findings, role, place.procedure, expr);
             evaluate(walk, &Role::Truth, place, condition)?;
             evaluate(walk, &Role::Value, place, yes)?;
             evaluate(walk, &Role::Value, place, no)
         }
-        Expr::Apply(_, _, callee, arguments) => {
+        Expr::Apply {
+            callee,
+            arguments,
+            ..
+        } => {
             without_word(&walk.table, &mut walk.findings, role, place.procedure, expr);
             let above = place.deeper(arguments.len() + 2);
             let first = place.deeper(2);
             evaluate(walk, &Role::Value, above, callee)?;
             evaluate_each(walk, 1, first, arguments)
         }
-        Expr::Valof(_, command) => {
+        Expr::Valof { command, .. } => {
             without_word(&walk.table, &mut walk.findings, role, place.procedure, expr);
             act_inside(walk, place.valued(), command)?;
             walk.findings.reaches(place.depth, 1);
             Ok(())
         }
-        Expr::Table(_, items) => {
+        Expr::Table { items, .. } => {
             without_word(&walk.table, &mut walk.findings, role, place.procedure, expr);
             constants(walk, place.procedure, items)?;
             walk.findings.reaches(place.depth, 1);
@@ -132,7 +150,7 @@ fn set_each<'a>(walk: &mut Walk<'a>, place: Enclosing, exprs: &'a [Expr]) -> Res
     ensures { OnOk result (walk.new ≡ record { scope = walk.old.scope; found = destinations walk.old.scope place (expressions_in exprs.now) walk.old.found }) }
 {
     for expr in exprs {
-        evaluate(walk, &Role::Destination(false, line_of(expr)), place, expr)?;
+        evaluate(walk, &Role::Destination(false, expr.at()), place, expr)?;
     }
     Ok(())
 }
@@ -144,81 +162,115 @@ pub fn act<'a>(
     place: Enclosing,
     command: &'a Command,
 ) -> Result<(), AllocError>
-    ensures { OnOk result (walk.new ≡ record { scope = walk.old.scope; found = done walk.old.scope place (action command.now) walk.old.found }) }
+    ensures { OnOk result (walk.new ≡ record { scope = walk.old.scope; found = done walk.old.scope place (command_in command.now) walk.old.found }) }
 {
     match command {
         Command::Empty => Ok(()),
-        Command::Assign(_, dests, values) => {
+        Command::Assign {
+            destinations: dests,
+            values,
+            ..
+        } => {
             set_each(walk, place.deeper(1), dests)?;
             evaluate_each(walk, 0, place, values)
         }
-        Command::Call(_, callee, arguments) => {
+        Command::Call {
+            callee,
+            arguments,
+            ..
+        } => {
             let above = place.deeper(arguments.len() + 2);
             let first = place.deeper(2);
             evaluate(walk, &Role::Value, above, callee)?;
             evaluate_each(walk, 1, first, arguments)
         }
-        Command::Goto(_, name) => {
+        Command::Goto { name, .. } => {
             let bound = walk.table.find(&name.letters);
             go_to(
                 &mut walk.findings,
                 place.procedure,
-                name.line,
+                name.at,
                 &name.letters,
                 bound,
             )
         }
-        Command::Label(line, letters, body) => {
-            label(
-                &mut walk.findings,
-                &walk.table,
-                place.labels,
-                *line,
-                letters,
-            )?;
+        Command::Label { at, letters, body } => {
+            label(&mut walk.findings, &walk.table, place.labels, *at, letters)?;
             act(walk, place, body)
         }
-        Command::Case(line, expr, body) => {
-            case(walk, place, *line, expr)?;
+        Command::Case {
+            at,
+            value: expr,
+            body,
+        } => {
+            case(walk, place, *at, expr)?;
             act(walk, place, body)
         }
-        Command::Default(line, body) => {
-            default(&mut walk.findings, place.switch, *line)?;
+        Command::Default { at, body } => {
+            default(&mut walk.findings, place.switch, *at)?;
             act(walk, place, body)
         }
-        Command::If(_, _, condition, body) => {
+        Command::If {
+            condition,
+            body,
+            ..
+        } => {
             evaluate(walk, &Role::Truth, place, condition)?;
             act(walk, place, body)
         }
-        Command::Test(_, condition, body, other) => {
+        Command::Test {
+            condition,
+            yes: body,
+            no: other,
+            ..
+        } => {
             evaluate(walk, &Role::Truth, place, condition)?;
             act(walk, place, body)?;
             act(walk, place, other)
         }
-        Command::While(_, _, condition, body) => {
+        Command::While {
+            condition,
+            body,
+            ..
+        } => {
             evaluate(walk, &Role::Truth, place, condition)?;
             act(walk, place.looping(), body)
         }
-        Command::For(_, name, from, to, by, body) => {
+        Command::For {
+            name,
+            from,
+            to,
+            by,
+            body,
+            ..
+        } => {
             evaluate(walk, &Role::Value, place, from)?;
             evaluate(walk, &Role::Value, place.deeper(1), to)?;
             step(walk, place, by)?;
             act_for(walk, place, name, body)
         }
-        Command::SwitchOn(_, expr, body) => {
+        Command::SwitchOn {
+            value: expr,
+            body,
+            ..
+        } => {
             evaluate(walk, &Role::Value, place, expr)?;
             let number = walk.findings.takes();
             act(walk, place.switching(number), body)
         }
-        Command::ResultIs(line, expr) => {
-            in_valof(&mut walk.findings, place, *line);
+        Command::ResultIs { at, value: expr } => {
+            in_valof(&mut walk.findings, place, *at);
             evaluate(walk, &Role::Value, place, expr)
         }
-        Command::Simple(line, word) => {
-            single(&mut walk.findings, place, *line, *word);
+        Command::Simple { at, word } => {
+            single(&mut walk.findings, place, *at, *word);
             Ok(())
         }
-        Command::Block(_, decls, commands) => {
+        Command::Block {
+            decls,
+            commands,
+            ..
+        } => {
             if decls.is_empty() {
                 act_each(walk, place, commands)
             } else {
@@ -229,8 +281,12 @@ pub fn act<'a>(
                 Ok(())
             }
         }
-        Command::Repeat(_, body) => act(walk, place.looping(), body),
-        Command::RepeatWhile(_, _, body, condition) => {
+        Command::Repeat { body, .. } => act(walk, place.looping(), body),
+        Command::RepeatWhile {
+            body,
+            condition,
+            ..
+        } => {
             act(walk, place.looping(), body)?;
             evaluate(walk, &Role::Truth, place, condition)
         }
@@ -245,8 +301,8 @@ fn act_inside<'a>(
     place: Enclosing,
     command: &'a Command,
 ) -> Result<(), AllocError>
-    ensures { let t : Stage = with_labels place.procedure (labels_of (action command.now)) (record { scope = walk.old.scope; found = takes walk.old.found }) in
-        OnOk result (walk.new ≡ record { scope = walk.old.scope; found = done t.scope (labelled walk.old.found.next place) (action command.now) t.found }) }
+    ensures { let t : Stage = with_labels place.procedure (labels_of (command_in command.now)) (record { scope = walk.old.scope; found = takes walk.old.found }) in
+        OnOk result (walk.new ≡ record { scope = walk.old.scope; found = done t.scope (labelled walk.old.found.next place) (command_in command.now) t.found }) }
 {
     let mark = walk.table.mark();
     let labels = walk.findings.takes();
@@ -265,14 +321,14 @@ fn act_for<'a>(
     name: &'a Name,
     body: &'a Command,
 ) -> Result<(), AllocError>
-    ensures { let t : Stage = with_labels place.procedure (labels_of (action body.now))
+    ensures { let t : Stage = with_labels place.procedure (labels_of (command_in body.now))
         (record {
           scope = bind ((mention name.now).letters) (Variable place.procedure place.depth) walk.old.scope;
           found = takes walk.old.found;
         }) in
         OnOk result (walk.new ≡ record {
           scope = walk.old.scope;
-          found = done t.scope (labelled walk.old.found.next (looping (deeper 2 place))) (action body.now) t.found;
+          found = done t.scope (labelled walk.old.found.next (looping (deeper 2 place))) (command_in body.now) t.found;
         }) }
 {
     let mark = walk.table.mark();
@@ -290,9 +346,9 @@ fn act_each_labelled<'a>(
     place: Enclosing,
     commands: &'a [Command],
 ) -> Result<(), AllocError>
-    ensures { let t : Stage = with_labels procedure (labels_of_each (actions_in commands.now))
+    ensures { let t : Stage = with_labels procedure (labels_of_each (commands_in commands.now))
         (record { scope = walk.old.scope; found = takes walk.old.found }) in
-        OnOk result (walk.new ≡ record { scope = t.scope; found = each_done t.scope (labelled walk.old.found.next place) (actions_in commands.now) t.found }) }
+        OnOk result (walk.new ≡ record { scope = t.scope; found = each_done t.scope (labelled walk.old.found.next place) (commands_in commands.now) t.found }) }
 {
     let labels = walk.findings.takes();
     enter_labels_of_each(walk, procedure, commands)?;
@@ -306,7 +362,7 @@ fn act_each<'a>(
     place: Enclosing,
     commands: &'a [Command],
 ) -> Result<(), AllocError>
-    ensures { OnOk result (walk.new ≡ record { scope = walk.old.scope; found = each_done walk.old.scope place (actions_in commands.now) walk.old.found }) }
+    ensures { OnOk result (walk.new ≡ record { scope = walk.old.scope; found = each_done walk.old.scope place (commands_in commands.now) walk.old.found }) }
 {
     for command in commands {
         act(walk, place, command)?;
@@ -342,7 +398,7 @@ fn declare<'a>(
         ≡ one_declared walk.old.scope place (declaration decl.now) walk.old.found) }
 {
     match decl {
-        Decl::Constants(_, sort, items) => {
+        Decl::Constants { sort, items, .. } => {
             if items.is_empty() {
                 return Ok(place);
             }
@@ -354,7 +410,7 @@ fn declare<'a>(
             }
             Ok(place)
         }
-        Decl::Let(_, defs) => {
+        Decl::Let { defs, .. } => {
             if defs.is_empty() {
                 return Ok(place);
             }
@@ -402,21 +458,35 @@ fn define<'a>(
         ≡ one_defined list walk.old.scope (definition def.now) (record { fresh = fresh.old; place = place; found = walk.old.found })) }
 {
     match def {
-        Def::Routine(line, name, formals, body) => {
-            let procedure = begin(walk, list, *line, name, formals)?;
+        Def::Routine {
+            at,
+            letters: name,
+            formals,
+            body,
+        } => {
+            let procedure = begin(walk, list, *at, name, formals)?;
             let inner = Enclosing::called(true, procedure.number, formals.len());
             act_inside(walk, inner, body)?;
-            end(walk, procedure, *line);
+            end(walk, procedure, *at);
             Ok(place)
         }
-        Def::Function(line, name, formals, body) => {
-            let procedure = begin(walk, list, *line, name, formals)?;
+        Def::Function {
+            at,
+            letters: name,
+            formals,
+            body,
+        } => {
+            let procedure = begin(walk, list, *at, name, formals)?;
             let inner = Enclosing::called(false, procedure.number, formals.len());
             evaluate(walk, &Role::Value, inner, body)?;
-            end(walk, procedure, *line);
+            end(walk, procedure, *at);
             Ok(place)
         }
-        Def::Variables(_, names, starts) => {
+        Def::Variables {
+            names,
+            inits: starts,
+            ..
+        } => {
             list_names(&mut walk.findings, list, names)?;
             start_each(walk, place, names, starts, fresh)
         }
@@ -465,7 +535,7 @@ fn start_one<'a>(
             evaluate(walk, &Role::Value, place, expr)?;
             Ok(0)
         }
-        Init::Vector(_, expr) => {
+        Init::Vector { size: expr, .. } => {
             let words = vector(walk, place.procedure, expr)?;
             walk.findings.reaches(place.depth, words + 1);
             Ok(words)

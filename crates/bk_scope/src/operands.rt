@@ -4,7 +4,6 @@ ghost use Rattle.bk_tree.specs.Tree.{expression};
 ghost use Rattle.bk_scope.specs.Names.{role_of_operand as RoleOfOperand, role_of_operands as RoleOfOperands, place_of_second as PlaceOfSecond, fit_prefix as FitPrefix, fit_infix as FitInfix};
 
 use crate::findings::Findings;
-use crate::items::line_of;
 use crate::naming::{without_address, without_word};
 use crate::place::Enclosing;
 use crate::role::Role;
@@ -17,7 +16,7 @@ pub fn role_of_operand(prefix: Prefix, role: &Role, operand: &Expr) -> Role
 {
     match (prefix, role) {
         (Prefix::Not, Role::Truth) => Role::Truth,
-        (Prefix::Address, _) => Role::Address(false, line_of(operand)),
+        (Prefix::Address, _) => Role::Address(false, operand.at()),
         (_, _) => Role::Value,
     }
 }

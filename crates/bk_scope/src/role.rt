@@ -2,7 +2,7 @@
 ghost use Rattle.std.specs.Prelude.{◌≡◌};
 ghost use Rattle.bk_scope.specs.Names.{parenthesised};
 
-use bk_base::Line;
+use bk_tree::Position;
 
 /// What an expression is there for. Of the two that ask for a word: the line of its first symbol, and whether that is a
 /// parenthesis.
@@ -13,9 +13,9 @@ pub enum Role {
     /// Whether it holds: `&`, `|` and NOT leave nothing on the frame.
     Truth,
     /// The address of its word.
-    Address(bool, Line),
+    Address(bool, Position),
     /// A word, or a byte, to put a value into.
-    Destination(bool, Line),
+    Destination(bool, Position),
 }
 
 impl Role {
@@ -26,8 +26,8 @@ impl Role {
         match self {
             Role::Value => Role::Value,
             Role::Truth => Role::Truth,
-            Role::Address(_, line) => Role::Address(true, *line),
-            Role::Destination(_, line) => Role::Destination(true, *line),
+            Role::Address(_, at) => Role::Address(true, *at),
+            Role::Destination(_, at) => Role::Destination(true, *at),
         }
     }
 }

@@ -4,7 +4,7 @@ use crate::spelling::sort_spelling;
 use crate::text::Text;
 use bk_base::Line;
 use bk_scope::{Bound, Resolved};
-use bk_tree::{Command, ConstItem, Decl, Def, Expr, Init, Name, Sort};
+use bk_tree::{Command, ConstItem, Decl, Def, Expr, Init, Name, Position, Sort};
 use std::alloc::{AllocError, Global};
 
 /// The column of the meanings.
@@ -84,16 +84,16 @@ impl Walk<'_, '_> {
     }
 
     /// Begins the line of a name.
-    fn begin(&mut self, line: Line, name: &[u8]) -> Result<(), AllocError> {
+    fn begin(&mut self, at: Position, name: &[u8]) -> Result<(), AllocError> {
         let text = &mut self.named.text;
-        text.begin(line)?;
+        text.begin(at.line())?;
         text.spell(name)?;
         text.go_to(MEANING)
     }
 
     /// Adds a name and what it means.
-    fn name(&mut self, line: Line, name: &[u8]) -> Result<(), AllocError> {
-        self.begin(line, name)?;
+    fn name(&mut self, at: Position, name: &[u8]) -> Result<(), AllocError> {
+        self.begin(at, name)?;
         if let Some(bound) = self.takes_meaning() {
             put_meaning(&mut self.named.text, bound)?;
         }
@@ -101,20 +101,20 @@ impl Walk<'_, '_> {
     }
 
     /// Adds a procedure and what its name means.
-    fn procedure(&mut self, line: Line, name: &[u8], words: &str) -> Result<(), AllocError> {
-        self.begin(line, name)?;
+    fn procedure(&mut self, at: Position, name: &[u8], words: &str) -> Result<(), AllocError> {
+        self.begin(at, name)?;
         self.named.text.say(words)?;
         if let Some(bound) = self.takes_meaning() {
             put_meaning(&mut self.named.text, bound)?;
         }
         self.named.text.end()?;
-        self.named.procedures.push(line)?;
+        self.named.procedures.push(at.line())?;
         Ok(())
     }
 
     /// Adds an item of a declaration, with the word of its constant.
-    fn item(&mut self, line: Line, name: &[u8], sort: Sort) -> Result<(), AllocError> {
-        self.begin(line, name)?;
+    fn item(&mut self, at: Position, name: &[u8], sort: Sort) -> Result<(), AllocError> {
+        self.begin(at, name)?;
         let word = self.takes_word().cast_signed();
         let text = &mut self.named.text;
         text.say(match sort {
@@ -131,10 +131,10 @@ impl Walk<'_, '_> {
     }
 
     /// Adds a declaration of a header.
-    fn from_header(&mut self, line: Line, sort: Sort, items: usize) -> Result<(), AllocError> {
+    fn from_header(&mut self, at: Position, sort: Sort, items: usize) -> Result<(), AllocError> {
         self.skips_words(items);
         let text = &mut self.named.text;
-        text.begin(line)?;
+        text.begin(at.line())?;
         text.natural((items % 0x1_0000_0000) as u32)?;
         text.say(" names")?;
         text.go_to(MEANING)?;
@@ -148,25 +148,34 @@ impl Walk<'_, '_> {
 #[cycle(nodes)]
 fn put_expr(walk: &mut Walk<'_, '_>, expr: &Expr) -> Result<(), AllocError> {
     match expr {
-        Expr::Name(line, letters) => walk.name(*line, letters),
-        Expr::Number(_, _) | Expr::Text(_, _) | Expr::Truth(_, _) | Expr::Query(_) => Ok(()),
-        Expr::Parens(_, inside) => put_expr(walk, inside),
-        Expr::Unary(_, _, operand) => put_expr(walk, operand),
-        Expr::Binary(_, _, _, left, right) => {
+        Expr::Name { at, letters } => walk.name(*at, letters),
+        Expr::Number { .. } | Expr::Text { .. } | Expr::Truth { .. } | Expr::Query { .. } => Ok(()),
+        Expr::Parens { inside, .. } => put_expr(walk, inside),
+        Expr::Unary { operand, .. } => put_expr(walk, operand),
+        Expr::Binary { left, right, .. } => {
             put_expr(walk, left)?;
             put_expr(walk, right)
         }
-        Expr::Choice(_, _, condition, yes, no) => {
+        Expr::Choice {
+            condition,
+            yes,
+            no,
+            ..
+        } => {
             put_expr(walk, condition)?;
             put_expr(walk, yes)?;
             put_expr(walk, no)
         }
-        Expr::Apply(_, _, callee, arguments) => {
+        Expr::Apply {
+            callee,
+            arguments,
+            ..
+        } => {
             put_expr(walk, callee)?;
             put_exprs(walk, arguments)
         }
-        Expr::Valof(_, command) => put_command(walk, command),
-        Expr::Table(_, items) => {
+        Expr::Valof { command, .. } => put_command(walk, command),
+        Expr::Table { items, .. } => {
             walk.skips_words(items.len());
             Ok(())
         }
@@ -186,35 +195,66 @@ fn put_exprs(walk: &mut Walk<'_, '_>, exprs: &[Expr]) -> Result<(), AllocError> 
 #[cycle(nodes)]
 fn put_command(walk: &mut Walk<'_, '_>, command: &Command) -> Result<(), AllocError> {
     match command {
-        Command::Empty | Command::Simple(_, _) => Ok(()),
-        Command::Assign(_, destinations, values) => {
+        Command::Empty | Command::Simple { .. } => Ok(()),
+        Command::Assign {
+            destinations,
+            values,
+            ..
+        } => {
             put_exprs(walk, destinations)?;
             put_exprs(walk, values)
         }
-        Command::Call(_, callee, arguments) => {
+        Command::Call {
+            callee,
+            arguments,
+            ..
+        } => {
             put_expr(walk, callee)?;
             put_exprs(walk, arguments)
         }
-        Command::Goto(_, Name { line, letters }) => walk.name(*line, letters),
-        Command::Label(line, letters, body) => {
-            walk.name(*line, letters)?;
+        Command::Goto {
+            name: Name { at, letters },
+            ..
+        } => walk.name(*at, letters),
+        Command::Label { at, letters, body } => {
+            walk.name(*at, letters)?;
             put_command(walk, body)
         }
-        Command::Case(_, _, body) => {
+        Command::Case { body, .. } => {
             walk.skips_words(1);
             put_command(walk, body)
         }
-        Command::Default(_, body) | Command::Repeat(_, body) => put_command(walk, body),
-        Command::If(_, _, condition, body) | Command::While(_, _, condition, body) => {
+        Command::Default { body, .. } | Command::Repeat { body, .. } => put_command(walk, body),
+        Command::If {
+            condition,
+            body,
+            ..
+        }
+        | Command::While {
+            condition,
+            body,
+            ..
+        } => {
             put_expr(walk, condition)?;
             put_command(walk, body)
         }
-        Command::Test(_, condition, body, other) => {
+        Command::Test {
+            condition,
+            yes: body,
+            no: other,
+            ..
+        } => {
             put_expr(walk, condition)?;
             put_command(walk, body)?;
             put_command(walk, other)
         }
-        Command::For(_, _, from, to, by, body) => {
+        Command::For {
+            from,
+            to,
+            by,
+            body,
+            ..
+        } => {
             put_expr(walk, from)?;
             put_expr(walk, to)?;
             if by.is_some() {
@@ -222,16 +262,28 @@ fn put_command(walk: &mut Walk<'_, '_>, command: &Command) -> Result<(), AllocEr
             }
             put_command(walk, body)
         }
-        Command::SwitchOn(_, expr, body) => {
+        Command::SwitchOn {
+            value: expr,
+            body,
+            ..
+        } => {
             put_expr(walk, expr)?;
             put_command(walk, body)
         }
-        Command::ResultIs(_, expr) => put_expr(walk, expr),
-        Command::Block(_, decls, commands) => {
+        Command::ResultIs { value: expr, .. } => put_expr(walk, expr),
+        Command::Block {
+            decls,
+            commands,
+            ..
+        } => {
             put_decls(walk, decls)?;
             put_commands(walk, commands)
         }
-        Command::RepeatWhile(_, _, body, condition) => {
+        Command::RepeatWhile {
+            body,
+            condition,
+            ..
+        } => {
             put_command(walk, body)?;
             put_expr(walk, condition)
         }
@@ -260,20 +312,24 @@ fn put_decls(walk: &mut Walk<'_, '_>, decls: &[Decl]) -> Result<(), AllocError> 
 #[cycle(nodes)]
 fn put_decl(walk: &mut Walk<'_, '_>, decl: &Decl) -> Result<(), AllocError> {
     match decl {
-        Decl::Constants(line, sort, items) => {
+        Decl::Constants { at, sort, items } => {
             if walk.takes_header() {
-                return walk.from_header(*line, *sort, items.len());
+                return walk.from_header(*at, *sort, items.len());
             }
             put_items(walk, *sort, items)
         }
-        Decl::Let(_, defs) => put_defs(walk, defs),
+        Decl::Let { defs, .. } => put_defs(walk, defs),
     }
 }
 
 /// Adds the items of a declaration.
 fn put_items(walk: &mut Walk<'_, '_>, sort: Sort, items: &[ConstItem]) -> Result<(), AllocError> {
-    for ConstItem::Item(line, name, _) in items {
-        walk.item(*line, name, sort)?;
+    for ConstItem::Item {
+        at,
+        letters: name,
+        ..
+    } in items {
+        walk.item(*at, name, sort)?;
     }
     Ok(())
 }
@@ -291,15 +347,25 @@ fn put_defs(walk: &mut Walk<'_, '_>, defs: &[Def]) -> Result<(), AllocError> {
 #[cycle(nodes)]
 fn put_def(walk: &mut Walk<'_, '_>, def: &Def) -> Result<(), AllocError> {
     match def {
-        Def::Routine(line, name, _, body) => {
-            walk.procedure(*line, name, "routine, ")?;
+        Def::Routine {
+            at,
+            letters: name,
+            body,
+            ..
+        } => {
+            walk.procedure(*at, name, "routine, ")?;
             put_command(walk, body)
         }
-        Def::Function(line, name, _, body) => {
-            walk.procedure(*line, name, "function, ")?;
+        Def::Function {
+            at,
+            letters: name,
+            body,
+            ..
+        } => {
+            walk.procedure(*at, name, "function, ")?;
             put_expr(walk, body)
         }
-        Def::Variables(_, _, starts) => put_starts(walk, starts),
+        Def::Variables { inits: starts, .. } => put_starts(walk, starts),
     }
 }
 
@@ -317,7 +383,7 @@ fn put_starts(walk: &mut Walk<'_, '_>, starts: &[Init]) -> Result<(), AllocError
 fn put_start(walk: &mut Walk<'_, '_>, start: &Init) -> Result<(), AllocError> {
     match start {
         Init::Value(expr) => put_expr(walk, expr),
-        Init::Vector(_, _) => {
+        Init::Vector { .. } => {
             walk.skips_words(1);
             Ok(())
         }

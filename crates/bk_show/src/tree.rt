@@ -4,8 +4,7 @@ use crate::spelling::{
     operator_spelling, prefix_spelling, put_string, simple_spelling, sort_spelling,
 };
 use crate::text::Text;
-use bk_base::Line;
-use bk_tree::{Command, ConstItem, Decl, Def, Expr, Init, Name, Section, Sort};
+use bk_tree::{Command, ConstItem, Decl, Def, Expr, Init, Name, Position, Section, Sort};
 use std::alloc::{AllocError, Global};
 
 /// A tree that is put.
@@ -20,8 +19,8 @@ struct Walk<'a> {
 
 impl Walk<'_> {
     /// Adds a node that words describe.
-    fn node(&mut self, line: Line, level: usize, words: &str) -> Result<(), AllocError> {
-        self.text.begin(line)?;
+    fn node(&mut self, at: Position, level: usize, words: &str) -> Result<(), AllocError> {
+        self.text.begin(at.line())?;
         self.text.indent(level)?;
         self.text.say(words)?;
         self.text.end()
@@ -30,12 +29,12 @@ impl Walk<'_> {
     /// Adds a node that words and a name describe.
     fn named(
         &mut self,
-        line: Line,
+        at: Position,
         level: usize,
         words: &str,
         name: &[u8],
     ) -> Result<(), AllocError> {
-        self.text.begin(line)?;
+        self.text.begin(at.line())?;
         self.text.indent(level)?;
         self.text.say(words)?;
         self.text.spell(name)?;
@@ -43,8 +42,8 @@ impl Walk<'_> {
     }
 
     /// Adds a number.
-    fn number(&mut self, line: Line, level: usize, word: u32) -> Result<(), AllocError> {
-        self.text.begin(line)?;
+    fn number(&mut self, at: Position, level: usize, word: u32) -> Result<(), AllocError> {
+        self.text.begin(at.line())?;
         self.text.indent(level)?;
         self.text.say("number ")?;
         self.text.integer(word.cast_signed())?;
@@ -52,8 +51,8 @@ impl Walk<'_> {
     }
 
     /// Adds a string.
-    fn string(&mut self, line: Line, level: usize, bytes: &[u8]) -> Result<(), AllocError> {
-        self.text.begin(line)?;
+    fn string(&mut self, at: Position, level: usize, bytes: &[u8]) -> Result<(), AllocError> {
+        self.text.begin(at.line())?;
         self.text.indent(level)?;
         self.text.say("string ")?;
         put_string(&mut self.text, bytes)?;
@@ -82,13 +81,13 @@ impl Walk<'_> {
     /// Adds the head of a procedure.
     fn head(
         &mut self,
-        line: Line,
+        at: Position,
         level: usize,
         words: &str,
         name: &[u8],
         formals: &[Name],
     ) -> Result<(), AllocError> {
-        self.text.begin(line)?;
+        self.text.begin(at.line())?;
         self.text.indent(level)?;
         self.text.say(words)?;
         self.text.spell(name)?;
@@ -99,8 +98,8 @@ impl Walk<'_> {
     }
 
     /// Adds the head of variables.
-    fn variables(&mut self, line: Line, level: usize, names: &[Name]) -> Result<(), AllocError> {
-        self.text.begin(line)?;
+    fn variables(&mut self, at: Position, level: usize, names: &[Name]) -> Result<(), AllocError> {
+        self.text.begin(at.line())?;
         self.text.indent(level)?;
         self.text.say("variables ")?;
         self.names(names)?;
@@ -110,12 +109,12 @@ impl Walk<'_> {
     /// Adds a declaration of a header.
     fn header(
         &mut self,
-        line: Line,
+        at: Position,
         level: usize,
         sort: Sort,
         items: usize,
     ) -> Result<(), AllocError> {
-        self.text.begin(line)?;
+        self.text.begin(at.line())?;
         self.text.indent(level)?;
         self.text.say(sort_spelling(sort))?;
         self.text.say(" of the header, with ")?;
@@ -141,22 +140,32 @@ fn below(level: usize) -> usize {
 #[cycle(nodes)]
 fn put_expr(walk: &mut Walk<'_>, level: usize, expr: &Expr) -> Result<(), AllocError> {
     match expr {
-        Expr::Name(line, letters) => walk.named(*line, level, "name ", letters),
-        Expr::Number(line, word) => walk.number(*line, level, *word),
-        Expr::Text(line, bytes) => walk.string(*line, level, bytes),
-        Expr::Truth(line, truth) => walk.node(*line, level, if *truth { "TRUE" } else { "FALSE" }),
-        Expr::Query(line) => walk.node(*line, level, "?"),
-        Expr::Parens(line, inside) => {
-            walk.node(*line, level, "( )")?;
+        Expr::Name { at, letters } => walk.named(*at, level, "name ", letters),
+        Expr::Number { at, word } => walk.number(*at, level, *word),
+        Expr::Text { at, bytes } => walk.string(*at, level, bytes),
+        Expr::Truth { at, truth } => walk.node(*at, level, if *truth { "TRUE" } else { "FALSE" }),
+        Expr::Query { at } => walk.node(*at, level, "?"),
+        Expr::Parens { at, inside } => {
+            walk.node(*at, level, "( )")?;
             put_expr(walk, below(level), inside)
         }
-        Expr::Unary(line, prefix, operand) => {
-            walk.named(*line, level, "prefix ", prefix_spelling(*prefix).as_bytes())?;
+        Expr::Unary {
+            at,
+            prefix,
+            operand,
+        } => {
+            walk.named(*at, level, "prefix ", prefix_spelling(*prefix).as_bytes())?;
             put_expr(walk, below(level), operand)
         }
-        Expr::Binary(_, operator, line, left, right) => {
+        Expr::Binary {
+            operator,
+            sign,
+            left,
+            right,
+            ..
+        } => {
             walk.named(
-                *line,
+                *sign,
                 level,
                 "operator ",
                 operator_spelling(*operator).as_bytes(),
@@ -164,23 +173,34 @@ fn put_expr(walk: &mut Walk<'_>, level: usize, expr: &Expr) -> Result<(), AllocE
             put_expr(walk, below(level), left)?;
             put_expr(walk, below(level), right)
         }
-        Expr::Choice(_, line, condition, yes, no) => {
-            walk.node(*line, level, "choice ->")?;
+        Expr::Choice {
+            sign,
+            condition,
+            yes,
+            no,
+            ..
+        } => {
+            walk.node(*sign, level, "choice ->")?;
             put_expr(walk, below(level), condition)?;
             put_expr(walk, below(level), yes)?;
             put_expr(walk, below(level), no)
         }
-        Expr::Apply(line, _, callee, arguments) => {
-            walk.node(*line, level, "call of a function")?;
+        Expr::Apply {
+            at,
+            callee,
+            arguments,
+            ..
+        } => {
+            walk.node(*at, level, "call of a function")?;
             put_expr(walk, below(level), callee)?;
             put_exprs(walk, below(level), arguments)
         }
-        Expr::Valof(line, command) => {
-            walk.node(*line, level, "VALOF")?;
+        Expr::Valof { at, command } => {
+            walk.node(*at, level, "VALOF")?;
             put_command(walk, below(level), command)
         }
-        Expr::Table(line, items) => {
-            walk.node(*line, level, "TABLE")?;
+        Expr::Table { at, items } => {
+            walk.node(*at, level, "TABLE")?;
             put_exprs(walk, below(level), items)
         }
     }
@@ -200,48 +220,82 @@ fn put_exprs(walk: &mut Walk<'_>, level: usize, exprs: &[Expr]) -> Result<(), Al
 fn put_command(walk: &mut Walk<'_>, level: usize, command: &Command) -> Result<(), AllocError> {
     match command {
         Command::Empty => walk.empty(level),
-        Command::Assign(line, destinations, values) => {
-            walk.node(*line, level, ":=")?;
+        Command::Assign {
+            at,
+            destinations,
+            values,
+        } => {
+            walk.node(*at, level, ":=")?;
             put_exprs(walk, below(level), destinations)?;
             put_exprs(walk, below(level), values)
         }
-        Command::Call(line, callee, arguments) => {
-            walk.node(*line, level, "call of a routine")?;
+        Command::Call {
+            at,
+            callee,
+            arguments,
+        } => {
+            walk.node(*at, level, "call of a routine")?;
             put_expr(walk, below(level), callee)?;
             put_exprs(walk, below(level), arguments)
         }
-        Command::Goto(line, name) => walk.named(*line, level, "GOTO ", &name.letters),
-        Command::Label(line, letters, body) => {
-            walk.named(*line, level, "label ", letters)?;
+        Command::Goto { at, name } => walk.named(*at, level, "GOTO ", &name.letters),
+        Command::Label { at, letters, body } => {
+            walk.named(*at, level, "label ", letters)?;
             put_command(walk, below(level), body)
         }
-        Command::Case(line, expr, body) => {
-            walk.node(*line, level, "CASE")?;
+        Command::Case {
+            at,
+            value: expr,
+            body,
+        } => {
+            walk.node(*at, level, "CASE")?;
             put_expr(walk, below(level), expr)?;
             put_command(walk, below(level), body)
         }
-        Command::Default(line, body) => {
-            walk.node(*line, level, "DEFAULT")?;
+        Command::Default { at, body } => {
+            walk.node(*at, level, "DEFAULT")?;
             put_command(walk, below(level), body)
         }
-        Command::If(line, truth, condition, body) => {
-            walk.node(*line, level, if *truth { "IF" } else { "UNLESS" })?;
+        Command::If {
+            at,
+            truth,
+            condition,
+            body,
+        } => {
+            walk.node(*at, level, if *truth { "IF" } else { "UNLESS" })?;
             put_expr(walk, below(level), condition)?;
             put_command(walk, below(level), body)
         }
-        Command::Test(line, condition, body, other) => {
-            walk.node(*line, level, "TEST")?;
+        Command::Test {
+            at,
+            condition,
+            yes: body,
+            no: other,
+        } => {
+            walk.node(*at, level, "TEST")?;
             put_expr(walk, below(level), condition)?;
             put_command(walk, below(level), body)?;
             put_command(walk, below(level), other)
         }
-        Command::While(line, truth, condition, body) => {
-            walk.node(*line, level, if *truth { "WHILE" } else { "UNTIL" })?;
+        Command::While {
+            at,
+            truth,
+            condition,
+            body,
+        } => {
+            walk.node(*at, level, if *truth { "WHILE" } else { "UNTIL" })?;
             put_expr(walk, below(level), condition)?;
             put_command(walk, below(level), body)
         }
-        Command::For(line, name, from, to, by, body) => {
-            walk.named(*line, level, "FOR ", &name.letters)?;
+        Command::For {
+            at,
+            name,
+            from,
+            to,
+            by,
+            body,
+        } => {
+            walk.named(*at, level, "FOR ", &name.letters)?;
             put_expr(walk, below(level), from)?;
             put_expr(walk, below(level), to)?;
             if let Some(step) = by {
@@ -249,28 +303,41 @@ fn put_command(walk: &mut Walk<'_>, level: usize, command: &Command) -> Result<(
             }
             put_command(walk, below(level), body)
         }
-        Command::SwitchOn(line, expr, body) => {
-            walk.node(*line, level, "SWITCHON")?;
+        Command::SwitchOn {
+            at,
+            value: expr,
+            body,
+        } => {
+            walk.node(*at, level, "SWITCHON")?;
             put_expr(walk, below(level), expr)?;
             put_command(walk, below(level), body)
         }
-        Command::ResultIs(line, expr) => {
-            walk.node(*line, level, "RESULTIS")?;
+        Command::ResultIs { at, value: expr } => {
+            walk.node(*at, level, "RESULTIS")?;
             put_expr(walk, below(level), expr)
         }
-        Command::Simple(line, simple) => walk.node(*line, level, simple_spelling(*simple)),
-        Command::Block(line, decls, commands) => {
-            walk.node(*line, level, "$( $)")?;
+        Command::Simple { at, word: simple } => walk.node(*at, level, simple_spelling(*simple)),
+        Command::Block {
+            at,
+            decls,
+            commands,
+        } => {
+            walk.node(*at, level, "$( $)")?;
             put_decls(walk, below(level), decls)?;
             put_commands(walk, below(level), commands)
         }
-        Command::Repeat(line, body) => {
-            walk.node(*line, level, "REPEAT")?;
+        Command::Repeat { at, body } => {
+            walk.node(*at, level, "REPEAT")?;
             put_command(walk, below(level), body)
         }
-        Command::RepeatWhile(line, truth, body, condition) => {
+        Command::RepeatWhile {
+            at,
+            truth,
+            body,
+            condition,
+        } => {
             walk.node(
-                *line,
+                *at,
                 level,
                 if *truth { "REPEATWHILE" } else { "REPEATUNTIL" },
             )?;
@@ -302,15 +369,15 @@ fn put_decls(walk: &mut Walk<'_>, level: usize, decls: &[Decl]) -> Result<(), Al
 #[cycle(nodes)]
 fn put_decl(walk: &mut Walk<'_>, level: usize, decl: &Decl) -> Result<(), AllocError> {
     match decl {
-        Decl::Constants(line, sort, items) => {
+        Decl::Constants { at, sort, items } => {
             if walk.takes_header() {
-                return walk.header(*line, level, *sort, items.len());
+                return walk.header(*at, level, *sort, items.len());
             }
-            walk.node(*line, level, sort_spelling(*sort))?;
+            walk.node(*at, level, sort_spelling(*sort))?;
             put_items(walk, below(level), items)
         }
-        Decl::Let(line, defs) => {
-            walk.node(*line, level, "LET")?;
+        Decl::Let { at, defs } => {
+            walk.node(*at, level, "LET")?;
             put_defs(walk, below(level), defs)
         }
     }
@@ -319,8 +386,12 @@ fn put_decl(walk: &mut Walk<'_>, level: usize, decl: &Decl) -> Result<(), AllocE
 /// Adds the items of a declaration, each with its constant.
 #[cycle(nodes)]
 fn put_items(walk: &mut Walk<'_>, level: usize, items: &[ConstItem]) -> Result<(), AllocError> {
-    for ConstItem::Item(line, name, expr) in items {
-        walk.named(*line, level, "item ", name)?;
+    for ConstItem::Item {
+        at,
+        letters: name,
+        expr,
+    } in items {
+        walk.named(*at, level, "item ", name)?;
         put_expr(walk, below(level), expr)?;
     }
     Ok(())
@@ -339,16 +410,30 @@ fn put_defs(walk: &mut Walk<'_>, level: usize, defs: &[Def]) -> Result<(), Alloc
 #[cycle(nodes)]
 fn put_def(walk: &mut Walk<'_>, level: usize, def: &Def) -> Result<(), AllocError> {
     match def {
-        Def::Routine(line, name, formals, body) => {
-            walk.head(*line, level, "routine ", name, formals)?;
+        Def::Routine {
+            at,
+            letters: name,
+            formals,
+            body,
+        } => {
+            walk.head(*at, level, "routine ", name, formals)?;
             put_command(walk, below(level), body)
         }
-        Def::Function(line, name, formals, body) => {
-            walk.head(*line, level, "function ", name, formals)?;
+        Def::Function {
+            at,
+            letters: name,
+            formals,
+            body,
+        } => {
+            walk.head(*at, level, "function ", name, formals)?;
             put_expr(walk, below(level), body)
         }
-        Def::Variables(line, names, starts) => {
-            walk.variables(*line, level, names)?;
+        Def::Variables {
+            at,
+            names,
+            inits: starts,
+        } => {
+            walk.variables(*at, level, names)?;
             put_starts(walk, below(level), starts)
         }
     }
@@ -368,8 +453,8 @@ fn put_starts(walk: &mut Walk<'_>, level: usize, starts: &[Init]) -> Result<(), 
 fn put_start(walk: &mut Walk<'_>, level: usize, start: &Init) -> Result<(), AllocError> {
     match start {
         Init::Value(expr) => put_expr(walk, level, expr),
-        Init::Vector(line, expr) => {
-            walk.node(*line, level, "VEC")?;
+        Init::Vector { at, size: expr } => {
+            walk.node(*at, level, "VEC")?;
             put_expr(walk, below(level), expr)
         }
     }

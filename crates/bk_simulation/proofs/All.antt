@@ -1,12 +1,12 @@
 -- All forms: what holds of the meanings of the nodes inside holds of each node.
-use Rattle.bk_simulation.proofs.Words.{word_negation, word_not, ◌≡◌, ℕ, suc, ◌+◌, ◌-◌, ◌*◌, ◌≤◌, Bool, true, false, List, ◌∷◌, ◌++◌, Some, refl, sym, ◌∙◌, subst, arith, zero, State, from_label, Stmt, Monadic, JumpIf, Stack, CallRoutine, FRAME_WORDS, infix_code, Operator, Expression, Expressions, Action, Actions, option_map, infix_word, divides_by_zero, Value, number, sum, on_numbers, operate_prefix, Environment, constant_in, past, past_each, labelled, Sought, the_label, the_case, the_default, Mode, forwards, seeking, World, ends, divide_by_zero, done, given, with, turn, Exit, going, history, After, Throughout, Meanings, at, fetch, in_order, scope_of, landing, alone, value_of, truth_of, address_in, combined, judged, assigned, act_of, applied, rounds_of, means_with, turn_for, means, no_turns, no_turn_for, Adds, adds, stays, given_after, with_after, each_way_after, either_after, Prefix, only_grows, goto, break, loop, endcase, return}
+use Rattle.bk_simulation.proofs.Words.{word_negation, word_not, ◌≡◌, ℕ, suc, ◌+◌, ◌-◌, ◌*◌, ◌≤◌, Bool, true, false, List, ◌∷◌, ◌++◌, Some, refl, sym, ◌∙◌, subst, arith, zero, State, from_label, Stmt, Monadic, JumpIf, Stack, CallRoutine, FRAME_WORDS, infix_code, Operator, Expression, Expressions, Command, Commands, option_map, infix_word, divides_by_zero, Value, number, sum, on_numbers, operate_prefix, Environment, constant_in, past, past_each, labelled, Sought, the_label, the_case, the_default, Mode, forwards, seeking, World, ends, divide_by_zero, done, given, with, turn, Exit, going, history, After, Throughout, Meanings, at, fetch, in_order, scope_of, landing, alone, value_of, truth_of, address_in, combined, judged, assigned, act_of, applied, rounds_of, means_with, turn_for, means, no_turns, no_turn_for, Adds, adds, stays, given_after, with_after, each_way_after, either_after, Prefix, only_grows, goto, break, loop, endcase, return}
 use Rattle.bk_simulation.proofs.Forms.{negates, inverts, not_true, turns_of, turns_among, turns_in, turns_through, Setting, Stretch, ByTurns, AreFrom, AreStores, AreValues, AreActs, CallAt, count, IsValue, IsJump, IsAddress, IsStore, IsAct, IsLoop, Entered, EnteredAny, EnteredBody, Configuration, start, Ready, Account, here, Ran, went, with_ran, turn_behind, CompletedAt, Has, Out, stay, completed_more, ran_first, ran_more, Simulates, for_value, for_truth, for_act, for_rounds, HasTruth, HasAddress, Destined, word, through, byte, Did, RanDid, for_scope, for_counts, contents_run, sign_run, plus_run, combined_run, for_two, one_run, two_run, RanValue, name_runs, number_runs, truth_runs, query_runs, text_runs, table_runs, denied_run, straight_run, over_run, choice_run, tested, order_adds, order_run, landing_adds, scope_runs, valof_run, while_rounds, repeat_rounds, repeat_while_rounds, while_run, while_sought, repeat_run, repeat_while_run, switch_run, switch_sought, when_run, when_sought, test_run, test_sought, left_here, finish_runs, resultis_runs, place_run, assigned_run, RanAddress, RanStore, address_runs, word_runs, contents_address, contents_store, subscript_address, subscript_store, byte_store, for_run, for_rounds_run, rounds_adds, AloneRuns, Procedures, KnowsLibrary, AloneAdds, apply_runs}
 use Rattle.bk_simulation.proofs.Terms.{Monadic as w, Operator as o, Prefix as q, Simple as k, Program, Target, byte_at, target_of}
 use Rattle.bk_tree.specs.Tree as t
 use Rattle.bk_simulation.proofs.Blocks.{block_runs}
 
 -- what scopes add
-pub scope_after : (setting : Setting) (inner : Meanings) → Simulates setting inner → (cs : Actions) (mode : Mode) (env : Environment) (v : World) → After (history v) (scope_of inner cs mode env v)
+pub scope_after : (setting : Setting) (inner : Meanings) → Simulates setting inner → (cs : Commands) (mode : Mode) (env : Environment) (v : World) → After (history v) (scope_of inner cs mode env v)
 scope_after setting inner sim cs mode env v =
     each_way_after (history v) (in_order inner cs mode (labelled cs env) v) (λ _ w. done w) (landing cs env (λ x w. inner.scope cs (seeking (the_label x)) env w)) ((order_adds setting inner sim cs mode (labelled cs env)).at v)
     (λ _. adds _ (λ w1. stays (history w1))) (λ x. landing_adds setting inner sim cs env x)
@@ -165,13 +165,13 @@ module _ (setting : Setting) (p : Program) (inner : Meanings) (procs : Procedure
       with_ran (λ _. adds _ (λ w1. stays (history w1)))
       (apply_runs false setting p inner procs known simulated (alone_runs setting inner simulated) (alone_adds setting inner simulated) B f es z c a.0 a.1 rest v (omega arith) (omega arith) a.2 a.3 a.4 a.5 a.6 r) (λ x w1 y. went y)
 
-  order_more : (B : Account) (cs : Actions) (mode : Mode) (z : Configuration) (there : Sought → List Stmt) (c rest e : List Stmt) (v : World) → 16 * v.turns + 16 ≤ B.most → B.least ≤ v.turns - turns_through false cs → AreActs setting z.scene z.depth z.env cs there c rest
+  order_more : (B : Account) (cs : Commands) (mode : Mode) (z : Configuration) (there : Sought → List Stmt) (c rest e : List Stmt) (v : World) → 16 * v.turns + 16 ≤ B.most → B.least ≤ v.turns - turns_through false cs → AreActs setting z.scene z.depth z.env cs there c rest
       → EnteredAny mode z.env cs there c e → Ready setting z v → RanDid setting (start z e v) B z rest v (in_order inner cs mode z.env v)
   order_more B cs mode z there c rest e v le ll a en r =
       ran_first (omega arith) (omega arith)
       (λ _ w1 y. completed_more (omega arith) (omega arith) y) (order_run setting inner simulated cs mode z there c rest e v a en r)
 
-  act_of_runs : (B : Account) (x : Action) (mode : Mode) (z : Configuration) (there : Sought → List Stmt) (c rest e : List Stmt) (v : World) → 16 * v.turns + 16 ≤ B.most → B.least ≤ suc v.turns - turns_in false x → B.least ≤ v.turns → IsAct setting z.scene z.depth z.env x there c rest
+  act_of_runs : (B : Account) (x : Command) (mode : Mode) (z : Configuration) (there : Sought → List Stmt) (c rest e : List Stmt) (v : World) → 16 * v.turns + 16 ≤ B.most → B.least ≤ suc v.turns - turns_in false x → B.least ≤ v.turns → IsAct setting z.scene z.depth z.env x there c rest
       → Entered mode z.env x there c e → Ready setting z v → RanDid setting (start z e v) B z rest v (act_of p inner x mode z.env v)
   act_of_runs B (t.empty) forwards z there c rest e v le ll lb a en r =
       subst (λ code. RanDid setting (start z code v) B z rest v (act_of p inner (t.empty) forwards z.env v)) (sym en)
@@ -242,20 +242,20 @@ module _ (setting : Setting) (p : Program) (inner : Meanings) (procs : Procedure
       ran_first (omega arith) (omega arith)
       (λ u w1 y. larger_store setting (start z c v) B B z rest v n u w1 (omega arith) (omega arith) y) (store_of_runs B e z c rest v1 (omega arith) (omega arith) a (ready_ticked setting z v n r)))
 
-  act_turn : (x : Action) (mode : Mode) (z : Configuration) (there : Sought → List Stmt) (c rest e : List Stmt) (v : World) → 1 ≤ turns_in false x → IsAct setting z.scene z.depth z.env x there c rest → Entered mode z.env x there c e → Ready setting z v
+  act_turn : (x : Command) (mode : Mode) (z : Configuration) (there : Sought → List Stmt) (c rest e : List Stmt) (v : World) → 1 ≤ turns_in false x → IsAct setting z.scene z.depth z.env x there c rest → Entered mode z.env x there c e → Ready setting z v
       → RanDid setting (start z e v) (for_act x v) z rest v (turn v (λ w. act_of p inner x mode z.env w))
   act_turn x mode z there c rest e v pos a en r =
       turn_behind 0 0 v _ (here _) (omega arith) (omega arith) refl refl (λ n ev.
       act_of_runs (for_act x v) x mode z there c rest e (record v { turns = n }) (omega arith) (omega arith) (omega arith) a en (ready_ticked setting z v n r))
 
-  act_run : (x : Action) (mode : Mode) (z : Configuration) (there : Sought → List Stmt) (c rest e : List Stmt) (v : World) → IsAct setting z.scene z.depth z.env x there c rest → Entered mode z.env x there c e → Ready setting z v
+  act_run : (x : Command) (mode : Mode) (z : Configuration) (there : Sought → List Stmt) (c rest e : List Stmt) (v : World) → IsAct setting z.scene z.depth z.env x there c rest → Entered mode z.env x there c e → Ready setting z v
       → RanDid setting (start z e v) (for_act x v) z rest v (turn_for x v (λ w. act_of p inner x mode z.env w))
   act_run t.empty forwards z there c rest e v a en r =
       went (subst (λ code. Did setting (start z e v) (for_act t.empty v) z code v v) (en ∙ a) (stay setting (for_act t.empty v) z e v (omega arith) (omega arith) r))
   act_run t.empty (seeking s) z there c rest e v a en r = not_true en.0
   act_run x mode z there c rest e v a en r = act_turn x mode z there c rest e v (omega arith) a en r
 
-  loop_run : (x : Action) (mode : Mode) (z : Configuration) (there : Sought → List Stmt) (body rest e : List Stmt) (v : World) → IsLoop setting z.scene z.depth z.env x there body rest → EnteredBody mode z.env x there body e → Ready setting z v
+  loop_run : (x : Command) (mode : Mode) (z : Configuration) (there : Sought → List Stmt) (body rest e : List Stmt) (v : World) → IsLoop setting z.scene z.depth z.env x there body rest → EnteredBody mode z.env x there body e → Ready setting z v
       → RanDid setting (start z e v) (for_rounds x v) z rest v (rounds_of inner x mode z.env v)
   loop_run (t.while l b i y) mode z there body rest e v a en r = while_rounds setting inner simulated l b i y mode z there body rest e v a en r
   loop_run (t.repeat l y) mode z there body rest e v a en r = repeat_rounds setting inner simulated l y mode z there body rest e v a en r
@@ -283,7 +283,7 @@ still_going : {A : Type 0} {K : A → World → Type 0} {X : Exit → World → 
     → B.least ≤ w.turns → Ran setting (start z c w) B K X (going w)
 still_going setting B z c w le = went (record { to = start z c w; steps = 0; paid = 0; comes = here _; most = omega arith; least = omega arith; wrote = refl; left = refl })
 
-act_without : (setting : Setting) (x : Action) (mode : Mode) (z : Configuration) (there : Sought → List Stmt) (c rest e : List Stmt) (w : World) → IsAct setting z.scene z.depth z.env x there c rest → Entered mode z.env x there c e → Ready setting z w
+act_without : (setting : Setting) (x : Command) (mode : Mode) (z : Configuration) (there : Sought → List Stmt) (c rest e : List Stmt) (w : World) → IsAct setting z.scene z.depth z.env x there c rest → Entered mode z.env x there c e → Ready setting z w
     → RanDid setting (start z e w) (for_act x w) z rest w (no_turn_for x w)
 act_without setting t.empty forwards z there c rest e w a en r =
     went (subst (λ code. Did setting (start z e w) (for_act t.empty w) z code w w) (en ∙ a) (stay setting (for_act t.empty w) z e w (omega arith) (omega arith) r))

@@ -1,5 +1,5 @@
 -- Blocks with declarations.
-use Rattle.bk_simulation.proofs.Words.{◌≡◌, ℕ, suc, ◌+◌, ◌-◌, ◌*◌, ◌<◌, ◌≤◌, Bool, true, false, cond, List, [], ◌∷◌, length, None, refl, sym, ap, ◌∙◌, subst, arith, FRAME_WORDS, Actions, Declaration, Declarations, Binding, Cell, content_of, below, settle, Inside, State, Stmt, Stack, Store as Store_stmt, World, with, closing, Environment, labelled, behind, within_let, objects_of_definitions, history, After, Throughout, Sought, the_label, forwards, stands_in_one, Meanings, scope_of, adds, stays, with_after, Start, bind_variables, declare, declare_all}
+use Rattle.bk_simulation.proofs.Words.{◌≡◌, ℕ, suc, ◌+◌, ◌-◌, ◌*◌, ◌<◌, ◌≤◌, Bool, true, false, cond, List, [], ◌∷◌, length, None, refl, sym, ap, ◌∙◌, subst, arith, FRAME_WORDS, Commands, Declaration, Declarations, Binding, Cell, content_of, below, settle, Inside, State, Stmt, Stack, Store as Store_stmt, World, with, closing, Environment, labelled, behind, within_let, objects_of_definitions, history, After, Throughout, Sought, the_label, forwards, stands_in_one, Meanings, scope_of, adds, stays, with_after, Start, bind_variables, declare, declare_all}
 use Rattle.bk_simulation.proofs.Forms.{Moves, does, Codes, Like, like_on, Store, Grown, below_at, below_like, settle_like, settle_at, turns_one_declared, turns_declared, turns_through, Setting, Scene, NamedIn, Spot, defines_variables, KeepsLabels, IsAct, AreActs, AreDeclared, IsOneDeclared, owning, LeadsTo, some_objects, Configuration, store, state, start, Ready, Account, Ran, went, with_ran, OpenCompleted, store_at, named_grown, begun, accounted, completed_more, OpenExited, open_configuration, open_ready, open_step, open_on, ran_open, closed_ran, Since, since_refl, since_cells, closes, Simulates, RanDid, scope_runs, open_lift, Lets, defined_rise, no_spots, let_run, let_values_after, SpotsAt, RisingSpots, AreVariables, spots_carried, bind_run}
 use Rattle.bk_tree.specs.Tree as t
 use Rattle.bk_simulation.proofs.Renamed.{keeps_both}
@@ -138,7 +138,7 @@ all_declared_run g m sim (t.declare h hs) env bs then s A C B z w c d w1 r le ke
     (λ env1 w2 q. all_declared_run g m sim hs env1 q.bs then s D C B z w q.c1 q.d1 w2 r q.deep q.keeps (omega arith) (omega arith) le3 le4 q.laid q.arr q.named)
 
 -- what is laid behind the declarations of a block
-abbrev BehindBlock : Configuration → Actions → List Stmt → Setting → Scene → ℕ → Environment → List Stmt → Type 0
+abbrev BehindBlock : Configuration → Commands → List Stmt → Setting → Scene → ℕ → Environment → List Stmt → Type 0
 BehindBlock z cs rest setting sc1 d1 env1 c1 =
     (j : ℕ) × (at1 : Sought → List Stmt) × AreActs setting (owning j cs sc1) d1 (labelled cs env1) cs at1 c1 (Stack z.depth ∷ rest) × (turns_through false cs ≤ setting.pay)
     × ((x : List ℕ) → stands_in_one (the_label x) env1 cs ≡ true → LeadsTo (owning j cs sc1) d1 x (at1 (the_label x)))
@@ -150,7 +150,7 @@ pub record Left (setting : Setting) (s : State) (B : Account) (z : Configuration
   pub arr : OpenCompleted setting s B z w (Stack z.depth ∷ rest) d1 more w1
 
 -- A block with declarations. What it made dies at its end.
-pub block_runs : (setting : Setting) (inner : Meanings) → Simulates setting inner → ((env : Environment) (w : World) (cs : Actions) → After (history w) (scope_of inner cs forwards env w)) → (B : Account) (l : ℕ) (h : Declaration) (hs : Declarations) (cs : Actions) (z : Configuration)
+pub block_runs : (setting : Setting) (inner : Meanings) → Simulates setting inner → ((env : Environment) (w : World) (cs : Commands) → After (history w) (scope_of inner cs forwards env w)) → (B : Account) (l : ℕ) (h : Declaration) (hs : Declarations) (cs : Commands) (z : Configuration)
     (at : Sought → List Stmt) (c rest : List Stmt) (w : World) → 16 * w.turns + 1 ≤ B.most → B.least ≤ w.turns - (turns_declared false (t.declare h hs) + turns_through false cs) → IsAct setting z.scene z.depth z.env (t.block l (t.declare h hs) cs) at c rest → Ready setting z w
     → RanDid setting (start z c w) B z rest w (closing (length w.memory) (with (declare_all inner (t.declare h hs) z.env w) (λ env w. scope_of inner cs forwards env w)))
 block_runs setting inner sim scope_after B l h hs cs z at c rest w le le' laid r =

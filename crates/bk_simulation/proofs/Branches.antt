@@ -1,5 +1,5 @@
 -- IF, UNLESS and TEST.
-use Rattle.bk_simulation.proofs.Words.{◌≡◌, ℕ, ◌+◌, ◌-◌, ◌*◌, ◌≤◌, Bool, true, false, not, ◌||◌, cond, List, ◌∷◌, refl, sym, ap, ◌∙◌, subst, arith, Option, Some, pos, State, Stmt, Label, Jump, GiveResult, Finish, Expression, Action, Environment, past, past_action, Sought, Mode, forwards, seeking, stands_in, same_place, at_place, World, done, with, either, Exit, break, result, status, leaves, ends, history, Meanings, same_truth, where_truth, Adds, adds, stays, either_after, Status, Content, content_of, from_label}
+use Rattle.bk_simulation.proofs.Words.{◌≡◌, ℕ, ◌+◌, ◌-◌, ◌*◌, ◌≤◌, Bool, true, false, not, ◌||◌, cond, List, ◌∷◌, refl, sym, ap, ◌∙◌, subst, arith, Option, Some, pos, State, Stmt, Label, Jump, GiveResult, Finish, Expression, Command, Environment, past, past_command, Sought, Mode, forwards, seeking, stands_in, same_place, at_place, World, done, with, either, Exit, break, result, status, leaves, ends, history, Meanings, same_truth, where_truth, Adds, adds, stays, either_after, Status, Content, content_of, from_label}
 use Rattle.bk_simulation.proofs.Pieces.{by_test, turns_of, turns_in, same_stands, Setting, LabelAt, IsJump, IsAct, Entered, IsValue, PlaceOf, Configuration, start, Ready, Account, went, with_ran, CompletedAt, next, ready_next, here, Stopped, Handed, Leads, still, stay, completed_on, ran_on, ran_more, completed_more, comes_to, ran_first, Simulates, for_truth, where_to, Did, RanDid, landed_on, jumped_on, result_on, or_second, finish_step, one_run}
 
 -- ---- Commands without parts, and places that may be sought: GOTO, BREAK, LOOP, ENDCASE, RETURN, FINISH, RESULTIS; labels, CASE, DEFAULT.
@@ -38,7 +38,7 @@ resultis_runs setting inner sim B e z to c rest w le le' l f r =
     went (record { control = to; depth1 = z.depth; leads = f; arr = b; later = omega arith; hands = (content_of (q.arr.cells1 (z.frame + z.depth)), refl, q.stands) }))
 
 -- ---- a place that may be sought, and the command behind it
-behind_place : (setting : Setting) (inner : Meanings) → Simulates setting inner → (B : Account) (a : Action) (z : Configuration) (n : ℕ) (at1 : Sought → List Stmt) (c1 rest : List Stmt) (w : World) → 16 * w.turns + 1 ≤ B.most → B.least ≤ w.turns - turns_in false a
+behind_place : (setting : Setting) (inner : Meanings) → Simulates setting inner → (B : Account) (a : Command) (z : Configuration) (n : ℕ) (at1 : Sought → List Stmt) (c1 rest : List Stmt) (w : World) → 16 * w.turns + 1 ≤ B.most → B.least ≤ w.turns - turns_in false a
     → IsAct setting z.scene z.depth z.env a at1 c1 rest → LabelAt setting z.scene z.depth n c1 → Ready setting z w → RanDid setting (start z (Label n ∷ c1) w) B z rest w (inner.act a forwards z.env w)
 behind_place setting inner sim B a z n at1 c1 rest w le le' l ln r =
     let s = start z (Label n ∷ c1) w in
@@ -47,11 +47,11 @@ behind_place setting inner sim B a z n at1 c1 rest w le le' l ln r =
     comes_to (omega arith) (omega arith) r (omega arith) ar
     (sim.act a forwards (next setting s A z c1 z.depth w w z.env z.depth ar) at1 c1 rest c1 w l refl (ready_next z.env z.depth ar refl (omega arith) r))
 
-abbrev pub EnteredPlace : Mode → Environment → Sought → Action → (Sought → List Stmt) → List Stmt → List Stmt → Type 0
+abbrev pub EnteredPlace : Mode → Environment → Sought → Command → (Sought → List Stmt) → List Stmt → List Stmt → Type 0
 EnteredPlace forwards env spot a at c e = e ≡ c
 EnteredPlace (seeking s) env spot a at c e = ((same_place s spot || stands_in s env a) ≡ true) × (e ≡ at s)
 
-pub place_run : (setting : Setting) (inner : Meanings) → Simulates setting inner → (B : Account) (spot : Sought) (a : Action) (mode : Mode) (z : Configuration) (at : Sought → List Stmt) (c rest e : List Stmt) (w : World) → 16 * w.turns + 1 ≤ B.most → B.least ≤ w.turns - turns_in false a
+pub place_run : (setting : Setting) (inner : Meanings) → Simulates setting inner → (B : Account) (spot : Sought) (a : Command) (mode : Mode) (z : Configuration) (at : Sought → List Stmt) (c rest e : List Stmt) (w : World) → 16 * w.turns + 1 ≤ B.most → B.least ≤ w.turns - turns_in false a
     → PlaceOf setting z.scene z.depth spot (λ at1 c1. IsAct setting z.scene z.depth z.env a at1 c1 rest) at c → EnteredPlace mode z.env spot a at c e → Ready setting z w → RanDid setting (start z e w) B z rest w (inner.act a (at_place spot mode) z.env w)
 place_run setting inner sim B spot a forwards z at c rest e w le le' l en r =
     subst (λ y. RanDid setting (start z y w) B z rest w (inner.act a forwards z.env w)) (sym (en ∙ l.3)) (behind_place setting inner sim B a z l.0 l.2 l.1 rest w le le' l.4 l.5 r)
@@ -66,7 +66,7 @@ place_run setting inner sim B spot a (seeking s) z at c rest e w le le' l en r =
     (sim.act a (seeking s) z l.2 l.1 rest e w l.4 (or_second (same_place s spot) (stands_in s z.env a) en.0 h, en.1 ∙ l.6 s ∙ ap (λ (b : Bool). cond b c (l.2 s)) h) r)))
 
 -- a command behind an arrival, and what is done behind it
-pub act_after : (setting : Setting) (inner : Meanings) → Simulates setting inner → (s : State) (A C B : Account) (a : Action) (mode : Mode) (z : Configuration) (env : Environment) (at : Sought → List Stmt) (c1 e1 mid rest : List Stmt) (w w1 : World)
+pub act_after : (setting : Setting) (inner : Meanings) → Simulates setting inner → (s : State) (A C B : Account) (a : Command) (mode : Mode) (z : Configuration) (env : Environment) (at : Sought → List Stmt) (c1 e1 mid rest : List Stmt) (w w1 : World)
     → A.most ≤ C.most → C.least ≤ (w1.turns - turns_in false a) + (A.least - w1.turns) → C.most ≤ B.most → B.least ≤ C.least → env.names ≡ z.env.names → IsAct setting z.scene z.depth env a at c1 mid → Entered mode env a at c1 e1 → Ready setting z w
     → CompletedAt setting s A z e1 z.depth w w1 → ((w2 : World) → Did setting s C z mid w w2 → Did setting s B z rest w w2) → RanDid setting s B z rest w (inner.act a mode env w1)
 act_after setting inner sim s A C B a mode z env at c1 e1 mid rest w w1 le ll le2 ll2 en l ent r ar fin =
@@ -87,10 +87,10 @@ jump_evaluation true false to rest = refl
 jump_evaluation false true to rest = refl
 jump_evaluation false false to rest = refl
 
-when_adds : (setting : Setting) (inner : Meanings) → Simulates setting inner → (a : Action) (env : Environment) (b x : Bool) → Adds (λ w. either (same_truth b x) (λ w. inner.act a forwards env w) done w)
+when_adds : (setting : Setting) (inner : Meanings) → Simulates setting inner → (a : Command) (env : Environment) (b x : Bool) → Adds (λ w. either (same_truth b x) (λ w. inner.act a forwards env w) done w)
 when_adds setting inner sim a env b x = adds _ (λ w. either_after (same_truth b x) _ _ (adds _ (λ w1. sim.grows.act a forwards env w1)) (adds _ (λ w1. stays (history w1))) w)
 
-pub when_run : (setting : Setting) (inner : Meanings) → Simulates setting inner → (B : Account) (b : Bool) (e : Expression) (a : Action) (z : Configuration) (n : ℕ) (at : Sought → List Stmt) (c c1 rest : List Stmt) (w : World) → 16 * w.turns + 2 ≤ B.most
+pub when_run : (setting : Setting) (inner : Meanings) → Simulates setting inner → (B : Account) (b : Bool) (e : Expression) (a : Command) (z : Configuration) (n : ℕ) (at : Sought → List Stmt) (c c1 rest : List Stmt) (w : World) → 16 * w.turns + 2 ≤ B.most
     → B.least ≤ w.turns - (turns_of false e + turns_in false a) → IsJump setting z.scene z.depth z.env e (not b) n c c1 → IsAct setting z.scene z.depth (past e z.env) a at c1 (Label n ∷ rest) → LabelAt setting z.scene z.depth n rest → Ready setting z w
     → RanDid setting (start z c w) B z rest w (where_truth inner b e z.env (λ w. inner.act a forwards (past e z.env) w) w)
 when_run setting inner sim B b e a z n at c c1 rest w le le' le_ la ln r =
@@ -106,14 +106,14 @@ when_run setting inner sim B b e a z n at c c1 rest w le le' le_ la ln r =
     goes false w1 q = went (landed_on (omega arith) (omega arith) ln q)
 
 -- a place inside a command is sought
-pub inside_run : (setting : Setting) (inner : Meanings) → Simulates setting inner → (B : Account) (a : Action) (s : Sought) (z : Configuration) (env : Environment) (at : Sought → List Stmt) (c1 e mid rest : List Stmt) (w : World) → 16 * w.turns + 2 ≤ B.most
+pub inside_run : (setting : Setting) (inner : Meanings) → Simulates setting inner → (B : Account) (a : Command) (s : Sought) (z : Configuration) (env : Environment) (at : Sought → List Stmt) (c1 e mid rest : List Stmt) (w : World) → 16 * w.turns + 2 ≤ B.most
     → B.least ≤ w.turns - turns_in false a → env.names ≡ z.env.names → IsAct setting z.scene z.depth env a at c1 mid → Entered (seeking s) env a at c1 e → Ready setting z w
     → ((A : Account) (w2 : World) → A.most + 2 ≤ B.most → B.least ≤ A.least → CompletedAt setting (start z e w) A z mid z.depth w w2 → Did setting (start z e w) B z rest w w2) → RanDid setting (start z e w) B z rest w (inner.act a (seeking s) env w)
 inside_run setting inner sim B a s z env at c1 e mid rest w le le' en l ent r fin =
     act_after setting inner sim (start z e w) (record { most = 16 * w.turns; least = w.turns }) (record { most = 16 * w.turns; least = w.turns - turns_in false a }) B a (seeking s) z env at c1 e mid rest w w (omega arith) (omega arith) (omega arith) (omega arith) en l ent r
     (stay setting (record { most = 16 * w.turns; least = w.turns }) z e w (omega arith) (omega arith) r) (λ w2 y. fin (record { most = 16 * w.turns; least = w.turns - turns_in false a }) w2 le le' y)
 
-pub when_sought : (setting : Setting) (inner : Meanings) → Simulates setting inner → (B : Account) (e0 : Expression) (a : Action) (s : Sought) (z : Configuration) (n : ℕ) (at : Sought → List Stmt) (c1 e rest : List Stmt) (w : World) → 16 * w.turns + 2 ≤ B.most
+pub when_sought : (setting : Setting) (inner : Meanings) → Simulates setting inner → (B : Account) (e0 : Expression) (a : Command) (s : Sought) (z : Configuration) (n : ℕ) (at : Sought → List Stmt) (c1 e rest : List Stmt) (w : World) → 16 * w.turns + 2 ≤ B.most
     → B.least ≤ w.turns - turns_in false a → IsAct setting z.scene z.depth (past e0 z.env) a at c1 (Label n ∷ rest) → LabelAt setting z.scene z.depth n rest → (stands_in s z.env a ≡ true) × (e ≡ at s) → Ready setting z w
     → RanDid setting (start z e w) B z rest w (inner.act a (seeking s) (past e0 z.env) w)
 when_sought setting inner sim B e0 a s z n at c1 e rest w le le' l ln en r =
@@ -122,19 +122,19 @@ when_sought setting inner sim B e0 a s z n at c1 e rest w le le' l ln en r =
     (λ A w2 la lb y. landed_on (omega arith) lb ln y)
 
 -- ---- TEST
-test_adds : (setting : Setting) (inner : Meanings) → Simulates setting inner → (a b : Action) (u v : Environment) (x : Bool) → Adds (λ w. either x (λ w. inner.act a forwards u w) (λ w. inner.act b forwards v w) w)
+test_adds : (setting : Setting) (inner : Meanings) → Simulates setting inner → (a b : Command) (u v : Environment) (x : Bool) → Adds (λ w. either x (λ w. inner.act a forwards u w) (λ w. inner.act b forwards v w) w)
 test_adds setting inner sim a b u v x = adds _ (λ w. either_after x _ _ (adds _ (λ w1. sim.grows.act a forwards u w1)) (adds _ (λ w1. sim.grows.act b forwards v w1)) w)
 
-pub test_run : (setting : Setting) (inner : Meanings) → Simulates setting inner → (B : Account) (e : Expression) (a b : Action) (z : Configuration) (n n1 : ℕ) (at1 at2 : Sought → List Stmt) (c c1 c2 rest : List Stmt) (w : World) → 16 * w.turns + 4 ≤ B.most
+pub test_run : (setting : Setting) (inner : Meanings) → Simulates setting inner → (B : Account) (e : Expression) (a b : Command) (z : Configuration) (n n1 : ℕ) (at1 at2 : Sought → List Stmt) (c c1 c2 rest : List Stmt) (w : World) → 16 * w.turns + 4 ≤ B.most
     → B.least ≤ w.turns - (turns_of false e + (turns_in false a + turns_in false b)) → IsJump setting z.scene z.depth z.env e false n c c1 → IsAct setting z.scene z.depth (past e z.env) a at1 c1 (Jump n1 ∷ Label n ∷ c2)
-    → IsAct setting z.scene z.depth (past_action a (past e z.env)) b at2 c2 (Label n1 ∷ rest) → LabelAt setting z.scene z.depth n c2 → LabelAt setting z.scene z.depth n1 rest → Ready setting z w
-    → RanDid setting (start z c w) B z rest w (with (inner.truth e z.env w) (λ x w. either x (λ w. inner.act a forwards (past e z.env) w) (λ w. inner.act b forwards (past_action a (past e z.env)) w) w))
+    → IsAct setting z.scene z.depth (past_command a (past e z.env)) b at2 c2 (Label n1 ∷ rest) → LabelAt setting z.scene z.depth n c2 → LabelAt setting z.scene z.depth n1 rest → Ready setting z w
+    → RanDid setting (start z c w) B z rest w (with (inner.truth e z.env w) (λ x w. either x (λ w. inner.act a forwards (past e z.env) w) (λ w. inner.act b forwards (past_command a (past e z.env)) w) w))
 test_run setting inner sim B e a b z n n1 at1 at2 c c1 c2 rest w le le' le_ la lb l0 l1 r =
-    with_ran (λ x. test_adds setting inner sim a b (past e z.env) (past_action a (past e z.env)) x)
+    with_ran (λ x. test_adds setting inner sim a b (past e z.env) (past_command a (past e z.env)) x)
     (ran_more (omega arith) (omega arith) (sim.truth e z false n (Label n ∷ c2) c c1 w le_ l0.found r)) goes
   where
     goes : (x : Bool) (w1 : World) → CompletedAt setting (start z c w) (for_truth e w) z (where_to false x (Label n ∷ c2) c1) z.depth w w1
-        → RanDid setting (start z c w) B z rest w (either x (λ w. inner.act a forwards (past e z.env) w) (λ w. inner.act b forwards (past_action a (past e z.env)) w) w1)
+        → RanDid setting (start z c w) B z rest w (either x (λ w. inner.act a forwards (past e z.env) w) (λ w. inner.act b forwards (past_command a (past e z.env)) w) w1)
     goes true w1 q = let dp = r.deep in let m0 = q.most in
         act_after setting inner sim (start z c w) (for_truth e w) (record { most = 16 * w.turns; least = w.turns - (turns_of false e + turns_in false a) }) B a forwards z (past e z.env) at1 c1 c1 (Jump n1 ∷ Label n ∷ c2) rest w w1 (omega arith) (omega arith) (omega arith) (omega arith) refl la refl r q
         (λ w2 y. jumped_on (omega arith) (omega arith) r.deep l1 y)
@@ -142,22 +142,22 @@ test_run setting inner sim B e a b z n n1 at1 at2 c c1 c2 rest w le le' le_ la l
         let A : Account = record { most = 16 * w.turns + 1; least = w.turns - turns_of false e } in
         let ar : CompletedAt setting (start z c w) A z c2 z.depth w w1 = landed_on (omega arith) (omega arith) l0 q in
         let m0 = ar.most in
-        act_after setting inner sim (start z c w) A (record { most = 16 * w.turns + 1; least = w.turns - (turns_of false e + turns_in false b) }) B b forwards z (past_action a (past e z.env)) at2 c2 c2 (Label n1 ∷ rest) rest w w1 (omega arith) (omega arith) (omega arith) (omega arith) refl lb refl r ar
+        act_after setting inner sim (start z c w) A (record { most = 16 * w.turns + 1; least = w.turns - (turns_of false e + turns_in false b) }) B b forwards z (past_command a (past e z.env)) at2 c2 c2 (Label n1 ∷ rest) rest w w1 (omega arith) (omega arith) (omega arith) (omega arith) refl lb refl r ar
         (λ w2 y. landed_on (omega arith) (omega arith) l1 y)
 
-pub test_sought : (setting : Setting) (inner : Meanings) → Simulates setting inner → (B : Account) (e0 : Expression) (a b : Action) (s : Sought) (z : Configuration) (n n1 : ℕ) (at at1 at2 : Sought → List Stmt) (c1 c2 e rest : List Stmt) (w : World) → 16 * w.turns + 4 ≤ B.most
-    → B.least ≤ w.turns - (turns_in false a + turns_in false b) → IsAct setting z.scene z.depth (past e0 z.env) a at1 c1 (Jump n1 ∷ Label n ∷ c2) → IsAct setting z.scene z.depth (past_action a (past e0 z.env)) b at2 c2 (Label n1 ∷ rest)
+pub test_sought : (setting : Setting) (inner : Meanings) → Simulates setting inner → (B : Account) (e0 : Expression) (a b : Command) (s : Sought) (z : Configuration) (n n1 : ℕ) (at at1 at2 : Sought → List Stmt) (c1 c2 e rest : List Stmt) (w : World) → 16 * w.turns + 4 ≤ B.most
+    → B.least ≤ w.turns - (turns_in false a + turns_in false b) → IsAct setting z.scene z.depth (past e0 z.env) a at1 c1 (Jump n1 ∷ Label n ∷ c2) → IsAct setting z.scene z.depth (past_command a (past e0 z.env)) b at2 c2 (Label n1 ∷ rest)
     → LabelAt setting z.scene z.depth n1 rest → ((s : Sought) → at s ≡ cond (stands_in s z.env a) (at1 s) (at2 s)) → ((stands_in s z.env a || stands_in s z.env b) ≡ true) × (e ≡ at s) → Ready setting z w
-    → RanDid setting (start z e w) B z rest w (either (stands_in s z.env a) (λ w. inner.act a (seeking s) (past e0 z.env) w) (λ w. inner.act b (seeking s) (past_action a (past e0 z.env)) w) w)
+    → RanDid setting (start z e w) B z rest w (either (stands_in s z.env a) (λ w. inner.act a (seeking s) (past e0 z.env) w) (λ w. inner.act b (seeking s) (past_command a (past e0 z.env)) w) w)
 test_sought setting inner sim B e0 a b s z n n1 at at1 at2 c1 c2 e rest w le le' la lb l1 ea en r =
     let dp = r.deep in
     by_test (stands_in s z.env a)
     (λ (h : stands_in s z.env a ≡ true).
-    subst (λ (t : Bool). RanDid setting (start z e w) B z rest w (either t (λ w. inner.act a (seeking s) (past e0 z.env) w) (λ w. inner.act b (seeking s) (past_action a (past e0 z.env)) w) w)) (sym h)
+    subst (λ (t : Bool). RanDid setting (start z e w) B z rest w (either t (λ w. inner.act a (seeking s) (past e0 z.env) w) (λ w. inner.act b (seeking s) (past_command a (past e0 z.env)) w) w)) (sym h)
     (inside_run setting inner sim B a s z (past e0 z.env) at1 c1 e (Jump n1 ∷ Label n ∷ c2) rest w (omega arith) (omega arith) refl la (same_stands s z.env.names (past e0 z.env).next z.env.next a ∙ h, en.1 ∙ ea s ∙ ap (λ (t : Bool). cond t (at1 s) (at2 s)) h) r
     (λ A w2 x y q. jumped_on x y r.deep l1 q)))
     (λ (h : stands_in s z.env a ≡ false).
-    subst (λ (t : Bool). RanDid setting (start z e w) B z rest w (either t (λ w. inner.act a (seeking s) (past e0 z.env) w) (λ w. inner.act b (seeking s) (past_action a (past e0 z.env)) w) w)) (sym h)
-    (inside_run setting inner sim B b s z (past_action a (past e0 z.env)) at2 c2 e (Label n1 ∷ rest) rest w (omega arith) (omega arith) refl lb
-    (same_stands s z.env.names (past_action a (past e0 z.env)).next z.env.next b ∙ or_second (stands_in s z.env a) (stands_in s z.env b) en.0 h, en.1 ∙ ea s ∙ ap (λ (t : Bool). cond t (at1 s) (at2 s)) h) r
+    subst (λ (t : Bool). RanDid setting (start z e w) B z rest w (either t (λ w. inner.act a (seeking s) (past e0 z.env) w) (λ w. inner.act b (seeking s) (past_command a (past e0 z.env)) w) w)) (sym h)
+    (inside_run setting inner sim B b s z (past_command a (past e0 z.env)) at2 c2 e (Label n1 ∷ rest) rest w (omega arith) (omega arith) refl lb
+    (same_stands s z.env.names (past_command a (past e0 z.env)).next z.env.next b ∙ or_second (stands_in s z.env a) (stands_in s z.env b) en.0 h, en.1 ∙ ea s ∙ ap (λ (t : Bool). cond t (at1 s) (at2 s)) h) r
     (λ A w2 x y q. landed_on (omega arith) y l1 q)))

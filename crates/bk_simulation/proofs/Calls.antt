@@ -1,5 +1,5 @@
 -- Calls of procedures: their frame, their body, and back. A procedure is called: into its frame, through its body, and back.
-use Rattle.bk_simulation.proofs.Words.{◌≡◌, ℕ, ◌+◌, ◌-◌, ◌*◌, ◌≤◌, Bool, List, ◌∷◌, length, Option, Some, None, refl, ap, arith, slice_get, suc, ◌<◌, ◌^◌, ◌≢◌, true, false, sym, ◌∙◌, subst, zero, Action, Expression, Expressions, Content, Word, content_of, Temporary, Link, Cell, Held, write, below, Inside, State, Goes, At, in_hand, program_step, Stmt, ReturnItem, Return, Entry, Save, Value, unset, World, Exit, return, Outcome, gives, each_way, closing, forgetting, Done, calls_back, Environment, past, Body, command, expression, Procedure, procedure_of, history, After, Throughout, forwards, scope_of, alone, Meanings, return_exit, run_body, bind_formals, values, adds, stays, each_way_after, with_after, FRAME_WORDS, max, nat_lt, [], ◌++◌, ⊎_elim, inl, inr, append-nil, option_map_or, slice_get_within, Placed, Callables, slot, can_be_called, procedure, holds, making, calling, formal_cells, enter, closing_after, ltb-false, ltb-true, IsCallAt, drop, Cell_of}
+use Rattle.bk_simulation.proofs.Words.{◌≡◌, ℕ, ◌+◌, ◌-◌, ◌*◌, ◌≤◌, Bool, List, ◌∷◌, length, Option, Some, None, refl, ap, arith, slice_get, suc, ◌<◌, ◌^◌, ◌≢◌, true, false, sym, ◌∙◌, subst, zero, Command, Expression, Expressions, Content, Word, content_of, Temporary, Link, Cell, Held, write, below, Inside, State, Goes, At, in_hand, program_step, Stmt, ReturnItem, Return, Entry, Save, Value, unset, World, Exit, return, Outcome, gives, each_way, closing, forgetting, Done, calls_back, Environment, past, Body, command, expression, Procedure, procedure_of, history, After, Throughout, forwards, scope_of, alone, Meanings, return_exit, run_body, bind_formals, values, adds, stays, each_way_after, with_after, FRAME_WORDS, max, nat_lt, [], ◌++◌, ⊎_elim, inl, inr, append-nil, option_map_or, slice_get_within, Placed, Callables, slot, can_be_called, procedure, holds, making, calling, formal_cells, enter, closing_after, ltb-false, ltb-true, IsCallAt, drop, Cell_of}
 use Rattle.bk_simulation.proofs.Pieces.{by_test, by_option, Stands, BaseOf, Grown, Like, like_refl, Moved, Fits, moved_on, fits_above, moved_above, Alive, StandsCell, Store, fits_more, turns_of, turns_through, Setting, Scene, IsAlone, IsValue, CallAt, AreValues, count, Configuration, start, Ready, Account, Ran, went, each_way_ran, so, CompletedAt, there, Has, Out, store, state, FewFrames, Comes, comes_on, one, with_ran, next, ready_next, here, go_on, falls_on, ran_from, completed_more, roomy, links_below, stay, completed_on, ran_on, ran_more, above, Simulates, for_scope, RanDid, for_value, for_values, value_run, Moves, returning, return_item_step, return_step, entering, does, call_stmt, call_step, call_settled, entry_settled, LinksFrom, links_kept, frames_called, untouched, below_at, below_like, HasBytes, moves_bytes, make, grown_made, lying, Since, since_on, since_made, since_moved, closed_moved, closed_fits, make_fits, IsFree, get_new, called_cells, saved_cells, called_argument, called_frame, called_back, called_links, saved_links, saved_same, saved_like, saved_formal, formals_long, formal_is, NamedIn}
 use Rattle.bk_meaning.specs.Lasting.{Program}
 use Rattle.bk_simulation.proofs.WrittenCells.{written}
@@ -208,7 +208,7 @@ pub record Yielded (setting : Setting) (s : State) (B : Account) (z : Configurat
 
 -- the scope of one command does what it means
 abbrev pub AloneRuns : Setting → Meanings → Type 0
-AloneRuns setting m = (x : Action) (z : Configuration) (j : ℕ) (c rest : List Stmt) (w : World) → IsAlone setting z.scene z.depth z.env x j c rest → Ready setting z w
+AloneRuns setting m = (x : Command) (z : Configuration) (j : ℕ) (c rest : List Stmt) (w : World) → IsAlone setting z.scene z.depth z.env x j c rest → Ready setting z w
     → RanDid setting (start z c w) (for_scope (alone x) w) z rest w (scope_of m (alone x) forwards z.env w)
 
 returned_by : (setting : Setting) (s : State) (B : Account) (z : Configuration) (w w1 : World) (control : List Stmt) (depth1 : ℕ) (r : List Stmt) → control ≡ Return ∷ r → CompletedAt setting s B z control depth1 w w1 → Yielded setting s B z w unset w1
@@ -267,7 +267,7 @@ body_runs setting inner sim alone_runs (expression e) z c w laid r =
 
 -- ---- histories
 
-pub body_after : (inner : Meanings) → Throughout (λ A w u. After (history w) u) inner → ((x : Action) (env : Environment) (w : World) → After (history w) (scope_of inner (alone x) forwards env w)) → (b : Body) (env : Environment) (w : World)
+pub body_after : (inner : Meanings) → Throughout (λ A w u. After (history w) u) inner → ((x : Command) (env : Environment) (w : World) → After (history w) (scope_of inner (alone x) forwards env w)) → (b : Body) (env : Environment) (w : World)
     → After (history w) (run_body inner b env w)
 body_after inner grows alone_after (command x) env w =
     each_way_after _ (scope_of inner (alone x) forwards env w) _ return_exit (alone_after x env w) (λ _. adds _ (λ w. stays (history w))) (λ y. adds _ (λ w. exit_after y w))
@@ -327,7 +327,7 @@ call_run {of} {setting} {s} {A} {B} {z} {rest} {w} {w1} {o = o} led ca after ins
     (λ (hc : nat_lt setting.cap (max w1.most_calls (w1.calls + 1)) ≡ true). record { is = inr (falls_on setting s (calling w1) o (inr (ltb-true _ _ hc)) after) })
     (λ (hc : nat_lt setting.cap (max w1.most_calls (w1.calls + 1)) ≡ false). inside h (ltb-false _ _ hc)))
 
-pub entered_runs : (of : Bool) (setting : Setting) (inner : Meanings) → Simulates setting inner → AloneRuns setting inner → ((x : Action) (env : Environment) (w : World) → After (history w) (scope_of inner (alone x) forwards env w))
+pub entered_runs : (of : Bool) (setting : Setting) (inner : Meanings) → Simulates setting inner → AloneRuns setting inner → ((x : Command) (env : Environment) (w : World) → After (history w) (scope_of inner (alone x) forwards env w))
     → (k : ℕ) (f : Procedure) → IsProcedure setting k f → (s : State) (A B : Account) (z : Configuration) (rest : List Stmt) (w w1 : World) (vs : List Value) → A.most + 4 ≤ B.most → B.least ≤ A.least → z.depth ≤ FRAME_WORDS
     → Ready setting z w → CallAt setting z.scene (call_stmt of z.depth) rest → Calling of setting s A z rest w vs (procedure k) w1
     → Ran setting s B (λ v w3. Gave of setting s B z rest w v (calls_back w1.calls w3)) AnyExit (enter inner (Some f) vs (calling w1))

@@ -1,5 +1,5 @@
 -- FOR as a command.
-use Rattle.bk_simulation.proofs.Words.{◌≡◌, ◌≢◌, ℕ, zero, suc, ◌+◌, ◌-◌, ◌*◌, ◌<◌, ◌≤◌, ◌^◌, Bool, true, false, cond, List, [], ◌∷◌, ◌++◌, length, Some, None, refl, sym, ap, ◌∙◌, subst, arith, ⊎_elim, not, nat_lt, pos, int_lt, bytes_eq, bytes_eq-Decides, FRAME_WORDS, Bound, Binding, bound_in, bind as bind_bound, Content, Cell, Variable, Held, content_of, below, settle, Word, State, Local, Stmt, Label, Load, JumpIf, Jump, Store as Store_stmt, Stack, Number, Dyadic, Assign, variable, test_of_step, goal, meant, Mention, Expression, Expressions, Action, Value, holds, number, address, Environment, cell, past, World, Outcome, Done, done, given, with, either, making, Exit, break, loop, turn, history, Meanings, fetch, store as put_value, at, Sought, forwards, step_of, for_test, for_rounds_of, for_loop, round_exit, for_step, relation, Adds, adds, with_after, given_after, closing_after, stays, each_way_after, turn_after, changes_after, either_after, scope_of, alone, nat_tests, ints, signed, word_of, from_label, read, operate, judged, slice_get, Cell_of}
+use Rattle.bk_simulation.proofs.Words.{◌≡◌, ◌≢◌, ℕ, zero, suc, ◌+◌, ◌-◌, ◌*◌, ◌<◌, ◌≤◌, ◌^◌, Bool, true, false, cond, List, [], ◌∷◌, ◌++◌, length, Some, None, refl, sym, ap, ◌∙◌, subst, arith, ⊎_elim, not, nat_lt, pos, int_lt, bytes_eq, bytes_eq-Decides, FRAME_WORDS, Bound, Binding, bound_in, bind as bind_bound, Content, Cell, Variable, Held, content_of, below, settle, Word, State, Local, Stmt, Label, Load, JumpIf, Jump, Store as Store_stmt, Stack, Number, Dyadic, Assign, variable, test_of_step, goal, meant, Mention, Expression, Expressions, Command, Value, holds, number, address, Environment, cell, past, World, Outcome, Done, done, given, with, either, making, Exit, break, loop, turn, history, Meanings, fetch, store as put_value, at, Sought, forwards, step_of, for_test, for_rounds_of, for_loop, round_exit, for_step, relation, Adds, adds, with_after, given_after, closing_after, stays, each_way_after, turn_after, changes_after, either_after, scope_of, alone, nat_tests, ints, signed, word_of, from_label, read, operate, judged, slice_get, Cell_of}
 use Rattle.bk_simulation.proofs.Pieces.{by_option, by_test, jump_moves, does, BaseOf, Alive, Like, like_on, Stands, StandsCell, Store, Moved, moved_on, fits_above, fits_more, stands_grown, below_at, below_like, settle_like, settle_at, read_here, make, make_fits, Since, since_refl, since_on, since_cells, since_made, grown_made, lying, since_moved, get_new, turns_of, turns_in, turns_through, Setting, Scene, in_loop, IsWord, IsAlone, KeepsLabels, IsLabelHere, LabelAt, IsAct, IsForLoop, behind_body, some_objects, Configuration, store, state, start, named_grown, Ready, Account, further, went, ran_from, CompletedAt, OpenCompleted, there, next, ready_next, each_way_ran, with_ran, so, Out, Has, begun, stay, links_like, with_objects, stepped, behind, completed_more, comes_to, open_configuration, open_ready, open_step, open_on, ran_open, closed_ran, completed_turn, turn_there, ran_more, outside, completed_on, topped, above, Simulates, Limit, where_to, RanDid, for_scope, for_counts, label_on, landed_on, closes, caught_at, tested, bound_named, operates, dyadic_run, for_two, two_run, Two, RanValue, pushes_item, same_number, place_of, NameAt}
 use Rattle.bk_simulation.proofs.Terms.{Bound as b, bind, Operator as op, Dyadic as two}
 use Rattle.bk_tree.specs.Tree as t
@@ -156,7 +156,7 @@ limit_next setting s A z c w w1 d o u ed r l a = record {
 }
 
 -- a further round: the LAB of the body pays, and a turn is taken
-further_count : (setting : Setting) (inner : Meanings) → Simulates setting inner → (s : State) (A B : Account) (x : Action) (o : ℕ) (u : Value) (k d : ℕ) (z : Configuration) (n1 : ℕ) (body rest : List Stmt) (w w1 : World) → A.most + 1 ≤ B.most → A.most ≤ 16 * w.turns + 10
+further_count : (setting : Setting) (inner : Meanings) → Simulates setting inner → (s : State) (A B : Account) (x : Command) (o : ℕ) (u : Value) (k d : ℕ) (z : Configuration) (n1 : ℕ) (body rest : List Stmt) (w w1 : World) → A.most + 1 ≤ B.most → A.most ≤ 16 * w.turns + 10
     → 16 * w.turns + 11 ≤ B.most → B.least ≤ w.turns - suc (turns_in false x) → w.turns ≤ A.least + turns_in false x → suc (turns_in false x) ≤ setting.pay → z.depth ≡ d + 2 → IsForLoop setting z.scene z.depth d k z.env x body rest → Limit setting z w d o u
     → LabelAt setting z.scene z.depth n1 body → Ready setting z w → CompletedAt setting s A z (Label n1 ∷ body) z.depth w w1 → RanDid setting s B z rest w (turn w1 (λ w. inner.for_rounds x o u k z.env w))
 further_count setting inner sim s A B x o u k d z n1 body rest w w1 le0 le1 le ll la lp ed lf lim ln r a =
@@ -172,16 +172,16 @@ further_count setting inner sim s A B x o u k d z n1 body rest w w1 le0 le1 le l
     (sim.for_rounds x o u k d (next setting s D z body z.depth w w2 z.env z.depth ar) body rest w2 ed lf (limit_next setting s D z body w w2 d o u ed r lim ar) (ready_next z.env z.depth ar refl (omega arith) r)))
 
 -- what a further round adds, and what the step and the test before it do
-turn_adds : (setting : Setting) (inner : Meanings) → Simulates setting inner → (x : Action) (o : ℕ) (u : Value) (k : ℕ) (env : Environment) → Adds (λ w. turn w (λ w. inner.for_rounds x o u k env w))
+turn_adds : (setting : Setting) (inner : Meanings) → Simulates setting inner → (x : Command) (o : ℕ) (u : Value) (k : ℕ) (env : Environment) → Adds (λ w. turn w (λ w. inner.for_rounds x o u k env w))
 turn_adds setting inner sim x o u k env = adds _ (λ w. turn_after _ (adds _ (λ w1. sim.grows.for_rounds x o u k env w1)) w)
 
-next_adds : (setting : Setting) (inner : Meanings) → Simulates setting inner → (x : Action) (o : ℕ) (u : Value) (k : ℕ) (env : Environment)
+next_adds : (setting : Setting) (inner : Meanings) → Simulates setting inner → (x : Command) (o : ℕ) (u : Value) (k : ℕ) (env : Environment)
     → Adds (λ w. with (for_step o k w) (λ _ w. for_test o u k (λ w. turn w (λ w. inner.for_rounds x o u k env w)) w))
 next_adds setting inner sim x o u k env =
     adds _ (λ w. with_after (history w) (for_step o k w) (λ _ w. for_test o u k (λ w. turn w (λ w. inner.for_rounds x o u k env w)) w) ((step_adds o k).at w)
     (λ _. test_adds o k u (λ w. turn w (λ w. inner.for_rounds x o u k env w)) (turn_adds setting inner sim x o u k env)))
 
-pub for_rounds_run : (setting : Setting) (inner : Meanings) → Simulates setting inner → (x : Action) (o : ℕ) (u : Value) (k d : ℕ) (z : Configuration) (body rest : List Stmt) (w : World) → z.depth ≡ d + 2 → IsForLoop setting z.scene z.depth d k z.env x body rest → Limit setting z w d o u
+pub for_rounds_run : (setting : Setting) (inner : Meanings) → Simulates setting inner → (x : Command) (o : ℕ) (u : Value) (k d : ℕ) (z : Configuration) (body rest : List Stmt) (w : World) → z.depth ≡ d + 2 → IsForLoop setting z.scene z.depth d k z.env x body rest → Limit setting z w d o u
     → Ready setting z w → RanDid setting (start z body w) (for_counts x w) z rest w (for_rounds_of inner x o u k z.env w)
 for_rounds_run setting inner sim x o u k d z body rest w ed lf lim r =
     each_way_ran (λ _. next_adds setting inner sim x o u k z.env) (round_exit_adds _ (next_adds setting inner sim x o u k z.env))
@@ -221,7 +221,7 @@ for_rounds_run setting inner sim x o u k d z body rest w ed lf lim r =
     out x w1 q = went (outside z.scene (omega arith) (omega arith) q q.leads)
 
 -- what rounds add
-pub rounds_adds : (setting : Setting) (inner : Meanings) → Simulates setting inner → (x : Action) (o : ℕ) (u : Value) (k : ℕ) (env : Environment) → Adds (λ w. scope_of inner (alone x) forwards env w) → Adds (λ w. for_rounds_of inner x o u k env w)
+pub rounds_adds : (setting : Setting) (inner : Meanings) → Simulates setting inner → (x : Command) (o : ℕ) (u : Value) (k : ℕ) (env : Environment) → Adds (λ w. scope_of inner (alone x) forwards env w) → Adds (λ w. for_rounds_of inner x o u k env w)
 rounds_adds setting inner sim x o u k env au =
     adds _ (λ w. each_way_after (history w) (scope_of inner (alone x) forwards env w) (λ _ w. with (for_step o k w) (λ _ w. for_test o u k (λ w. turn w (λ w. inner.for_rounds x o u k env w)) w)) (round_exit (λ w. with (for_step o k w) (λ _ w. for_test o u k (λ w. turn w (λ w. inner.for_rounds x o u k env w)) w))) (au.at w) (λ _. next_adds setting inner sim x o u k env) (round_exit_adds _ (next_adds setting inner sim x o u k env)))
 
@@ -254,7 +254,7 @@ same_label : (setting : Setting) (sc : Scene) (bs : List Binding) (d n : ℕ) (r
 same_label setting sc bs d n rest l = record { is_own = l.is_own; place = l.place; at = l.at; same_depth = l.same_depth; behind = l.behind; found = l.found }
 
 -- ---- the test and the rounds, with the variable in scope
-first_test : (setting : Setting) (inner : Meanings) → Simulates setting inner → (B : Account) (x : Action) (o : ℕ) (u : Value) (k d n1 : ℕ) (z : Configuration) (body test end : List Stmt) (n3 : ℕ) (w : World) → 16 * w.turns + 16 ≤ B.most → B.least ≤ w.turns - suc (turns_in false x) → z.depth ≡ d + 2
+first_test : (setting : Setting) (inner : Meanings) → Simulates setting inner → (B : Account) (x : Command) (o : ℕ) (u : Value) (k d n1 : ℕ) (z : Configuration) (body test end : List Stmt) (n3 : ℕ) (w : World) → 16 * w.turns + 16 ≤ B.most → B.least ≤ w.turns - suc (turns_in false x) → z.depth ≡ d + 2
     → IsForLoop setting z.scene z.depth d k z.env x body end → test ≡ Load (Local d) ∷ Load (Local (d + 1)) ∷ test_of_step k ∷ JumpIf true n1 ∷ Label n3 ∷ end → LabelAt setting z.scene z.depth n1 body → LabelAt setting z.scene z.depth n3 end → suc (turns_in false x) ≤ setting.pay → k < 2 ^ 32
     → Limit setting z w d o u → Adds (λ w. for_rounds_of inner x o u k z.env w) → Ready setting z w → RanDid setting (start z test w) B z end w (for_test o u k (λ w. for_rounds_of inner x o u k z.env w) w)
 first_test setting inner sim B x o u k d n1 z body test end n3 w le le' ed lf et l1 l3 few lk lim ad r =
@@ -334,7 +334,7 @@ limit_free setting z w u r o1 n b1 i li eb lt e = ⊎_elim
     (lying (store z w) (z.frame + z.depth) (holds u ∷ []) o1 n b1 r.fits.long li eb).lies
 
 -- the whole loop, behind its two values
-for_opened : (setting : Setting) (inner : Meanings) → Simulates setting inner → (l : ℕ) (x : Mention) (a y : Expression) (h : Expressions) (c : Action) (z z0 : Configuration)
+for_opened : (setting : Setting) (inner : Meanings) → Simulates setting inner → (l : ℕ) (x : Mention) (a y : Expression) (h : Expressions) (c : Command) (z z0 : Configuration)
     (there : Sought → List Stmt) (c0 rest : List Stmt) (w : World) (u v : Value) (lx : IsAct setting z.scene z.depth z0.env (t.for_loop l x a y h c) there c0 rest)
     → z.env ≡ past y (past a z0.env) → Ready setting z w → Stands setting.codes z.bases u (content_of (z.cells (z.frame + z.depth)))
     → Stands setting.codes z.bases v (content_of (z.cells (z.frame + (z.depth + 1)))) → ((o : ℕ) → Adds (λ w. for_rounds_of inner c o v lx.4 (bind x.letters (cell o 0) z.env) w))
@@ -395,12 +395,12 @@ for_opened g m sim l x a y h c z z0 there c0 rest w u v lx ez r su sv ad =
     (first_test g m sim N c o v lx.4 z.depth lx.1 z1 lx.7 lx.8 (Stack z.depth ∷ rest) lx.3 w1 (omega arith) (omega arith) refl scope lx.12 (same_label g z.scene bs d2 lx.1 lx.7 lx.15) (same_label g z.scene bs d2 lx.3 (Stack z.depth ∷ rest) lx.17) lx.19 lx.20 lim (ad o) r1))
 
 -- ---- FOR
-loop_adds : (inner : Meanings) (x : List ℕ) (c : Action) (u v : Value) (k : ℕ) (env : Environment) → ((o : ℕ) → Adds (λ w. for_rounds_of inner c o v k (bind x (cell o 0) env) w)) → Adds (for_loop inner x c u v k env)
+loop_adds : (inner : Meanings) (x : List ℕ) (c : Command) (u v : Value) (k : ℕ) (env : Environment) → ((o : ℕ) → Adds (λ w. for_rounds_of inner c o v k (bind x (cell o 0) env) w)) → Adds (for_loop inner x c u v k env)
 loop_adds inner x c u v k env ad =
     adds _ (λ w. closing_after (history w) (length w.memory) (for_test (length w.memory) v k (λ q. for_rounds_of inner c (length w.memory) v k (bind x (cell (length w.memory) 0) env) q) (making (holds u ∷ []) w))
     ((test_adds (length w.memory) k v (λ y. for_rounds_of inner c (length w.memory) v k (bind x (cell (length w.memory) 0) env) y) (ad (length w.memory))).at (making (holds u ∷ []) w)))
 
-pub for_run : (setting : Setting) (inner : Meanings) → Simulates setting inner → (B : Account) (l : ℕ) (x : Mention) (a y : Expression) (h : Expressions) (c : Action) (z : Configuration)
+pub for_run : (setting : Setting) (inner : Meanings) → Simulates setting inner → (B : Account) (l : ℕ) (x : Mention) (a y : Expression) (h : Expressions) (c : Command) (z : Configuration)
     (there : Sought → List Stmt) (c0 rest : List Stmt) (w : World) → 16 * w.turns + 16 ≤ B.most
     → B.least ≤ w.turns - (turns_of false a + (turns_of false y + suc (turns_in false c))) → IsAct setting z.scene z.depth z.env (t.for_loop l x a y h c) there c0 rest
     → ((o : ℕ) (v : Value) (k : ℕ) (env : Environment) → Adds (λ w. for_rounds_of inner c o v k env w)) → Ready setting z w

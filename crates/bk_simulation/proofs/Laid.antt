@@ -1,6 +1,6 @@
 -- Where the code of each form is laid: of this expression or command, with these names in scope, from these statements on before
 -- those. A jump has its LAB, a string and a table their object, a call its place.
-use Rattle.bk_simulation.proofs.Words.{◌≡◌, ℕ, suc, ◌+◌, ◌-◌, ◌<◌, ◌≤◌, ◌^◌, Bool, true, false, not, List, [], ◌∷◌, ◌++◌, length, Option, Some, cond, FRAME_WORDS, first_bytes, signed, Operator, Expression, Expressions, Action, Actions, Declaration, Declarations, Definitions, Starts, Bound, Binding, bound_in, bind, labels_of_each, labels_in_scope, depth_behind, Placed, global_place, from_label, case_label, Program, Local, Global, Static, Case, Stmt, Number, Query, Load, Address, Text, Monadic, Dyadic, Assign, AssignAt, AssignByte, Jump, JumpIf, Label, GiveResult, TakeResult, Stack, Store, CallFunction, CallRoutine, Return, Switch, Finish, Goal, Around, Target, meant, goal_in, variable, push, infix_code, truth_value, go, test_of_step, valued, looping, switching, Environment, Sense, constant, cell, sense_of, constant_in, behind, past, past_each, past_action, past_definition, labelled, within_let, constants_declared, letters, objects_of_definitions, step_of, Sought, the_label, the_case, the_default, Mode, forwards, seeking, same_place, stands_in, stands_in_one, alone, IsWellPlaced, slice_get, take, drop}
+use Rattle.bk_simulation.proofs.Words.{◌≡◌, ℕ, suc, ◌+◌, ◌-◌, ◌<◌, ◌≤◌, ◌^◌, Bool, true, false, not, List, [], ◌∷◌, ◌++◌, length, Option, Some, cond, FRAME_WORDS, first_bytes, signed, Operator, Expression, Expressions, Command, Commands, Declaration, Declarations, Definitions, Starts, Bound, Binding, bound_in, bind, labels_of_each, labels_in_scope, depth_behind, Placed, global_place, from_label, case_label, Program, Local, Global, Static, Case, Stmt, Number, Query, Load, Address, Text, Monadic, Dyadic, Assign, AssignAt, AssignByte, Jump, JumpIf, Label, GiveResult, TakeResult, Stack, Store, CallFunction, CallRoutine, Return, Switch, Finish, Goal, Around, Target, meant, goal_in, variable, push, infix_code, truth_value, go, test_of_step, valued, looping, switching, Environment, Sense, constant, cell, sense_of, constant_in, behind, past, past_each, past_command, past_definition, labelled, within_let, constants_declared, letters, objects_of_definitions, step_of, Sought, the_label, the_case, the_default, Mode, forwards, seeking, same_place, stands_in, stands_in_one, alone, IsWellPlaced, slice_get, take, drop}
 use Rattle.bk_simulation.proofs.Terms.{Operator as o, Prefix as q, Simple as k, Bound as b, Variable, Variable as Named, Dyadic as two, Monadic as w}
 use Rattle.bk_tree.specs.Tree as t
 use Rattle.bk_meaning.specs.Environment as m
@@ -162,7 +162,7 @@ ending pushes rest = rest
 ending (jumps u n) rest = JumpIf u n ∷ rest
 
 -- the labels of a scope's commands, with numbers from j on
-abbrev pub owning : ℕ → Actions → Scene → Scene
+abbrev pub owning : ℕ → Commands → Scene → Scene
 owning j cs sc = record sc { bindings = labels_in_scope sc.procedure j (labels_of_each cs) sc.bindings }
 
 -- a GOTO of this name leads here, at this depth
@@ -175,7 +175,7 @@ PlaceOf setting sc d here inner at c =
     (n : ℕ) × (c1 : List Stmt) × (at1 : Sought → List Stmt) × (c ≡ Label n ∷ c1) × inner at1 c1 × LabelAt setting sc d n c1 × ((s : Sought) → at s ≡ cond (same_place s here) c (at1 s))
 
 -- one command as a scope, whose labels have numbers from j on; a GOTO to one of them leads to it
-abbrev pub OneScope : Setting → Scene → ℕ → Environment → Action → ℕ → ((Sought → List Stmt) → List Stmt → Type 0) → List Stmt → Type 0
+abbrev pub OneScope : Setting → Scene → ℕ → Environment → Command → ℕ → ((Sought → List Stmt) → List Stmt → Type 0) → List Stmt → Type 0
 OneScope setting sc d env a j inner rest =
     (at : Sought → List Stmt)
     × ((c1 : List Stmt) × (at1 at2 : Sought → List Stmt) × inner at1 c1 × (c1 ≡ rest) × ((s : Sought) → at s ≡ cond (stands_in s (labelled (alone a) env) a) (at1 s) (at2 s)))
@@ -263,7 +263,7 @@ abbrev mutual
   IsStore setting sc d env _ c rest = ⊥
 
   -- A command: `at` says where the places in it are that may be sought.
-  pub IsAct : Setting → Scene → ℕ → Environment → Action → (Sought → List Stmt) → List Stmt → List Stmt → Type 0
+  pub IsAct : Setting → Scene → ℕ → Environment → Command → (Sought → List Stmt) → List Stmt → List Stmt → Type 0
   IsAct setting sc d env t.empty at c rest = c ≡ rest
   IsAct setting sc d env (t.assign l xs es) at c rest = (vs ss : List Stretch) × AreFrom setting sc d (past_each xs env) es vs × AreStores setting sc (d + 1) env xs ss × ByTurns xs es vs ss c rest
   IsAct setting sc d env (t.call l f es) at c rest =
@@ -277,7 +277,7 @@ abbrev mutual
       (n : ℕ) × (c1 : List Stmt) × IsCode setting sc d env (jumps (not u) n) e c c1 × IsAct setting sc d (past e env) a at c1 (Label n ∷ rest) × LabelAt setting sc d n rest
   IsAct setting sc d env (t.test l e x y) at c rest =
       (n n1 : ℕ) × (c1 c2 : List Stmt) × (at1 at2 : Sought → List Stmt) × IsCode setting sc d env (jumps false n) e c c1 × IsAct setting sc d (past e env) x at1 c1 (Jump n1 ∷ Label n ∷ c2)
-      × IsAct setting sc d (past_action x (past e env)) y at2 c2 (Label n1 ∷ rest) × LabelAt setting sc d n c2 × LabelAt setting sc d n1 rest
+      × IsAct setting sc d (past_command x (past e env)) y at2 c2 (Label n1 ∷ rest) × LabelAt setting sc d n c2 × LabelAt setting sc d n1 rest
       × ((s : Sought) → at s ≡ cond (stands_in s env x) (at1 s) (at2 s))
   IsAct setting sc d env (t.while l u e a) at c rest =
       (n n1 n2 : ℕ) × (body test : List Stmt) × (c ≡ Jump n ∷ Label n1 ∷ body) × IsAct setting (in_loop n n2 d sc) d (past e env) a at body (Label n ∷ test)
@@ -316,14 +316,14 @@ abbrev mutual
       × (suc (turns_in false a) ≤ setting.pay)
   IsAct setting sc d env (t.repeat_while l u a e) at c rest =
       (n n1 n2 : ℕ) × (body test : List Stmt) × (c ≡ Label n ∷ body) × IsAct setting (in_loop n1 n2 d sc) d env a at body (Label n1 ∷ test)
-      × IsCode setting sc d (past_action a env) (jumps u n) e test (Label n2 ∷ rest) × LabelAt setting sc d n body × LabelAt setting sc d n1 test × LabelAt setting sc d n2 rest
+      × IsCode setting sc d (past_command a env) (jumps u n) e test (Label n2 ∷ rest) × LabelAt setting sc d n body × LabelAt setting sc d n1 test × LabelAt setting sc d n2 rest
       × (suc (turns_of false e + turns_in false a) ≤ setting.pay)
 
   -- commands in order
-  pub AreActs : Setting → Scene → ℕ → Environment → Actions → (Sought → List Stmt) → List Stmt → List Stmt → Type 0
-  AreActs setting sc d env t.no_actions at c rest = c ≡ rest
+  pub AreActs : Setting → Scene → ℕ → Environment → Commands → (Sought → List Stmt) → List Stmt → List Stmt → Type 0
+  AreActs setting sc d env t.no_commands at c rest = c ≡ rest
   AreActs setting sc d env (t.also a cs) at c rest =
-      (c1 : List Stmt) × (at1 at2 : Sought → List Stmt) × IsAct setting sc d env a at1 c c1 × AreActs setting sc d (past_action a env) cs at2 c1 rest
+      (c1 : List Stmt) × (at1 at2 : Sought → List Stmt) × IsAct setting sc d env a at1 c c1 × AreActs setting sc d (past_command a env) cs at2 c1 rest
       × ((s : Sought) → at s ≡ cond (stands_in s env a) (at1 s) (at2 s))
 
   -- declarations, with what is laid behind them
@@ -358,7 +358,7 @@ abbrev mutual
       × (slots ≡ (d + k + 1) ∷ more)
 
 -- one command, as a scope of its own
-abbrev pub IsAlone : Setting → Scene → ℕ → Environment → Action → ℕ → List Stmt → List Stmt → Type 0
+abbrev pub IsAlone : Setting → Scene → ℕ → Environment → Command → ℕ → List Stmt → List Stmt → Type 0
 IsAlone setting sc d env a j c rest = OneScope setting sc d env a j (λ at1 c1. IsAct setting (owning j (alone a) sc) d (labelled (alone a) env) a at1 c c1) rest
 
 -- a value, and a jump
@@ -369,43 +369,43 @@ abbrev pub IsJump : Setting → Scene → ℕ → Environment → Expression →
 IsJump setting sc d env e u n c rest = IsCode setting sc d env (jumps u n) e c rest
 
 -- the commands of a scope
-abbrev pub IsScopeAt : Setting → Scene → ℕ → Environment → Actions → ℕ → (Sought → List Stmt) → List Stmt → List Stmt → Type 0
+abbrev pub IsScopeAt : Setting → Scene → ℕ → Environment → Commands → ℕ → (Sought → List Stmt) → List Stmt → List Stmt → Type 0
 IsScopeAt setting sc d env cs j at c rest =
     AreActs setting (owning j cs sc) d (labelled cs env) cs at c rest × (turns_through false cs ≤ setting.pay)
     × ((x : List ℕ) → stands_in_one (the_label x) env cs ≡ true → LeadsTo (owning j cs sc) d x (at (the_label x)))
 
-abbrev pub IsScope : Setting → Scene → ℕ → Environment → Actions → ℕ → List Stmt → List Stmt → Type 0
+abbrev pub IsScope : Setting → Scene → ℕ → Environment → Commands → ℕ → List Stmt → List Stmt → Type 0
 IsScope setting sc d env cs j c rest = (at : Sought → List Stmt) × IsScopeAt setting sc d env cs j at c rest
 
 -- A loop, from its body on.
-abbrev pub IsLoop : Setting → Scene → ℕ → Environment → Action → (Sought → List Stmt) → List Stmt → List Stmt → Type 0
+abbrev pub IsLoop : Setting → Scene → ℕ → Environment → Command → (Sought → List Stmt) → List Stmt → List Stmt → Type 0
 IsLoop setting sc d env (t.while l u e a) at body rest =
     (n n1 n2 : ℕ) × (test : List Stmt) × IsAct setting (in_loop n n2 d sc) d (past e env) a at body (Label n ∷ test) × IsJump setting sc d env e u n1 test (Label n2 ∷ rest)
     × LabelAt setting sc d n test × LabelAt setting sc d n1 body × LabelAt setting sc d n2 rest × (suc (turns_of false e + turns_in false a) ≤ setting.pay)
 IsLoop setting sc d env (t.repeat l a) at body rest =
     (n n1 : ℕ) × IsAct setting (in_loop n n1 d sc) d env a at body (Jump n ∷ Label n1 ∷ rest) × LabelAt setting sc d n body × LabelAt setting sc d n1 rest × (suc (turns_in false a) ≤ setting.pay)
 IsLoop setting sc d env (t.repeat_while l u a e) at body rest =
-    (n n1 n2 : ℕ) × (test : List Stmt) × IsAct setting (in_loop n1 n2 d sc) d env a at body (Label n1 ∷ test) × IsJump setting sc d (past_action a env) e u n test (Label n2 ∷ rest)
+    (n n1 n2 : ℕ) × (test : List Stmt) × IsAct setting (in_loop n1 n2 d sc) d env a at body (Label n1 ∷ test) × IsJump setting sc d (past_command a env) e u n test (Label n2 ∷ rest)
     × LabelAt setting sc d n body × LabelAt setting sc d n1 test × LabelAt setting sc d n2 rest × (suc (turns_of false e + turns_in false a) ≤ setting.pay)
 IsLoop setting sc d env _ at body rest = ⊥
 
 -- what a loop has in it, and the environment there
-abbrev pub stands_in_body : Sought → Environment → Action → Bool
+abbrev pub stands_in_body : Sought → Environment → Command → Bool
 stands_in_body s env (t.while l u e a) = stands_in s (past e env) a
 stands_in_body s env (t.repeat l a) = stands_in s env a
 stands_in_body s env (t.repeat_while l u a e) = stands_in s env a
 stands_in_body s env _ = false
 
 -- where a command, commands and a loop's body are entered
-abbrev pub Entered : Mode → Environment → Action → (Sought → List Stmt) → List Stmt → List Stmt → Type 0
+abbrev pub Entered : Mode → Environment → Command → (Sought → List Stmt) → List Stmt → List Stmt → Type 0
 Entered forwards env x at c e = e ≡ c
 Entered (seeking s) env x at c e = (stands_in s env x ≡ true) × (e ≡ at s)
 
-abbrev pub EnteredAny : Mode → Environment → Actions → (Sought → List Stmt) → List Stmt → List Stmt → Type 0
+abbrev pub EnteredAny : Mode → Environment → Commands → (Sought → List Stmt) → List Stmt → List Stmt → Type 0
 EnteredAny forwards env cs at c e = e ≡ c
 EnteredAny (seeking s) env cs at c e = (stands_in_one s env cs ≡ true) × (e ≡ at s)
 
-abbrev pub EnteredBody : Mode → Environment → Action → (Sought → List Stmt) → List Stmt → List Stmt → Type 0
+abbrev pub EnteredBody : Mode → Environment → Command → (Sought → List Stmt) → List Stmt → List Stmt → Type 0
 EnteredBody forwards env x at c e = e ≡ c
 EnteredBody (seeking s) env x at c e = (stands_in_body s env x ≡ true) × (e ≡ at s)
 
@@ -413,7 +413,7 @@ EnteredBody (seeking s) env x at c e = (stands_in_body s env x ≡ true) × (e �
 abbrev pub behind_body : ℕ → ℕ → ℕ → List Stmt → List Stmt
 behind_body d k n test = Load (Local d) ∷ Number (signed k) ∷ Dyadic two.Add ∷ Assign (Local d) ∷ Label n ∷ test
 
-abbrev pub IsForLoop : Setting → Scene → ℕ → ℕ → ℕ → Environment → Action → List Stmt → List Stmt → Type 0
+abbrev pub IsForLoop : Setting → Scene → ℕ → ℕ → ℕ → Environment → Command → List Stmt → List Stmt → Type 0
 IsForLoop setting sc depth d k env e body rest =
     (n n1 n2 n3 j : ℕ) × (test : List Stmt) × IsAlone setting (in_loop n2 n3 depth sc) depth env e j body (Label n2 ∷ behind_body d k n test)
     × (test ≡ Load (Local d) ∷ Load (Local (d + 1)) ∷ test_of_step k ∷ JumpIf true n1 ∷ Label n3 ∷ rest)

@@ -1,7 +1,7 @@
 -- A FOR is laid where the scheme puts it, where its body is. Each command of an accepted section is laid where the scheme puts it. That VALOFs and blocks
 -- with declarations are is taken here as an argument.
 use Rattle.bk_simulation.proofs.LaidProcedures.{all_passed}
-use Rattle.bk_simulation.proofs.Words.{◌-◌, Placed, Environment, Goal, go, ◌≡◌, ℕ, ◌+◌, ◌<◌, ◌≤◌, ◌^◌, Bool, true, false, List, [], ◌∷◌, ◌++◌, length, Some, cond, refl, sym, ap, ap₂, ◌∙◌, subst, arith, int_lt, pos, signed, Expressions, Action, Actions, Declaration, Declarations, Enclosing, Binding, bind, labels_of, deeper, labels_in_scope, SoundDone, HaveWords, Spot, next_depth, Local, Stmt, Number, Load, Dyadic, Assign, Jump, JumpIf, Label, Stack, Store, labels, term_named, command_named, worth, step_named, parts, parts_in, value_code, command_code, test_of_step, Named, objects, objects_of_action, cell, foreign, step_of, of_action, in_scope, not, suc, false≢true, bytes_eq, size, bound_in, constant_word, SoundDoneEach, Sound, from_label, GiveResult, CallRoutine, Switch, Return, Finish, TakeResult, labels_if, labels_onto, labels_in, meant, condition_named, lvalues_named, commands_named, parts_if, parts_onto, parts_through, goal_in, jump_code, through_code, cases, default_in, label_or, valued, objects_of_each, objects_of_actions, constant_in, the_label, the_case, the_default, same_place, stands_in, of_actions, Sought, RegularEach, RegularAction, RegularActions, Regular, Simple}
+use Rattle.bk_simulation.proofs.Words.{◌-◌, Placed, Environment, Goal, go, ◌≡◌, ℕ, ◌+◌, ◌<◌, ◌≤◌, ◌^◌, Bool, true, false, List, [], ◌∷◌, ◌++◌, length, Some, cond, refl, sym, ap, ap₂, ◌∙◌, subst, arith, int_lt, pos, signed, Expressions, Command, Commands, Declaration, Declarations, Enclosing, Binding, bind, labels_of, deeper, labels_in_scope, SoundDone, HaveWords, Spot, next_depth, Local, Stmt, Number, Load, Dyadic, Assign, Jump, JumpIf, Label, Stack, Store, labels, term_named, command_named, worth, step_named, parts, parts_in, value_code, command_code, test_of_step, Named, objects, objects_of_command, cell, foreign, step_of, of_command, in_scope, not, suc, false≢true, bytes_eq, size, bound_in, constant_word, SoundDoneEach, Sound, from_label, GiveResult, CallRoutine, Switch, Return, Finish, TakeResult, labels_if, labels_onto, labels_in, meant, condition_named, lvalues_named, commands_named, parts_if, parts_onto, parts_through, goal_in, jump_code, through_code, cases, default_in, label_or, valued, objects_of_each, objects_of_commands, constant_in, the_label, the_case, the_default, same_place, stands_in, of_commands, Sought, RegularEach, RegularCommand, RegularCommands, Regular, Simple}
 use Rattle.bk_simulation.proofs.Forms.{at_depth, turns_in, in_light, turns_through, of_light, turns_of, with_names, IsAct, Setting, Scene, in_loop, pushes, IsAlone, in_switch, jumps, count, IsLabelHere, AreActs, in_valof, Aim, ending, bound_named, Agree, own_cell, agree_bound, there_in, bases_under, StandsAt, passed, label_at, home, three_bases, bases_so, Lies, written, call_at, label_found, Bases, no_bases, both_bases, lies_so, lie, lies_within, data_at, FoundParts, found_front, found_back, lies_after, constant_small, HasWords, around_deeper, constants_agree, InNames, joined_choice, known, known_agree, names_of, stands_agree, joined_two, joined_three, role, Around, call_lies, plain_laid}
 use Rattle.bk_simulation.proofs.LaidAssigned.{Doing, finds_nothing, Done, words_labels, words_variable, alone_lies, doing_loop, doing_switch, Leads, finds_case, finds_both, switch_chosen, switch_default, switch_none, DoneEach, leads_label, either_leads, same_letters, label_ahead, turns_lie, laid_froms, laid_stores, FindsEach}
 use Rattle.bk_simulation.proofs.LaidValues.{ValofsLie, laid_code, laid_each, CodeLies}
@@ -11,7 +11,7 @@ use Rattle.bk_scope.specs.Places as place
 use Rattle.bk_scope.specs.Spots as spot
 
 -- the code of a command is laid from statements on before those
-abbrev pub ActLies : ℕ → Scene → Enclosing → Spot → ℕ → Action → ℕ → ℕ → List Stmt → List Stmt → Type 0
+abbrev pub ActLies : ℕ → Scene → Enclosing → Spot → ℕ → Command → ℕ → ℕ → List Stmt → List Stmt → Type 0
 ActLies pay sc p s i x d n c rest = (f : FoundParts sc.own sc.targets (parts_in d n (command_named sc.bindings p s x))) → c ≡ command_code sc.targets sc.around d n (command_named sc.bindings p s x) ++ rest → StandsAt sc.own d c
     → Done pay sc i x d n (command_named sc.bindings p s x) c rest f
 
@@ -60,11 +60,11 @@ simple_lies pay sc p s i l simple.Finish d n c rest a h f k st =
 
 -- blocks with declarations are laid
 abbrev pub BlocksLie : ℕ → Type 0
-BlocksLie pay = (sc : Scene) (p : Enclosing) (s : Spot) (i l : ℕ) (x : Declaration) (xs : Declarations) (cs : Actions) (d n : ℕ) (c rest : List Stmt) → Doing sc p d → SoundDone sc.bindings p s (t.block l (t.declare x xs) cs)
-    → RegularAction (t.block l (t.declare x xs) cs) → turns_in true (t.block l (t.declare x xs) cs) ≤ pay → ActLies pay sc p s i (t.block l (t.declare x xs) cs) d n c rest
+BlocksLie pay = (sc : Scene) (p : Enclosing) (s : Spot) (i l : ℕ) (x : Declaration) (xs : Declarations) (cs : Commands) (d n : ℕ) (c rest : List Stmt) → Doing sc p d → SoundDone sc.bindings p s (t.block l (t.declare x xs) cs)
+    → RegularCommand (t.block l (t.declare x xs) cs) → turns_in true (t.block l (t.declare x xs) cs) ≤ pay → ActLies pay sc p s i (t.block l (t.declare x xs) cs) d n c rest
 
 mutual
-  pub laid_act : (pay : ℕ) (valofs : ValofsLie pay) (blocks : BlocksLie pay) (sc : Scene) (p : Enclosing) (s : Spot) (i : ℕ) (x : Action) (d n : ℕ) (c rest : List Stmt) → Doing sc p d → SoundDone sc.bindings p s x → RegularAction x → turns_in true x ≤ pay
+  pub laid_act : (pay : ℕ) (valofs : ValofsLie pay) (blocks : BlocksLie pay) (sc : Scene) (p : Enclosing) (s : Spot) (i : ℕ) (x : Command) (d n : ℕ) (c rest : List Stmt) → Doing sc p d → SoundDone sc.bindings p s x → RegularCommand x → turns_in true x ≤ pay
       → ActLies pay sc p s i x d n c rest
   laid_act pay valofs blocks sc p s i t.empty d n c rest a h r m f k st = record {
     at = λ y. rest;
@@ -158,7 +158,7 @@ mutual
       record {
         at = done.at;
         lies = lie (passed sc.own d d (Label n) rest done.lies.on refl)
-            (bases_so (home sc pay) _ (λ g z x ns u. (n, c1, x.0 ns u, x.1 ns u, label_at g sc d n rest z.own done.lies.on)) (both_bases (home sc pay) i (objects e) (objects_of_action a0) (parts_if d (n + 1) ce) f _ _ le.objects_are done.lies.objects_are))
+            (bases_so (home sc pay) _ (λ g z x ns u. (n, c1, x.0 ns u, x.1 ns u, label_at g sc d n rest z.own done.lies.on)) (both_bases (home sc pay) i (objects e) (objects_of_command a0) (parts_if d (n + 1) ce) f _ _ le.objects_are done.lies.objects_are))
             (λ q. let u = le.paid q in let w = done.lies.paid q in omega (arith, u, w));
         finds = record { labels = fd.labels; chosen = fd.chosen; others = fd.others; default = fd.default; no_default = fd.no_default };
       }
@@ -179,7 +179,7 @@ mutual
       let le = laid_code pay valofs sc p s i (jumps false n) e d (n + 2) c c1 a.around h.0 r.0 (omega arith) (found_front sc.own sc.targets (parts_if d (n + 2) ce) _ fe) k1 st in
       let dx = laid_act pay valofs blocks sc p s1 (i + objects e) x d nx c1 (Jump (n + 1) ∷ Label n ∷ c2) a h.1 r.1 (omega arith) (found_back sc.own sc.targets (parts_if d (n + 2) ce) _ fe) refl le.on in
       let sn = passed sc.own d d (Jump (n + 1)) (Label n ∷ c2) dx.lies.on refl in
-      let dy = laid_act pay valofs blocks sc p s2 (i + objects e + objects_of_action x) y d ny c2 (Label (n + 1) ∷ rest) a h.2 r.2 (omega arith) (found_back sc.own sc.targets (parts_if d (n + 2) ce ++ parts_in d nx kx) _ f) refl
+      let dy = laid_act pay valofs blocks sc p s2 (i + objects e + objects_of_command x) y d ny c2 (Label (n + 1) ∷ rest) a h.2 r.2 (omega arith) (found_back sc.own sc.targets (parts_if d (n + 2) ce ++ parts_in d nx kx) _ f) refl
       (passed sc.own d d (Label n) c2 sn refl) in
       record {
         at = λ z. cond (stands_in z (known sc.bindings) x) (dx.at z) (dy.at z);
@@ -197,7 +197,7 @@ mutual
               label_at g sc d n c2 z.own sn,
               label_at g sc d (n + 1) rest z.own dy.lies.on,
               (λ w0. ap (λ q0. cond q0 (dx.at w0) (dy.at w0)) (sym (stands_agree w0 ns sc.bindings i u x))),
-            )) (three_bases (home sc pay) i (objects e) (objects_of_action x) (objects_of_action y) (parts_if d (n + 2) ce) (parts_in d nx kx) f _ _ _ le.objects_are dx.lies.objects_are dy.lies.objects_are))
+            )) (three_bases (home sc pay) i (objects e) (objects_of_command x) (objects_of_command y) (parts_if d (n + 2) ce) (parts_in d nx kx) f _ _ _ le.objects_are dx.lies.objects_are dy.lies.objects_are))
             (λ q. let u = le.paid q in let w = dx.lies.paid q in let o = dy.lies.paid q in omega (arith, u, w, o));
         finds = finds_both sc.own sc.targets sc.bindings d _ _ _ _ _ _ dx.at dy.at dx.finds dy.finds;
       }
@@ -235,7 +235,7 @@ mutual
               label_at g sc d (n + 1) body z.own s0,
               label_at g sc d (n + 2) rest z.own le.on,
               (let te = of_light e in let ta = in_light a0 in omega (arith, pays, m, te, ta)),
-            )) (both_bases (home sc pay) i (objects e) (objects_of_action a0) (parts_if d (n + 3) ce) f _ _ le.objects_are done.lies.objects_are))
+            )) (both_bases (home sc pay) i (objects e) (objects_of_command a0) (parts_if d (n + 3) ce) f _ _ le.objects_are done.lies.objects_are))
             (λ q. let u = le.paid q in let w = done.lies.paid q in let e0 = ap (data_at sc.own q) k1 in omega (arith, u, w, e0));
         finds = record { labels = fd.labels; chosen = fd.chosen; others = fd.others; default = fd.default; no_default = fd.no_default };
       }
@@ -283,7 +283,7 @@ mutual
       let lc = alone_lies pay inside (i + objects a1 + objects b1) a0 (d + 2) nc kc body (Label (n + 2) ∷ next) (u0.number + 1) p.procedure a.around.same (let tx = in_light a0 in omega (arith, tx, m)) done in
       let mine : b.Variable p.procedure p.depth ≡ b.Variable sc.procedure d = ap₂ b.Variable a.around.same a.around.at in
       let i1 = i + objects a1 + objects b1 in
-      let lv = subst (λ z. Lies (record (home sc pay) { bindings = bind x.letters z sc.bindings }) i1 (objects_of_action a0) (d + 2) body (Label (n + 2) ∷ next) (parts_in (d + 2) nc kc) fb (λ ns. of_action (in_scope a0 (with_names ns i1)) a0)
+      let lv = subst (λ z. Lies (record (home sc pay) { bindings = bind x.letters z sc.bindings }) i1 (objects_of_command a0) (d + 2) body (Label (n + 2) ∷ next) (parts_in (d + 2) nc kc) fb (λ ns. of_command (in_scope a0 (with_names ns i1)) a0)
       (InNames (bind x.letters z sc.bindings) i1 (λ g env. IsAlone g (record (in_loop (n + 2) (n + 3) (d + 2) sc) { bindings = bind x.letters z sc.bindings }) (d + 2) env a0 (u0.number + 1) body (Label (n + 2) ∷ next)))) mine lc in
       let foreign_first : List Named → List Named = λ ns. record { name = x.letters; sense = foreign } ∷ ns in
       let bv = bases_under (home sc pay) (bind x.letters (b.Variable sc.procedure d) sc.bindings) foreign_first
@@ -317,7 +317,7 @@ mutual
               on1.shallow,
               (let tc = in_light a0 in omega (arith, pays, m, tc)),
               step_small sc.bindings a.around.words h1 r.2 h.2,
-            )) (three_bases (home sc pay) i (objects a1) (objects b1) (objects_of_action a0) (parts d na ta) (parts (d + 1) nb tb) f _ _ _ la.objects_are lb.objects_are bv))
+            )) (three_bases (home sc pay) i (objects a1) (objects b1) (objects_of_command a0) (parts d na ta) (parts (d + 1) nb tb) f _ _ _ la.objects_are lb.objects_are bv))
             (λ q. let u = la.paid q in let v = lb.paid q in let o = lv.paid q in let e0 = ap (data_at sc.own q) k1 in omega (arith, u, v, o, e0));
         finds = finds_nothing sc.own sc.targets sc.bindings d _;
       }
@@ -353,7 +353,7 @@ mutual
                   (sym (stands_agree the_default ns sc.bindings (i + objects e) u a0) ∙ e1)),
               (λ v e0 e1. switch_none sc.own sc.targets sc.bindings d n _ _ _ done.at v done.finds (sym (stands_agree (the_case (Some v)) ns sc.bindings (i + objects e) u a0) ∙ e0)
                   (sym (stands_agree the_default ns sc.bindings (i + objects e) u a0) ∙ e1)),
-            )) (both_bases (home sc pay) i (objects e) (objects_of_action a0) (parts d (n + 1) te) f _ _ le.objects_are done.lies.objects_are))
+            )) (both_bases (home sc pay) i (objects e) (objects_of_command a0) (parts d (n + 1) te) f _ _ le.objects_are done.lies.objects_are))
             (λ q. let u = le.paid q in let w = done.lies.paid q in omega (arith, u, w));
         finds = record { labels = done.finds.labels; chosen = λ v more z e0. absurd (false≢true e0); others = λ v more z e0. refl; default = λ e0. absurd (false≢true e0); no_default = λ e0. refl };
       }
@@ -369,15 +369,15 @@ mutual
   laid_act pay valofs blocks sc p s i (t.simple l x) d n c rest a h r m f k st = simple_lies pay sc p s i l x d n c rest a h f k st
   laid_act pay valofs blocks sc p s i (t.block l t.no_declarations cs) d n c rest a h r m f k st =
       let none : n + 0 ≡ n = omega arith in
-      let same_number : objects_of_actions cs ≡ 0 + objects_of_actions cs = omega arith in
+      let same_number : objects_of_commands cs ≡ 0 + objects_of_commands cs = omega arith in
       let ks = commands_named sc.bindings p s cs in
-      let all = subst (λ x. (g : FoundParts sc.own sc.targets (parts_through d x ks)) → (at1 : Sought → List Stmt) × Lies (home sc pay) i (objects_of_actions cs) d c rest (parts_through d x ks) g (λ ns. of_actions (with_names ns i) cs)
+      let all = subst (λ x. (g : FoundParts sc.own sc.targets (parts_through d x ks)) → (at1 : Sought → List Stmt) × Lies (home sc pay) i (objects_of_commands cs) d c rest (parts_through d x ks) g (λ ns. of_commands (with_names ns i) cs)
       (InNames sc.bindings i (λ setting env. AreActs setting sc d env cs at1 c rest)) × FindsEach sc.own sc.targets sc.bindings d cs n ks at1) (sym none)
       (λ g. let o = laid_acts pay valofs blocks sc p s i cs d n c rest a h r.1 (omega arith) g k st in (o.at, o.lies, o.finds)) f in
       let fd = all.2 in
       record {
         at = all.0;
-        lies = lie all.1.on (subst (λ y. Bases (home sc pay) i y (parts_through d (n + 0) ks) f (λ ns. of_actions (with_names ns i) cs) all.1.credit (InNames sc.bindings i (λ g env. AreActs g sc d env cs all.0 c rest))) same_number all.1.objects_are)
+        lies = lie all.1.on (subst (λ y. Bases (home sc pay) i y (parts_through d (n + 0) ks) f (λ ns. of_commands (with_names ns i) cs) all.1.credit (InNames sc.bindings i (λ g env. AreActs g sc d env cs all.0 c rest))) same_number all.1.objects_are)
             (λ q. let u = all.1.paid q in omega (arith, u));
         finds = record { labels = fd.labels; chosen = fd.chosen; others = fd.others; default = fd.default; no_default = fd.no_default };
       }
@@ -415,7 +415,7 @@ mutual
       let s0 = written sc.own d c (Label n ∷ body) k1 st in
       let done = laid_act pay valofs blocks inside p1 s i a0 d (n + 3) body (Label (n + 1) ∷ test) (doing_loop sc p d (n + 1) (n + 2) d a) h.0 r.0 (omega arith) (found_front sc.own sc.targets (parts_in d (n + 3) k0) _ f) refl
       (passed sc.own d d (Label n) body s0 refl) in
-      let le = laid_code pay valofs sc p s1 (i + objects_of_action a0) (jumps v n) e d ne test (Label (n + 2) ∷ rest) a.around h.1 r.1 (omega arith) (found_back sc.own sc.targets (parts_in d (n + 3) k0) _ f) refl
+      let le = laid_code pay valofs sc p s1 (i + objects_of_command a0) (jumps v n) e d ne test (Label (n + 2) ∷ rest) a.around h.1 r.1 (omega arith) (found_back sc.own sc.targets (parts_in d (n + 3) k0) _ f) refl
       (passed sc.own d d (Label (n + 1)) test done.lies.on refl) in
       let fd = done.finds in
       record {
@@ -434,15 +434,15 @@ mutual
               label_at g sc d (n + 1) test z.own done.lies.on,
               label_at g sc d (n + 2) rest z.own le.on,
               (let te = of_light e in let ta = in_light a0 in omega (arith, pays, m, te, ta)),
-            )) (both_bases (home sc pay) i (objects_of_action a0) (objects e) (parts_in d (n + 3) k0) f _ _ done.lies.objects_are le.objects_are))
+            )) (both_bases (home sc pay) i (objects_of_command a0) (objects e) (parts_in d (n + 3) k0) f _ _ done.lies.objects_are le.objects_are))
             (λ q. let u = le.paid q in let w = done.lies.paid q in let e0 = ap (data_at sc.own q) k1 in omega (arith, u, w, e0));
         finds = record { labels = fd.labels; chosen = fd.chosen; others = fd.others; default = fd.default; no_default = fd.no_default };
       }
 
-  pub laid_acts : (pay : ℕ) (valofs : ValofsLie pay) (blocks : BlocksLie pay) (sc : Scene) (p : Enclosing) (s : Spot) (i : ℕ) (cs : Actions) (d n : ℕ) (c rest : List Stmt) → Doing sc p d → SoundDoneEach sc.bindings p s cs → RegularActions cs → turns_through true cs ≤ pay
+  pub laid_acts : (pay : ℕ) (valofs : ValofsLie pay) (blocks : BlocksLie pay) (sc : Scene) (p : Enclosing) (s : Spot) (i : ℕ) (cs : Commands) (d n : ℕ) (c rest : List Stmt) → Doing sc p d → SoundDoneEach sc.bindings p s cs → RegularCommands cs → turns_through true cs ≤ pay
       → (f : FoundParts sc.own sc.targets (parts_through d n (commands_named sc.bindings p s cs))) → c ≡ through_code sc.targets sc.around d n (commands_named sc.bindings p s cs) ++ rest → StandsAt sc.own d c
       → DoneEach pay sc i cs d n (commands_named sc.bindings p s cs) c rest f
-  laid_acts pay valofs blocks sc p s i t.no_actions d n c rest a h r m f k st = record {
+  laid_acts pay valofs blocks sc p s i t.no_commands d n c rest a h r m f k st = record {
     at = λ y. rest;
     lies = lie (written sc.own d c rest k st) (no_bases (home sc pay) i _ (λ g y ns u. k)) (λ q. let e0 = ap (data_at sc.own q) k in omega (arith, e0));
     finds = record { labels = λ x e0. absurd (false≢true e0); chosen = λ v more z e0. absurd (false≢true e0); others = λ v more z e0. refl; default = λ e0. absurd (false≢true e0); no_default = λ e0. refl };
@@ -455,12 +455,12 @@ mutual
       let codes = through_code sc.targets sc.around d (n + labels_in k0) ks in
       let c1 = codes ++ rest in
       let dx = laid_act pay valofs blocks sc p s i x d n c c1 a h.0 r.0 (omega arith) (found_front sc.own sc.targets (parts_in d n k0) _ f) (joined_two code codes rest c k) st in
-      let ds = laid_acts pay valofs blocks sc p s1 (i + objects_of_action x) cs d (n + labels_in k0) c1 rest a h.1 r.1 (omega arith) (found_back sc.own sc.targets (parts_in d n k0) _ f) refl dx.lies.on in
+      let ds = laid_acts pay valofs blocks sc p s1 (i + objects_of_command x) cs d (n + labels_in k0) c1 rest a h.1 r.1 (omega arith) (found_back sc.own sc.targets (parts_in d n k0) _ f) refl dx.lies.on in
       record {
         at = λ z. cond (stands_in z (known sc.bindings) x) (dx.at z) (ds.at z);
         lies = lie ds.lies.on
             (bases_so (home sc pay) _ (λ g z v ns u. (c1, dx.at, ds.at, v.0 ns u, v.1 ns u, (λ w0. ap (λ q0. cond q0 (dx.at w0) (ds.at w0)) (sym (stands_agree w0 ns sc.bindings i u x)))))
-            (both_bases (home sc pay) i (objects_of_action x) (objects_of_actions cs) (parts_in d n k0) f _ _ dx.lies.objects_are ds.lies.objects_are))
+            (both_bases (home sc pay) i (objects_of_command x) (objects_of_commands cs) (parts_in d n k0) f _ _ dx.lies.objects_are ds.lies.objects_are))
             (λ q. let u = dx.lies.paid q in let w = ds.lies.paid q in omega (arith, u, w));
         finds = finds_both sc.own sc.targets sc.bindings d _ _ _ _ _ _ dx.at ds.at dx.finds ds.finds;
       }
@@ -468,11 +468,11 @@ mutual
 -- ---- A VALOF is laid where the scheme puts it, where lighter forms are.
 
 -- a VALOF, whose body weighs less
-pub valof_lies : (pay : ℕ) (valofs : ValofsLie pay) (blocks : BlocksLie pay) (sc : Scene) (p : Enclosing) (s : Spot) (i : ℕ) (aim : Aim) (l : ℕ) (x : Action) (d n : ℕ) (c rest : List Stmt) → Around sc p d
+pub valof_lies : (pay : ℕ) (valofs : ValofsLie pay) (blocks : BlocksLie pay) (sc : Scene) (p : Enclosing) (s : Spot) (i : ℕ) (aim : Aim) (l : ℕ) (x : Command) (d n : ℕ) (c rest : List Stmt) → Around sc p d
     → Sound (role aim) sc.bindings p s (t.valof l x) → Regular (t.valof l x) → turns_of true (t.valof l x) ≤ suc pay
     → CodeLies pay sc p s i aim (t.valof l x) d n c rest
 valof_lies pay valofs blocks sc p s i aim l x d n c rest a h r m f k st =
-    plain_laid pay sc p s i d n aim (t.valof l x) (objects_of_action x) c rest _ refl (λ f1 k1.
+    plain_laid pay sc p s i d n aim (t.valof l x) (objects_of_command x) c rest _ refl (λ f1 k1.
     let s1 : Spot = spot.onward 1 (1 + length (labels_of x)) s in
     let p1 : Enclosing = place.labelled s.number (place.valued p) in
     let inside : Scene = in_valof n sc in

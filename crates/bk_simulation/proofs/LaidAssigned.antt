@@ -1,6 +1,6 @@
 -- What the static side of commands needs: which exits there are, where labels, CASEs and DEFAULTs are found, and scopes. An assignment is laid where the
 -- scheme puts it: its values, and where they are stored, by turns.
-use Rattle.bk_simulation.proofs.Words.{◌≡◌, ℕ, suc, ◌+◌, ◌<◌, ◌≤◌, ◌^◌, ◌==◌, Bool, true, false, ◌||◌, List, [], ◌∷◌, ◌++◌, length, Option, Some, None, cond, refl, sym, ap, ◌∙◌, subst, arith, append_assoc, append-nil, drop, if◌then◌else◌, eqb-true, eq-eqb, ne_eqb, false≢true, bytes_eq-Decides, bytes_eq, signed, Expressions, Action, Actions, Enclosing, Binding, bound_in, bind, labels_of, labels_of_each, labels_in_scope, GoesTo, Placed, from_label, case_label, Case, Stmt, Label, label_has_one_place, Goal, Target, Command, Commands, meant, worth, target_of_label, goal_in, cases, cases_through, default_in, default_through, first_of, label_or, Named, Sense, label, bind_each, labelled, objects_of_each, objects_of_action, objects_of_actions, Sought, the_label, the_case, the_default, same_place, stands_in, stands_in_one, alone, AllFound, of_each, of_action, of_actions, in_scope, FRAME_WORDS, line_of, size, Destination, deeper, SoundEach, SoundDestinations, Spot, labels, labels_at, term_named, terms_named, lvalue_named, lvalues_named, parts, parts_at, parts_onto, parts_from, value_code, store_code, value_codes, store_codes, by_turns, objects, of_expression, Part, parts_in, parts_through, or_parts, RegularEach}
+use Rattle.bk_simulation.proofs.Words.{◌≡◌, ℕ, suc, ◌+◌, ◌<◌, ◌≤◌, ◌^◌, ◌==◌, Bool, true, false, ◌||◌, List, [], ◌∷◌, ◌++◌, length, Option, Some, None, cond, refl, sym, ap, ◌∙◌, subst, arith, append_assoc, append-nil, drop, if◌then◌else◌, eqb-true, eq-eqb, ne_eqb, false≢true, bytes_eq-Decides, bytes_eq, signed, Expressions, Command, Commands, Enclosing, Binding, bound_in, bind, labels_of, labels_of_each, labels_in_scope, GoesTo, Placed, from_label, case_label, Case, Stmt, Label, label_has_one_place, Goal, Target, NamedCommand, NamedCommands, meant, worth, target_of_label, goal_in, cases, cases_through, default_in, default_through, first_of, label_or, Named, Sense, label, bind_each, labelled, objects_of_each, objects_of_command, objects_of_commands, Sought, the_label, the_case, the_default, same_place, stands_in, stands_in_one, alone, AllFound, of_each, of_command, of_commands, in_scope, FRAME_WORDS, at_expression, size, Destination, deeper, SoundEach, SoundDestinations, Spot, labels, labels_at, term_named, terms_named, lvalue_named, lvalues_named, parts, parts_at, parts_onto, parts_from, value_code, store_code, value_codes, store_codes, by_turns, objects, of_expression, Part, parts_in, parts_through, or_parts, RegularEach}
 use Rattle.bk_simulation.proofs.Forms.{words_bound, turns_in, turns_among, same_number, with_names, label_stands, Scene, in_loop, in_switch, owning, Stretch, ByTurns, AreFrom, AreStores, AreActs, IsAct, IsAlone, pushes, IsCode, IsStore, labels_named, Agree, agree_bound, there_in, bases_under, bases_of, StandsAt, first_of as first_at, home, Bases, bases_so, Lies, written, no_bases, both_bases, lie, data_at, FoundParts, found_front, found_back, HasWords, Around, known, InNames, around_deeper, joined_three}
 use Rattle.bk_simulation.proofs.LaidValues.{ValofsLie, laid_code, laid_store}
 use Rattle.bk_scope.specs.declared.bound.Bound.TheVariants as b
@@ -27,10 +27,10 @@ pub record Findable (own : Placed) (ts : List Target) (bs : List Binding) (d : �
   pub default : stands the_default ≡ true → (l : ℕ) × (other ≡ Some l) × (from_label own.stmts l ≡ Some (at the_default))
   pub no_default : stands the_default ≡ false → other ≡ None
 
-abbrev pub Finds : Placed → List Target → List Binding → ℕ → Action → ℕ → Command → (Sought → List Stmt) → Type 0
+abbrev pub Finds : Placed → List Target → List Binding → ℕ → Command → ℕ → NamedCommand → (Sought → List Stmt) → Type 0
 Finds own ts bs d a n k at = Findable own ts bs d (λ s. stands_in s (known bs) a) (cases n k) (default_in n k) at
 
-abbrev pub FindsEach : Placed → List Target → List Binding → ℕ → Actions → ℕ → Commands → (Sought → List Stmt) → Type 0
+abbrev pub FindsEach : Placed → List Target → List Binding → ℕ → Commands → ℕ → NamedCommands → (Sought → List Stmt) → Type 0
 FindsEach own ts bs d a n k at = Findable own ts bs d (λ s. stands_in_one s (known bs) a) (cases_through n k) (default_through n k) at
 
 pub finds_nothing : (own : Placed) (ts : List Target) (bs : List Binding) (d : ℕ) (at : Sought → List Stmt) → Findable own ts bs d (λ s. false) [] None at
@@ -43,15 +43,15 @@ finds_nothing own ts bs d at = record {
 }
 
 -- A command that is laid, and its places.
-pub record Done (pay : ℕ) (sc : Scene) (i : ℕ) (a : Action) (d n : ℕ) (k : Command) (c rest : List Stmt) (f : FoundParts sc.own sc.targets (parts_in d n k)) : Type 0 where
+pub record Done (pay : ℕ) (sc : Scene) (i : ℕ) (a : Command) (d n : ℕ) (k : NamedCommand) (c rest : List Stmt) (f : FoundParts sc.own sc.targets (parts_in d n k)) : Type 0 where
   pub at : Sought → List Stmt
-  pub lies : Lies (home sc pay) i (objects_of_action a) d c rest (parts_in d n k) f (λ ns. of_action (with_names ns i) a) (InNames sc.bindings i (λ g env. IsAct g sc d env a at c rest))
+  pub lies : Lies (home sc pay) i (objects_of_command a) d c rest (parts_in d n k) f (λ ns. of_command (with_names ns i) a) (InNames sc.bindings i (λ g env. IsAct g sc d env a at c rest))
   pub finds : Finds sc.own sc.targets sc.bindings d a n k at
 
 -- commands in order
-pub record DoneEach (pay : ℕ) (sc : Scene) (i : ℕ) (a : Actions) (d n : ℕ) (k : Commands) (c rest : List Stmt) (f : FoundParts sc.own sc.targets (parts_through d n k)) : Type 0 where
+pub record DoneEach (pay : ℕ) (sc : Scene) (i : ℕ) (a : Commands) (d n : ℕ) (k : NamedCommands) (c rest : List Stmt) (f : FoundParts sc.own sc.targets (parts_through d n k)) : Type 0 where
   pub at : Sought → List Stmt
-  pub lies : Lies (home sc pay) i (objects_of_actions a) d c rest (parts_through d n k) f (λ ns. of_actions (with_names ns i) a) (InNames sc.bindings i (λ g env. AreActs g sc d env a at c rest))
+  pub lies : Lies (home sc pay) i (objects_of_commands a) d c rest (parts_through d n k) f (λ ns. of_commands (with_names ns i) a) (InNames sc.bindings i (λ g env. AreActs g sc d env a at c rest))
   pub finds : FindsEach sc.own sc.targets sc.bindings d a n k at
 
 -- values and where they are stored, by turns
@@ -211,9 +211,9 @@ names_bound [] m ns i = refl
 names_bound (x ∷ xs) m ns i = names_bound xs m (record { name = x; sense = m } ∷ ns) i
 
 -- one command as a scope of its own
-pub alone_lies : (pay : ℕ) (sc : Scene) (i : ℕ) (a : Action) (d n : ℕ) (k : Command) (c rest : List Stmt) (j q : ℕ) {f : FoundParts sc.own sc.targets (parts_in d n k)} → q ≡ sc.procedure → turns_in false a ≤ pay
+pub alone_lies : (pay : ℕ) (sc : Scene) (i : ℕ) (a : Command) (d n : ℕ) (k : NamedCommand) (c rest : List Stmt) (j q : ℕ) {f : FoundParts sc.own sc.targets (parts_in d n k)} → q ≡ sc.procedure → turns_in false a ≤ pay
     → Done pay (record sc { bindings = labels_in_scope q j (labels_of a) sc.bindings }) i a d n k c rest f
-    → Lies (home sc pay) i (objects_of_action a) d c rest (parts_in d n k) f (λ ns. of_action (in_scope a (with_names ns i)) a) (InNames sc.bindings i (λ g env. IsAlone g sc d env a j c rest))
+    → Lies (home sc pay) i (objects_of_command a) d c rest (parts_in d n k) f (λ ns. of_command (in_scope a (with_names ns i)) a) (InNames sc.bindings i (λ g env. IsAlone g sc d env a j c rest))
 alone_lies pay sc i a d n k c rest j q {f} same size done =
     let done1 = subst (λ x. Done pay (record sc { bindings = labels_in_scope x j (labels_of a) sc.bindings }) i a d n k c rest f) same done in
     let done2 = subst (λ x. Done pay (record sc { bindings = labels_in_scope sc.procedure j x sc.bindings }) i a d n k c rest f) (sym (append-nil (labels_of a))) done1 in
@@ -222,7 +222,7 @@ alone_lies pay sc i a d n k c rest j q {f} same size done =
     let h = home sc pay in
     let inside = bases_under h within.bindings (λ ns. (bind_each xs label (with_names ns 0)).names)
     (λ g some z ns u v. ((agree_labels sc.procedure j xs ns sc.bindings 0 u).0, (λ k bases frame grown. record { each = (labels_named xs (there_in h sc.procedure) (with_names ns 0) bases frame j (v sc.procedure bases frame grown)).each }))) done2.lies.objects_are in
-    let said = bases_of h _ (λ ns. of_action (in_scope a (with_names ns i)) a) (λ ns. ap (λ e. of_action e a) (sym (names_bound xs label ns i))) inside in
+    let said = bases_of h _ (λ ns. of_command (in_scope a (with_names ns i)) a) (λ ns. ap (λ e. of_command e a) (sym (names_bound xs label ns i))) inside in
     lie done2.lies.on
     (bases_so h _ (λ g fit v ns u.
     let env = with_names ns i in
@@ -302,6 +302,6 @@ pub laid_stores : (pay : ℕ) (valofs : ValofsLie pay) (sc : Scene) (p : Enclosi
 laid_stores pay valofs sc p s i t.none d n a h r m f = tt
 laid_stores pay valofs sc p s i (t.more x xs) d n a h r m f =
     let lx = lvalue_named sc.bindings (deeper 1 p) s x in (
-      (λ c c1 low e0 st. laid_store pay valofs sc (deeper 1 p) s i (Destination false (line_of x)) x d n c c1 (around_deeper sc p d 1 (d + 1) refl low a) h.0 h.1 r.0 (omega arith) (found_front sc.own sc.targets (parts_at (d + 1) n lx) _ f) e0 st),
+      (λ c c1 low e0 st. laid_store pay valofs sc (deeper 1 p) s i (Destination false (at_expression x)) x d n c c1 (around_deeper sc p d 1 (d + 1) refl low a) h.0 h.1 r.0 (omega arith) (found_front sc.own sc.targets (parts_at (d + 1) n lx) _ f) e0 st),
       laid_stores pay valofs sc p (spot.behind x s) (i + objects x) xs d (n + labels_at lx) a h.2 r.1 (omega arith) (found_back sc.own sc.targets (parts_at (d + 1) n lx) _ f),
     )

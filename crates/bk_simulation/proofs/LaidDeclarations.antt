@@ -1,5 +1,5 @@
 -- Declarations are laid where the scheme puts them, before what is laid in their scope: MANIFEST, STATIC, GLOBAL and LET.
-use Rattle.bk_simulation.proofs.Words.{declared-next, Part, static_item, term_named, parts, ◌≡◌, ℕ, ◌+◌, ◌<◌, ◌≤◌, Bool, true, false, List, [], ◌∷◌, ◌++◌, cond, refl, sym, ap, ◌∙◌, subst, arith, append_assoc, length, Option, Some, None, le-ltb, suc, ◌^◌, slice_get, Sort, Items, Declaration, Declarations, Definitions, Expression, Starts, Enclosing, Binding, bind_all, bound_in, procedures_in_scope, manifests_in_scope, statics_in_scope, globals_in_scope, place_behind_defined, scope_behind_one, place_behind_one, scope_behind, place_behind_all, labels_in_scope, SoundDeclared, SoundOneDeclared, SoundStarted, SoundDefined, HasWord, StaticsSound, Spot, procedures_in, behind_one_declared, Stmt, Store, Address, Stack, DataLabel, DataNumber, behind_definitions, behind_declaration, behind_declarations, has_variables, behind_starts, labels_of_declaration, labels, labels_of_procedure, labels_of_definition, definitions_named, declaration_named, declarations_named, meant, worth, starts_named, definition_named, statics_named, parts_of_definitions, parts_of_declaration, parts_of_declarations, parts_of_starts, parts_of_definition, parts_of_items, outermost, definitions_code, declaration_code, declarations_code, value_code, starts_code, goal, goal_of, Around as Surroundings, Named, Environment, bind_procedures, within_let, objects_of_definitions, objects_of_declaration, objects_of_declarations, objects, objects_of_action, objects_of_starts, count, constant_in, Lasting, declared, all_declared, of_items, of_declaration, of_declarations, of_definitions, of_starts, command, expression, words, static_words, VEC_NUMBER, constant_word, labels_of, with_formals, within, words_of_vector, words_of_start, place_behind, deeper, Local, unwrap_or, signed, Placed, item_words, Goal, first_bytes, EndProcedure, Return, ReturnItem, command_code, foreign, letters, bind_formals, false≢true, of_action, in_scope, of_expression, bind_each, procedure_code, command_named, parts_in, same_defined, RegularItems, RegularDeclaration, RegularDeclarations, RegularDefinitions, RegularStarts, Regular, inl, inr, bind, is_global, procedure_in_scope, Target, behind_definition, target_of_word, AllFound, AmongProcedures, Looked, look_procedure}
+use Rattle.bk_simulation.proofs.Words.{declared-next, Part, static_item, term_named, parts, ◌≡◌, ℕ, ◌+◌, ◌<◌, ◌≤◌, Bool, true, false, List, [], ◌∷◌, ◌++◌, cond, refl, sym, ap, ◌∙◌, subst, arith, append_assoc, length, Option, Some, None, le-ltb, suc, ◌^◌, slice_get, Sort, Items, Declaration, Declarations, Definitions, Expression, Starts, Enclosing, Binding, bind_all, bound_in, procedures_in_scope, manifests_in_scope, statics_in_scope, globals_in_scope, place_behind_defined, scope_behind_one, place_behind_one, scope_behind, place_behind_all, labels_in_scope, SoundDeclared, SoundOneDeclared, SoundStarted, SoundDefined, HasWord, StaticsSound, Spot, procedures_in, behind_one_declared, Stmt, Store, Address, Stack, DataLabel, DataNumber, behind_definitions, behind_declaration, behind_declarations, has_variables, behind_starts, labels_of_declaration, labels, labels_of_procedure, labels_of_definition, definitions_named, declaration_named, declarations_named, meant, worth, starts_named, definition_named, statics_named, parts_of_definitions, parts_of_declaration, parts_of_declarations, parts_of_starts, parts_of_definition, parts_of_items, outermost, definitions_code, declaration_code, declarations_code, value_code, starts_code, goal, goal_of, Around as Surroundings, Named, Environment, bind_procedures, within_let, objects_of_definitions, objects_of_declaration, objects_of_declarations, objects, objects_of_command, objects_of_starts, count, constant_in, Lasting, declared, all_declared, of_items, of_declaration, of_declarations, of_definitions, of_starts, command, expression, words, static_words, VEC_NUMBER, constant_word, labels_of, with_formals, within, words_of_vector, words_of_start, place_behind, deeper, Local, unwrap_or, signed, Placed, item_words, Goal, first_bytes, EndProcedure, Return, ReturnItem, command_code, foreign, letters, bind_formals, false≢true, of_command, in_scope, of_expression, bind_each, procedure_code, command_named, parts_in, same_defined, RegularItems, RegularDeclaration, RegularDeclarations, RegularDefinitions, RegularStarts, Regular, inl, inr, bind, is_global, procedure_in_scope, Target, behind_definition, target_of_word, AllFound, AmongProcedures, Looked, look_procedure}
 use Rattle.bk_simulation.proofs.Forms.{turns_one_declared, turns_declared, turns_defined, turns_started, of_light, in_light, with_names, Setting, Scene, Exits, Spot as Slot, NamedIn, defines_variables, variables_bound, Renames, IsOneDeclared, AreDeclared, AreDefined, pushes, AreStarts, IsCode, IsAlone, Agree, there_in, StandsAt, passed, written, Home, home, Bases, no_bases, bases_so, bases_of, bases_under, bases_some, Lies, both_bases, new_base, then_bases, lie, bases_within, data_at, FoundParts, found_front, found_back, DataIn, data_within, within_at, HasWords, Around, InNames, joined_two, around_deeper, constants_agree, words_manifests, words_statics, words_globals, words_procedures, BaseOf, constant_small, InData}
 use Rattle.bk_simulation.proofs.LaidAssigned.{Doing, words_labels, alone_lies, names_bound}
 use Rattle.bk_simulation.proofs.Renamed.{static_places, AreBases, renames_manifests, renames_statics, renames_globals, AreProcedures, from_spots, spots_in, variables_in, spots_words, renames_procedures, renames_variables, bound_agree, next_bound, foreign_spots, foreign_agree, foreign_mean, hidden_are, slots_of, itself}
@@ -19,7 +19,7 @@ abbrev pub WordsBased : List ℕ → Placed → List Binding → Enclosing → S
 WordsBased all own bs p s i n t.no_definitions = Unit {0}
 WordsBased all own bs p s i n (t.define (t.routine l x fs c) ds) =
     BaseOf all i (word_base own n (meant (bound_in bs x)))
-    × WordsBased all own bs p (spot.behind_one_defined (t.routine l x fs c) s) (i + (1 + objects_of_action c)) (n + labels_of_definition (definition_named bs p s (t.routine l x fs c))) ds
+    × WordsBased all own bs p (spot.behind_one_defined (t.routine l x fs c) s) (i + (1 + objects_of_command c)) (n + labels_of_definition (definition_named bs p s (t.routine l x fs c))) ds
 WordsBased all own bs p s i n (t.define (t.function l x fs e) ds) =
     BaseOf all i (word_base own n (meant (bound_in bs x)))
     × WordsBased all own bs p (spot.behind_one_defined (t.function l x fs e) s) (i + (1 + objects e)) (n + labels_of_definition (definition_named bs p s (t.function l x fs e))) ds
@@ -87,7 +87,7 @@ procedures_based all own ts bs bl p s i n m d (t.define (t.routine l x fs c) ds)
     let looked = subst (λ z. Looked (bound_in z x) (bound_in bs1 x) (AmongProcedures x ds) (λ j. b.Static j)) e (look_procedure (n + 1) ds bs1 x) in (
       one_word all own ts bs bl i n m x ds (is_global (bound_in bs x)) looked f.0.0
           (λ j is among. later_on ts (m + labels_of_procedure (meant (bound_in bl x))) _ j (omega arith) (later_target own ts bl p s1 d (m + labels_of_definition one) j x ds is among others)) w.0,
-      procedures_based all own ts bs1 bl p s1 (i + (1 + objects_of_action c)) (n + 1) (m + labels_of_definition one) d ds e w.1 others,
+      procedures_based all own ts bs1 bl p s1 (i + (1 + objects_of_command c)) (n + 1) (m + labels_of_definition one) d ds e w.1 others,
     )
 procedures_based all own ts bs bl p s i n m d (t.define (t.function l x fs c) ds) e w f =
     let one = definition_named bl p s (t.function l x fs c) in
@@ -216,7 +216,7 @@ laid_defined pay valofs blocks sc p s i (t.define (t.routine l x fs a0) ds) d n 
     let codes = command_code sc.targets outermost depth first named in
     let tail = EndProcedure ∷ code.rest in
     let body = codes ++ (Return ∷ tail) in
-    let pl = body_lies pay sc.section sc.own sc.targets sc.bindings s.number fs (i + 1) (objects_of_action a0) (command a0) n (parts_in depth first named) {f = own_found.1} {C = λ q. data_within sc.own q (procedure_code sc.targets (procedure n one)) code.rest} code.depth (first_bytes x) codes Return _ code.rest refl code.stands (λ st3.
+    let pl = body_lies pay sc.section sc.own sc.targets sc.bindings s.number fs (i + 1) (objects_of_command a0) (command a0) n (parts_in depth first named) {f = own_found.1} {C = λ q. data_within sc.own q (procedure_code sc.targets (procedure n one)) code.rest} code.depth (first_bytes x) codes Return _ code.rest refl code.stands (λ st3.
     let few = st3.shallow in
     let doing : Doing within p2 depth = record {
       around = record { same = refl; at = omega (arith, few); words = words_labels s.number (s.number + 2) (labels_of a0) inner (words_formals s.number 2 fs sc.bindings a.words) };
@@ -232,11 +232,11 @@ laid_defined pay valofs blocks sc p s i (t.define (t.routine l x fs a0) ds) d n 
     let e = agree_formals s.number 2 o 0 fs ns sc.bindings (i + 1) above u in
     let env = bind_formals o 0 (letters fs) (with_names ns (i + 1)) in
     (s.number + 2, tail, subst (λ j. IsAlone g outer depth (with_names env.names j) a0 (s.number + 2) body (Return ∷ tail)) (sym e.1) (v env.names e.0)))
-    (bases_of (home sc pay) _ (λ ns. of_action (in_scope a0 (bind_each (letters fs) foreign (with_names ns (i + 1)))) a0) (λ ns. ap (λ y. of_action (in_scope a0 y) a0) (sym (names_bound (letters fs) foreign ns (i + 1))))
+    (bases_of (home sc pay) _ (λ ns. of_command (in_scope a0 (bind_each (letters fs) foreign (with_names ns (i + 1)))) a0) (λ ns. ap (λ y. of_command (in_scope a0 y) a0) (sym (names_bound (letters fs) foreign ns (i + 1))))
     (formals_around pay sc.section sc.own sc.targets sc.bindings s.number fs _ lies.objects_are)))) in
-    let own_bases = procedure_bases pay sc.section sc.own sc.targets sc.bindings s.number x fs i (objects_of_action a0) (command a0) n _ _ own_found pl h.0.0 refl own_found.0.2 (λ q. omega arith) in
-    let others = laid_defined pay valofs blocks sc p s1 (i + (1 + objects_of_action a0)) ds d (n + labels_of_definition one) c rest a h.1 r.1 (omega arith) (found_back sc.own sc.targets (parts_of_definition d n one) _ f) k st in
-    lie others.on (bases_so (home sc pay) _ (λ g y v. ((v.0, v.1.0), λ ns u. v.1.1 ns u)) (both_bases (home sc pay) i (1 + objects_of_action a0) (objects_of_definitions ds) (parts_of_definition d n one) f _ _ own_bases others.objects_are))
+    let own_bases = procedure_bases pay sc.section sc.own sc.targets sc.bindings s.number x fs i (objects_of_command a0) (command a0) n _ _ own_found pl h.0.0 refl own_found.0.2 (λ q. omega arith) in
+    let others = laid_defined pay valofs blocks sc p s1 (i + (1 + objects_of_command a0)) ds d (n + labels_of_definition one) c rest a h.1 r.1 (omega arith) (found_back sc.own sc.targets (parts_of_definition d n one) _ f) k st in
+    lie others.on (bases_so (home sc pay) _ (λ g y v. ((v.0, v.1.0), λ ns u. v.1.1 ns u)) (both_bases (home sc pay) i (1 + objects_of_command a0) (objects_of_definitions ds) (parts_of_definition d n one) f _ _ own_bases others.objects_are))
     (λ q. let u = others.paid q in omega (arith, u))
 laid_defined pay valofs blocks sc p s i (t.define (t.function l x fs e) ds) d n c rest a h r m f k st =
     let one = definition_named sc.bindings p s (t.function l x fs e) in

@@ -1,6 +1,6 @@
 -- What the static side of each form needs: codes for a value or a jump, what stands around code, and how parts are laid together. A call is laid where the
 -- scheme puts it, where its arguments and what it calls are.
-use Rattle.bk_simulation.proofs.Words.{◌≡◌, ℕ, ◌+◌, ◌<◌, ◌≤◌, ◌^◌, Bool, true, false, List, [], ◌∷◌, ◌++◌, Option, Some, None, cond, refl, sym, ap, ◌∙◌, subst, arith, append_assoc, bytes_eq, FRAME_WORDS, Operator, Expression, Expressions, Action, Bound, Enclosing, Role, Truth, Binding, bound_in, named_word, prefix_word, infix_word, constant_word, deeper, Spot, next_depth, Placed, Stmt, JumpIf, Monadic, Dyadic, LoadByte, Target, term_named, condition_named, Part, parts, parts_if, push, infix_code, truth_value, value_code, jump_code, Named, Sense, constant, label, Environment, sense_in, word_named, constant_in, Sought, the_case, same_place, stands_in, Lasting, size, Stack, labels, terms_named, parts_each, each_code, objects, objects_of_each, of_expression, of_each, option_and_then}
+use Rattle.bk_simulation.proofs.Words.{◌≡◌, ℕ, ◌+◌, ◌<◌, ◌≤◌, ◌^◌, Bool, true, false, List, [], ◌∷◌, ◌++◌, Option, Some, None, cond, refl, sym, ap, ◌∙◌, subst, arith, append_assoc, bytes_eq, FRAME_WORDS, Operator, Expression, Expressions, Command, Bound, Enclosing, Role, Truth, Binding, bound_in, named_word, prefix_word, infix_word, constant_word, deeper, Spot, next_depth, Placed, Stmt, JumpIf, Monadic, Dyadic, LoadByte, Target, term_named, condition_named, Part, parts, parts_if, push, infix_code, truth_value, value_code, jump_code, Named, Sense, constant, label, Environment, sense_in, word_named, constant_in, Sought, the_case, same_place, stands_in, Lasting, size, Stack, labels, terms_named, parts_each, each_code, objects, objects_of_each, of_expression, of_each, option_and_then}
 use Rattle.bk_simulation.proofs.Pieces.{with_names, Setting, Scene, Aim, pushes, jumps, ending, count, IsCode, AreValues, Agree, AgreeWords, stands_by}
 use Rattle.bk_simulation.proofs.Terms.{Value, Operator as o, Bound as b, Dyadic as two, Monadic as w}
 use Rattle.bk_simulation.proofs.Standing.{StandsAt, passed, Home, home, Fitting, no_bases, Lies, written, both_bases, bases_so, lie, lies_behind, data_at, FoundParts, found_front, found_back}
@@ -81,7 +81,7 @@ abbrev pub InNames : List Binding → ℕ → (Setting → Environment → Type 
 InNames bs next P setting = (ns : List Named) → Agree ns bs → P setting (with_names ns next)
 
 -- seeking finds the same where constants are the same
-pub stands_agree : (s : Sought) (ns : List Named) (bs : List Binding) (i : ℕ) → Agree ns bs → (c : Action) → stands_in s (with_names ns i) c ≡ stands_in s (known bs) c
+pub stands_agree : (s : Sought) (ns : List Named) (bs : List Binding) (i : ℕ) → Agree ns bs → (c : Command) → stands_in s (with_names ns i) c ≡ stands_in s (known bs) c
 stands_agree s ns bs i a c = stands_by s (with_names ns i) (known bs) (λ e. ap (λ y. same_place s (the_case y)) (constants_agree ns bs i a.0 e ∙ sym (constants_agree (names_of bs) bs 0 (known_agree bs) e))) c
 
 -- ---- expressions that have no jumps of their own

@@ -1,5 +1,5 @@
 -- Procedures are laid where the scheme puts them, where their bodies are: their ENTRY and SAVE, and what their formals are.
-use Rattle.bk_simulation.proofs.Words.{◌≡◌, ℕ, suc, ◌+◌, ◌-◌, ◌<◌, ◌≤◌, ◌^◌, false, List, [], ◌∷◌, ◌++◌, length, Option, Some, None, cond, refl, sym, ap, ap₂, ◌∙◌, subst, arith, slice_get, drop, bytes_eq-Decides, FRAME_WORDS, GLOBAL_NUMBER, Mention, Bound, Binding, bound_in, bind, with_formals, Callable, next_depth, depth_behind, Placed, global_place, Program, IsWellPlaced, item_words, Stmt, Entry, Save, EndProcedure, DataLabel, DataAddress, Target, meant, variable, outermost, procedure_code, word_code, Named, Sense, Environment, cell, foreign, bind_each, sense_in, global_named, letters, Body, command, expression, Lasting, code, of_action, of_expression, in_scope, bind_formals, Part, data_code, entries_of, entry_of, entry_setting, joined, map, map-append}
+use Rattle.bk_simulation.proofs.Words.{◌≡◌, ℕ, suc, ◌+◌, ◌-◌, ◌<◌, ◌≤◌, ◌^◌, false, List, [], ◌∷◌, ◌++◌, length, Option, Some, None, cond, refl, sym, ap, ap₂, ◌∙◌, subst, arith, slice_get, drop, bytes_eq-Decides, FRAME_WORDS, GLOBAL_NUMBER, Mention, Bound, Binding, bound_in, bind, with_formals, Callable, next_depth, depth_behind, Placed, global_place, Program, IsWellPlaced, item_words, Stmt, Entry, Save, EndProcedure, DataLabel, DataAddress, Target, meant, variable, outermost, procedure_code, word_code, Named, Sense, Environment, cell, foreign, bind_each, sense_in, global_named, letters, Body, command, expression, Lasting, code, of_command, of_expression, in_scope, bind_formals, Part, data_code, entries_of, entry_of, entry_setting, joined, map, map-append}
 use Rattle.bk_simulation.proofs.Forms.{words_bound, BaseOf, Codes, with_names, Setting, Scene, IsWord, NamedIn, bound_named, IsBody, InData, HeldWord, HeldList, Agree, SameGlobal, global_of, same_global, own_cell, agree_bound, settings, setting_of, Follow, FollowWords, there_in, bases_under, StandsAt, first_of, passed, written, Home, Suits, Bases, FoundParts, DataIn, data_within, HasWords, joined_two, place_of}
 use Rattle.bk_simulation.proofs.Terms.{Bound as b, procedure}
 use Rattle.bk_scope.specs.Places.{kept}
@@ -68,7 +68,7 @@ scene_of section own ts bs k = record { section = section; own = own; targets = 
 
 -- what lasts in a body
 abbrev pub of_body : Body → Environment → List Lasting
-of_body (command a) env = of_action (in_scope a env) a
+of_body (command a) env = of_command (in_scope a env) a
 of_body (expression e) env = of_expression env e
 
 -- A procedure that is laid: its ENTRY with this label, its SAVE, and its body, with formals that are any object.

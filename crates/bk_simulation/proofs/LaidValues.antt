@@ -1,6 +1,6 @@
 -- Each expression of an accepted section is laid where the scheme puts it, for a value and for a jump. That VALOFs are is taken here as
 -- an argument.
-use Rattle.bk_simulation.proofs.Words.{ap, Operator, Binding, Environment, Lasting, past, ◌≡◌, ℕ, ◌+◌, ◌≤◌, true, false, not, List, [], ◌∷◌, ◌++◌, length, map, Bool, Some, refl, sym, ◌∙◌, subst, arith, slice_get, false≢true, first_bytes, signed, line_of, size, Expression, Expressions, Action, Enclosing, Role, bound_in, parenthesised, deeper, Sound, SoundEach, HaveWords, Spot, Datum, item_words, Static, Stmt, DataLabel, DataNumber, Number, Query, Address, Text, Monadic, Dyadic, Assign, AssignAt, AssignByte, Label, GiveResult, TakeResult, CallFunction, labels, labels_if, meant, term_named, terms_named, condition_named, lvalue_named, words_named, static_table, parts, parts_each, parts_if, parts_at, push, infix_code, truth_value, value_code, each_code, jump_code, address_code, store_code, variable, data_code, Named, objects, objects_of_each, of_expression, of_each, constant_words, text_words, Part, cond, is_in, role_of_operands, place_of_second, addressed, Regular, RegularEach}
+use Rattle.bk_simulation.proofs.Words.{ap, Operator, Binding, Environment, Lasting, past, ◌≡◌, ℕ, ◌+◌, ◌≤◌, true, false, not, List, [], ◌∷◌, ◌++◌, length, map, Bool, Some, refl, sym, ◌∙◌, subst, arith, slice_get, false≢true, first_bytes, signed, at_expression, size, Expression, Expressions, Command, Enclosing, Role, bound_in, parenthesised, deeper, Sound, SoundEach, HaveWords, Spot, Datum, item_words, Static, Stmt, DataLabel, DataNumber, Number, Query, Address, Text, Monadic, Dyadic, Assign, AssignAt, AssignByte, Label, GiveResult, TakeResult, CallFunction, labels, labels_if, meant, term_named, terms_named, condition_named, lvalue_named, words_named, static_table, parts, parts_each, parts_if, parts_at, push, infix_code, truth_value, value_code, each_code, jump_code, address_code, store_code, variable, data_code, Named, objects, objects_of_each, of_expression, of_each, constant_words, text_words, Part, cond, is_in, role_of_operands, place_of_second, addressed, Regular, RegularEach}
 use Rattle.bk_simulation.proofs.Forms.{turns_of, turns_among, with_names, Setting, Scene, Aim, pushes, jumps, ending, count, LabelAt, IsCode, AreValues, IsAddress, IsStore, InData, Agree, StandsAt, passed, at_depth, written, label_at, call_at, home, no_bases, new_base, both_bases, three_bases, bases_so, Lies, lie, lies_behind, data_at, FoundParts, found_front, found_back, DataIn, within_at, coded, own_parts, role, level, HasWords, Around, around_deeper, InNames, plain_laid, leaf_on, leaf_lies, pushed_depth, truth_depth, infix_on, joined_two, joined_three, joined_choice, call_lies}
 use Rattle.bk_simulation.proofs.Terms.{Operator as o, Prefix as q, Dyadic as two, Monadic as w}
 use Rattle.bk_tree.specs.Tree as t
@@ -25,7 +25,7 @@ CodeLies pay sc p s i aim e d n c rest = (f : FoundParts sc.own sc.targets (own_
 
 -- expressions that are VALOFs are laid
 abbrev pub ValofsLie : ℕ → Type 0
-ValofsLie pay = (sc : Scene) (p : Enclosing) (s : Spot) (i : ℕ) (aim : Aim) (l : ℕ) (x : Action) (d n : ℕ) (c rest : List Stmt) → Around sc p d → Sound (role aim) sc.bindings p s (t.valof l x) → Regular (t.valof l x)
+ValofsLie pay = (sc : Scene) (p : Enclosing) (s : Spot) (i : ℕ) (aim : Aim) (l : ℕ) (x : Command) (d n : ℕ) (c rest : List Stmt) → Around sc p d → Sound (role aim) sc.bindings p s (t.valof l x) → Regular (t.valof l x)
     → turns_of true (t.valof l x) ≤ pay → CodeLies pay sc p s i aim (t.valof l x) d n c rest
 
 abbrev second : Expression → Spot → Spot
@@ -124,7 +124,7 @@ mutual
   laid_code pay valofs sc p s i (jumps v j) (t.parens l e) d n c rest a h r m f k st = laid_code pay valofs sc p (spot.past 1 s) i (jumps v j) e d n c rest a h r (omega arith) f k st
   laid_code pay valofs sc p s i aim (t.unary l q.Address e) d n c rest a h r m f k st =
       plain_laid pay sc p s i d n aim (t.unary l q.Address e) (objects e) c rest _ refl
-      (λ g e1. laid_address pay valofs sc p (spot.past 1 s) i (Addressed false (line_of e)) e d n c (ending aim rest) a h.0 h.1 r (omega arith) g e1 st) f k
+      (λ g e1. laid_address pay valofs sc p (spot.past 1 s) i (Addressed false (at_expression e)) e d n c (ending aim rest) a h.0 h.1 r (omega arith) g e1 st) f k
   laid_code pay valofs sc p s i aim (t.unary l q.Contents e) d n c rest a h r m f k st =
       plain_laid pay sc p s i d n aim (t.unary l q.Contents e) (objects e) c rest _ refl (λ g e1. lies_behind (home sc pay) (d + 1) (d + 1) (Monadic w.Contents) (ending aim rest) refl
       (laid_code pay valofs sc p (spot.past 1 s) i pushes e d n c (Monadic w.Contents ∷ ending aim rest) a h.1 r (omega arith) g (joined_two _ (Monadic w.Contents ∷ []) (ending aim rest) c e1) st)) f k

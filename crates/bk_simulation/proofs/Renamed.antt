@@ -1,6 +1,6 @@
 -- What MANIFEST, STATIC and GLOBAL bring into scope: names that agree, labels that stay, and words that stand where the names say. What a LET brings into
 -- scope: its procedures, and behind it its variables; names that agree, labels that stay, and words that stand where the names say.
-use Rattle.bk_simulation.proofs.Words.{◌≡◌, ℕ, suc, ◌+◌, ◌<◌, ◌≤◌, ◌^◌, Bool, true, false, List, [], ◌∷◌, Option, Some, None, cond, refl, sym, ap, ◌∙◌, subst, arith, bytes_eq, bytes_eq-Decides, GLOBAL_NUMBER, Mention, Expression, Items, Definitions, Starts, Bound, Binding, bound_in, bind, named_word, constant_word, within, manifests_in_scope, statics_in_scope, globals_in_scope, ManifestsSound, GlobalsSound, Placed, Target, meant, goal_of, variable, Named, Environment, Sense, cell, foreign, sense_in, word_named, constant_in, global_named, bind_procedure_as, bind_procedures, objects, objects_of_action, objects_of_starts, sense_of_constant, sense_of_global, letters, manifests, statics, ◌-◌, ◌++◌, length, FRAME_WORDS, VEC_NUMBER, bind_all, is_global, Enclosing, deeper, Spot as ScopeSpot, words_of_vector, words_of_start, variables_of, place_behind, place_behind_defined, variables_in_scope, procedure_in_scope, procedures_in_scope, HasWordUpTo, SoundStarted, SoundDefined, behind_starts, behind_definitions, worth, starts_named, definitions_named, variables_hidden, bind_each, le-ltb, RegularItems, starts, RegularDefinitions}
+use Rattle.bk_simulation.proofs.Words.{◌≡◌, ℕ, suc, ◌+◌, ◌<◌, ◌≤◌, ◌^◌, Bool, true, false, List, [], ◌∷◌, Option, Some, None, cond, refl, sym, ap, ◌∙◌, subst, arith, bytes_eq, bytes_eq-Decides, GLOBAL_NUMBER, Mention, Expression, Items, Definitions, Starts, Bound, Binding, bound_in, bind, named_word, constant_word, within, manifests_in_scope, statics_in_scope, globals_in_scope, ManifestsSound, GlobalsSound, Placed, Target, meant, goal_of, variable, Named, Environment, Sense, cell, foreign, sense_in, word_named, constant_in, global_named, bind_procedure_as, bind_procedures, objects, objects_of_command, objects_of_starts, sense_of_constant, sense_of_global, letters, manifests, statics, ◌-◌, ◌++◌, length, FRAME_WORDS, VEC_NUMBER, bind_all, is_global, Enclosing, deeper, Spot as ScopeSpot, words_of_vector, words_of_start, variables_of, place_behind, place_behind_defined, variables_in_scope, procedure_in_scope, procedures_in_scope, HasWordUpTo, SoundStarted, SoundDefined, behind_starts, behind_definitions, worth, starts_named, definitions_named, variables_hidden, bind_each, le-ltb, RegularItems, starts, RegularDefinitions}
 use Rattle.bk_simulation.proofs.Forms.{Each, BaseOf, Grown, with_names, Setting, Scene, IsWord, IsLabelHere, NamedIn, KeepsLabels, Spot, spots_of, variables_bound, AreAt, RenamesVariables, bound_named, Agree, AgreeWords, SameGlobal, own_cell, agree_bound, HasWords, constants_agree, constant_small, words_constant, words_bound, place_of, NameAt}
 use Rattle.bk_tree.specs.Tree as t
 use Rattle.bk_scope.specs.declared.bound.Bound.TheVariants as b
@@ -144,7 +144,7 @@ renames_globals (t.item l x e is) setting sc outer os ns i ao a k =
 abbrev pub AreProcedures : List ℕ → Placed → List Target → List Binding → ℕ → ℕ → Definitions → Type 0
 AreProcedures all own ts bs i n t.no_definitions = Unit {0}
 AreProcedures all own ts bs i n (t.define (t.routine l x fs c) ds) =
-    (is_global (bound_in bs x) ≡ false → BaseOf all i (own.places.label ((goal_of ts n).label))) × AreProcedures all own ts (procedure_in_scope n x bs) (i + (1 + objects_of_action c)) (n + 1) ds
+    (is_global (bound_in bs x) ≡ false → BaseOf all i (own.places.label ((goal_of ts n).label))) × AreProcedures all own ts (procedure_in_scope n x bs) (i + (1 + objects_of_command c)) (n + 1) ds
 AreProcedures all own ts bs i n (t.define (t.function l x fs e) ds) =
     (is_global (bound_in bs x) ≡ false → BaseOf all i (own.places.label ((goal_of ts n).label))) × AreProcedures all own ts (procedure_in_scope n x bs) (i + (1 + objects e)) (n + 1) ds
 AreProcedures all own ts bs i n (t.define (t.variables l xs is) ds) = AreProcedures all own ts bs (i + objects_of_starts is) n ds
@@ -180,8 +180,8 @@ pub renames_procedures : (ds : Definitions) (setting : Setting) (sc : Scene) (ns
     → Behind setting sc ns i (AreProcedures setting.lasting sc.own sc.targets sc.bindings i n ds) (procedures_in_scope n ds sc.bindings) (bind_procedures ds (with_names ns i))
 renames_procedures t.no_definitions setting sc ns i n some a = none_behind a
 renames_procedures (t.define (t.routine l x fs c) ds) setting sc ns i n some a =
-    one_procedure setting sc ns i n (1 + objects_of_action c) ds x (global_named (sense_in ns x)) (is_global (bound_in sc.bindings x)) refl refl some a
-    (λ sc1 ns1 a1. renames_procedures ds setting sc1 ns1 (i + (1 + objects_of_action c)) (n + 1) (omega (arith, some)) a1)
+    one_procedure setting sc ns i n (1 + objects_of_command c) ds x (global_named (sense_in ns x)) (is_global (bound_in sc.bindings x)) refl refl some a
+    (λ sc1 ns1 a1. renames_procedures ds setting sc1 ns1 (i + (1 + objects_of_command c)) (n + 1) (omega (arith, some)) a1)
 renames_procedures (t.define (t.function l x fs e) ds) setting sc ns i n some a =
     one_procedure setting sc ns i n (1 + objects e) ds x (global_named (sense_in ns x)) (is_global (bound_in sc.bindings x)) refl refl some a
     (λ sc1 ns1 a1. renames_procedures ds setting sc1 ns1 (i + (1 + objects e)) (n + 1) (omega (arith, some)) a1)

@@ -1,5 +1,5 @@
 -- What is proved of each form: its code, where it is laid, does what the form means, within an account.
-use Rattle.bk_simulation.proofs.Words.{◌≡◌, ◌≢◌, ◌<◌, ℕ, suc, ◌+◌, ◌-◌, ◌*◌, ◌≤◌, Bool, true, false, List, ◌∷◌, Some, content_of, State, from_label, Stmt, Assign, AssignAt, AssignByte, Expression, Expressions, Action, Actions, Value, address, labelled, Sought, Mode, World, Outcome, Done, history, After, Throughout, at, Meanings}
+use Rattle.bk_simulation.proofs.Words.{◌≡◌, ◌≢◌, ◌<◌, ℕ, suc, ◌+◌, ◌-◌, ◌*◌, ◌≤◌, Bool, true, false, List, ◌∷◌, Some, content_of, State, from_label, Stmt, Assign, AssignAt, AssignByte, Expression, Expressions, Command, Commands, Value, address, labelled, Sought, Mode, World, Outcome, Done, history, After, Throughout, at, Meanings}
 use Rattle.bk_simulation.proofs.Situations.{BaseOf, Alive, Stands, turns_of, turns_among, turns_in, turns_through, Setting, IsValue, IsJump, IsAddress, IsStore, IsAct, IsScopeAt, IsLoop, IsForLoop, Entered, EnteredAny, EnteredBody, Configuration, start, place_of, Ready, Account, Ran, CompletedAt, Has, Out}
 use Rattle.bk_simulation.proofs.Terms.{Variable, Target, byte_at}
 use Rattle.bk_tree.specs.Tree as t
@@ -11,23 +11,23 @@ for_value e w = record { most = 16 * w.turns - 4; least = w.turns - turns_of fal
 abbrev pub for_truth : Expression → World → Account
 for_truth e w = record { most = 16 * w.turns - 3; least = w.turns - turns_of false e }
 
-abbrev pub for_act : Action → World → Account
+abbrev pub for_act : Command → World → Account
 for_act x w = record { most = 16 * w.turns; least = w.turns - turns_in false x }
 
-abbrev pub for_scope : Actions → World → Account
+abbrev pub for_scope : Commands → World → Account
 for_scope cs w = record { most = 16 * w.turns; least = w.turns - turns_through false cs }
 
 abbrev pub for_values : Expressions → World → Account
 for_values es w = record { most = 16 * w.turns; least = w.turns - turns_among false es }
 
 -- what a round takes
-abbrev pub turns_in_round : Action → ℕ
+abbrev pub turns_in_round : Command → ℕ
 turns_in_round (t.while l u e a) = suc (turns_of false e + turns_in false a)
 turns_in_round (t.repeat l a) = suc (turns_in false a)
 turns_in_round (t.repeat_while l u a e) = suc (turns_of false e + turns_in false a)
 turns_in_round _ = 0
 
-abbrev pub for_rounds : Action → World → Account
+abbrev pub for_rounds : Command → World → Account
 for_rounds x w = record { most = 16 * w.turns + 2; least = w.turns - turns_in_round x }
 
 -- where a test leads
@@ -66,7 +66,7 @@ pub record Limit (setting : Setting) (z : Configuration) (w : World) (d o : ℕ)
   pub limit : Stands setting.codes z.bases u (content_of (z.cells (z.frame + (d + 1))))
   pub free : (o1 n b i : ℕ) → Alive w.memory o1 n → BaseOf z.bases o1 b → i < n → b + i ≢ z.frame + (d + 1)
 
-abbrev pub for_counts : Action → World → Account
+abbrev pub for_counts : Command → World → Account
 for_counts x w = record { most = 16 * w.turns + 11; least = w.turns - suc (turns_in false x) }
 
 -- the code of each form does what it means
@@ -80,11 +80,11 @@ pub record Simulates (setting : Setting) (inner : Meanings) : Type 0 where
       → Ran setting (start z c w) (for_value e w) (HasAddress setting (start z c w) (for_value e w) z rest w) (Out setting (start z c w) (for_value e w) z w) (inner.target e z.env w)
   pub destination : (e : Expression) (z : Configuration) (c rest : List Stmt) (w : World) → IsStore setting z.scene z.depth z.env e c rest → Ready setting z w
       → Ran setting (start z c w) (for_value e w) (λ t w1. Destined setting (start z c w) (for_value e w) z rest w t w1) (Out setting (start z c w) (for_value e w) z w) (inner.target e z.env w)
-  pub act : (x : Action) (mode : Mode) (z : Configuration) (at : Sought → List Stmt) (c rest e : List Stmt) (w : World) → IsAct setting z.scene z.depth z.env x at c rest → Entered mode z.env x at c e → Ready setting z w
+  pub act : (x : Command) (mode : Mode) (z : Configuration) (at : Sought → List Stmt) (c rest e : List Stmt) (w : World) → IsAct setting z.scene z.depth z.env x at c rest → Entered mode z.env x at c e → Ready setting z w
       → RanDid setting (start z e w) (for_act x w) z rest w (inner.act x mode z.env w)
-  pub rounds : (x : Action) (mode : Mode) (z : Configuration) (at : Sought → List Stmt) (body rest e : List Stmt) (w : World) → IsLoop setting z.scene z.depth z.env x at body rest → EnteredBody mode z.env x at body e → Ready setting z w
+  pub rounds : (x : Command) (mode : Mode) (z : Configuration) (at : Sought → List Stmt) (body rest e : List Stmt) (w : World) → IsLoop setting z.scene z.depth z.env x at body rest → EnteredBody mode z.env x at body e → Ready setting z w
       → RanDid setting (start z e w) (for_rounds x w) z rest w (inner.rounds x mode z.env w)
-  pub scope : (cs : Actions) (mode : Mode) (z : Configuration) (j : ℕ) (at : Sought → List Stmt) (c rest e : List Stmt) (w : World) → IsScopeAt setting z.scene z.depth z.env cs j at c rest → EnteredAny mode (labelled cs z.env) cs at c e → Ready setting z w
+  pub scope : (cs : Commands) (mode : Mode) (z : Configuration) (j : ℕ) (at : Sought → List Stmt) (c rest e : List Stmt) (w : World) → IsScopeAt setting z.scene z.depth z.env cs j at c rest → EnteredAny mode (labelled cs z.env) cs at c e → Ready setting z w
       → RanDid setting (start z e w) (for_scope cs w) z rest w (inner.scope cs mode z.env w)
-  pub for_rounds : (x : Action) (o : ℕ) (u : Value) (k d : ℕ) (z : Configuration) (body rest : List Stmt) (w : World) → z.depth ≡ d + 2 → IsForLoop setting z.scene z.depth d k z.env x body rest → Limit setting z w d o u → Ready setting z w
+  pub for_rounds : (x : Command) (o : ℕ) (u : Value) (k d : ℕ) (z : Configuration) (body rest : List Stmt) (w : World) → z.depth ≡ d + 2 → IsForLoop setting z.scene z.depth d k z.env x body rest → Limit setting z w d o u → Ready setting z w
       → RanDid setting (start z body w) (for_counts x w) z rest w (inner.for_rounds x o u k z.env w)

@@ -1,5 +1,5 @@
 -- How many turns the nodes of a tree take at most, those in the bodies of its procedures among them.
-use Rattle.bk_simulation.proofs.Words.{ℕ, Bool, true, false, ◌+◌, ◌≤◌, arith, Expression, Expressions, Action, Actions, Declaration, Declarations, Definition, Definitions, Starts}
+use Rattle.bk_simulation.proofs.Words.{ℕ, Bool, true, false, ◌+◌, ◌≤◌, arith, Expression, Expressions, Command, Commands, Declaration, Declarations, Definition, Definitions, Starts}
 use Rattle.bk_tree.specs.Tree as t
 
 -- ---- How many turns the nodes of a tree take at most where each is gone through once: one for each, one more for what comes before a
@@ -19,7 +19,7 @@ abbrev mutual
   turns_among b t.none = 0
   turns_among b (t.more e es) = turns_of b e + turns_among b es
 
-  pub turns_in : Bool → Action → ℕ
+  pub turns_in : Bool → Command → ℕ
   turns_in b t.empty = 0
   turns_in b (t.assign l xs es) = 1 + (turns_among b xs + turns_among b es)
   turns_in b (t.call l f es) = 1 + (turns_among b es + turns_of b f)
@@ -38,8 +38,8 @@ abbrev mutual
   turns_in b (t.repeat l c) = 2 + turns_in b c
   turns_in b (t.repeat_while l u c e) = 2 + (turns_in b c + turns_of b e)
 
-  pub turns_through : Bool → Actions → ℕ
-  turns_through b t.no_actions = 0
+  pub turns_through : Bool → Commands → ℕ
+  turns_through b t.no_commands = 0
   turns_through b (t.also c cs) = turns_in b c + turns_through b cs
 
   pub turns_declared : Bool → Declarations → ℕ
@@ -81,7 +81,7 @@ mutual
   among_light t.none = omega arith
   among_light (t.more e es) = let h = of_light e in let i = among_light es in omega (arith, h, i)
 
-  pub in_light : (c : Action) → turns_in false c ≤ turns_in true c
+  pub in_light : (c : Command) → turns_in false c ≤ turns_in true c
   in_light t.empty = omega arith
   in_light (t.assign l xs es) = let h = among_light xs in let i = among_light es in omega (arith, h, i)
   in_light (t.call l f es) = let h = among_light es in let i = of_light f in omega (arith, h, i)
@@ -99,8 +99,8 @@ mutual
   in_light (t.repeat_while l b c e) = let h = in_light c in let i = of_light e in omega (arith, h, i)
   in_light _ = omega arith
 
-  pub through_light : (cs : Actions) → turns_through false cs ≤ turns_through true cs
-  through_light t.no_actions = omega arith
+  pub through_light : (cs : Commands) → turns_through false cs ≤ turns_through true cs
+  through_light t.no_commands = omega arith
   through_light (t.also c cs) = let h = in_light c in let i = through_light cs in omega (arith, h, i)
 
   declared_light : (ds : Declarations) → turns_declared false ds ≤ turns_declared true ds

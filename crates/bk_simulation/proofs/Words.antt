@@ -13,9 +13,9 @@ pub use Rattle.bk_base.specs.Strings.{first_bytes}
 pub use Rattle.bk_base.specs.Word.{byte_distance, byte_place, signed, truth, word_at_least, word_at_most, word_byte, word_difference, word_greater, word_less, word_negation, word_not, word_of, word_quotient, word_remainder, word_sum, word_with_byte}
 pub use Rattle.bk_base.specs.declared.limit.TheConstants.{FRAME_WORDS, GLOBAL_NUMBER, VEC_NUMBER}
 pub use Rattle.bk_base.specs.declared.run_end.End.TheVariants.{DivideByZero, Status}
-pub use Rattle.bk_tree.specs.Parts.{line_of, size}
-pub use Rattle.bk_tree.specs.Tree.{Action, Actions, Declaration, Declarations, Definition, Definitions, Expression, Expressions, Items, Mention, Starts}
-pub use Rattle.bk_simulation.proofs.Terms.{Operator, Sort, Bound, Destination, Truth, Environment, Named, Sense, behind, bind_each, bind_procedure_as, bind_procedures, cell, constant, constant_in, constants_declared, count, foreign, global_named, globals_object, label, labelled, letters, manifests, objects, objects_of_action, objects_of_actions, objects_of_declaration, objects_of_declarations, objects_of_definitions, objects_of_each, objects_of_starts, past, past_action, past_definition, past_each, sense_in, sense_of, sense_of_constant, sense_of_global, statics, within_let, word_named, address_in, combined, judged, result_exit, result_of, truth_of, value_of, Body, Lasting, Procedure, all_declared, code, command, constant_words, declared, entry_cells, expression, first_memory, global_cells, global_vector, in_scope, library_cells, object_of, objects_from, of_action, of_actions, of_declaration, of_declarations, of_definitions, of_each, of_expression, of_items, of_sections, of_starts, procedure_in, procedure_of, procedures_set, program_of, set_global, static_words, text_words, variables_hidden, words, difference, equal, equals_zero, lies_within, on_numbers, operate, operate_prefix, ordered, sum, truth_number, truth_of_value, Meanings, address_named, at, fetch, named, store, Going, Run, Undefined, first_world, meaning, means, means_with, no_turn_for, no_turns, run_of, started, turn_for, Simple, Prefix, Start, bind_variables, declare, declare_all, let_values, make_vec, paired, vec_cells}
+pub use Rattle.bk_tree.specs.Parts.{at_expression, size}
+pub use Rattle.bk_tree.specs.Tree.{Command, Commands, Declaration, Declarations, Definition, Definitions, Expression, Expressions, Items, Mention, Starts}
+pub use Rattle.bk_simulation.proofs.Terms.{Operator, Sort, Bound, Destination, Truth, Environment, Named, Sense, behind, bind_each, bind_procedure_as, bind_procedures, cell, constant, constant_in, constants_declared, count, foreign, global_named, globals_object, label, labelled, letters, manifests, objects, objects_of_command, objects_of_commands, objects_of_declaration, objects_of_declarations, objects_of_definitions, objects_of_each, objects_of_starts, past, past_command, past_definition, past_each, sense_in, sense_of, sense_of_constant, sense_of_global, statics, within_let, word_named, address_in, combined, judged, result_exit, result_of, truth_of, value_of, Body, Lasting, Procedure, all_declared, code, command, constant_words, declared, entry_cells, expression, first_memory, global_cells, global_vector, in_scope, library_cells, object_of, objects_from, of_command, of_commands, of_declaration, of_declarations, of_definitions, of_each, of_expression, of_items, of_sections, of_starts, procedure_in, procedure_of, procedures_set, program_of, set_global, static_words, text_words, variables_hidden, words, difference, equal, equals_zero, lies_within, on_numbers, operate, operate_prefix, ordered, sum, truth_number, truth_of_value, Meanings, address_named, at, fetch, named, store, Going, Run, Undefined, first_world, meaning, means, means_with, no_turn_for, no_turns, run_of, started, turn_for, Simple, Prefix, Start, bind_variables, declare, declare_all, let_values, make_vec, paired, vec_cells}
 pub use Rattle.bk_scope.specs.Constants.{constant_word, divides_by_zero, infix_word, named_word, prefix_word}
 pub use Rattle.bk_scope.specs.Entering.{labels_of, labels_of_each, with_formals}
 pub use Rattle.bk_scope.specs.Names.{parenthesised, place_behind, variables_of, within, words_of_start, words_of_vector, place_of_second, role_of_operands}
@@ -49,7 +49,7 @@ pub use Rattle.bk_trans.specs.Depths.{behind_declaration, behind_declarations, b
 pub use Rattle.bk_trans.specs.Labels.{labels, labels_at, labels_if, labels_in, labels_of_declaration, labels_of_declarations, labels_of_definition, labels_of_procedure, labels_onto}
 pub use Rattle.bk_trans.specs.Naming.{command_named, commands_named, condition_named, declaration_named, declarations_named, definition_named, definitions_named, lvalue_named, lvalues_named, meant, named_tree, starts_named, statics_named, step_named, term_named, terms_named, words_named, worth}
 pub use Rattle.bk_trans.specs.Parts.{Part, label_place, parts, parts_at, parts_each, parts_from, parts_if, parts_in, parts_of_declaration, parts_of_declarations, parts_of_definition, parts_of_definitions, parts_of_items, parts_of_starts, parts_onto, parts_through, static_item, static_table, target_of, target_of_label, target_of_word}
-pub use Rattle.bk_trans.specs.Program.{Command, Commands}
+pub use Rattle.bk_trans.specs.Program.{NamedCommand, NamedCommands}
 pub use Rattle.bk_trans.specs.Scheme.{address_code, by_turns, cases, cases_through, command_code, data_code, declaration_code, declarations_code, default_in, default_through, definitions_code, each_code, entries_of, entry_of, first_of, go, goal, goal_in, goal_of, infix_code, jump_code, label_or, looping, outermost, procedure_code, push, scheme, section_code, starts_code, store_code, store_codes, switching, test_of_step, through_code, truth_value, value_code, value_codes, valued, variable, word_code}
 pub use Rattle.bk_trans.specs.declared.around.Around.{Around}
 pub use Rattle.bk_trans.specs.declared.around.Goal.{Goal}
@@ -69,7 +69,7 @@ pub use Rattle.bk_base.specs.Decimal.{spelling}
 pub use Rattle.bk_base.specs.Format.{FormatPart, aligned}
 pub use Rattle.bk_ocode.specs.Telling.{format_bytes, in_front}
 pub use Rattle.bk_meaning.specs.Library.{library, takes_byte, writes_text}
-pub use Rattle.bk_simulation.specs.Regular.{DeclareNoVariables, DefineNoVariables, Regular, RegularAction, RegularActions, RegularDeclaration, RegularDeclarations, RegularDefinitions, RegularEach, RegularItems, RegularStarts, starts}
+pub use Rattle.bk_simulation.specs.Regular.{DeclareNoVariables, DefineNoVariables, Regular, RegularCommand, RegularCommands, RegularDeclaration, RegularDeclarations, RegularDefinitions, RegularEach, RegularItems, RegularStarts, starts}
 pub use Rattle.bk_simulation.specs.Placement.{AreAccepted, IsAccepted, StandFor}
 pub use Rattle.bk_ocode.specs.Library.{library_globals, library_routine}
 pub use Rattle.bk_ocode.specs.StmtRange.{InRange}

@@ -2,7 +2,7 @@
 -- variables are in blocks alone.
 use Rattle.std.specs.Prelude.{◌≡◌, ℕ, suc, ◌<◌, ◌^◌, length}
 use Rattle.bk_tree.specs.Tree as t
-use Rattle.bk_tree.specs.Tree.{Expression, Expressions, Action, Actions, Declaration, Declarations, Items, Definition, Definitions, Starts}
+use Rattle.bk_tree.specs.Tree.{Expression, Expressions, Command, Commands, Declaration, Declarations, Items, Definition, Definitions, Starts}
 use Rattle.bk_tree.specs.Parts.{size}
 
 abbrev pub starts : Starts → ℕ
@@ -18,7 +18,7 @@ abbrev mutual
   Regular (t.binary l q m a b) = Regular a × Regular b
   Regular (t.choice l m c a b) = Regular c × Regular a × Regular b
   Regular (t.apply l m f es) = Regular f × RegularEach es
-  Regular (t.valof l c) = RegularAction c
+  Regular (t.valof l c) = RegularCommand c
   Regular (t.table l es) = RegularEach es
   Regular _ = Unit {0}
 
@@ -26,26 +26,26 @@ abbrev mutual
   RegularEach t.none = Unit {0}
   RegularEach (t.more e es) = Regular e × RegularEach es
 
-  pub RegularAction : Action → Type 0
-  RegularAction (t.assign l xs es) = (size xs ≡ size es) × RegularEach xs × RegularEach es
-  RegularAction (t.call l f es) = Regular f × RegularEach es
-  RegularAction (t.label l x c) = RegularAction c
-  RegularAction (t.case_of l e c) = Regular e × RegularAction c
-  RegularAction (t.default l c) = RegularAction c
-  RegularAction (t.when l b e c) = Regular e × RegularAction c
-  RegularAction (t.test l e a b) = Regular e × RegularAction a × RegularAction b
-  RegularAction (t.while l b e c) = Regular e × RegularAction c
-  RegularAction (t.for_loop l x a b h c) = Regular a × Regular b × RegularEach h × RegularAction c
-  RegularAction (t.switch l e c) = Regular e × RegularAction c
-  RegularAction (t.result l e) = Regular e
-  RegularAction (t.block l ds cs) = RegularDeclarations ds × RegularActions cs
-  RegularAction (t.repeat l c) = RegularAction c
-  RegularAction (t.repeat_while l b c e) = RegularAction c × Regular e
-  RegularAction _ = Unit {0}
+  pub RegularCommand : Command → Type 0
+  RegularCommand (t.assign l xs es) = (size xs ≡ size es) × RegularEach xs × RegularEach es
+  RegularCommand (t.call l f es) = Regular f × RegularEach es
+  RegularCommand (t.label l x c) = RegularCommand c
+  RegularCommand (t.case_of l e c) = Regular e × RegularCommand c
+  RegularCommand (t.default l c) = RegularCommand c
+  RegularCommand (t.when l b e c) = Regular e × RegularCommand c
+  RegularCommand (t.test l e a b) = Regular e × RegularCommand a × RegularCommand b
+  RegularCommand (t.while l b e c) = Regular e × RegularCommand c
+  RegularCommand (t.for_loop l x a b h c) = Regular a × Regular b × RegularEach h × RegularCommand c
+  RegularCommand (t.switch l e c) = Regular e × RegularCommand c
+  RegularCommand (t.result l e) = Regular e
+  RegularCommand (t.block l ds cs) = RegularDeclarations ds × RegularCommands cs
+  RegularCommand (t.repeat l c) = RegularCommand c
+  RegularCommand (t.repeat_while l b c e) = RegularCommand c × Regular e
+  RegularCommand _ = Unit {0}
 
-  pub RegularActions : Actions → Type 0
-  RegularActions t.no_actions = Unit {0}
-  RegularActions (t.also c cs) = RegularAction c × RegularActions cs
+  pub RegularCommands : Commands → Type 0
+  RegularCommands t.no_commands = Unit {0}
+  RegularCommands (t.also c cs) = RegularCommand c × RegularCommands cs
 
   pub RegularItems : Items → Type 0
   RegularItems t.no_items = Unit {0}
@@ -60,7 +60,7 @@ abbrev mutual
   RegularDeclarations (t.declare d ds) = RegularDeclaration d × RegularDeclarations ds
 
   pub RegularDefinition : Definition → Type 0
-  RegularDefinition (t.routine l x fs c) = RegularAction c
+  RegularDefinition (t.routine l x fs c) = RegularCommand c
   RegularDefinition (t.function l x fs e) = Regular e
   RegularDefinition (t.variables l xs is) = (length xs ≡ starts is) × RegularStarts is
 

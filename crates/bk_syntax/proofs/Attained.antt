@@ -1,5 +1,5 @@
 -- Each way on that is counted from a state of the machine is one of a section.
-use Rattle.bk_syntax.proofs.Terms.{◌<◌, ℕ, ◌+◌, ◌-◌, max, min, Bool, true, false, cond, List, [], ◌∷◌, ◌++◌, length, length-append, refl, ap, inl, inr, arith, nat_lt, Label, Call, Mention, Expression, Action, Actions, Declaration, Declarations, Items, Definition, parens, unary, binary, choice, apply, valof, none, more, empty, goto, label, default, test, for_loop, result, block, repeat_while, no_actions, also, constants, definitions, no_declarations, declare, no_items, item, routine, function, no_definitions, define, no_starts, depth, depth_of_action, depth_of_actions, depth_of_declaration, depth_of_declarations, depth_of_items, depth_of_definition, depth_of_definitions, nodes, nodes_of_action, nodes_of_actions, nodes_of_declaration, nodes_of_declarations, nodes_of_items, nodes_of_definition, nodes_of_definitions, inner, behind, line_of, line_of_action, Stack, in_section, in_block, in_let, at_name, at_formals, at_formal, at_formal_end, at_head, at_variable, at_variable_end, at_starts, at_opening, at_items, at_sign, at_goto, at_for, at_forward, at_default, in_parens, in_unary, in_binary, in_chain, in_then, in_else, in_args, in_table, in_start, in_dests, in_values, in_guard, in_test, in_result, in_while, in_from, in_to, in_by, in_item, in_function, in_value, in_vector, in_valof, in_label, in_guarded, in_default, in_do, in_or, in_for, in_routine, State, want, have, begin, maybe, did, due, push, guarded, give, actions_then, declarations_then, items_then, definitions_then, form_of, Lookahead, closing, assigning, listing, going, repeating, operating, Any, Gives, Does, Operates, Defines, Declares, Wants, Misses, Lists, Due, Completes, pushes, falls, behind_ok, inner_ok, Tagged, ForExpression, ForCommand, ForDefinition, ForDeclaration, ForSymbol, Fits, more_names, unary_done, binary_done, guarded_depth, guarded_nodes, actions_depth, actions_nodes, declarations_depth, declarations_nodes, definitions_depth, definitions_nodes, items_depth, items_nodes, Kind as k}
+use Rattle.bk_syntax.proofs.Terms.{◌<◌, ℕ, ◌+◌, ◌-◌, max, min, Bool, true, false, cond, List, [], ◌∷◌, ◌++◌, length, length-append, refl, ap, inl, inr, arith, nat_lt, Label, Call, Mention, Expression, Command, Commands, Declaration, Declarations, Items, Definition, parens, unary, binary, choice, apply, valof, none, more, empty, goto, label, default, test, for_loop, result, block, repeat_while, no_commands, also, constants, definitions, no_declarations, declare, no_items, item, routine, function, no_definitions, define, no_starts, depth, depth_of_command, depth_of_commands, depth_of_declaration, depth_of_declarations, depth_of_items, depth_of_definition, depth_of_definitions, nodes, nodes_of_command, nodes_of_commands, nodes_of_declaration, nodes_of_declarations, nodes_of_items, nodes_of_definition, nodes_of_definitions, inner, behind, at_expression, at_command, Stack, in_section, in_block, in_let, at_name, at_formals, at_formal, at_formal_end, at_head, at_variable, at_variable_end, at_starts, at_opening, at_items, at_sign, at_goto, at_for, at_forward, at_default, in_parens, in_unary, in_binary, in_chain, in_then, in_else, in_args, in_table, in_start, in_dests, in_values, in_guard, in_test, in_result, in_while, in_from, in_to, in_by, in_item, in_function, in_value, in_vector, in_valof, in_label, in_guarded, in_default, in_do, in_or, in_for, in_routine, State, want, have, begin, maybe, did, due, push, guarded, give, commands_then, declarations_then, items_then, definitions_then, form_of, Lookahead, closing, assigning, listing, going, repeating, operating, Any, Gives, Does, Operates, Defines, Declares, Wants, Misses, Lists, Due, Completes, pushes, falls, behind_ok, inner_ok, Tagged, ForExpression, ForCommand, ForDefinition, ForDeclaration, ForSymbol, Fits, more_names, unary_done, binary_done, guarded_depth, guarded_nodes, commands_depth, commands_nodes, declarations_depth, declarations_nodes, definitions_depth, definitions_nodes, items_depth, items_nodes, Kind as k}
 use Rattle.bk_tree.specs.declared.tree.Operator.TheVariants.{Both}
 use Rattle.bk_tree.specs.declared.tree.Sort.{Sort}
 use Rattle.bk_syntax.proofs.Behind.{run_end}
@@ -16,13 +16,13 @@ mutual
       (whole_completion os st (parens m e) (λ x y i. give_completion P os st x y f i) w))
   give_completion P os (in_unary m q st) e c f h = gives_as os (in_unary m q st) st e (unary m q e) (λ x y i. give_completion P os st x y f i) (λ l s t j. unary_done m q st e l s t (falls (behind q) 12 t (behind_ok q).1 j)) c h
   give_completion P os (in_binary q s a st) e c f h =
-      gives_as os (in_binary q s a st) st e (binary (line_of a) q s a e) (λ x y i. give_completion P os st x y f i) (λ l y t j. binary_done q s a st e l y t (falls (inner q) 12 t (inner_ok q).1 j)) c h
+      gives_as os (in_binary q s a st) st e (binary (at_expression a) q s a e) (λ x y i. give_completion P os st x y f i) (λ l y t j. binary_done q s a st e l y t (falls (inner q) 12 t (inner_ok q).1 j)) c h
   give_completion P os (in_chain q s a b st) e c f h =
-      let whole : Expression = binary (line_of a) Both s a (binary (line_of b) q s b e) in
+      let whole : Expression = binary (at_expression a) Both s a (binary (at_expression b) q s b e) in
       gives_as os (in_chain q s a b st) st e whole (λ x y i. give_completion P os st x y f i)
       (λ l y t j. ap (λ z. cond z (push (in_chain q s a b st) e t l) (give st whole l y t)) (falls 5 12 t (omega arith) j)) c h
   give_completion P os (in_then s x st) e c f h = at_comma os (have (in_then s x st) e) c h (choice_completion os s x st e (λ y z i. give_completion P os st y z f i))
-  give_completion P os (in_else s x a st) e c f h = gives_as os (in_else s x a st) st e (choice (line_of x) s x a e) (λ y z i. give_completion P os st y z f i) (λ l y t j. rw j refl) c h
+  give_completion P os (in_else s x a st) e c f h = gives_as os (in_else s x a st) st e (choice (at_expression x) s x a e) (λ y z i. give_completion P os st y z f i) (λ l y t j. rw j refl) c h
   give_completion P os (in_args s x es st) e c f h = args_completion os s x es st e c (λ y z i. give_completion P os st y z f i) h
   give_completion P os (in_table m es st) e c f h = table_completion os m es st e c (λ y z i. give_completion P os st y z f.1 i) h
   give_completion P os (in_start st) e c f h = start_completion os st e c (λ a y i. do_completion P os st a y f i) h
@@ -31,21 +31,21 @@ mutual
   give_completion P os (in_guard gd m st) e c f h = at_close os (have (in_guard gd m st) e) c h (guard_completion os gd m st e (λ a y i. do_completion P os st a y f i))
   give_completion P os (in_test m st) e c f h = at_close os (have (in_test m st) e) c h (test_completion os m st e (λ a y i. do_completion P os st a y f i))
   give_completion P os (in_result m st) e c f h = closed_completion os (have (in_result m st) e) st (result m e) (λ a y i. do_completion P os st a y f i) (λ l s t j. rw j refl) c h
-  give_completion P os (in_while b a st) e c f h = closed_completion os (have (in_while b a st) e) st (repeat_while (line_of_action a) b a e) (λ x y i. do_completion P os st x y f i) (λ l s t j. rw j refl) c h
+  give_completion P os (in_while b a st) e c f h = closed_completion os (have (in_while b a st) e) st (repeat_while (at_command a) b a e) (λ x y i. do_completion P os st x y f i) (λ l s t j. rw j refl) c h
   give_completion P os (in_from m n st) e c f h = at_close os (have (in_from m n st) e) c h (from_completion os m n st e (λ a y i. do_completion P os st a y f i))
   give_completion P os (in_to m n a st) e c f h = at_close os (have (in_to m n a st) e) c h (to_completion os m n a st e (λ x y i. do_completion P os st x y f i))
   give_completion P os (in_by m n a b st) e c f h = at_close os (have (in_by m n a b st) e) c h (by_completion os m n a b st e (λ x y i. do_completion P os st x y f i))
   give_completion P [] (in_item m s is n st) e c f h = absurd f
   give_completion P (tag ∷ os) (in_item m s is n st) e c f h =
-      let js : Items = items_then is (item n.line n.letters e no_items) in
-      let p = items_depth is (item n.line n.letters e no_items) in
-      let q = items_nodes is (item n.line n.letters e no_items) in
+      let js : Items = items_then is (item n.at n.letters e no_items) in
+      let p = items_depth is (item n.at n.letters e no_items) in
+      let q = items_nodes is (item n.at n.letters e no_items) in
       at_close (tag ∷ os) (have (in_item m s is n st) e) c h (λ w.
       let d = declare_completion P os st (constants m s js) f.1 (sized (Declares P st) (max (depth_of_items is) (depth e + 1)) (depth_of_items js) (nodes_of_items is + (nodes e + 1)) (nodes_of_items js) (omega (arith, p)) (omega (arith, q)) w) in
       shut_by tag os (have (in_item m s is n st) e) d.next f.0 (λ l x. d.takes) d.completion)
   give_completion P os (in_function n fs st) e c f h =
       at_close os (have (in_function n fs st) e) c h (λ w.
-      let d = define_completion P os st (function n.line n.letters fs e) f w in
+      let d = define_completion P os st (function n.at n.letters fs e) f w in
       step_by closing k.Semicolon os (have (in_function n fs st) e) d.next (refl, refl, refl, refl) refl refl d.takes d.completion)
   give_completion P os (in_value ns is st) e c f h = start_value os ns is st e c (λ d i. define_completion P os st d f.1 i) f.0 h
   give_completion P os (in_vector m ns is st) e c f h = start_vector os m ns is st e c (λ d i. define_completion P os st d f.1 i) f.0 h
@@ -55,10 +55,10 @@ mutual
   operate_completion : (P : ℕ → ℕ → Type 0) (os : List (List ℕ)) (st : Stack) (e : Expression) → ForExpression st os → GivesOn P os st → Operates P st (Gives P st) (depth e) (nodes e) → CompletionBy P operating os (have st e)
   operate_completion P os (in_unary l q st) e f g h = operates_by os (in_unary l q st) e (prefix_tight q) g h
   operate_completion P os (in_binary q s a st) e f g h =
-      operand_completion (nat_lt 1 (inner q)) os q s a st e refl g (λ w. operate_completion P os st (binary (line_of a) q s a e) f (λ x y i. give_completion P os st x y f i) w) h
+      operand_completion (nat_lt 1 (inner q)) os q s a st e refl g (λ w. operate_completion P os st (binary (at_expression a) q s a e) f (λ x y i. give_completion P os st x y f i) w) h
   operate_completion P os st e f g h = operates_by os st e refl g h
 
-  pub do_completion : (P : ℕ → ℕ → Type 0) (os : List (List ℕ)) (st : Stack) (a : Action) (c : Lookahead) → ForCommand st os → Does P st (depth_of_action a) (nodes_of_action a) c → CompletionBy P c os (did st a)
+  pub do_completion : (P : ℕ → ℕ → Type 0) (os : List (List ℕ)) (st : Stack) (a : Command) (c : Lookahead) → ForCommand st os → Does P st (depth_of_command a) (nodes_of_command a) c → CompletionBy P c os (did st a)
   do_completion P os (in_valof m st) a closing f h = same_by closing os (did (in_valof m st) a) (have st (valof m a)) (λ l s t i. let r = leaves_command closing tt t i in rw r refl) (give_completion P os st (valof m a) closing f h)
   do_completion P os (in_valof m st) a assigning f h = same_by assigning os (did (in_valof m st) a) (have st (valof m a)) (λ l s t i. let r = leaves_command assigning tt t i in rw r refl) (give_completion P os st (valof m a) assigning f h)
   do_completion P os (in_valof m st) a listing f h = same_by listing os (did (in_valof m st) a) (have st (valof m a)) (λ l s t i. let r = leaves_command listing tt t i in rw r refl) (give_completion P os st (valof m a) listing f h)
@@ -66,7 +66,7 @@ mutual
   do_completion P os (in_valof m st) a going f h =
       let e : Expression = valof m a in
       calls_by os (did (in_valof m st) a) st e (pushes st e 1 [] k.Open refl) (λ x y i. give_completion P os st x y f i)
-      (sized (λ i j. Any (Gives P st Call i j)) (depth_of_action a + 2) (depth e + 1) (nodes_of_action a + 2) (nodes e + 1) (omega arith) (omega arith) h)
+      (sized (λ i j. Any (Gives P st Call i j)) (depth_of_command a + 2) (depth e + 1) (nodes_of_command a + 2) (nodes e + 1) (omega arith) (omega arith) h)
   do_completion P os (in_valof m st) a operating f h =
       same_by operating os (did (in_valof m st) a) (have st (valof m a)) (λ l s t i. let r = leaves_command operating tt t i in rw r refl)
       (operate_completion P os st (valof m a) f (λ x y i. give_completion P os st x y f i) h)
@@ -74,23 +74,23 @@ mutual
   do_completion P os (in_guarded gd m e st) a c f h =
       let p = guarded_depth gd m e a in
       let q = guarded_nodes gd m e a in
-      does_sized os (in_guarded gd m e st) st a (guarded gd m e a) (max (depth e) (depth_of_action a) + 1) (nodes e + nodes_of_action a + 1) (λ x y i. do_completion P os st x y f i) (λ l s t r. rw r refl) (omega (arith, p)) (omega (arith, q)) c h
+      does_sized os (in_guarded gd m e st) st a (guarded gd m e a) (max (depth e) (depth_of_command a) + 1) (nodes e + nodes_of_command a + 1) (λ x y i. do_completion P os st x y f i) (λ l s t r. rw r refl) (omega (arith, p)) (omega (arith, q)) c h
   do_completion P os (in_default m st) a c f h = does_as os (in_default m st) st a (default m a) (λ x y i. do_completion P os st x y f i) (λ l s t r. rw r refl) c h
   do_completion P os (in_do m e st) a c f h = at_close os (did (in_do m e st) a) c h (or_completion os m e st a (λ x y i. do_completion P os st x y f i))
   do_completion P os (in_or m e b st) a c f h = does_as os (in_or m e b st) st a (test m e b a) (λ x y i. do_completion P os st x y f i) (λ l s t r. rw r refl) c h
   do_completion P os (in_for m n b d y st) a c f h = does_as os (in_for m n b d y st) st a (for_loop m n b d y a) (λ x z i. do_completion P os st x z f i) (λ l s t r. rw r refl) c h
   do_completion P os (in_routine n fs st) a c f h =
       at_close os (did (in_routine n fs st) a) c h (λ w.
-      let d = define_completion P os st (routine n.line n.letters fs a) f w in
+      let d = define_completion P os st (routine n.at n.letters fs a) f w in
       step_by closing k.Semicolon os (did (in_routine n fs st) a) d.next (refl, refl, refl, refl) refl refl d.takes d.completion)
   do_completion P [] (in_block l b ds cs st) a c f h = absurd f
   do_completion P (tag ∷ os) (in_block l b ds cs st) a c f h =
-      let zs : Actions = actions_then cs (also a no_actions) in
-      let whole : Action = block l ds zs in
-      let p = actions_depth cs a in
-      let q = actions_nodes cs a in
+      let zs : Commands = commands_then cs (also a no_commands) in
+      let whole : Command = block l ds zs in
+      let p = commands_depth cs a in
+      let q = commands_nodes cs a in
       at_close (tag ∷ os) (did (in_block l b ds cs st) a) c h (λ w. shut_by tag os (did (in_block l b ds cs st) a) (did st whole) f.0 (λ m x. refl)
-      (done os st whole (max (depth_of_declarations ds) (max (depth_of_actions cs) (depth_of_action a)) + 1) (nodes_of_declarations ds + (nodes_of_actions cs + nodes_of_action a) + 1) (λ x y i. do_completion P os st x y f.1 i) (omega (arith, p)) (omega (arith, q)) w))
+      (done os st whole (max (depth_of_declarations ds) (max (depth_of_commands cs) (depth_of_command a)) + 1) (nodes_of_declarations ds + (nodes_of_commands cs + nodes_of_command a) + 1) (λ x y i. do_completion P os st x y f.1 i) (omega (arith, p)) (omega (arith, q)) w))
   do_completion P os _ a c f h = absurd f
 
   define_completion : (P : ℕ → ℕ → Type 0) (os : List (List ℕ)) (st : Stack) (d : Definition) → ForDefinition st os → Defines P st (depth_of_definition d) (nodes_of_definition d) → DefinedCompletion P os st d
@@ -115,8 +115,8 @@ mutual
       let es : Declarations = declarations_then ds (declare d no_declarations) in
       let p = declarations_depth ds d in
       let q = declarations_nodes ds d in
-      let whole : Action = block l es cs in
-      let end = done os st whole (max (depth_of_declarations ds) (max (depth_of_actions cs) (depth_of_declaration d)) + 1) (nodes_of_declarations ds + (nodes_of_actions cs + nodes_of_declaration d) + 1)
+      let whole : Command = block l es cs in
+      let end = done os st whole (max (depth_of_declarations ds) (max (depth_of_commands cs) (depth_of_declaration d)) + 1) (nodes_of_declarations ds + (nodes_of_commands cs + nodes_of_declaration d) + 1)
       (λ x y i. do_completion P os st x y f.1 i) (omega (arith, p)) (omega (arith, q)) h in
       record {
         next = due (in_block l false es cs st);
@@ -144,7 +144,7 @@ named_completion P os st f h = name_on os st (given os st name_here 1 1 (gives_o
 
 operand_due : (P : ℕ → ℕ → Type 0) (os : List (List ℕ)) (st : Stack) → ForExpression st os → Wants P st → Completion P os (want st)
 operand_due P os (in_args s x none st) f h =
-    let whole : Expression = apply (line_of x) s x none in
+    let whole : Expression = apply (at_expression x) s x none in
     step_on k.Close os (want (in_args s x none st)) (have st whole) refl refl refl (whole_sized os st whole (depth x + 1) (nodes x + 1) (gives_on P os st f) (omega arith) (omega arith) h)
 operand_due P os (in_args s x (more y ys) st) f h = named_completion P os (in_args s x (more y ys) st) f h
 operand_due P os st f h = named_completion P os st f h
@@ -187,11 +187,11 @@ items_completion P tag os m s (item l x e is) st has f h =
 forward_completion : (P : ℕ → ℕ → Type 0) (os : List (List ℕ)) (m : ℕ) (n : Mention) (st : Stack) → ForCommand st os → Any (Does P st 2 4) → Completion P os (due (at_forward m n st))
 forward_completion P os m n st f h = step_on k.Equal os (due (at_forward m n st)) (want (in_from m n st)) refl refl refl (name_on os (in_from m n st) (from_completion os m n st name_here (does_on P os st f) h).completion)
 
-block_completion : (P : ℕ → ℕ → Type 0) (tag : List ℕ) (os : List (List ℕ)) (l : ℕ) (b : Bool) (ds : Declarations) (cs : Actions) (st : Stack) → Tagged tag → ForCommand st os → Declares P (in_block l b ds cs st) 0 0 → Completion P (tag ∷ os) (due (in_block l b ds cs st))
+block_completion : (P : ℕ → ℕ → Type 0) (tag : List ℕ) (os : List (List ℕ)) (l : ℕ) (b : Bool) (ds : Declarations) (cs : Commands) (st : Stack) → Tagged tag → ForCommand st os → Declares P (in_block l b ds cs st) 0 0 → Completion P (tag ∷ os) (due (in_block l b ds cs st))
 block_completion P tag os l b ds cs st has f h =
-    let whole : Action = block l ds cs in
+    let whole : Command = block l ds cs in
     (shut_by tag os (due (in_block l b ds cs st)) (did st whole) has (λ m s. refl)
-    (done os st whole (max (depth_of_declarations ds) (max (depth_of_actions cs) 0) + 1) (nodes_of_declarations ds + (nodes_of_actions cs + 0) + 1) (does_on P os st f) (omega arith) (omega arith) h)).completion
+    (done os st whole (max (depth_of_declarations ds) (max (depth_of_commands cs) 0) + 1) (nodes_of_declarations ds + (nodes_of_commands cs + 0) + 1) (does_on P os st f) (omega arith) (omega arith) h)).completion
 
 default_completion : (P : ℕ → ℕ → Type 0) (os : List (List ℕ)) (m : ℕ) (st : Stack) → ForCommand st os → Due P (at_default m st) → Completion P os (maybe (in_default m st))
 default_completion P os m st f (inl h) = missing_completion os (in_default m st) st (default m empty) 1 1 (does_on P os st f) (λ l s t b. rw b refl) refl refl h

@@ -1,43 +1,43 @@
 -- Ways on behind commands, values, variables and definitions.
-use Rattle.bk_syntax.proofs.Terms.{◌≡◌, ◌≤◌, ◌<◌, ℕ, zero, suc, ◌+◌, ◌-◌, max, min, Bool, true, false, cond, List, [], ◌==◌, length, Option, Some, refl, ap, ◌∙◌, inl, inr, arith, Kind, Guard, Mention, Expression, Expressions, Action, Starts, name, apply, none, more, empty, assign, call, label, test, for_loop, repeat, variables, no_starts, value, vector, depth, depth_of_each, depth_of_action, depth_of_starts, nodes, nodes_of_each, nodes_of_action, nodes_of_starts, begins_command, repeats, goes, line_of_first, line_of_names, line_of_action, size, start_count, Stack, at_starts, in_start, in_dests, in_values, in_guard, in_test, in_from, in_to, in_by, in_value, in_vector, in_label, in_guarded, in_do, in_or, in_for, State, want, have, begin, maybe, did, due, push, guarded, counted, defined_by, give, finish, stepped_by, each_then, starts_then, form_of, owed, Lookahead, closing, assigning, listing, going, repeating, operating, Any, AtClosing, AtListing, If, Closed, Missing, Started, Guarded, Gives, Does, Defines, repeated, same_eq, less_eq, size_then, count_then, call_done, guarded_depth, guarded_nodes, each_depth, each_nodes, starts_depth, starts_nodes, Kind as k, Guard as g}
+use Rattle.bk_syntax.proofs.Terms.{◌≡◌, ◌≤◌, ◌<◌, ℕ, zero, suc, ◌+◌, ◌-◌, max, min, Bool, true, false, cond, List, [], ◌==◌, length, Option, Some, refl, ap, ◌∙◌, inl, inr, arith, Kind, Guard, Mention, Expression, Expressions, Command, Starts, name, apply, none, more, empty, assign, call, label, test, for_loop, repeat, variables, no_starts, value, vector, depth, depth_of_each, depth_of_command, depth_of_starts, nodes, nodes_of_each, nodes_of_command, nodes_of_starts, begins_command, repeats, goes, at_expressions, at_names, at_command, size, start_count, Stack, at_starts, in_start, in_dests, in_values, in_guard, in_test, in_from, in_to, in_by, in_value, in_vector, in_label, in_guarded, in_do, in_or, in_for, State, want, have, begin, maybe, did, due, push, guarded, counted, defined_by, give, finish, stepped_by, each_then, starts_then, form_of, owed, Lookahead, closing, assigning, listing, going, repeating, operating, Any, AtClosing, AtListing, If, Closed, Missing, Started, Guarded, Gives, Does, Defines, repeated, same_eq, less_eq, size_then, count_then, call_done, guarded_depth, guarded_nodes, each_depth, each_nodes, starts_depth, starts_nodes, Kind as k, Guard as g}
 use Rattle.std.proofs.lemmas.Bool.Decides.{nat_tests}
 use Rattle.bk_syntax.proofs.Onward.{Completion, CompletionBy, sized, step_on, step_by, same_by, at_close, at_comma, ends_expression, leaves_command, DoesOn, DefinesOn, done, name_here, break_here, name_on, break_on, depth_some}
 use Rattle.bk_syntax.proofs.Operands.{does_leave}
 
 -- ---- a command as the end of another one
 
-pub does_as : {P : ℕ → ℕ → Type 0} (os : List (List ℕ)) (x st : Stack) (a whole : Action) → DoesOn P os st → ((l : ℕ) (s : List ℕ) (t : Kind) → repeats t ≡ false → finish x a l s t ≡ finish st whole l s t)
-    → (c : Lookahead) → Does P st (depth_of_action whole) (nodes_of_action whole) c → CompletionBy P c os (did x a)
+pub does_as : {P : ℕ → ℕ → Type 0} (os : List (List ℕ)) (x st : Stack) (a whole : Command) → DoesOn P os st → ((l : ℕ) (s : List ℕ) (t : Kind) → repeats t ≡ false → finish x a l s t ≡ finish st whole l s t)
+    → (c : Lookahead) → Does P st (depth_of_command whole) (nodes_of_command whole) c → CompletionBy P c os (did x a)
 does_as {P = P} os x st a whole g h c y =
-    same_by c os (did x a) (did st whole) (λ l s t i. h l s t (leaves_command c (does_leave P st (depth_of_action whole) (nodes_of_action whole) c y) t i)) (g whole c y)
+    same_by c os (did x a) (did st whole) (λ l s t i. h l s t (leaves_command c (does_leave P st (depth_of_command whole) (nodes_of_command whole) c y) t i)) (g whole c y)
 
 -- whose size is said in another way
-pub does_sized : {P : ℕ → ℕ → Type 0} (os : List (List ℕ)) (x st : Stack) (a whole : Action) (d n : ℕ) → DoesOn P os st → ((l : ℕ) (s : List ℕ) (t : Kind) → repeats t ≡ false → finish x a l s t ≡ finish st whole l s t)
-    → d ≡ depth_of_action whole → n ≡ nodes_of_action whole → (c : Lookahead) → Does P st d n c → CompletionBy P c os (did x a)
-does_sized {P = P} os x st a whole d n g h p q c y = does_as os x st a whole g h c (sized (λ i j. Does P st i j c) d (depth_of_action whole) n (nodes_of_action whole) p q y)
+pub does_sized : {P : ℕ → ℕ → Type 0} (os : List (List ℕ)) (x st : Stack) (a whole : Command) (d n : ℕ) → DoesOn P os st → ((l : ℕ) (s : List ℕ) (t : Kind) → repeats t ≡ false → finish x a l s t ≡ finish st whole l s t)
+    → d ≡ depth_of_command whole → n ≡ nodes_of_command whole → (c : Lookahead) → Does P st d n c → CompletionBy P c os (did x a)
+does_sized {P = P} os x st a whole d n g h p q c y = does_as os x st a whole g h c (sized (λ i j. Does P st i j c) d (depth_of_command whole) n (nodes_of_command whole) p q y)
 
 -- the least command ends the other one
-pub break_ends : {P : ℕ → ℕ → Type 0} (os : List (List ℕ)) (x st : Stack) (whole : Action) (d n : ℕ) → DoesOn P os st → ((l : ℕ) (s : List ℕ) (t : Kind) → repeats t ≡ false → finish x break_here l s t ≡ finish st whole l s t)
-    → d ≡ depth_of_action whole → n ≡ nodes_of_action whole → Any (Does P st d n) → Completion P os (begin x)
+pub break_ends : {P : ℕ → ℕ → Type 0} (os : List (List ℕ)) (x st : Stack) (whole : Command) (d n : ℕ) → DoesOn P os st → ((l : ℕ) (s : List ℕ) (t : Kind) → repeats t ≡ false → finish x break_here l s t ≡ finish st whole l s t)
+    → d ≡ depth_of_command whole → n ≡ nodes_of_command whole → Any (Does P st d n) → Completion P os (begin x)
 break_ends os x st whole d n g h p q y = break_on os x (does_sized os x st break_here whole d n g h p q y.0 y.1).completion
 
 -- it is repeated
-repeat_by : {P : ℕ → ℕ → Type 0} (os : List (List ℕ)) (x : State) (st : Stack) (a : Action) → stepped_by x 1 [] k.Repeat ≡ finish st a 1 [] k.Repeat → DoesOn P os st → Any (Does P st (depth_of_action a + 1) (nodes_of_action a + 1)) → CompletionBy P repeating os x
+repeat_by : {P : ℕ → ℕ → Type 0} (os : List (List ℕ)) (x : State) (st : Stack) (a : Command) → stepped_by x 1 [] k.Repeat ≡ finish st a 1 [] k.Repeat → DoesOn P os st → Any (Does P st (depth_of_command a + 1) (nodes_of_command a + 1)) → CompletionBy P repeating os x
 repeat_by os x st a s g h =
-    let r : Action = repeat (line_of_action a) a in
-    step_by repeating k.Repeat os x (did st r) refl refl refl (s ∙ repeated st a 1 [] k.Repeat refl) (done os st r (depth_of_action a + 1) (nodes_of_action a + 1) g refl refl h)
+    let r : Command = repeat (at_command a) a in
+    step_by repeating k.Repeat os x (did st r) refl refl refl (s ∙ repeated st a 1 [] k.Repeat refl) (done os st r (depth_of_command a + 1) (nodes_of_command a + 1) g refl refl h)
 
 -- an expression ends it
-pub closed_completion : {P : ℕ → ℕ → Type 0} (os : List (List ℕ)) (x : State) (st : Stack) (a : Action) → DoesOn P os st → ((l : ℕ) (s : List ℕ) (t : Kind) → goes 12 t ≡ false → stepped_by x l s t ≡ finish st a l s t)
-    → (c : Lookahead) → Closed (Does P st) (depth_of_action a) (nodes_of_action a) c → CompletionBy P c os x
+pub closed_completion : {P : ℕ → ℕ → Type 0} (os : List (List ℕ)) (x : State) (st : Stack) (a : Command) → DoesOn P os st → ((l : ℕ) (s : List ℕ) (t : Kind) → goes 12 t ≡ false → stepped_by x l s t ≡ finish st a l s t)
+    → (c : Lookahead) → Closed (Does P st) (depth_of_command a) (nodes_of_command a) c → CompletionBy P c os x
 closed_completion os x st a g h repeating y = repeat_by os x st a (h 1 [] k.Repeat refl) g y
 closed_completion os x st a g h going y = absurd y
 closed_completion os x st a g h operating y = absurd y
 closed_completion os x st a g h z y = same_by z os x (did st a) (λ l s t i. h l s t (ends_expression z tt t i)) (g a z y)
 
 -- none comes behind a colon
-missing_by : {P : ℕ → ℕ → Type 0} (os : List (List ℕ)) (x st : Stack) (a : Action) → DoesOn P os st → ((l : ℕ) (s : List ℕ) (t : Kind) → begins_command t ≡ false → stepped_by (maybe x) l s t ≡ finish st a l s t)
-    → (c : Lookahead) → Missing (Does P st) (depth_of_action a) (nodes_of_action a) c → CompletionBy P c os (maybe x)
+missing_by : {P : ℕ → ℕ → Type 0} (os : List (List ℕ)) (x st : Stack) (a : Command) → DoesOn P os st → ((l : ℕ) (s : List ℕ) (t : Kind) → begins_command t ≡ false → stepped_by (maybe x) l s t ≡ finish st a l s t)
+    → (c : Lookahead) → Missing (Does P st) (depth_of_command a) (nodes_of_command a) c → CompletionBy P c os (maybe x)
 missing_by os x st a g h closing y = same_by closing os (maybe x) (did st a) (λ l s t i. h l s t i.0) (g a closing y)
 missing_by os x st a g h assigning y = same_by assigning os (maybe x) (did st a) (λ l s t i. h l s t (let j : t ≡ k.Assign = i in rw j refl)) (g a assigning y)
 missing_by os x st a g h listing y = same_by listing os (maybe x) (did st a) (λ l s t i. h l s t (let j : t ≡ k.Comma = i in rw j refl)) (g a listing y)
@@ -45,21 +45,21 @@ missing_by os x st a g h operating y = same_by operating os (maybe x) (did st a)
 missing_by os x st a g h repeating y = repeat_by os (maybe x) st a (h 1 [] k.Repeat refl) g y
 missing_by os x st a g h going y = absurd y
 
-pub missing_completion : {P : ℕ → ℕ → Type 0} (os : List (List ℕ)) (x st : Stack) (a : Action) (d n : ℕ) → DoesOn P os st → ((l : ℕ) (s : List ℕ) (t : Kind) → begins_command t ≡ false → stepped_by (maybe x) l s t ≡ finish st a l s t)
-    → d ≡ depth_of_action a → n ≡ nodes_of_action a → Any (Missing (Does P st) d n) → Completion P os (maybe x)
-missing_completion {P = P} os x st a d n g h p q y = (missing_by os x st a g h y.0 (sized (λ i j. Missing (Does P st) i j y.0) d (depth_of_action a) n (nodes_of_action a) p q y.1)).completion
+pub missing_completion : {P : ℕ → ℕ → Type 0} (os : List (List ℕ)) (x st : Stack) (a : Command) (d n : ℕ) → DoesOn P os st → ((l : ℕ) (s : List ℕ) (t : Kind) → begins_command t ≡ false → stepped_by (maybe x) l s t ≡ finish st a l s t)
+    → d ≡ depth_of_command a → n ≡ nodes_of_command a → Any (Missing (Does P st) d n) → Completion P os (maybe x)
+missing_completion {P = P} os x st a d n g h p q y = (missing_by os x st a g h y.0 (sized (λ i j. Missing (Does P st) i j y.0) d (depth_of_command a) n (nodes_of_command a) p q y.1)).completion
 
 -- the least one comes there
-pub break_there : {P : ℕ → ℕ → Type 0} (os : List (List ℕ)) (x st : Stack) (whole : Action) (d n : ℕ) → DoesOn P os st → ((l : ℕ) (s : List ℕ) (t : Kind) → repeats t ≡ false → finish x break_here l s t ≡ finish st whole l s t)
-    → d ≡ depth_of_action whole → n ≡ nodes_of_action whole → Any (Does P st d n) → Completion P os (maybe x)
+pub break_there : {P : ℕ → ℕ → Type 0} (os : List (List ℕ)) (x st : Stack) (whole : Command) (d n : ℕ) → DoesOn P os st → ((l : ℕ) (s : List ℕ) (t : Kind) → repeats t ≡ false → finish x break_here l s t ≡ finish st whole l s t)
+    → d ≡ depth_of_command whole → n ≡ nodes_of_command whole → Any (Does P st d n) → Completion P os (maybe x)
 break_there os x st whole d n g h p q y = step_on k.Break os (maybe x) (did x break_here) refl refl refl (does_sized os x st break_here whole d n g h p q y.0 y.1).completion
 
 -- ---- values
 
 pub values_step : (xs ys : Expressions) (st : Stack) (e : Expression) (b : Bool) (l : ℕ) (s : List ℕ) (t : Kind) → goes 12 t ≡ false → (size xs == size ys + 1) ≡ b
-    → give (in_values xs ys st) e l s t ≡ counted b (finish st (assign (line_of_first xs) xs (each_then ys (more e none))) l s t) t (want (in_values xs (each_then ys (more e none)) st))
+    → give (in_values xs ys st) e l s t ≡ counted b (finish st (assign (at_expressions xs) xs (each_then ys (more e none))) l s t) t (want (in_values xs (each_then ys (more e none)) st))
 values_step xs ys st e b l s t g h =
-    let c : Action = assign (line_of_first xs) xs (each_then ys (more e none)) in
+    let c : Command = assign (at_expressions xs) xs (each_then ys (more e none)) in
     let next : State = want (in_values xs (each_then ys (more e none)) st) in
     ap (λ z. cond z (push (in_values xs ys st) e t l) (counted (size xs == size ys + 1) (finish st c l s t) t next)) g
     ∙ ap (λ z. counted z (finish st c l s t) t next) h
@@ -71,7 +71,7 @@ values_last {P = P} os xs ys st e g is c h =
     let zs : Expressions = each_then ys (more e none) in
     let p = each_depth ys e in
     let q = each_nodes ys e in
-    closed_completion os (have (in_values xs ys st) e) st (assign (line_of_first xs) xs zs) g (λ l s t f. values_step xs ys st e true l s t f is) c
+    closed_completion os (have (in_values xs ys st) e) st (assign (at_expressions xs) xs zs) g (λ l s t f. values_step xs ys st e true l s t f is) c
     (sized (λ i j. Closed (Does P st) i j c) (max (depth_of_each xs) (max (depth_of_each ys) (depth e)) + 1) (max (depth_of_each xs) (depth_of_each zs) + 1) (nodes_of_each xs + (nodes_of_each ys + nodes e) + 1) (nodes_of_each xs + nodes_of_each zs + 1) (omega (arith, p)) (omega (arith, q)) h)
 
 -- so many are due behind this one
@@ -198,10 +198,10 @@ guard_completion os gd m st e f h =
     step_by closing k.Do os (have (in_guard gd m st) e) (begin (in_guarded gd m e st)) (refl, refl, refl, refl) refl refl refl (guarded_break os gd m e st f h)
 
 -- behind the first command of a TEST
-pub or_completion : {P : ℕ → ℕ → Type 0} (os : List (List ℕ)) (m : ℕ) (e : Expression) (st : Stack) (a : Action) → DoesOn P os st → Any (Does P st (max (depth e) (max (depth_of_action a) 1) + 1) (nodes e + nodes_of_action a + 2)) → CompletionBy P closing os (did (in_do m e st) a)
+pub or_completion : {P : ℕ → ℕ → Type 0} (os : List (List ℕ)) (m : ℕ) (e : Expression) (st : Stack) (a : Command) → DoesOn P os st → Any (Does P st (max (depth e) (max (depth_of_command a) 1) + 1) (nodes e + nodes_of_command a + 2)) → CompletionBy P closing os (did (in_do m e st) a)
 or_completion os m e st a g h =
     step_by closing k.Or os (did (in_do m e st) a) (begin (in_or m e a st)) (refl, refl, refl, refl) refl refl refl
-    (break_ends os (in_or m e a st) st (test m e a break_here) (max (depth e) (max (depth_of_action a) 1) + 1) (nodes e + nodes_of_action a + 2) g (λ l s t f. rw f refl) (omega arith) (omega arith) h)
+    (break_ends os (in_or m e a st) st (test m e a break_here) (max (depth e) (max (depth_of_command a) 1) + 1) (nodes e + nodes_of_command a + 2) g (λ l s t f. rw f refl) (omega arith) (omega arith) h)
 
 pub test_completion : {P : ℕ → ℕ → Type 0} (os : List (List ℕ)) (m : ℕ) (st : Stack) (e : Expression) → DoesOn P os st → Any (Does P st (max (depth e) 1 + 1) (nodes e + 3)) → CompletionBy P closing os (have (in_test m st) e)
 test_completion {P = P} os m st e g h =
@@ -233,19 +233,19 @@ from_completion {P = P} os m n st e g h =
 
 -- what comes behind a value of a LET
 abbrev pub Counts : List Mention → Starts → Stack → Starts → Expression → State → Type 0
-Counts ns is st js e x = (b : Bool) (t : Kind) → goes 12 t ≡ false → (length ns == start_count is + 1) ≡ b → stepped_by x 1 [] t ≡ counted b (defined_by st (variables (line_of_names ns) ns js) 1 [] t) t (due (at_starts ns js st))
+Counts ns is st js e x = (b : Bool) (t : Kind) → goes 12 t ≡ false → (length ns == start_count is + 1) ≡ b → stepped_by x 1 [] t ≡ counted b (defined_by st (variables (at_names ns) ns js) 1 [] t) t (due (at_starts ns js st))
 
 pub value_step : (ns : List Mention) (is : Starts) (st : Stack) (e : Expression) → Counts ns is st (starts_then is (value e no_starts)) e (have (in_value ns is st) e)
 value_step ns is st e b t g h =
     let js : Starts = starts_then is (value e no_starts) in
-    let whole : Option State = defined_by st (variables (line_of_names ns) ns js) 1 [] t in
+    let whole : Option State = defined_by st (variables (at_names ns) ns js) 1 [] t in
     ap (λ z. cond z (push (in_value ns is st) e t 1) (counted (length ns == start_count is + 1) whole t (due (at_starts ns js st)))) g
     ∙ ap (λ z. counted z whole t (due (at_starts ns js st))) h
 
 pub vector_step : (m : ℕ) (ns : List Mention) (is : Starts) (st : Stack) (e : Expression) → Counts ns is st (starts_then is (vector m e no_starts)) e (have (in_vector m ns is st) e)
 vector_step m ns is st e b t g h =
     let js : Starts = starts_then is (vector m e no_starts) in
-    let whole : Option State = defined_by st (variables (line_of_names ns) ns js) 1 [] t in
+    let whole : Option State = defined_by st (variables (at_names ns) ns js) 1 [] t in
     ap (λ z. cond z (push (in_vector m ns is st) e t 1) (counted (length ns == start_count is + 1) whole t (due (at_starts ns js st)))) g
     ∙ ap (λ z. counted z whole t (due (at_starts ns js st))) h
 
@@ -253,7 +253,7 @@ vector_step m ns is st e b t g h =
 start_last : {P : ℕ → ℕ → Type 0} (os : List (List ℕ)) (ns : List Mention) (is js : Starts) (st : Stack) (e : Expression) (x : State) → DefinesOn P os st → Counts ns is st js e x → (length ns == start_count is + 1) ≡ true
     → Defines P st (depth_of_starts js + 1) (nodes_of_starts js + 1) → CompletionBy P closing os x
 start_last os ns is js st e x g steps many h =
-    let d = g (variables (line_of_names ns) ns js) h in
+    let d = g (variables (at_names ns) ns js) h in
     step_by closing k.Semicolon os x d.next (refl, refl, refl, refl) refl refl (steps true k.Semicolon refl many ∙ d.takes) d.completion
 
 -- so many are due behind this one

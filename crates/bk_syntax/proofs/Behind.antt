@@ -1,5 +1,5 @@
 -- What there is behind some symbols, and behind one more.
-use Rattle.bk_syntax.proofs.Terms.{◌≡◌, ℕ, zero, suc, ◌-◌, ◌+◌, ◌<◌, length, get_or, take, arith, List, [], ◌∷◌, ◌++◌, true, false, Option, Some, None, Result, Ok, Err, replicate, refl, sym, ap, subst, ◌∙◌, ◌⊎◌, inl, inr, append_assoc, append-nil, take_more, map-append, take-length, Bor, SourceFault, Refused, Fault, UnexpectedSymbol, WrongSectionTag, Kind, Token, Symbol, symbol_of, symbols_of, Frames, ParserState, Declarations, declarations_in, no_declarations, tag_of, Closing, closed_by, in_front, plain_behind, plain_by, plain, Stands, unfinished_on, above, stack, stack_of, state, Steps, reading, tags, Closes, goes_to, steps, leads, AfterSymbols, answered, reached, error_of, Advances, AnswersAtEnd, stepped, opens_kind, closes_kind, stack_none, Kind as k, Unfinished, Unfinished as b, Stop, Stop as s}
+use Rattle.bk_syntax.proofs.Terms.{◌≡◌, ℕ, zero, suc, ◌-◌, ◌+◌, ◌<◌, length, get_or, take, arith, List, [], ◌∷◌, ◌++◌, true, false, Option, Some, None, Result, Ok, Err, replicate, refl, sym, ap, subst, ◌∙◌, ◌⊎◌, inl, inr, append_assoc, append-nil, take_more, map-append, take-length, Bor, PlacedFault, position_of, Refused, Fault, UnexpectedSymbol, WrongSectionTag, Kind, Token, Symbol, symbol_of, symbols_of, Frames, ParserState, Declarations, declarations_in, no_declarations, tag_of, Closing, closed_by, in_front, plain_behind, plain_by, plain, Stands, unfinished_on, above, stack, stack_of, state, Steps, reading, tags, Closes, goes_to, steps, leads, AfterSymbols, answered, reached, error_of, Advances, AnswersAtEnd, stepped, opens_kind, closes_kind, stack_none, Kind as k, Unfinished, Unfinished as b, Stop, Stop as s}
 use Rattle.bk_frames.specs.declared.frame.OpenExpression.TheVariants as o
 use Rattle.bk_frames.specs.declared.frame.Phrase.TheVariants as p
 use Rattle.bk_frames.specs.declared.frame.Member.TheVariants as m
@@ -126,7 +126,7 @@ steps_more (suc n) t x h = let e : suc n - 1 ≡ n = omega arith in ap (λ (m : 
 -- a symbol is answered by as many steps as it has plain symbols
 pub step_answered : (r : Result Unit Stop) (now : ParserState) (new : Frames) (xs : List (Bor (List ℕ))) (u : List Symbol) (t : Symbol) (before after : List (List ℕ)) (x : State) (n : ℕ)
     → Steps (stack_of new) (reached r now) (steps n t x) → tags xs ≡ after → ((us : List Symbol) → plain (t ∷ us) before ≡ in_front (replicate n t) (plain us after)) → AfterSymbols u before x
-    → Advances new xs (answered (reached (error_of r) now) t.line) u t
+    → Advances new xs (answered (reached (error_of r) now) (position_of t)) u t
 step_answered (Ok _) now new xs u t before after x n go are h b =
     let y = state (stack_of new) now in
     let P : List (List ℕ) → Type 0 = λ z. AfterSymbols (u ++ t ∷ []) z y in
@@ -171,7 +171,7 @@ pub reading_all : (ts : List Symbol) (opens : List (List ℕ)) (x : State) (b : 
 reading_all ts opens x b = ap reading (sym (append-nil b.plainly)) ∙ reads b []
 
 pub closed : (r : Result Unit Stop) (now : ParserState) (new : Frames) (xs ys zs : List (Bor (List ℕ))) (u : List Symbol) (t : Symbol) (x : State) (n k : ℕ) → closes t.kind ≡ true → zs ≡ ys → Closes (Some n) t (tag_of t.text) zs
-    → k ≡ length ys - n → xs ≡ take k ys → Steps (stack_of new) (reached r now) (steps n t x) → AfterSymbols u (tags ys) x → Advances new xs (answered (reached (error_of r) now) t.line) u t
+    → k ≡ length ys - n → xs ≡ take k ys → Steps (stack_of new) (reached r now) (steps n t x) → AfterSymbols u (tags ys) x → Advances new xs (answered (reached (error_of r) now) (position_of t)) u t
 closed r now new xs ys zs u t x n k holds same h left is go b =
     let P : List (Bor (List ℕ)) → Type 0 = λ z. Closes (Some n) t (tag_of t.text) z in
     let q : closed_by t (tag_of t.text) (tags ys) ≡ Some (record { closings = replicate n t; still = tags (take (length ys - n) ys) }) = subst P same h in
@@ -192,8 +192,8 @@ unfolding stack
 whole_empty ds [] h = refl
 whole_empty ds (x ∷ xs) h = absurd (omega arith)
 
-pub ends_wrong : (q : Refused SourceFault) (r : Result Declarations (List Symbol)) (end : ℕ) → q ≡ Fault (record { line = end; kind = UnexpectedSymbol }) → r ≡ Err [] → AnswersAtEnd (Err q) r end
-ends_wrong q r end is h = let P : Refused SourceFault → Type 0 = λ z. AnswersAtEnd (Err z) r end in subst P (sym is) (h, refl, refl)
+pub ends_wrong : (q : Refused PlacedFault) (r : Result Declarations (List Symbol)) (end : ℕ) → q ≡ Fault (record { at = end; kind = UnexpectedSymbol }) → r ≡ Err [] → AnswersAtEnd (Err q) r end
+ends_wrong q r end is h = let P : Refused PlacedFault → Type 0 = λ z. AnswersAtEnd (Err z) r end in subst P (sym is) (h, refl, refl)
 
 pub from_nothing : (ds : List Decl) (xs : List Frame) (ys : List (Bor (List ℕ))) → ds ≡ [] → xs ≡ [] → ys ≡ [] → AfterSymbols [] (tags ys) (due (stack ds xs))
 from_nothing ds xs ys none nothing closed_all =

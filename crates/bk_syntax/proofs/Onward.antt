@@ -1,7 +1,8 @@
 -- Ways on: symbols that lead from a state of the machine to the end of a section, by the class of the first of them.
-use Rattle.bk_syntax.proofs.Terms.{◌≡◌, ◌≤◌, ℕ, arith, false, cond, List, [], ◌∷◌, Option, Some, None, Ok, refl, subst, ap, ◌∙◌, Kind, Symbol, symbol, upper_name, Mention, Expression, Action, Declarations, Definition, Declaration, name, simple, depth, depth_of_action, depth_of_declarations, depth_of_definition, nodes, nodes_of_action, nodes_of_declarations, nodes_of_definition, begins_command, repeats, assigns, goes, one_more, up_to_tag, closed_by, in_front, plain, Stack, State, want, have, begin, did, opens, closes, declared, declared_by, defined_by, stepped_by, run, form_of, Lookahead, closing, assigning, listing, going, repeating, operating, Any, AtClosing, AtListing, AtArgument, AtAssignment, Gives, Does, Defines, Takes, stepped, alike, takes, one_tag, Tagged, Kind as k}
+use Rattle.bk_syntax.proofs.Terms.{◌≡◌, ◌≤◌, ℕ, arith, false, cond, List, [], ◌∷◌, Option, Some, None, Ok, refl, subst, ap, ◌∙◌, Kind, Symbol, symbol, upper_name, Mention, Expression, Command, Declarations, Definition, Declaration, name, simple, depth, depth_of_command, depth_of_declarations, depth_of_definition, nodes, nodes_of_command, nodes_of_declarations, nodes_of_definition, begins_command, repeats, assigns, goes, one_more, up_to_tag, closed_by, in_front, plain, Stack, State, want, have, begin, did, opens, closes, declared, declared_by, defined_by, stepped_by, run, form_of, Lookahead, closing, assigning, listing, going, repeating, operating, Any, AtClosing, AtListing, AtArgument, AtAssignment, Gives, Does, Defines, Takes, stepped, alike, takes, one_tag, Tagged, Kind as k}
 use Rattle.bk_tree.specs.declared.tree.Simple.TheVariants as w
 use Rattle.bk_syntax.proofs.Behind.{plain_end, plain_open, plain_other, plain_close}
+use Rattle.bk_grammar.specs.Placed.{position_of}
 
 -- ---- ways on
 
@@ -86,7 +87,7 @@ end_completion os x ds r h = record { symbols = []; brackets = plain_end os; tre
 
 takes_first : (c : Lookahead) (us : List Symbol) (x : State) (f : ℕ → List ℕ → Kind → Option State) → FirstOf c us → ((l : ℕ) (s : List ℕ) (t : Kind) → IsOf c t → stepped_by x l s t ≡ f l s t) → Takes us x f
 takes_first c [] x f h g = g 1 [] k.Semicolon h
-takes_first c (t ∷ us) x f h g = g t.line t.text t.kind h
+takes_first c (t ∷ us) x f h g = g (position_of t) t.text t.kind h
 
 -- the state goes on as another one, wherever a symbol of the class comes
 pub same_by : {P : ℕ → ℕ → Type 0} (c : Lookahead) (os : List (List ℕ)) (x y : State) → ((l : ℕ) (s : List ℕ) (t : Kind) → IsOf c t → stepped_by x l s t ≡ stepped_by y l s t) → CompletionBy P c os y → CompletionBy P c os x
@@ -152,7 +153,7 @@ abbrev pub GivesOn : (ℕ → ℕ → Type 0) → List (List ℕ) → Stack → 
 GivesOn P os st = (e : Expression) (c : Lookahead) → Gives P st (form_of e) (depth e) (nodes e) c → CompletionBy P c os (have st e)
 
 abbrev pub DoesOn : (ℕ → ℕ → Type 0) → List (List ℕ) → Stack → Type 0
-DoesOn P os st = (a : Action) (c : Lookahead) → Does P st (depth_of_action a) (nodes_of_action a) c → CompletionBy P c os (did st a)
+DoesOn P os st = (a : Command) (c : Lookahead) → Does P st (depth_of_command a) (nodes_of_command a) c → CompletionBy P c os (did st a)
 
 -- a definition ends with a semicolon
 pub record DefinedCompletion (P : ℕ → ℕ → Type 0) (os : List (List ℕ)) (st : Stack) (d : Definition) : Type 0 where
@@ -175,8 +176,8 @@ pub record DeclaredCompletion (P : ℕ → ℕ → Type 0) (os : List (List ℕ)
 pub given : {P : ℕ → ℕ → Type 0} (os : List (List ℕ)) (st : Stack) (e : Expression) (d n : ℕ) → GivesOn P os st → d ≡ depth e → n ≡ nodes e → Any (Gives P st (form_of e) d n) → Completion P os (have st e)
 given {P = P} os st e d n g p q h = (g e h.0 (sized (λ x y. Gives P st (form_of e) x y h.0) d (depth e) n (nodes e) p q h.1)).completion
 
-pub done : {P : ℕ → ℕ → Type 0} (os : List (List ℕ)) (st : Stack) (a : Action) (d n : ℕ) → DoesOn P os st → d ≡ depth_of_action a → n ≡ nodes_of_action a → Any (Does P st d n) → Completion P os (did st a)
-done {P = P} os st a d n g p q h = (g a h.0 (sized (λ x y. Does P st x y h.0) d (depth_of_action a) n (nodes_of_action a) p q h.1)).completion
+pub done : {P : ℕ → ℕ → Type 0} (os : List (List ℕ)) (st : Stack) (a : Command) (d n : ℕ) → DoesOn P os st → d ≡ depth_of_command a → n ≡ nodes_of_command a → Any (Does P st d n) → Completion P os (did st a)
+done {P = P} os st a d n g p q h = (g a h.0 (sized (λ x y. Does P st x y h.0) d (depth_of_command a) n (nodes_of_command a) p q h.1)).completion
 
 -- ---- the least parts
 
@@ -184,9 +185,9 @@ abbrev pub name_here : Expression
 name_here = name 1 (upper_name [])
 
 abbrev pub mention_here : Mention
-mention_here = record { line = 1; letters = upper_name [] }
+mention_here = record { at = 1; letters = upper_name [] }
 
-abbrev pub break_here : Action
+abbrev pub break_here : Command
 break_here = simple 1 w.Break
 
 pub name_on : {P : ℕ → ℕ → Type 0} (os : List (List ℕ)) (st : Stack) → Completion P os (have st name_here) → Completion P os (want st)

@@ -1,5 +1,5 @@
 -- Ways on behind an expression, by what it stands in.
-use Rattle.bk_syntax.proofs.Terms.{◌≡◌, ℕ, ◌+◌, max, Bool, true, false, List, [], length, ◌==◌, Some, refl, inl, inr, arith, nat_lt, Kind, Label, Call, Callable, Other, Expression, Expressions, binary, choice, apply, table, none, more, depth, depth_of_each, depth_of_action, nodes, nodes_of_each, nodes_of_action, inner, behind, is_comma, goes, line_of, size, start_count, Stack, in_unary, in_binary, in_chain, in_then, in_else, in_args, in_table, in_start, in_values, in_value, in_vector, in_label, in_guarded, in_default, in_or, in_for, State, want, have, limit, give, stepped_by, each_then, form_of, Lookahead, closing, assigning, listing, going, repeating, operating, Any, Unlisted, If, Whole, Taken, Gives, Does, Operates, pushes, no_comma, falls, binary_done, each_depth, each_nodes, Kind as k, Operator, Operator as o, Prefix, Prefix as p}
+use Rattle.bk_syntax.proofs.Terms.{◌≡◌, ℕ, ◌+◌, max, Bool, true, false, List, [], length, ◌==◌, Some, refl, inl, inr, arith, nat_lt, Kind, Label, Call, Callable, Other, Expression, Expressions, binary, choice, apply, table, none, more, depth, depth_of_each, depth_of_command, nodes, nodes_of_each, nodes_of_command, inner, behind, is_comma, goes, at_expression, size, start_count, Stack, in_unary, in_binary, in_chain, in_then, in_else, in_args, in_table, in_start, in_values, in_value, in_vector, in_label, in_guarded, in_default, in_or, in_for, State, want, have, limit, give, stepped_by, each_then, form_of, Lookahead, closing, assigning, listing, going, repeating, operating, Any, Unlisted, If, Whole, Taken, Gives, Does, Operates, pushes, no_comma, falls, binary_done, each_depth, each_nodes, Kind as k, Operator, Operator as o, Prefix, Prefix as p}
 use Rattle.bk_frames.specs.declared.size.Form.{Form}
 use Rattle.bk_syntax.proofs.Onward.{Completion, CompletionBy, IsOf, sized, step_on, step_by, same_by, at_argument, Ends, Leaves, ends_expression, GivesOn, given, name_here, name_on, depth_some}
 
@@ -38,7 +38,7 @@ does_leave P st d n closing h = tt
 does_leave P (in_label l x st) d n repeating h = does_leave P st (d + 1) (n + 1) repeating h
 does_leave P (in_guarded q l e st) d n repeating h = does_leave P st (max (depth e) d + 1) (nodes e + n + 1) repeating h
 does_leave P (in_default l st) d n repeating h = does_leave P st (d + 1) (n + 1) repeating h
-does_leave P (in_or l e a st) d n repeating h = does_leave P st (max (depth e) (max (depth_of_action a) d) + 1) (nodes e + nodes_of_action a + n + 1) repeating h
+does_leave P (in_or l e a st) d n repeating h = does_leave P st (max (depth e) (max (depth_of_command a) d) + 1) (nodes e + nodes_of_command a + n + 1) repeating h
 does_leave P (in_for l x a b y st) d n repeating h = does_leave P st (max (depth a) (max (depth b) (max (depth_of_each y) d)) + 1) (nodes a + nodes b + nodes_of_each y + n + 1) repeating h
 does_leave P _ d n repeating h = h
 does_leave P st d n z h = tt
@@ -56,7 +56,7 @@ gives_as {P = P} os x st e whole g h c y =
 pub calls_by : {P : ℕ → ℕ → Type 0} (os : List (List ℕ)) (x : State) (st : Stack) (e : Expression) → stepped_by x 1 [] k.Open ≡ Some (want (in_args 1 e none st)) → GivesOn P os st
     → Any (Gives P st Call (depth e + 1) (nodes e + 1)) → CompletionBy P going os x
 calls_by os x st e s g h =
-    let whole : Expression = apply (line_of e) 1 e none in
+    let whole : Expression = apply (at_expression e) 1 e none in
     step_by going k.Open os x (want (in_args 1 e none st)) refl refl refl s
     (step_on k.Close os (want (in_args 1 e none st)) (have st whole) refl refl refl (given os st whole (depth e + 1) (nodes e + 1) g (omega arith) (omega arith) h))
 
@@ -74,7 +74,7 @@ args_end : {P : ℕ → ℕ → Type 0} (os : List (List ℕ)) (s : ℕ) (x : Ex
     → Whole (Gives P st) Call (max (depth x) (max (depth_of_each es) (depth e)) + 1) (nodes x + (nodes_of_each es + nodes e) + 1) → CompletionBy P closing os (have (in_args s x es st) e)
 args_end os s x es st e g h =
     let zs : Expressions = each_then es (more e none) in
-    let whole : Expression = apply (line_of x) s x zs in
+    let whole : Expression = apply (at_expression x) s x zs in
     let p = each_depth es e in
     let q = each_nodes es e in
     step_by closing k.Close os (have (in_args s x es st) e) (have st whole) (refl, refl, refl, refl) refl refl refl
@@ -99,7 +99,7 @@ args_completion os s x es st e c g h = at_argument os (have (in_args s x es st) 
 
 pub choice_completion : {P : ℕ → ℕ → Type 0} (os : List (List ℕ)) (s : ℕ) (x : Expression) (st : Stack) (e : Expression) → GivesOn P os st → Any (Gives P st Other (max (depth x) (max (depth e) 1) + 1) (nodes x + nodes e + 2)) → CompletionBy P listing os (have (in_then s x st) e)
 choice_completion {P = P} os s x st e g h =
-    let whole : Expression = choice (line_of x) s x e name_here in
+    let whole : Expression = choice (at_expression x) s x e name_here in
     let here : Stack = in_else s x e st in
     step_by listing k.Comma os (have (in_then s x st) e) (want here) refl refl refl refl
     (name_on os here (gives_as os here st name_here whole g (λ l y t f. rw f refl) h.0
@@ -163,7 +163,7 @@ prefix_tight _ = refl
 -- the expression goes on with it, and a name
 pub operates_by : {P : ℕ → ℕ → Type 0} (os : List (List ℕ)) (st : Stack) (e : Expression) → goes (limit st) k.Percent ≡ true → GivesOn P os st → Any (Gives P st Other (depth e + 1) (nodes e + 2)) → CompletionBy P operating os (have st e)
 operates_by {P = P} os st e low g h =
-    let whole : Expression = binary (line_of e) o.Byte 1 e name_here in
+    let whole : Expression = binary (at_expression e) o.Byte 1 e name_here in
     let here : Stack = in_binary o.Byte 1 e st in
     let some = depth_some e in
     step_by operating k.Percent os (have st e) (want here) refl refl refl (pushes st e 1 [] k.Percent low)
@@ -172,8 +172,8 @@ operates_by {P = P} os st e low g h =
 
 -- behind the right operand of an operator: of the same row the whole goes on
 pub operand_completion : {P : ℕ → ℕ → Type 0} (b : Bool) (os : List (List ℕ)) (q : Operator) (s : ℕ) (a : Expression) (st : Stack) (e : Expression) → nat_lt 1 (inner q) ≡ b → GivesOn P os (in_binary q s a st)
-    → (Operates P st (Gives P st) (max (depth a) (depth e) + 1) (nodes a + nodes e + 1) → CompletionBy P operating os (have st (binary (line_of a) q s a e)))
+    → (Operates P st (Gives P st) (max (depth a) (depth e) + 1) (nodes a + nodes e + 1) → CompletionBy P operating os (have st (binary (at_expression a) q s a e)))
     → Taken b (Any (Gives P (in_binary q s a st) Other (depth e + 1) (nodes e + 2))) (Operates P st (Gives P st) (max (depth a) (depth e) + 1) (nodes a + nodes e + 1)) → CompletionBy P operating os (have (in_binary q s a st) e)
 operand_completion true os q s a st e is g f h = operates_by os (in_binary q s a st) e is g h
 operand_completion false os q s a st e is g f h =
-    same_by operating os (have (in_binary q s a st) e) (have st (binary (line_of a) q s a e)) (λ l y t i. binary_done q s a st e l y t (let j : t ≡ k.Percent = i in rw j is)) (f h)
+    same_by operating os (have (in_binary q s a st) e) (have st (binary (at_expression a) q s a e)) (λ l y t i. binary_done q s a st e l y t (let j : t ≡ k.Percent = i in rw j is)) (f h)

@@ -1,5 +1,5 @@
 -- Worked rows, read by the machine.
-use Rattle.bk_syntax.proofs.Terms.{◌≡◌, ℕ, true, List, [], ◌∷◌, None, Ok, Err, refl, Kind, Symbol, Expression, Action, name, unary, binary, choice, call, when, repeat, block, label, empty, none, also, no_actions, no_declarations, declare, definitions, define, no_definitions, routine, function, run, reading, Kind as k, Operator as o, Prefix as p}
+use Rattle.bk_syntax.proofs.Terms.{◌≡◌, ℕ, true, List, [], ◌∷◌, None, Ok, Err, refl, Kind, Symbol, Expression, Command, name, unary, binary, choice, call, when, repeat, block, label, empty, none, also, no_commands, no_declarations, declare, definitions, define, no_definitions, routine, function, run, reading, Kind as k, Operator as o, Prefix as p}
 
 -- the name of this letter
 abbrev v : ℕ → Symbol
@@ -16,7 +16,7 @@ abbrev Gives : List Symbol → Expression → Type 0
 Gives ts e = reading (s k.Let ∷ v 70 ∷ s k.Open ∷ s k.Close ∷ s k.Equal ∷ ts) ≡ Ok (declare (definitions 1 (define (function 1 (70 ∷ []) [] e) no_definitions)) no_declarations)
 
 -- behind LET F() BE
-abbrev Acts : List Symbol → Action → Type 0
+abbrev Acts : List Symbol → Command → Type 0
 Acts ts c = reading (s k.Let ∷ v 70 ∷ s k.Open ∷ s k.Close ∷ s k.Be ∷ ts) ≡ Ok (declare (definitions 1 (define (routine 1 (70 ∷ []) [] c) no_definitions)) no_declarations)
 
 -- -A!B
@@ -60,7 +60,7 @@ unfolding run
 if_repeat = refl
 
 -- $( L: REPEAT $)
-label_repeat : Acts (s k.SectionOpen ∷ v 76 ∷ s k.Colon ∷ s k.Repeat ∷ s k.SectionClose ∷ []) (block 1 no_declarations (also (repeat 1 (label 1 (76 ∷ []) empty)) no_actions))
+label_repeat : Acts (s k.SectionOpen ∷ v 76 ∷ s k.Colon ∷ s k.Repeat ∷ s k.SectionClose ∷ []) (block 1 no_declarations (also (repeat 1 (label 1 (76 ∷ []) empty)) no_commands))
 unfolding run
 label_repeat = refl
 

@@ -12,7 +12,7 @@ pub use Rattle.bk_frames.proofs.Lemmas.{limit_phrase, limit_member, Down, at_mos
 pub use Rattle.bk_frames.specs.Bounds.{Always, AtMost, LevelsAtMost, Bounded, Passed}
 pub use Rattle.bk_frames.specs.Completing.{Completes, Lookahead, closing, assigning, listing, going, repeating, operating, Any, Unlisted, If, Whole, Taken, Gives, Does, Operates, Defines, Declares, Wants, Misses, Lists, Due, AtClosing, AtListing, AtArgument, AtAssignment, Closed, Missing, Started, Guarded}
 pub use Rattle.bk_frames.specs.Frames.{stack_of, state, given, Flows, is_let_unfinished, Steps, after}
-pub use Rattle.bk_frames.specs.Sizes.{form_of, size_if, size_of, size_of_action, owed}
+pub use Rattle.bk_frames.specs.Sizes.{form_of, size_if, size_of, size_of_command, owed}
 pub use Rattle.bk_frames.specs.Stacked.{above}
 unfoldable pub use Rattle.bk_frames.specs.Stacked.{stack}
 pub use Rattle.bk_frames.specs.Unfinished.{unfinished_on}
@@ -33,10 +33,14 @@ pub use Rattle.bk_lex.specs.Symbol.{Symbol, symbol_of, symbols_of, symbol}
 pub use Rattle.bk_lex.specs.Values.{upper_name}
 pub use Rattle.bk_lex.specs.declared.token.Kind.{Kind}
 pub use Rattle.bk_lex.specs.declared.token.Token.{Token}
-pub use Rattle.bk_tree.proofs.Lemmas.{each_depth, each_nodes, actions_depth, actions_nodes, declarations_depth, declarations_nodes, definitions_depth, definitions_nodes, items_depth, items_nodes, eq_is, is_zero, is_more, Apply_is, starts_depth, starts_nodes}
-pub use Rattle.bk_tree.specs.Limits.{Within, depth_of_declarations, nodes_of_declarations, depth, depth_of_each, depth_of_action, nodes, nodes_of_each, nodes_of_action, depth_of_actions, depth_of_declaration, depth_of_items, depth_of_definition, depth_of_definitions, nodes_of_actions, nodes_of_declaration, nodes_of_items, nodes_of_definition, nodes_of_definitions, depth_of_starts, nodes_of_starts}
-pub use Rattle.bk_tree.specs.Parts.{line_of, size, start_count, each_then, line_of_action, actions_then, declarations_then, items_then, definitions_then, line_of_first, line_of_names, starts_then}
-pub use Rattle.bk_tree.specs.Tree.{Declarations, expression, no_declarations, Expression, Expressions, binary, choice, apply, table, none, more, Mention, Action, Actions, Declaration, Items, Definition, parens, unary, valof, empty, goto, label, default, test, for_loop, result, block, repeat_while, no_actions, also, constants, definitions, declare, no_items, item, routine, function, no_definitions, define, no_starts, name, simple, assign, case_of, variables, value, vector, declarations_in, call, when, repeat, Starts}
+pub use Rattle.bk_tree.proofs.Lemmas.{each_depth, each_nodes, commands_depth, commands_nodes, declarations_depth, declarations_nodes, definitions_depth, definitions_nodes, items_depth, items_nodes, eq_is, is_zero, is_more, Apply_is, starts_depth, starts_nodes}
+pub use Rattle.bk_tree.specs.declared.placed.PlacedFault.{PlacedFault}
+pub use Rattle.bk_tree.specs.Placed.{fault_on_line, on_line}
+pub use Rattle.bk_tree.specs.Position.{position, line_in}
+pub use Rattle.bk_grammar.specs.Placed.{position_of}
+pub use Rattle.bk_tree.specs.Limits.{Within, depth_of_declarations, nodes_of_declarations, depth, depth_of_each, depth_of_command, nodes, nodes_of_each, nodes_of_command, depth_of_commands, depth_of_declaration, depth_of_items, depth_of_definition, depth_of_definitions, nodes_of_commands, nodes_of_declaration, nodes_of_items, nodes_of_definition, nodes_of_definitions, depth_of_starts, nodes_of_starts}
+pub use Rattle.bk_tree.specs.Parts.{at_expression, size, start_count, each_then, at_command, commands_then, declarations_then, items_then, definitions_then, at_expressions, at_names, starts_then}
+pub use Rattle.bk_tree.specs.Tree.{Declarations, expression, no_declarations, Expression, Expressions, binary, choice, apply, table, none, more, Mention, Command, Commands, Declaration, Items, Definition, parens, unary, valof, empty, goto, label, default, test, for_loop, result, block, repeat_while, no_commands, also, constants, definitions, declare, no_items, item, routine, function, no_definitions, define, no_starts, name, simple, assign, case_of, variables, value, vector, declarations_in, call, when, repeat, Starts}
 pub use Rattle.bk_syntax.specs.Parsing.{goes_to, leads, AfterSymbols, AnswersAtEnd, answered, reached, Advances, steps, told, Closes, error_of, tags_on}
 unfoldable pub use Rattle.bk_syntax.specs.Parsing.{tags}
 pub use Rattle.bk_syntax.specs.SyntaxLaws.{reading, BeginsCompletes, CompletesBegins}

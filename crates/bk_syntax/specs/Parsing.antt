@@ -18,6 +18,10 @@ use Rattle.bk_tree.specs.declared.section.Section.{Section}
 use Rattle.bk_tree.specs.Tree.{Declarations, no_declarations}
 use Rattle.bk_tree.specs.Section.{declarations_of}
 use Rattle.bk_tree.specs.Limits.{Within}
+use Rattle.bk_tree.specs.Position.{position}
+use Rattle.bk_tree.specs.Placed.{fault_on_line, on_line}
+use Rattle.bk_tree.specs.declared.placed.PlacedFault.{PlacedFault}
+use Rattle.bk_grammar.specs.Placed.{position_of}
 use Rattle.bk_frames.specs.Bounds.{Passed}
 use Rattle.bk_grammar.specs.Brackets.{closed_by, in_front, plain}
 use Rattle.bk_grammar.specs.SyntaxFault.{IsSection, Begins, Stands, First, StandsAtEnd}
@@ -62,18 +66,18 @@ IsLimit NestedTooDeeply = Unit {0}
 IsLimit TooManyNodes = Unit {0}
 IsLimit _ = ⊥
 
--- the fault that is reported for an error on this line
-abbrev pub told : ParseError → ℕ → Refused SourceFault
-told w.Memory line = Memory
-told w.Unexpected line = Fault (record { line = line; kind = UnexpectedSymbol })
-told w.WrongSectionTag line = Fault (record { line = line; kind = WrongSectionTag })
-told w.NestedTooDeeply line = Fault (record { line = line; kind = NestedTooDeeply })
-told w.TooManyNodes line = Fault (record { line = line; kind = TooManyNodes })
+-- the fault that is reported for an error at this position
+abbrev pub told : ParseError → ℕ → Refused PlacedFault
+told w.Memory at = Memory
+told w.Unexpected at = Fault (record { at = at; kind = UnexpectedSymbol })
+told w.WrongSectionTag at = Fault (record { at = at; kind = WrongSectionTag })
+told w.NestedTooDeeply at = Fault (record { at = at; kind = NestedTooDeeply })
+told w.TooManyNodes at = Fault (record { at = at; kind = TooManyNodes })
 
--- what a symbol on this line is answered
-abbrev pub answered : Result ParserState ParseError → ℕ → Result ParserState (Refused SourceFault)
-answered (Ok now) line = Ok now
-answered (Err error) line = Err (told error line)
+-- what a symbol at this position is answered
+abbrev pub answered : Result ParserState ParseError → ℕ → Result ParserState (Refused PlacedFault)
+answered (Ok now) at = Ok now
+answered (Err error) at = Err (told error at)
 
 -- why a symbol is refused, without its line
 abbrev pub error_of : Result Unit Stop → Result Unit ParseError
@@ -94,16 +98,16 @@ IsPassed w.TooManyNodes x = Passed TooManyNodes x
 IsPassed _ x = ⊥
 
 -- the answer to a further symbol t after u
-abbrev pub Advances : Frames → List (Bor (List ℕ)) → Result ParserState (Refused SourceFault) → List Symbol → Symbol → Type 0
+abbrev pub Advances : Frames → List (Bor (List ℕ)) → Result ParserState (Refused PlacedFault) → List Symbol → Symbol → Type 0
 Advances new opens (Ok now) u t = AfterSymbols (u ++ t ∷ []) (tags opens) (state (stack_of new) now)
-Advances new opens (Err (Fault f)) u t = (f.line ≡ t.line) × Stands f.kind u t
+Advances new opens (Err (Fault f)) u t = (f.at ≡ position_of t) × Stands f.kind u t
 Advances new opens (Err Memory) u t = Unit {0}
 Advances new opens (Err Device) u t = ⊥
 
--- the answer at the end
-abbrev pub AnswersAtEnd : Result Section (Refused SourceFault) → Result Declarations (List Symbol) → ℕ → Type 0
+-- the answer at the end, at this position
+abbrev pub AnswersAtEnd : Result Section (Refused PlacedFault) → Result Declarations (List Symbol) → ℕ → Type 0
 AnswersAtEnd (Ok x) r end = r ≡ Ok (declarations_of x)
-AnswersAtEnd (Err (Fault f)) r end = (r ≡ Err []) × (f.kind ≡ UnexpectedSymbol) × (f.line ≡ end)
+AnswersAtEnd (Err (Fault f)) r end = (r ≡ Err []) × (f.kind ≡ UnexpectedSymbol) × (f.at ≡ end)
 AnswersAtEnd (Err Memory) r end = Unit {0}
 AnswersAtEnd (Err Device) r end = ⊥
 
@@ -123,6 +127,26 @@ pub record ToldAtEnd (f : SourceFault) (ts : List Symbol) (end : ℕ) : Type 0 w
   pub line : f.line ≡ end
   pub begins : Begins Within ts
   pub stands : StandsAtEnd ts
+
+-- A fault at a symbol has the position of that symbol. One at the end has the end's line, and no place.
+pub record PlacedAt (f : PlacedFault) (ts : List Symbol) : Type 0 where
+  pub told : ToldAt (fault_on_line f) ts
+  pub position : f.at ≡ position_of told.at
+
+pub record PlacedAtEnd (f : PlacedFault) (ts : List Symbol) (end : ℕ) : Type 0 where
+  pub told : ToldAtEnd (fault_on_line f) ts end
+  pub position : f.at ≡ position end None
+
+abbrev pub ParsesPlaced : Result Section (Refused PlacedFault) → List Symbol → ℕ → Type 0
+ParsesPlaced (Ok x) ts end = IsSection (declarations_of x) ts
+ParsesPlaced (Err (Fault f)) ts end = PlacedAt f ts ⊎ PlacedAtEnd f ts end
+ParsesPlaced (Err Memory) ts end = Unit {0}
+ParsesPlaced (Err Device) ts end = ⊥
+
+-- the answer with the line of a fault in the place of its position
+abbrev pub without_place : Result Section (Refused PlacedFault) → Result Section (Refused SourceFault)
+without_place (Ok x) = Ok x
+without_place (Err r) = Err (on_line r)
 
 -- what is answered of these symbols, which end on this line
 abbrev pub Parses : Result Section (Refused SourceFault) → List Symbol → ℕ → Type 0

@@ -1,13 +1,14 @@
-//! The errors of the parser, without their lines.
+//! The errors of the parser, without their positions.
 ghost use Rattle.std.specs.Prelude.{◌≡◌};
 ghost use Rattle.bk_syntax.specs.Parsing.{told};
 ghost use Rattle.bk_frames.specs.declared.frame.Stop.TheVariants.{Unexpected};
 
-use bk_base::{Line, Refused, SourceFault, SourceKind};
+use bk_base::{Refused, SourceKind};
 use bk_frames::frame::Stop;
+use bk_tree::{PlacedFault, Position};
 use std::alloc::AllocError;
 
-/// Why the symbols up to one are refused, without its line.
+/// Why the symbols up to one are refused, without its position.
 #[derive(Clone, Copy)]
 pub enum ParseError {
     Memory,
@@ -37,9 +38,9 @@ pub fn refuse<T: Drop>(_part: T) -> Stop
     Stop::Unexpected
 }
 
-/// The fault that is reported for an error on this line.
-pub fn told(error: ParseError, line: Line) -> Refused<SourceFault>
-    ensures { result ≡ told error line }
+/// The fault that is reported for an error at this position.
+pub fn told(error: ParseError, at: Position) -> Refused<PlacedFault>
+    ensures { result ≡ told error at }
 {
     let kind = match error {
         ParseError::Memory => return Refused::Memory,
@@ -48,5 +49,5 @@ pub fn told(error: ParseError, line: Line) -> Refused<SourceFault>
         ParseError::NestedTooDeeply => SourceKind::NestedTooDeeply,
         ParseError::TooManyNodes => SourceKind::TooManyNodes,
     };
-    Refused::Fault(SourceFault { line, kind })
+    Refused::Fault(PlacedFault { at, kind })
 }

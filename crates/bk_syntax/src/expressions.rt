@@ -1,5 +1,6 @@
 //! Reading expressions.
-ghost use Rattle.std.specs.Prelude.{◌≡◌, ◌+◌, IfOk, Some, None, Option, MatchOption, option_map, unwrap_or, nat_lt, IfSome, cond, true, false, ℕ};
+ghost use Rattle.bk_grammar.specs.Placed.{position_at};
+ghost use Rattle.std.specs.Prelude.{◌≡◌, ◌+◌, IfOk, Some, None, Option, MatchOption, option_map, unwrap_or, nat_lt, IfSome, cond, true, false, ℕ, OnOk};
 ghost use Rattle.bk_tree.specs.declared.tree.Operator.TheVariants.{Both};
 ghost use Rattle.bk_frames.specs.declared.frame.Unfinished.TheVariants as Unfinished;
 ghost use Rattle.bk_frames.specs.declared.frame.OpenExpression.TheVariants as o;
@@ -10,7 +11,7 @@ ghost use Rattle.bk_grammar.specs.Rows.{leaf, goes};
 ghost use Rattle.bk_frames.specs.Frames.{related};
 ghost use Rattle.bk_frames.specs.Sizes.{are_none};
 ghost use Rattle.bk_grammar.specs.Grammar.{last};
-ghost use Rattle.bk_tree.specs.Parts.{line_of};
+ghost use Rattle.bk_tree.specs.Parts.{at_expression};
 ghost use Rattle.bk_grammar.specs.Machine.{Stack, limit, push, infixed, in_chain, in_args, in_table, bars, no_args, take_operand, give, want, begin, due, have};
 ghost use Rattle.bk_frames.specs.Unfinished.{unfinished_on, operand_on, phrase_on, member_on, clause_on, place_on, point_on};
 ghost use Rattle.bk_frames.specs.Stacked.{stack};
@@ -18,7 +19,7 @@ ghost use Rattle.bk_syntax.specs.Parsing.{reached};
 ghost use Rattle.bk_frames.specs.Frames.{stack_of, HasBudgetsFor, state, given, Steps, Answers, Lowers, Falls};
 
 use crate::error::refuse;
-use bk_base::Line;
+use crate::parser::Parser;
 use bk_frames::frame::{
     Clause, Flow, Frame, Member, OpenExpression, ParserState, Phrase, Place, Point, Size, Sized,
     Stop, Unfinished,
@@ -26,6 +27,7 @@ use bk_frames::frame::{
 use bk_frames::frames::Frames;
 use bk_frames::size::{LEAF, NOTHING, are_none, both, of_node};
 use bk_frames::top::{pop, push, push_in_place};
+use bk_grammar::placed::position_of;
 use bk_grammar::spelling::name;
 use bk_grammar::symbols::{
     Opening, goes_on, infix, inner_row, is_arrow, is_both, is_close, is_comma, is_open, opens_with,
@@ -33,108 +35,8 @@ use bk_grammar::symbols::{
 };
 use bk_lex::{Kind, Token, character_byte, number_word, string_bytes};
 use bk_tree::make::{apply, table};
-use bk_tree::{Expr, Operator, Prefix, copy};
+use bk_tree::{Expr, Operator, Position, Prefix, copy};
 use std::alloc::{AllocError, Global};
-use std::mem;
-
-/// Puts an unfinished expression on top. Its operand is due.
-#[inline(always)]
-pub fn want(
-    frames: &mut Frames,
-    operand: OpenExpression,
-    held: Size,
-) -> Result<ParserState, AllocError>
-    requires { held ≡ held_in (Unfinished.OpenExpression operand) }
-    ensures { IfOk result (λ now. state (stack_of frames.new) now ≡ want (operand_on operand (stack_of frames.old))) }
-{
-    push(frames, Unfinished::OpenExpression(operand), held)?;
-    Ok(ParserState::Want)
-}
-
-/// Puts an unfinished command or definition on top. An expression of it is due.
-#[inline(always)]
-pub fn want_in(frames: &mut Frames, phrase: Phrase, held: Size) -> Result<ParserState, AllocError>
-    requires { held ≡ held_in (Unfinished.Phrase phrase) }
-    ensures { IfOk result (λ now. state (stack_of frames.new) now ≡ want (phrase_on phrase (stack_of frames.old))) }
-{
-    push(frames, Unfinished::Phrase(phrase), held)?;
-    Ok(ParserState::Want)
-}
-
-/// Puts an unfinished item or definition on top. An expression of it is due.
-#[inline(always)]
-pub fn want_for(frames: &mut Frames, member: Member, held: Size) -> Result<ParserState, AllocError>
-    requires { held ≡ held_in (Unfinished.Member member) }
-    ensures { IfOk result (λ now. state (stack_of frames.new) now ≡ want (member_on member (stack_of frames.old))) }
-{
-    push(frames, Unfinished::Member(member), held)?;
-    Ok(ParserState::Want)
-}
-
-/// Puts an unfinished construct on top. A command of it is due.
-#[inline(always)]
-pub fn wants_command(
-    frames: &mut Frames,
-    clause: Clause,
-    held: Size,
-) -> Result<ParserState, AllocError>
-    requires { held ≡ held_in (Unfinished.Clause clause) }
-    ensures { IfOk result (λ now. state (stack_of frames.new) now ≡ begin (clause_on clause (stack_of frames.old))) }
-{
-    push(frames, Unfinished::Clause(clause), held)?;
-    Ok(ParserState::Begin)
-}
-
-/// Puts on top a place of an item or a command, where a symbol is due.
-#[inline(always)]
-pub fn due_at(frames: &mut Frames, point: Point, held: Size) -> Result<ParserState, AllocError>
-    requires { held ≡ held_in (Unfinished.Point point) }
-    ensures { IfOk result (λ now. state (stack_of frames.new) now ≡ due (point_on point (stack_of frames.old))) }
-{
-    push(frames, Unfinished::Point(point), held)?;
-    Ok(ParserState::Due)
-}
-
-/// Puts on top a place of a block or a definition, where a symbol is due.
-#[inline(always)]
-pub fn due(frames: &mut Frames, place: Place, held: Size) -> Result<ParserState, AllocError>
-    requires { held ≡ held_in (Unfinished.Place place) }
-    ensures { IfOk result (λ now. state (stack_of frames.new) now ≡ due (place_on place (stack_of frames.old))) }
-{
-    push(frames, Unfinished::Place(place), held)?;
-    Ok(ParserState::Due)
-}
-
-/// Puts a place of a block or a definition on top, where a symbol is due, in place of a construct that had the same budgets.
-#[inline(always)]
-pub fn due_still(frames: &mut Frames, place: Place, held: Size) -> Result<ParserState, AllocError>
-    requires held { held ≡ held_in (Unfinished.Place place) }
-    requires budgets { HasBudgetsFor frames.old (place_on place (stack_of frames.old)) }
-    ensures { IfOk result (λ now. state (stack_of frames.new) now ≡ due (place_on place (stack_of frames.old))) }
-{
-    push_in_place(frames, Unfinished::Place(place), held)?;
-    Ok(ParserState::Due)
-}
-
-/// The line of an expression's first symbol.
-pub fn line_of(expr: &Expr) -> Line
-    ensures { result ≡ line_of (expression expr.now) }
-{
-    match expr {
-        Expr::Name(line, _)
-        | Expr::Number(line, _)
-        | Expr::Text(line, _)
-        | Expr::Truth(line, _)
-        | Expr::Query(line)
-        | Expr::Parens(line, _)
-        | Expr::Unary(line, _, _)
-        | Expr::Binary(line, _, _, _, _)
-        | Expr::Choice(line, _, _, _, _)
-        | Expr::Apply(line, _, _, _)
-        | Expr::Valof(line, _)
-        | Expr::Table(line, _) => *line,
-    }
-}
 
 /// The rows of operators that an operand of this construct may have.
 fn rows_above(unfinished: &Unfinished) -> u8
@@ -160,7 +62,11 @@ fn related(expr: &Expr) -> Option<&Expr>
     ensures { MatchOption result (related (expression expr.now) ≡ None) (λ right. related (expression expr.now) ≡ Some (expression right.now)) }
 {
     match expr {
-        Expr::Binary(_, operator, _, _, right) => {
+        Expr::Binary {
+            operator,
+            right,
+            ..
+        } => {
             if relates(*operator) {
                 Some(right)
             } else {
@@ -177,7 +83,11 @@ fn shared(expr: &Expr) -> Option<&Expr>
     ensures { MatchOption result (last (expression expr.now) ≡ None) (λ right. last (expression expr.now) ≡ Some (expression right.now)) }
 {
     match expr {
-        Expr::Binary(_, operator, _, _, right) => {
+        Expr::Binary {
+            operator,
+            right,
+            ..
+        } => {
             if is_both(*operator) {
                 related(right)
             } else {
@@ -186,87 +96,6 @@ fn shared(expr: &Expr) -> Option<&Expr>
         }
         _ => None,
     }
-}
-
-/// A relation goes on with a further one: its right operand is copied.
-fn go_on_chain(
-    alloc: Global,
-    frames: &mut Frames,
-    sized: Sized,
-    copy: Box<Expr>,
-    operator: Operator,
-    sign: Line,
-) -> Result<ParserState, AllocError>
-    requires { last (expression sized.expr) ≡ Some (expression copy.value) }
-    ensures { IfOk result (λ now. state (stack_of frames.new) now ≡ want (in_chain operator sign (expression sized.expr) (expression copy.value)
-        (stack_of frames.old))) }
-{
-    let held = both(sized.size, of_node(sized.right));
-    let whole = Box::new(alloc, sized.expr)?;
-    want(
-        frames,
-        OpenExpression::Chain(operator, sign, whole, copy),
-        held,
-    )
-}
-
-/// The expression goes on with an operator.
-fn go_on_infix(
-    alloc: Global,
-    frames: &mut Frames,
-    sized: Sized,
-    operator: Operator,
-    sign: Line,
-) -> Result<ParserState, AllocError>
-    ensures { IfOk result (λ now. Some (state (stack_of frames.new) now) ≡ infixed (stack_of frames.old) (expression sized.expr) sign (Some operator)) }
-{
-    if relates(operator) {
-        if let Some(right) = shared(&sized.expr) {
-            let copy = copy(alloc, right)?;
-            let copy = Box::new(alloc, copy)?;
-            return go_on_chain(alloc, frames, sized, copy, operator, sign);
-        }
-    }
-    let left = Box::new(alloc, sized.expr)?;
-    want(
-        frames,
-        OpenExpression::Binary(operator, sign, left),
-        sized.size,
-    )
-}
-
-/// The expression goes on with the symbol.
-#[tactic(auto, using(bk_frames::proofs::Lemmas::push_cases))]
-pub fn go_on(
-    alloc: Global,
-    frames: &mut Frames,
-    now: &mut ParserState,
-    sized: Sized,
-    token: &Token,
-) -> Result<Flow, Stop>
-    ensures answers { Answers frames.new now.new result token.now (λ l x kind. push (stack_of frames.old) (expression sized.expr) kind l) }
-    ensures falls { Falls frames.old frames.new result }
-{
-    if let Some(operator) = infix(token.kind) {
-        now.set(go_on_infix(alloc, frames, sized, operator, token.line)?);
-        return Ok(Flow::Taken);
-    }
-    if is_open(token.kind) {
-        let callee = Box::new(alloc, sized.expr)?;
-        let args = OpenExpression::Args(token.line, callee, Vec::new(alloc));
-        now.set(want(frames, args, sized.size)?);
-        return Ok(Flow::Taken);
-    }
-    if is_arrow(token.kind) {
-        let condition = Box::new(alloc, sized.expr)?;
-        now.set(want(
-            frames,
-            OpenExpression::Then(token.line, condition),
-            sized.size,
-        )?);
-        return Ok(Flow::Taken);
-    }
-    Err(Stop::Unexpected)
 }
 
 /// A leaf of the tree.
@@ -297,17 +126,29 @@ pub fn whole(expr: Expr, parts: Size) -> Sized
 /// An operand that is one symbol.
 fn leaf_of(alloc: Global, token: &Token) -> Result<Option<Expr>, AllocError>
     ensures small { IfOk result (λ expr. IfSome expr (λ e. IsLeaf (expression e))) }
-    ensures leaf { IfOk result (λ expr. leaf token.now.kind token.now.line token.now.text.now ≡ option_map expression expr) }
+    ensures leaf { IfOk result (λ expr. leaf token.now.kind (position_at token.now) token.now.text.now ≡ option_map expression expr) }
 {
-    let line = token.line;
+    let at = position_of(token);
     Ok(match token.kind {
-        Kind::Name => Some(Expr::Name(line, name(alloc, token.text)?)),
-        Kind::Number => Some(Expr::Number(line, number_word(token.text))),
-        Kind::Text => Some(Expr::Text(line, string_bytes(alloc, token.text)?)),
-        Kind::Character => Some(Expr::Number(line, u32::from(character_byte(token.text)))),
-        Kind::True => Some(Expr::Truth(line, true)),
-        Kind::False => Some(Expr::Truth(line, false)),
-        Kind::Query => Some(Expr::Query(line)),
+        Kind::Name => Some(Expr::Name {
+            at,
+            letters: name(alloc, token.text)?,
+        }),
+        Kind::Number => Some(Expr::Number {
+            at,
+            word: number_word(token.text),
+        }),
+        Kind::Text => Some(Expr::Text {
+            at,
+            bytes: string_bytes(alloc, token.text)?,
+        }),
+        Kind::Character => Some(Expr::Number {
+            at,
+            word: u32::from(character_byte(token.text)),
+        }),
+        Kind::True => Some(Expr::Truth { at, truth: true }),
+        Kind::False => Some(Expr::Truth { at, truth: false }),
+        Kind::Query => Some(Expr::Query { at }),
         _ => None,
     })
 }
@@ -356,94 +197,6 @@ fn is_barred(frames: &Frames) -> bool
     false
 }
 
-/// A `)` where an argument is due.
-#[tactic(auto, using(bk_frames::proofs::Lemmas::frames_laws, bk_frames::proofs::Lemmas::no_args_cases))]
-fn no_arguments(frames: &mut Frames, now: &mut ParserState) -> Result<(), Stop>
-    ensures { Steps (stack_of frames.new) (reached result now.new) (no_args (stack_of frames.old)) }
-{
-    let Some(top) = pop(frames) else {
-        return Err(Stop::Unexpected);
-    };
-    let Frame {
-        unfinished,
-        held,
-        spare: _,
-    } = top;
-    let Unfinished::OpenExpression(operand) = unfinished else {
-        return Err(Stop::Unexpected);
-    };
-    match operand {
-        OpenExpression::Args(sign, callee, items) => {
-            if !are_none(&items) {
-                return Err(Stop::Unexpected);
-            }
-            let apply = apply(line_of(&callee), sign, callee, items);
-            now.set(ParserState::Have(whole(apply, held)));
-            Ok(())
-        }
-        _ => Err(Stop::Unexpected),
-    }
-}
-
-/// An operand is due, and this symbol comes, which is no name and no number.
-#[inline(never)]
-#[tactic(auto, using(bk_frames::proofs::Lemmas::operand_cases))]
-fn other_operand(
-    alloc: Global,
-    frames: &mut Frames,
-    now: &mut ParserState,
-    token: &Token,
-) -> Result<(), Stop>
-    ensures { Steps (stack_of frames.new) (reached result now.new) (take_operand (stack_of frames.old) token.now.line token.now.text.now token.now.kind) }
-{
-    if let Some(expr) = leaf_of(alloc, token)? {
-        now.set(leaf(expr));
-        return Ok(());
-    }
-    if let Some(prefix) = prefix(token.kind) {
-        now.set(want(frames, OpenExpression::Unary(token.line, prefix), NOTHING)?);
-        return Ok(());
-    }
-    match opens_with(token.kind) {
-        Some(Opening::Parens) => now.set(want(
-            frames,
-            OpenExpression::Parens(token.line),
-            NOTHING,
-        )?),
-        Some(Opening::Close) => return no_arguments(frames, now),
-        Some(Opening::Valof) => now.set(wants_command(frames, Clause::Valof(token.line), NOTHING)?),
-        Some(Opening::Table) => {
-            if is_barred(frames) {
-                return Err(Stop::Unexpected);
-            }
-            now.set(want(
-                frames,
-                OpenExpression::Table(token.line, Vec::new(alloc)),
-                NOTHING,
-            )?);
-        }
-        None => return Err(Stop::Unexpected),
-    }
-    Ok(())
-}
-
-/// An operand is due, and this symbol comes.
-pub fn operand(
-    alloc: Global,
-    frames: &mut Frames,
-    now: &mut ParserState,
-    token: &Token,
-) -> Result<(), Stop>
-    ensures { Steps (stack_of frames.new) (reached result now.new) (take_operand (stack_of frames.old) token.now.line token.now.text.now token.now.kind) }
-{
-    match token.kind {
-        Kind::Name => now.set(leaf(Expr::Name(token.line, name(alloc, token.text)?))),
-        Kind::Number => now.set(leaf(Expr::Number(token.line, number_word(token.text)))),
-        _ => return other_operand(alloc, frames, now, token),
-    }
-    Ok(())
-}
-
 /// The size of the operand that a further relation would share with this right operand.
 #[tactic(auto, using(bk_frames::proofs::Lemmas::last_cases, bk_frames::proofs::Lemmas::related_last))]
 fn shared_size(operator: Operator, right: &Sized) -> Size
@@ -467,22 +220,34 @@ fn shared_size(operator: Operator, right: &Sized) -> Size
 fn chained(
     alloc: Global,
     operator: Operator,
-    sign: Line,
+    sign: Position,
     before: Box<Expr>,
     shared: Box<Expr>,
     parts: Size,
     right: Sized,
 ) -> Result<Sized, AllocError>
     requires { parts ≡ held_in (Unfinished.OpenExpression (o.Chain operator sign before shared)) }
-    ensures { IfOk result (λ whole. expression whole.expr ≡ binary (line_of (expression before.value)) Both sign (expression before.value)
-        (binary (line_of (expression shared.value)) operator sign (expression shared.value) (expression right.expr))) }
+    ensures { IfOk result (λ whole. expression whole.expr ≡ binary (at_expression (expression before.value)) Both sign (expression before.value)
+        (binary (at_expression (expression shared.value)) operator sign (expression shared.value) (expression right.expr))) }
 {
-    let line = line_of(&before);
+    let at = before.at();
     let part = right.size;
     let last = Box::new(alloc, right.expr)?;
-    let further = Expr::Binary(line_of(&shared), operator, sign, shared, last);
+    let further = Expr::Binary {
+        at: shared.at(),
+        operator,
+        sign,
+        left: shared,
+        right: last,
+    };
     let further = Box::new(alloc, further)?;
-    let expr = Expr::Binary(line, Operator::Both, sign, before, further);
+    let expr = Expr::Binary {
+        at,
+        operator: Operator::Both,
+        sign,
+        left: before,
+        right: further,
+    };
     Ok(Sized {
         expr,
         size: of_node(Size {
@@ -493,273 +258,509 @@ fn chained(
     })
 }
 
-/// An expression in parentheses is complete.
-#[inline(never)]
-fn complete_parens(
-    alloc: Global,
-    frames: &mut Frames,
-    now: &mut ParserState,
-    line: Line,
-    held: Size,
-    token: &Token,
-) -> Result<Flow, Stop>
-    requires stops { goes (limit (operand_on (o.Parens line) (stack_of frames.old))) token.now.kind ≡ false }
-    requires held { held ≡ held_in (Unfinished.OpenExpression (o.Parens line)) }
-    ensures flows { Answers frames.new now.new result token.now (given (operand_on (o.Parens line) (stack_of frames.old)) now.old) }
-    ensures lowers { Lowers frames.old frames.new result }
-{
-    let ParserState::Have(sized) = mem::replace(now, ParserState::Due) else {
-        return Err(Stop::Unexpected);
-    };
-    if !is_close(token.kind) {
-        return Err(refuse(sized));
+impl Parser {
+    /// Puts an unfinished expression on top. Its operand is due.
+    #[inline(always)]
+    pub fn want(&mut self, operand: OpenExpression, held: Size) -> Result<(), AllocError>
+        requires { held ≡ held_in (Unfinished.OpenExpression operand) }
+        ensures { OnOk result (state (stack_of self.new.frames) self.new.now ≡ want (operand_on operand (stack_of self.old.frames))) }
+    {
+        push(&mut self.frames, Unfinished::OpenExpression(operand), held)?;
+        self.now.set(ParserState::Want);
+        Ok(())
     }
-    let parts = both(held, sized.size);
-    let inner = Box::new(alloc, sized.expr)?;
-    now.set(ParserState::Have(whole(Expr::Parens(line, inner), parts)));
-    Ok(Flow::Taken)
-}
 
-/// The operand of a prefix is complete.
-#[inline(never)]
-fn complete_unary(
-    alloc: Global,
-    frames: &mut Frames,
-    now: &mut ParserState,
-    line: Line,
-    prefix: Prefix,
-    held: Size,
-    token: &Token,
-) -> Result<Flow, Stop>
-    requires stops { goes (limit (operand_on (o.Unary line prefix) (stack_of frames.old))) token.now.kind ≡ false }
-    requires held { held ≡ held_in (Unfinished.OpenExpression (o.Unary line prefix)) }
-    ensures flows { Answers frames.new now.new result token.now (given (operand_on (o.Unary line prefix) (stack_of frames.old)) now.old) }
-    ensures lowers { Lowers frames.old frames.new result }
-{
-    let ParserState::Have(sized) = mem::replace(now, ParserState::Due) else {
-        return Err(Stop::Unexpected);
-    };
-    let parts = both(held, sized.size);
-    let operand = Box::new(alloc, sized.expr)?;
-    now.set(ParserState::Have(whole(Expr::Unary(line, prefix, operand), parts)));
-    Ok(Flow::Comes)
-}
-
-/// The right operand of an operator is complete.
-#[inline(never)]
-fn complete_binary(
-    alloc: Global,
-    frames: &mut Frames,
-    now: &mut ParserState,
-    operator: Operator,
-    sign: Line,
-    left: Box<Expr>,
-    held: Size,
-    token: &Token,
-) -> Result<Flow, Stop>
-    requires stops { goes (limit (operand_on (o.Binary operator sign left) (stack_of frames.old))) token.now.kind ≡ false }
-    requires held { held ≡ held_in (Unfinished.OpenExpression (o.Binary operator sign left)) }
-    ensures flows { Answers frames.new now.new result token.now (given (operand_on (o.Binary operator sign left) (stack_of frames.old)) now.old) }
-    ensures lowers { Lowers frames.old frames.new result }
-{
-    let ParserState::Have(sized) = mem::replace(now, ParserState::Due) else {
-        return Err(refuse(left));
-    };
-    let parts = both(held, sized.size);
-    let shared = shared_size(operator, &sized);
-    let line = line_of(&left);
-    let right = Box::new(alloc, sized.expr)?;
-    let pair = Sized {
-        expr: Expr::Binary(line, operator, sign, left, right),
-        size: of_node(parts),
-        right: shared,
-    };
-    now.set(ParserState::Have(pair));
-    Ok(Flow::Comes)
-}
-
-/// The right operand of a further relation is complete.
-#[inline(never)]
-fn complete_chain(
-    alloc: Global,
-    frames: &mut Frames,
-    now: &mut ParserState,
-    operator: Operator,
-    sign: Line,
-    before: Box<Expr>,
-    shared: Box<Expr>,
-    held: Size,
-    token: &Token,
-) -> Result<Flow, Stop>
-    requires stops { goes (limit (operand_on (o.Chain operator sign before shared) (stack_of frames.old))) token.now.kind ≡ false }
-    requires held { held ≡ held_in (Unfinished.OpenExpression (o.Chain operator sign before shared)) }
-    ensures flows { Answers frames.new now.new result token.now (given (operand_on (o.Chain operator sign before shared) (stack_of frames.old)) now.old) }
-    ensures lowers { Lowers frames.old frames.new result }
-{
-    let ParserState::Have(sized) = mem::replace(now, ParserState::Due) else {
-        return Err(refuse((before, shared)));
-    };
-    now.set(ParserState::Have(chained(alloc, operator, sign, before, shared, held, sized)?));
-    Ok(Flow::Comes)
-}
-
-/// The expression between `->` and the comma is complete.
-#[inline(never)]
-fn complete_then(
-    alloc: Global,
-    frames: &mut Frames,
-    now: &mut ParserState,
-    sign: Line,
-    condition: Box<Expr>,
-    held: Size,
-    token: &Token,
-) -> Result<Flow, Stop>
-    requires stops { goes (limit (operand_on (o.Then sign condition) (stack_of frames.old))) token.now.kind ≡ false }
-    requires held { held ≡ held_in (Unfinished.OpenExpression (o.Then sign condition)) }
-    ensures flows { Answers frames.new now.new result token.now (given (operand_on (o.Then sign condition) (stack_of frames.old)) now.old) }
-    ensures lowers { Lowers frames.old frames.new result }
-{
-    let ParserState::Have(sized) = mem::replace(now, ParserState::Due) else {
-        return Err(refuse(condition));
-    };
-    if !is_comma(token.kind) {
-        return Err(refuse((condition, sized)));
+    /// Puts an unfinished command or definition on top. An expression of it is due.
+    #[inline(always)]
+    pub fn want_in(&mut self, phrase: Phrase, held: Size) -> Result<(), AllocError>
+        requires { held ≡ held_in (Unfinished.Phrase phrase) }
+        ensures { OnOk result (state (stack_of self.new.frames) self.new.now ≡ want (phrase_on phrase (stack_of self.old.frames))) }
+    {
+        push(&mut self.frames, Unfinished::Phrase(phrase), held)?;
+        self.now.set(ParserState::Want);
+        Ok(())
     }
-    let parts = both(held, sized.size);
-    let yes = Box::new(alloc, sized.expr)?;
-    now.set(want(frames, OpenExpression::Else(sign, condition, yes), parts)?);
-    Ok(Flow::Taken)
-}
 
-/// The expression after the comma of a conditional is complete.
-#[inline(never)]
-fn complete_else(
-    alloc: Global,
-    frames: &mut Frames,
-    now: &mut ParserState,
-    sign: Line,
-    condition: Box<Expr>,
-    yes: Box<Expr>,
-    held: Size,
-    token: &Token,
-) -> Result<Flow, Stop>
-    requires stops { goes (limit (operand_on (o.Else sign condition yes) (stack_of frames.old))) token.now.kind ≡ false }
-    requires held { held ≡ held_in (Unfinished.OpenExpression (o.Else sign condition yes)) }
-    ensures flows { Answers frames.new now.new result token.now (given (operand_on (o.Else sign condition yes) (stack_of frames.old)) now.old) }
-    ensures lowers { Lowers frames.old frames.new result }
-{
-    let ParserState::Have(sized) = mem::replace(now, ParserState::Due) else {
-        return Err(refuse((condition, yes)));
-    };
-    let parts = both(held, sized.size);
-    let line = line_of(&condition);
-    let no = Box::new(alloc, sized.expr)?;
-    now.set(ParserState::Have(whole(Expr::Choice(line, sign, condition, yes, no), parts)));
-    Ok(Flow::Comes)
-}
-
-/// An argument is complete.
-#[inline(never)]
-#[tactic(auto, using(bk_tree::proofs::Lemmas::one_more, bk_tree::proofs::Lemmas::more_sizes))]
-fn complete_argument(
-    frames: &mut Frames,
-    now: &mut ParserState,
-    sign: Line,
-    callee: Box<Expr>,
-    items: Vec<Expr>,
-    held: Size,
-    token: &Token,
-) -> Result<Flow, Stop>
-    requires stops { goes (limit (operand_on (o.Args sign callee items) (stack_of frames.old))) token.now.kind ≡ false }
-    requires held { held ≡ held_in (Unfinished.OpenExpression (o.Args sign callee items)) }
-    ensures flows { Answers frames.new now.new result token.now (given (operand_on (o.Args sign callee items) (stack_of frames.old)) now.old) }
-    ensures lowers { Lowers frames.old frames.new result }
-{
-    let ParserState::Have(sized) = mem::replace(now, ParserState::Due) else {
-        return Err(refuse(OpenExpression::Args(sign, callee, items)));
-    };
-    let parts = both(held, sized.size);
-    let mut items = items;
-    items.push(sized.expr)?;
-    if is_comma(token.kind) {
-        now.set(want(frames, OpenExpression::Args(sign, callee, items), parts)?);
-        return Ok(Flow::Taken);
+    /// Puts an unfinished item or definition on top. An expression of it is due.
+    #[inline(always)]
+    pub fn want_for(&mut self, member: Member, held: Size) -> Result<(), AllocError>
+        requires { held ≡ held_in (Unfinished.Member member) }
+        ensures { OnOk result (state (stack_of self.new.frames) self.new.now ≡ want (member_on member (stack_of self.old.frames))) }
+    {
+        push(&mut self.frames, Unfinished::Member(member), held)?;
+        self.now.set(ParserState::Want);
+        Ok(())
     }
-    if is_close(token.kind) {
-        let apply = apply(line_of(&callee), sign, callee, items);
-        now.set(ParserState::Have(whole(apply, parts)));
-        return Ok(Flow::Taken);
-    }
-    Err(Stop::Unexpected)
-}
 
-/// A number of a TABLE is complete.
-#[inline(never)]
-#[tactic(auto, using(bk_tree::proofs::Lemmas::one_more, bk_tree::proofs::Lemmas::more_sizes))]
-fn complete_entry(
-    frames: &mut Frames,
-    now: &mut ParserState,
-    line: Line,
-    items: Vec<Expr>,
-    held: Size,
-    token: &Token,
-) -> Result<Flow, Stop>
-    requires stops { goes (limit (operand_on (o.Table line items) (stack_of frames.old))) token.now.kind ≡ false }
-    requires held { held ≡ held_in (Unfinished.OpenExpression (o.Table line items)) }
-    ensures flows { Answers frames.new now.new result token.now (given (operand_on (o.Table line items) (stack_of frames.old)) now.old) }
-    ensures lowers { Lowers frames.old frames.new result }
-{
-    let ParserState::Have(sized) = mem::replace(now, ParserState::Due) else {
-        return Err(refuse(items));
-    };
-    let parts = both(held, sized.size);
-    let mut items = items;
-    items.push(sized.expr)?;
-    if is_comma(token.kind) {
-        now.set(want(frames, OpenExpression::Table(line, items), parts)?);
-        return Ok(Flow::Taken);
+    /// Puts an unfinished construct on top. A command of it is due.
+    #[inline(always)]
+    pub fn wants_command(&mut self, clause: Clause, held: Size) -> Result<(), AllocError>
+        requires { held ≡ held_in (Unfinished.Clause clause) }
+        ensures { OnOk result (state (stack_of self.new.frames) self.new.now ≡ begin (clause_on clause (stack_of self.old.frames))) }
+    {
+        push(&mut self.frames, Unfinished::Clause(clause), held)?;
+        self.now.set(ParserState::Begin);
+        Ok(())
     }
-    now.set(ParserState::Have(whole(table(line, items), parts)));
-    Ok(Flow::Comes)
-}
 
-/// An operand is complete: the symbol after it does not continue it.
-#[inline(always)]
-pub fn complete(
-    alloc: Global,
-    frames: &mut Frames,
-    now: &mut ParserState,
-    unfinished: OpenExpression,
-    held: Size,
-    token: &Token,
-) -> Result<Flow, Stop>
-    requires stops { goes (limit (operand_on unfinished (stack_of frames.old))) token.now.kind ≡ false }
-    requires held { held ≡ held_in (Unfinished.OpenExpression unfinished) }
-    ensures flows { Answers frames.new now.new result token.now (given (operand_on unfinished (stack_of frames.old)) now.old) }
-    ensures lowers { Lowers frames.old frames.new result }
-{
-    match unfinished {
-        OpenExpression::Parens(line) => complete_parens(alloc, frames, now, line, held, token),
-        OpenExpression::Unary(line, prefix) => {
-            complete_unary(alloc, frames, now, line, prefix, held, token)
+    /// Puts on top a place of an item or a command, where a symbol is due.
+    #[inline(always)]
+    pub fn due_at(&mut self, point: Point, held: Size) -> Result<(), AllocError>
+        requires { held ≡ held_in (Unfinished.Point point) }
+        ensures { OnOk result (state (stack_of self.new.frames) self.new.now ≡ due (point_on point (stack_of self.old.frames))) }
+    {
+        push(&mut self.frames, Unfinished::Point(point), held)?;
+        self.now.set(ParserState::Due);
+        Ok(())
+    }
+
+    /// Puts on top a place of a block or a definition, where a symbol is due.
+    #[inline(always)]
+    pub fn due(&mut self, place: Place, held: Size) -> Result<(), AllocError>
+        requires { held ≡ held_in (Unfinished.Place place) }
+        ensures { OnOk result (state (stack_of self.new.frames) self.new.now ≡ due (place_on place (stack_of self.old.frames))) }
+    {
+        push(&mut self.frames, Unfinished::Place(place), held)?;
+        self.now.set(ParserState::Due);
+        Ok(())
+    }
+
+    /// Puts a place of a block or a definition on top, where a symbol is due, in place of a construct that had the same budgets.
+    #[inline(always)]
+    pub fn due_still(&mut self, place: Place, held: Size) -> Result<(), AllocError>
+        requires held { held ≡ held_in (Unfinished.Place place) }
+        requires budgets { HasBudgetsFor self.old.frames (place_on place (stack_of self.old.frames)) }
+        ensures { OnOk result (state (stack_of self.new.frames) self.new.now ≡ due (place_on place (stack_of self.old.frames))) }
+    {
+        push_in_place(&mut self.frames, Unfinished::Place(place), held)?;
+        self.now.set(ParserState::Due);
+        Ok(())
+    }
+
+    /// A relation goes on with a further one: its right operand is copied.
+    fn go_on_chain(
+        &mut self,
+        sized: Sized,
+        copy: Box<Expr>,
+        operator: Operator,
+        sign: Position,
+    ) -> Result<(), AllocError>
+        requires { last (expression sized.expr) ≡ Some (expression copy.value) }
+        ensures { OnOk result (state (stack_of self.new.frames) self.new.now ≡ want (in_chain operator sign (expression sized.expr) (expression copy.value)
+            (stack_of self.old.frames))) }
+    {
+        let held = both(sized.size, of_node(sized.right));
+        let whole = Box::new(self.frames.alloc, sized.expr)?;
+        self.want(OpenExpression::Chain(operator, sign, whole, copy), held)
+    }
+
+    /// The expression goes on with an operator.
+    fn go_on_infix(
+        &mut self,
+        sized: Sized,
+        operator: Operator,
+        sign: Position,
+    ) -> Result<(), AllocError>
+        ensures { OnOk result (Some (state (stack_of self.new.frames) self.new.now) ≡ infixed (stack_of self.old.frames) (expression sized.expr) sign (Some operator)) }
+    {
+        if relates(operator) {
+            if let Some(right) = shared(&sized.expr) {
+                let copy = copy(self.frames.alloc, right)?;
+                let copy = Box::new(self.frames.alloc, copy)?;
+                return self.go_on_chain(sized, copy, operator, sign);
+            }
         }
-        OpenExpression::Binary(operator, sign, left) => {
-            complete_binary(alloc, frames, now, operator, sign, left, held, token)
+        let left = Box::new(self.frames.alloc, sized.expr)?;
+        self.want(OpenExpression::Binary(operator, sign, left), sized.size)
+    }
+
+    /// The expression goes on with the symbol.
+    #[tactic(auto, using(bk_frames::proofs::Lemmas::push_cases))]
+    pub fn go_on(&mut self, sized: Sized, token: &Token) -> Result<Flow, Stop>
+        ensures answers { Answers self.new.frames self.new.now result token.now (λ l x kind. push (stack_of self.old.frames) (expression sized.expr) kind l) }
+        ensures falls { Falls self.old.frames self.new.frames result }
+    {
+        if let Some(operator) = infix(token.kind) {
+            self.go_on_infix(sized, operator, position_of(token))?;
+            return Ok(Flow::Taken);
         }
-        OpenExpression::Chain(operator, sign, before, shared) => complete_chain(
-            alloc, frames, now, operator, sign, before, shared, held, token,
-        ),
-        OpenExpression::Then(sign, condition) => {
-            complete_then(alloc, frames, now, sign, condition, held, token)
+        if is_open(token.kind) {
+            let callee = Box::new(self.frames.alloc, sized.expr)?;
+            let args = OpenExpression::Args(
+                position_of(token),
+                callee,
+                Vec::new(self.frames.alloc),
+            );
+            self.want(args, sized.size)?;
+            return Ok(Flow::Taken);
         }
-        OpenExpression::Else(sign, condition, yes) => {
-            complete_else(alloc, frames, now, sign, condition, yes, held, token)
+        if is_arrow(token.kind) {
+            let condition = Box::new(self.frames.alloc, sized.expr)?;
+            self.want(
+                OpenExpression::Then(position_of(token), condition),
+                sized.size,
+            )?;
+            return Ok(Flow::Taken);
         }
-        OpenExpression::Args(sign, callee, items) => {
-            complete_argument(frames, now, sign, callee, items, held, token)
+        Err(Stop::Unexpected)
+    }
+
+    /// A `)` where an argument is due.
+    #[tactic(auto, using(bk_frames::proofs::Lemmas::frames_laws, bk_frames::proofs::Lemmas::no_args_cases))]
+    fn no_arguments(&mut self) -> Result<(), Stop>
+        ensures { Steps (stack_of self.new.frames) (reached result self.new.now) (no_args (stack_of self.old.frames)) }
+    {
+        let Some(top) = pop(&mut self.frames) else {
+            return Err(Stop::Unexpected);
+        };
+        let Frame {
+            unfinished,
+            held,
+            spare: _,
+        } = top;
+        let Unfinished::OpenExpression(operand) = unfinished else {
+            return Err(Stop::Unexpected);
+        };
+        match operand {
+            OpenExpression::Args(sign, callee, items) => {
+                if !are_none(&items) {
+                    return Err(Stop::Unexpected);
+                }
+                let apply = apply(callee.at(), sign, callee, items);
+                self.now.set(ParserState::Have(whole(apply, held)));
+                Ok(())
+            }
+            _ => Err(Stop::Unexpected),
         }
-        OpenExpression::Table(line, items) => {
-            complete_entry(frames, now, line, items, held, token)
+    }
+
+    /// An operand is due, and this symbol comes, which is no name and no number.
+    #[inline(never)]
+    #[tactic(auto, using(bk_frames::proofs::Lemmas::operand_cases))]
+    fn other_operand(&mut self, token: &Token) -> Result<(), Stop>
+        ensures { Steps (stack_of self.new.frames) (reached result self.new.now) (take_operand (stack_of self.old.frames) (position_at token.now) token.now.text.now token.now.kind) }
+    {
+        if let Some(expr) = leaf_of(self.frames.alloc, token)? {
+            self.now.set(leaf(expr));
+            return Ok(());
+        }
+        if let Some(prefix) = prefix(token.kind) {
+            self.want(OpenExpression::Unary(position_of(token), prefix), NOTHING)?;
+            return Ok(());
+        }
+        match opens_with(token.kind) {
+            Some(Opening::Parens) => self.want(
+                OpenExpression::Parens(position_of(token)),
+                NOTHING,
+            )?,
+            Some(Opening::Close) => return self.no_arguments(),
+            Some(Opening::Valof) => self.wants_command(Clause::Valof(position_of(token)), NOTHING)?,
+            Some(Opening::Table) => {
+                if is_barred(&self.frames) {
+                    return Err(Stop::Unexpected);
+                }
+                self.want(
+                    OpenExpression::Table(position_of(token), Vec::new(self.frames.alloc)),
+                    NOTHING,
+                )?;
+            }
+            None => return Err(Stop::Unexpected),
+        }
+        Ok(())
+    }
+
+    /// An operand is due, and this symbol comes.
+    pub fn operand(&mut self, token: &Token) -> Result<(), Stop>
+        ensures { Steps (stack_of self.new.frames) (reached result self.new.now) (take_operand (stack_of self.old.frames) (position_at token.now) token.now.text.now token.now.kind) }
+    {
+        match token.kind {
+            Kind::Name => self.now.set(leaf(Expr::Name {
+                at: position_of(token),
+                letters: name(self.frames.alloc, token.text)?,
+            })),
+            Kind::Number => self.now.set(leaf(Expr::Number {
+                at: position_of(token),
+                word: number_word(token.text),
+            })),
+            _ => return self.other_operand(token),
+        }
+        Ok(())
+    }
+
+    /// An expression in parentheses is complete.
+    #[inline(never)]
+    fn complete_parens(&mut self, at: Position, held: Size, token: &Token) -> Result<Flow, Stop>
+        requires stops { goes (limit (operand_on (o.Parens at) (stack_of self.old.frames))) token.now.kind ≡ false }
+        requires held { held ≡ held_in (Unfinished.OpenExpression (o.Parens at)) }
+        ensures flows { Answers self.new.frames self.new.now result token.now (given (operand_on (o.Parens at) (stack_of self.old.frames)) self.old.now) }
+        ensures lowers { Lowers self.old.frames self.new.frames result }
+    {
+        let ParserState::Have(sized) = self.now.take() else {
+            return Err(Stop::Unexpected);
+        };
+        if !is_close(token.kind) {
+            return Err(refuse(sized));
+        }
+        let parts = both(held, sized.size);
+        let inner = Box::new(self.frames.alloc, sized.expr)?;
+        self.now.set(ParserState::Have(whole(Expr::Parens { at, inside: inner }, parts)));
+        Ok(Flow::Taken)
+    }
+
+    /// The operand of a prefix is complete.
+    #[inline(never)]
+    fn complete_unary(
+        &mut self,
+        at: Position,
+        prefix: Prefix,
+        held: Size,
+        token: &Token,
+    ) -> Result<Flow, Stop>
+        requires stops { goes (limit (operand_on (o.Unary at prefix) (stack_of self.old.frames))) token.now.kind ≡ false }
+        requires held { held ≡ held_in (Unfinished.OpenExpression (o.Unary at prefix)) }
+        ensures flows { Answers self.new.frames self.new.now result token.now (given (operand_on (o.Unary at prefix) (stack_of self.old.frames)) self.old.now) }
+        ensures lowers { Lowers self.old.frames self.new.frames result }
+    {
+        let ParserState::Have(sized) = self.now.take() else {
+            return Err(Stop::Unexpected);
+        };
+        let parts = both(held, sized.size);
+        let operand = Box::new(self.frames.alloc, sized.expr)?;
+        self.now.set(ParserState::Have(whole(
+            Expr::Unary {
+                at,
+                prefix,
+                operand,
+            },
+            parts,
+        )));
+        Ok(Flow::Comes)
+    }
+
+    /// The right operand of an operator is complete.
+    #[inline(never)]
+    fn complete_binary(
+        &mut self,
+        operator: Operator,
+        sign: Position,
+        left: Box<Expr>,
+        held: Size,
+        token: &Token,
+    ) -> Result<Flow, Stop>
+        requires stops { goes (limit (operand_on (o.Binary operator sign left) (stack_of self.old.frames))) token.now.kind ≡ false }
+        requires held { held ≡ held_in (Unfinished.OpenExpression (o.Binary operator sign left)) }
+        ensures flows { Answers self.new.frames self.new.now result token.now (given (operand_on (o.Binary operator sign left) (stack_of self.old.frames)) self.old.now) }
+        ensures lowers { Lowers self.old.frames self.new.frames result }
+    {
+        let ParserState::Have(sized) = self.now.take() else {
+            return Err(refuse(left));
+        };
+        let parts = both(held, sized.size);
+        let shared = shared_size(operator, &sized);
+        let at = left.at();
+        let right = Box::new(self.frames.alloc, sized.expr)?;
+        let pair = Sized {
+            expr: Expr::Binary {
+                at,
+                operator,
+                sign,
+                left,
+                right,
+            },
+            size: of_node(parts),
+            right: shared,
+        };
+        self.now.set(ParserState::Have(pair));
+        Ok(Flow::Comes)
+    }
+
+    /// The right operand of a further relation is complete.
+    #[inline(never)]
+    fn complete_chain(
+        &mut self,
+        operator: Operator,
+        sign: Position,
+        before: Box<Expr>,
+        shared: Box<Expr>,
+        held: Size,
+        token: &Token,
+    ) -> Result<Flow, Stop>
+        requires stops { goes (limit (operand_on (o.Chain operator sign before shared) (stack_of self.old.frames))) token.now.kind ≡ false }
+        requires held { held ≡ held_in (Unfinished.OpenExpression (o.Chain operator sign before shared)) }
+        ensures flows { Answers self.new.frames self.new.now result token.now (given (operand_on (o.Chain operator sign before shared) (stack_of self.old.frames)) self.old.now) }
+        ensures lowers { Lowers self.old.frames self.new.frames result }
+    {
+        let ParserState::Have(sized) = self.now.take() else {
+            return Err(refuse((before, shared)));
+        };
+        self.now.set(ParserState::Have(chained(
+            self.frames.alloc,
+            operator,
+            sign,
+            before,
+            shared,
+            held,
+            sized,
+        )?));
+        Ok(Flow::Comes)
+    }
+
+    /// The expression between `->` and the comma is complete.
+    #[inline(never)]
+    fn complete_then(
+        &mut self,
+        sign: Position,
+        condition: Box<Expr>,
+        held: Size,
+        token: &Token,
+    ) -> Result<Flow, Stop>
+        requires stops { goes (limit (operand_on (o.Then sign condition) (stack_of self.old.frames))) token.now.kind ≡ false }
+        requires held { held ≡ held_in (Unfinished.OpenExpression (o.Then sign condition)) }
+        ensures flows { Answers self.new.frames self.new.now result token.now (given (operand_on (o.Then sign condition) (stack_of self.old.frames)) self.old.now) }
+        ensures lowers { Lowers self.old.frames self.new.frames result }
+    {
+        let ParserState::Have(sized) = self.now.take() else {
+            return Err(refuse(condition));
+        };
+        if !is_comma(token.kind) {
+            return Err(refuse((condition, sized)));
+        }
+        let parts = both(held, sized.size);
+        let yes = Box::new(self.frames.alloc, sized.expr)?;
+        self.want(OpenExpression::Else(sign, condition, yes), parts)?;
+        Ok(Flow::Taken)
+    }
+
+    /// The expression after the comma of a conditional is complete.
+    #[inline(never)]
+    fn complete_else(
+        &mut self,
+        sign: Position,
+        condition: Box<Expr>,
+        yes: Box<Expr>,
+        held: Size,
+        token: &Token,
+    ) -> Result<Flow, Stop>
+        requires stops { goes (limit (operand_on (o.Else sign condition yes) (stack_of self.old.frames))) token.now.kind ≡ false }
+        requires held { held ≡ held_in (Unfinished.OpenExpression (o.Else sign condition yes)) }
+        ensures flows { Answers self.new.frames self.new.now result token.now (given (operand_on (o.Else sign condition yes) (stack_of self.old.frames)) self.old.now) }
+        ensures lowers { Lowers self.old.frames self.new.frames result }
+    {
+        let ParserState::Have(sized) = self.now.take() else {
+            return Err(refuse((condition, yes)));
+        };
+        let parts = both(held, sized.size);
+        let at = condition.at();
+        let no = Box::new(self.frames.alloc, sized.expr)?;
+        self.now.set(ParserState::Have(whole(
+            Expr::Choice {
+                at,
+                sign,
+                condition,
+                yes,
+                no,
+            },
+            parts,
+        )));
+        Ok(Flow::Comes)
+    }
+
+    /// An argument is complete.
+    #[inline(never)]
+    #[tactic(auto, using(bk_tree::proofs::Lemmas::one_more, bk_tree::proofs::Lemmas::more_sizes))]
+    fn complete_argument(
+        &mut self,
+        sign: Position,
+        callee: Box<Expr>,
+        items: Vec<Expr>,
+        held: Size,
+        token: &Token,
+    ) -> Result<Flow, Stop>
+        requires stops { goes (limit (operand_on (o.Args sign callee items) (stack_of self.old.frames))) token.now.kind ≡ false }
+        requires held { held ≡ held_in (Unfinished.OpenExpression (o.Args sign callee items)) }
+        ensures flows { Answers self.new.frames self.new.now result token.now (given (operand_on (o.Args sign callee items) (stack_of self.old.frames)) self.old.now) }
+        ensures lowers { Lowers self.old.frames self.new.frames result }
+    {
+        let ParserState::Have(sized) = self.now.take() else {
+            return Err(refuse(OpenExpression::Args(sign, callee, items)));
+        };
+        let parts = both(held, sized.size);
+        let mut items = items;
+        items.push(sized.expr)?;
+        if is_comma(token.kind) {
+            self.want(OpenExpression::Args(sign, callee, items), parts)?;
+            return Ok(Flow::Taken);
+        }
+        if is_close(token.kind) {
+            let apply = apply(callee.at(), sign, callee, items);
+            self.now.set(ParserState::Have(whole(apply, parts)));
+            return Ok(Flow::Taken);
+        }
+        Err(Stop::Unexpected)
+    }
+
+    /// A number of a TABLE is complete.
+    #[inline(never)]
+    #[tactic(auto, using(bk_tree::proofs::Lemmas::one_more, bk_tree::proofs::Lemmas::more_sizes))]
+    fn complete_entry(
+        &mut self,
+        at: Position,
+        items: Vec<Expr>,
+        held: Size,
+        token: &Token,
+    ) -> Result<Flow, Stop>
+        requires stops { goes (limit (operand_on (o.Table at items) (stack_of self.old.frames))) token.now.kind ≡ false }
+        requires held { held ≡ held_in (Unfinished.OpenExpression (o.Table at items)) }
+        ensures flows { Answers self.new.frames self.new.now result token.now (given (operand_on (o.Table at items) (stack_of self.old.frames)) self.old.now) }
+        ensures lowers { Lowers self.old.frames self.new.frames result }
+    {
+        let ParserState::Have(sized) = self.now.take() else {
+            return Err(refuse(items));
+        };
+        let parts = both(held, sized.size);
+        let mut items = items;
+        items.push(sized.expr)?;
+        if is_comma(token.kind) {
+            self.want(OpenExpression::Table(at, items), parts)?;
+            return Ok(Flow::Taken);
+        }
+        self.now
+            .set(ParserState::Have(whole(table(at, items), parts)));
+        Ok(Flow::Comes)
+    }
+
+    /// An operand is complete: the symbol after it does not continue it.
+    #[inline(always)]
+    pub fn complete(
+        &mut self,
+        unfinished: OpenExpression,
+        held: Size,
+        token: &Token,
+    ) -> Result<Flow, Stop>
+        requires stops { goes (limit (operand_on unfinished (stack_of self.old.frames))) token.now.kind ≡ false }
+        requires held { held ≡ held_in (Unfinished.OpenExpression unfinished) }
+        ensures flows { Answers self.new.frames self.new.now result token.now (given (operand_on unfinished (stack_of self.old.frames)) self.old.now) }
+        ensures lowers { Lowers self.old.frames self.new.frames result }
+    {
+        match unfinished {
+            OpenExpression::Parens(at) => self.complete_parens(at, held, token),
+            OpenExpression::Unary(at, prefix) => { self.complete_unary(at, prefix, held, token) }
+            OpenExpression::Binary(operator, sign, left) => {
+                self.complete_binary(operator, sign, left, held, token)
+            }
+            OpenExpression::Chain(operator, sign, before, shared) => self.complete_chain(
+                operator, sign, before, shared, held, token,
+            ),
+            OpenExpression::Then(sign, condition) => {
+                self.complete_then(sign, condition, held, token)
+            }
+            OpenExpression::Else(sign, condition, yes) => {
+                self.complete_else(sign, condition, yes, held, token)
+            }
+            OpenExpression::Args(sign, callee, items) => {
+                self.complete_argument(sign, callee, items, held, token)
+            }
+            OpenExpression::Table(at, items) => { self.complete_entry(at, items, held, token) }
         }
     }
 }

@@ -14,4 +14,4 @@ pub use laws::{
     begins_completes, completes_begins, end_fault_stands, goes_on_begins, have_one_tree,
     reads_the_grammar, symbol_fault_stands, tag_fault_stands,
 };
-pub use parser::parse;
+pub use parser::{parse, parse_placed};

@@ -1,5 +1,5 @@
 -- The body of a procedure of a section without faults is good: what each node asks for is there.
-use Rattle.bk_trans.proofs.Words.{arith, ◌≡◌, ℕ, ◌+◌, ◌<◌, ◌≤◌, ◌^◌, true, false, not, Option, Some, None, List, [], ◌∷◌, ◌++◌, length, refl, sym, ap, subst, ◌∙◌, ⊤, false≢true, le-ltb, FRAME_WORDS, GLOBAL_NUMBER, VEC_NUMBER, OCODE_LABEL, Mention, Expression, Expressions, Action, Actions, Declaration, Declarations, Items, Definition, Definitions, Starts, name, parens, unary, binary, choice, apply, valof, none, more, assign, call, goto, label, case_of, default, when, test, while, for_loop, switch, result, simple, block, repeat, repeat_while, no_actions, also, constants, definitions, no_declarations, declare, no_items, item, routine, function, variables, no_definitions, define, no_starts, value, vector, line_of, size, Bound, Constant, Global, Static, Variable, Label, Enclosing, Role, Value, Truth, Address, Destination, not_assignable, no_result_or_return, vec_out_of_range, Binding, bound_in, bind, has_address, constant_word, AllDiffer, deeper, looping, switching, labelled, valued, labels_of, labels_of_each, parenthesised, within, words_of_vector, words_of_start, place_behind, variables_of, Spot, procedures_in, onward, past, numbered, behind, behind_each, behind_done, behind_declared, behind_one_declared, behind_one_defined, behind_constant, symbols_each, Point, at, labels_in_scope, procedures_in_scope, place_behind_one_defined, place_behind_defined, variables_in_scope, manifests_in_scope, globals_in_scope, scope_behind_one, place_behind_one, scope_behind, place_behind_all, unless, its_meaning, its_word, constant, each_constant, at_most, addressed, assigned, prefixed, pushed, chosen_at, defaulted_at, one_of, each_of, told, told_each, told_destinations, told_done, told_done_each, told_declared, told_one_declared, told_defined, told_one_defined, told_started, Usable, GoesTo, HasWord, HasWordUpTo, Sound, SoundEach, SoundDestinations, SoundDone, SoundDoneEach, SoundDeclared, SoundOneDeclared, SoundDefined, SoundOneDefined, SoundStarted, Use}
+use Rattle.bk_trans.proofs.Words.{arith, ◌≡◌, ℕ, ◌+◌, ◌<◌, ◌≤◌, ◌^◌, true, false, not, Option, Some, None, List, [], ◌∷◌, ◌++◌, length, refl, sym, ap, subst, ◌∙◌, ⊤, false≢true, le-ltb, FRAME_WORDS, GLOBAL_NUMBER, VEC_NUMBER, OCODE_LABEL, Mention, Expression, Expressions, Command, Commands, Declaration, Declarations, Items, Definition, Definitions, Starts, name, parens, unary, binary, choice, apply, valof, none, more, assign, call, goto, label, case_of, default, when, test, while, for_loop, switch, result, simple, block, repeat, repeat_while, no_commands, also, constants, definitions, no_declarations, declare, no_items, item, routine, function, variables, no_definitions, define, no_starts, value, vector, at_expression, size, Bound, Constant, Global, Static, Variable, Label, Enclosing, Role, Value, Truth, Address, Destination, not_assignable, no_result_or_return, vec_out_of_range, Binding, bound_in, bind, has_address, constant_word, AllDiffer, deeper, looping, switching, labelled, valued, labels_of, labels_of_each, parenthesised, within, words_of_vector, words_of_start, place_behind, variables_of, Spot, procedures_in, onward, past, numbered, behind, behind_each, behind_done, behind_declared, behind_one_declared, behind_one_defined, behind_constant, symbols_each, Point, at, labels_in_scope, procedures_in_scope, place_behind_one_defined, place_behind_defined, variables_in_scope, manifests_in_scope, globals_in_scope, scope_behind_one, place_behind_one, scope_behind, place_behind_all, unless, its_meaning, its_word, constant, each_constant, at_most, addressed, assigned, prefixed, pushed, chosen_at, defaulted_at, one_of, each_of, told, told_each, told_destinations, told_done, told_done_each, told_declared, told_one_declared, told_defined, told_one_defined, told_started, Usable, GoesTo, HasWord, HasWordUpTo, Sound, SoundEach, SoundDestinations, SoundDone, SoundDoneEach, SoundDeclared, SoundOneDeclared, SoundDefined, SoundOneDefined, SoundStarted, Use}
 use Rattle.bk_trans.proofs.Terms.{Operator as o, Prefix as sign, Simple as w, Sort as sort, cases_differ, Target, meant, worth, term_named, terms_named, condition_named, lvalue_named, lvalues_named, command_named, commands_named, declarations_named, declaration_named, definitions_named, definition_named, starts_named, labels, labels_each, labels_if, labels_at, labels_onto, labels_in, labels_through, labels_of_declaration, labels_of_declarations, labels_of_definition, labels_of_definitions, labels_of_starts, count, behind_starts, behind_definition, behind_definitions, behind_declaration, behind_declarations, Part, parts, parts_each, parts_if, parts_at, parts_onto, parts_from, parts_in, parts_through, parts_of_declarations, parts_of_declaration, parts_of_definitions, parts_of_definition, parts_of_starts, goal_of}
 use Rattle.bk_scope.specs.Cases as chosen
 use Rattle.bk_trans.specs.Program as t
@@ -93,7 +93,7 @@ marked : {plan : ℕ → Use} {ts : List Target} {n m : ℕ} {xs : List Point} {
 marked g = within_it g (omega arith) (omega arith) g.told g.parts g.marks.1
 
 -- labels come into scope
-pub enter_labels : (plan : ℕ → Use) (ts : List Target) (q k : ℕ) (bs : List Binding) (p r : Enclosing) (s : Spot) (c : Action) (d n m : ℕ) {xs : List Point} → At plan ts q bs p d → d ≤ FRAME_WORDS
+pub enter_labels : (plan : ℕ → Use) (ts : List Target) (q k : ℕ) (bs : List Binding) (p r : Enclosing) (s : Spot) (c : Command) (d n m : ℕ) {xs : List Point} → At plan ts q bs p d → d ≤ FRAME_WORDS
     → Placed plan ts n (labels_in (command_named (labels_in_scope k m (labels_of c) bs) r s c)) xs (parts_in d n (command_named (labels_in_scope k m (labels_of c) bs) r s c))
     (marks_in q d n (command_named (labels_in_scope k m (labels_of c) bs) r s c)) → At plan ts q (labels_in_scope k m (labels_of c) bs) p d
 enter_labels plan ts q k bs p r s c d n m a top g = record {
@@ -103,7 +103,7 @@ enter_labels plan ts q k bs p r s c d n m a top g = record {
   low = a.low;
 }
 
-enter_labels_each : (plan : ℕ → Use) (ts : List Target) (q k : ℕ) (bs : List Binding) (p r : Enclosing) (s : Spot) (cs : Actions) (d n m : ℕ) {xs : List Point} → At plan ts q bs p d → d ≤ FRAME_WORDS
+enter_labels_each : (plan : ℕ → Use) (ts : List Target) (q k : ℕ) (bs : List Binding) (p r : Enclosing) (s : Spot) (cs : Commands) (d n m : ℕ) {xs : List Point} → At plan ts q bs p d → d ≤ FRAME_WORDS
     → Placed plan ts n (labels_through (commands_named (labels_in_scope k m (labels_of_each cs) bs) r s cs)) xs (parts_through d n (commands_named (labels_in_scope k m (labels_of_each cs) bs) r s cs))
     (marks_through q d n (commands_named (labels_in_scope k m (labels_of_each cs) bs) r s cs)) → At plan ts q (labels_in_scope k m (labels_of_each cs) bs) p d
 enter_labels_each plan ts q k bs p r s cs d n m a top g = record {
@@ -127,7 +127,7 @@ one_word None u = absurd (let n : None ≡ Some u.0 = u.1 in cc)
 one_word (Some v) u = refl
 
 mutual
-  same_words : (bs : List Binding) (p : Enclosing) (s : Spot) (c : Action) → SoundDone bs p s c → chosen.case_words bs c ≡ case_words (command_named bs p s c)
+  same_words : (bs : List Binding) (p : Enclosing) (s : Spot) (c : Command) → SoundDone bs p s c → chosen.case_words bs c ≡ case_words (command_named bs p s c)
   same_words bs p s (label l x c) h = same_words bs p (past 1 s) c h.1
   same_words bs p s (case_of l e c) h =
       ap (λ vs. vs ++ chosen.case_words bs c) (one_word (constant_word bs e) h.1) ∙ ap (λ vs. worth (constant_word bs e) ∷ vs) (same_words bs p (behind_constant e (past 1 s)) c h.2)
@@ -141,13 +141,13 @@ mutual
   same_words bs p s (repeat_while l b c e) h = same_words bs (looping p) s c h.0
   same_words bs p s _ h = refl
 
-  same_words_each : (bs : List Binding) (p : Enclosing) (s : Spot) (cs : Actions) → SoundDoneEach bs p s cs → chosen.case_words_each bs cs ≡ case_words_through (commands_named bs p s cs)
-  same_words_each bs p s no_actions h = refl
+  same_words_each : (bs : List Binding) (p : Enclosing) (s : Spot) (cs : Commands) → SoundDoneEach bs p s cs → chosen.case_words_each bs cs ≡ case_words_through (commands_named bs p s cs)
+  same_words_each bs p s no_commands h = refl
   same_words_each bs p s (also c cs) h =
       ap (λ vs. vs ++ chosen.case_words_each bs cs) (same_words bs p s c h.0) ∙ ap (λ vs. case_words (command_named bs p s c) ++ vs) (same_words_each bs p (behind_done c s) cs h.1)
 
 mutual
-  are_words : (bs : List Binding) (p : Enclosing) (s : Spot) (c : Action) → SoundDone bs p s c → AllFine (told_done bs p s c) → AllWords (case_words (command_named bs p s c))
+  are_words : (bs : List Binding) (p : Enclosing) (s : Spot) (c : Command) → SoundDone bs p s c → AllFine (told_done bs p s c) → AllWords (case_words (command_named bs p s c))
   are_words bs p s (label l x c) h f = are_words bs p (past 1 s) c h.1 (all_back (one_of p.labels s.place l x ++ its_meaning (bound_in bs x)) _ f)
   are_words bs p s (case_of l e c) h f =
       let xs : List Point = chosen_at p.switch s.place l (constant_word bs e) in
@@ -166,8 +166,8 @@ mutual
   are_words bs p s (repeat_while l b c e) h f = are_words bs (looping p) s c h.0 (all_front (told_done bs (looping p) s c) (told Truth bs p (behind_done c s) e) f)
   are_words bs p s _ h f = tt
 
-  are_words_each : (bs : List Binding) (p : Enclosing) (s : Spot) (cs : Actions) → SoundDoneEach bs p s cs → AllFine (told_done_each bs p s cs) → AllWords (case_words_through (commands_named bs p s cs))
-  are_words_each bs p s no_actions h f = tt
+  are_words_each : (bs : List Binding) (p : Enclosing) (s : Spot) (cs : Commands) → SoundDoneEach bs p s cs → AllFine (told_done_each bs p s cs) → AllWords (case_words_through (commands_named bs p s cs))
+  are_words_each bs p s no_commands h f = tt
   are_words_each bs p s (also c cs) h f =
       words_both (case_words (command_named bs p s c)) _ (are_words bs p s c h.0 (all_front (told_done bs p s c) _ f)) (are_words_each bs p (behind_done c s) cs h.1 (all_back (told_done bs p s c) _ f))
 
@@ -211,14 +211,14 @@ vector_words (Some v) u =
 vector_room : (bs : List Binding) (p : Enclosing) (s : Spot) (l : ℕ) (e : Expression) (is : Starts) (d : ℕ) → p.depth ≡ d → HasWordUpTo VEC_NUMBER (constant_word bs e)
     → AllFine (told_started bs p s (vector l e is)) → d + worth (constant_word bs e) + 2 ≤ FRAME_WORDS
 vector_room bs p s l e is d same u f =
-    let xs : List Point = constant bs p.procedure s e ++ at_most VEC_NUMBER s.place (line_of e) vec_out_of_range (constant_word bs e) in
+    let xs : List Point = constant bs p.procedure s e ++ at_most VEC_NUMBER s.place (at_expression e) vec_out_of_range (constant_word bs e) in
     let h = (all_back xs (pushed p (words_of_start bs e + 1)) (all_front (xs ++ pushed p (words_of_start bs e + 1)) _ f)).0 in
     let v = vector_words (constant_word bs e) u in omega (arith, h, v, same)
 
 vector_rest : (bs : List Binding) (p : Enclosing) (s : Spot) (l : ℕ) (e : Expression) (is : Starts) → Fine (told_started bs p s (vector l e is))
     → Fine (told_started bs (deeper (words_of_start bs e + 1) p) (behind_constant e s) is)
 vector_rest bs p s l e is f =
-    told_back (constant bs p.procedure s e ++ at_most VEC_NUMBER s.place (line_of e) vec_out_of_range (constant_word bs e) ++ pushed p (words_of_start bs e + 1)) _ f
+    told_back (constant bs p.procedure s e ++ at_most VEC_NUMBER s.place (at_expression e) vec_out_of_range (constant_word bs e) ++ pushed p (words_of_start bs e + 1)) _ f
 
 at_vector : (plan : ℕ → Use) (ts : List Target) (q : ℕ) (bs : List Binding) (p : Enclosing) (s : Spot) (l : ℕ) (e : Expression) (is : Starts) (d : ℕ) → At plan ts q bs p d
     → HasWordUpTo VEC_NUMBER (constant_word bs e) → AllFine (told_started bs p s (vector l e is)) → At plan ts q bs (deeper (words_of_start bs e + 1) p) (d + worth (constant_word bs e) + 2)
@@ -376,7 +376,7 @@ module _ (plan : ℕ → Use) (ts : List Target) (q : ℕ) where
     good ask bs p s (name l x) d n a h g =
         (name_pushed plan ts q p.procedure d p.depth (bound_in bs x) h (a.sees x), room_at plan ts q bs p d a (told_room (role ask) bs p s (name l x) tt g.told.all))
     good ask bs p s (unary l sign.Address e) d n a h g = (
-      good_at bs p (past 1 s) (Address false (line_of e)) e d n a h.0 h.1 (behind_told (prefixed sign.Address bs (past 1 s) e) g (omega arith) (omega arith)),
+      good_at bs p (past 1 s) (Address false (at_expression e)) e d n a h.0 h.1 (behind_told (prefixed sign.Address bs (past 1 s) e) g (omega arith) (omega arith)),
       room_at plan ts q bs p d a (told_room (role ask) bs p s (unary l sign.Address e) tt g.told.all),
     )
     good ask bs p s (unary l sign.Not e) d n a h g = good (negated ask) bs p (past 1 s) e d n a h.1 g
@@ -483,17 +483,17 @@ module _ (plan : ℕ → Use) (ts : List Target) (q : ℕ) where
         (marks_by_turns (marks_from q d m es) (marks_all_onto q (d + 1) n (lvalues_named bs (deeper 1 p) s xs))) → GoodAllOnto plan ts q d (lvalues_named bs (deeper 1 p) s xs) es
     good_all_onto bs p s (more x xs) d n m (t.more e es) a top h g =
         let v = lvalue_named bs (deeper 1 p) s x in
-        let us : List Point = unless (assigned bs x) (at s.place (line_of x) not_assignable) in
-        let vs : List Point = told (Destination false (line_of x)) bs (deeper 1 p) s x in
+        let us : List Point = unless (assigned bs x) (at s.place (at_expression x) not_assignable) in
+        let vs : List Point = told (Destination false (at_expression x)) bs (deeper 1 p) s x in
         let turns = marks q d m e ++ marks_onto q (d + 1) n v in
         let fore : Placed plan ts n (labels_at v) (us ++ vs) (parts_at (d + 1) n v) turns = front _ _ _ g (omega arith) (omega arith) in (
-          good_onto bs p s (Destination false (line_of x)) x d n a top h.0 h.1 (behind_marks (marks q d m e) (behind_told us fore (omega arith) (omega arith))),
+          good_onto bs p s (Destination false (at_expression x)) x d n a top h.0 h.1 (behind_marks (marks q d m e) (behind_told us fore (omega arith) (omega arith))),
           good_all_onto bs p (behind x s) xs d (n + labels_at v) (m + labels e) es a top h.2 (back (us ++ vs) (parts_at (d + 1) n v) turns g (omega arith) (omega arith)),
         )
     good_all_onto bs p s _ d n m _ a top h g = tt
 
     -- a command
-    pub good_in : (bs : List Binding) (p : Enclosing) (s : Spot) (c : Action) (d n : ℕ) → At plan ts q bs p d → d ≤ FRAME_WORDS → SoundDone bs p s c
+    pub good_in : (bs : List Binding) (p : Enclosing) (s : Spot) (c : Command) (d n : ℕ) → At plan ts q bs p d → d ≤ FRAME_WORDS → SoundDone bs p s c
         → Placed plan ts n (labels_in (command_named bs p s c)) (told_done bs p s c) (parts_in d n (command_named bs p s c)) (marks_in q d n (command_named bs p s c)) → GoodIn plan ts q (exits p) d (command_named bs p s c)
     good_in bs p s (assign l xs none) d n a top h g = (no_values plan ts q d (lvalues_named bs (deeper 1 p) s xs), tt)
     good_in bs p s (assign l xs (more e es)) d n a top h g =
@@ -634,10 +634,10 @@ module _ (plan : ℕ → Use) (ts : List Target) (q : ℕ) where
         )
     good_in bs p s _ d n a top h g = tt
 
-    good_through : (bs : List Binding) (p : Enclosing) (s : Spot) (cs : Actions) (d n : ℕ) → At plan ts q bs p d → d ≤ FRAME_WORDS → SoundDoneEach bs p s cs
+    good_through : (bs : List Binding) (p : Enclosing) (s : Spot) (cs : Commands) (d n : ℕ) → At plan ts q bs p d → d ≤ FRAME_WORDS → SoundDoneEach bs p s cs
         → Placed plan ts n (labels_through (commands_named bs p s cs)) (told_done_each bs p s cs) (parts_through d n (commands_named bs p s cs)) (marks_through q d n (commands_named bs p s cs))
         → GoodThrough plan ts q (exits p) d (commands_named bs p s cs)
-    good_through bs p s no_actions d n a top h g = tt
+    good_through bs p s no_commands d n a top h g = tt
     good_through bs p s (also c cs) d n a top h g =
         (good_in bs p s c d n a top h.0 (front _ _ _ g (omega arith) (omega arith)), good_through bs p (behind_done c s) cs d (n + labels_in (command_named bs p s c)) a top h.1 (back _ _ _ g (omega arith) (omega arith)))
 

@@ -1,6 +1,6 @@
 -- The CASEs and the DEFAULT of a SWITCHON: their labels are jumped to at its depth, and their values differ.
 use Rattle.bk_trans.proofs.Words.{arith, ◌≡◌, ℕ, zero, suc, ◌+◌, ◌<◌, ◌≤◌, ◌^◌, false, not, Option, Some, None, List, [], ◌∷◌, ◌++◌, length, map, slice_get, refl, sym, ap, subst, ◌∙◌, length-append, ⊤, signed, OCODE_LABEL, NoneOf, AllDiffer, Case, IsLabel, AreCases, Use, jumps, AllJump}
-use Rattle.bk_trans.proofs.Terms.{w32, cast_unsigned, Command, Commands, label, case_of, default, when, test, while, block, repeat, repeat_while, no_commands, also, no_declarations, labels_if, labels_in, labels_through, cases, cases_through, first_of, default_in, default_through, label_or}
+use Rattle.bk_trans.proofs.Terms.{w32, cast_unsigned, NamedCommand, NamedCommands, label, case_of, default, when, test, while, block, repeat, repeat_while, no_named_commands, also, no_declarations, labels_if, labels_in, labels_through, cases, cases_through, first_of, default_in, default_through, label_or}
 use Rattle.std.proofs.lemmas.Int.{of_z-to_z}
 use Rattle.bk_trans.proofs.Marks.{marks_if, marks_in, marks_through, AllRight, right_front, right_back}
 use Rattle.bk_trans.proofs.Good.{case_words, case_words_through, AllWords}
@@ -54,7 +54,7 @@ both_chosen {plan} {p} {s} {cs = cs} {ds = ds} {x = x} {y = y} {vs = vs} {ws = w
 
 module _ (plan : ℕ → Use) (p s : ℕ) where
   mutual
-    pub chosen : (n : ℕ) (c : Command) → 1 ≤ n → n + labels_in c ≤ OCODE_LABEL + 1 → AllRight plan (marks_in p s n c) → Chosen plan p s (labels_in c) (cases n c) (default_in n c) (case_words c)
+    pub chosen : (n : ℕ) (c : NamedCommand) → 1 ≤ n → n + labels_in c ≤ OCODE_LABEL + 1 → AllRight plan (marks_in p s n c) → Chosen plan p s (labels_in c) (cases n c) (default_in n c) (case_words c)
     chosen n (label b c) low high r = at_most (chosen (n + 1) c (omega (arith, low)) (omega (arith, high)) r.1) (omega arith)
     chosen n (case_of w c) low high r =
         let h = chosen (n + 1) c (omega (arith, low)) (omega (arith, high)) r.1 in let f = h.few in
@@ -76,9 +76,9 @@ module _ (plan : ℕ → Use) (p s : ℕ) where
         at_most (chosen (n + 3) c (omega (arith, low)) (omega (arith, high)) (right_front plan (marks_in p s (n + 3) c) _ r.1.1.1)) (omega arith)
     chosen n _ low high r = record { at_cases = tt; at_default = tt; few = omega arith; values = tt }
 
-    chosen_through : (n : ℕ) (cs : Commands) → 1 ≤ n → n + labels_through cs ≤ OCODE_LABEL + 1 → AllRight plan (marks_through p s n cs)
+    chosen_through : (n : ℕ) (cs : NamedCommands) → 1 ≤ n → n + labels_through cs ≤ OCODE_LABEL + 1 → AllRight plan (marks_through p s n cs)
         → Chosen plan p s (labels_through cs) (cases_through n cs) (default_through n cs) (case_words_through cs)
-    chosen_through n no_commands low high r = record { at_cases = tt; at_default = tt; few = omega arith; values = tt }
+    chosen_through n no_named_commands low high r = record { at_cases = tt; at_default = tt; few = omega arith; values = tt }
     chosen_through n (also c cs) low high r =
         both_chosen (chosen n c low (omega (arith, high)) (right_front plan (marks_in p s n c) _ r))
         (chosen_through (n + labels_in c) cs (omega (arith, low)) (omega (arith, high)) (right_back plan (marks_in p s n c) _ r)) (omega arith)
@@ -112,7 +112,7 @@ label_at plan p s [] h k c at = absurd (let n : None ≡ Some c = at in cc)
 label_at plan p s (d ∷ cs) h zero c at = let same : d ≡ c = (let n : Some d ≡ Some c = at in cc) in subst (λ (x : Case). IsLabel x.label) same h.1
 label_at plan p s (d ∷ cs) h (suc k) c at = label_at plan p s cs h.2 k c at
 
-pub cases_are : (plan : ℕ → Use) (p s n : ℕ) (c : Command) → 1 ≤ n → n + labels_in c ≤ OCODE_LABEL + 1 → AllRight plan (marks_in p s n c) → AllDiffer (case_words c) → AllWords (case_words c) → AreCases (cases n c)
+pub cases_are : (plan : ℕ → Use) (p s n : ℕ) (c : NamedCommand) → 1 ≤ n → n + labels_in c ≤ OCODE_LABEL + 1 → AllRight plan (marks_in p s n c) → AllDiffer (case_words c) → AllWords (case_words c) → AreCases (cases n c)
 cases_are plan p s n c low high r differ small =
     let h = chosen plan p s n c low high r in let few = h.few in
     record { once = once_each (cases n c) (case_words c) h.values small differ; labels = label_at plan p s (cases n c) h.at_cases; counted = omega (arith, few, high) }

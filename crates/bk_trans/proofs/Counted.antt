@@ -2,7 +2,7 @@
 -- globals 2; a node costs 450 at most, in its own code, in what is by itself after it, and in the list of the SWITCHON that a CASE belongs to.
 use Rattle.bk_trans.proofs.Words.{arith, ◌≡◌, ◌≤◌, ℕ, ◌+◌, ◌*◌, Bool, true, false, not, cond, List, [], ◌∷◌, ◌++◌, length, map, int_lt, pos, Some, refl, ap, length-append, signed, Operator, Prefix, Bound, joined, Case, GlobalEntry, Stmt, times_set}
 use Rattle.bk_tree.specs.Tree as tree
-use Rattle.bk_trans.proofs.Terms.{Operator as o, Prefix as q, Simple as w, Bound as b, text_size, Stmt as t, Dyadic as two, Around, Target, Term, Terms, Condition, Lvalue, Lvalues, Command, Commands, Declaration, Declarations, Definition, Definitions, Starts, StaticItem, program_of, labels, labels_each, labels_if, labels_at, labels_onto, labels_in, labels_through, labels_of_procedure, labels_of_declaration, labels_of_declarations, labels_of_definition, labels_of_definitions, labels_of_starts, count, behind_declaration, behind_declarations, behind_definition, has_variables, Part, parts_of_items, parts, parts_each, parts_if, parts_at, parts_onto, parts_from, parts_in, parts_through, target_of, parts_of_declarations, parts_of_declaration, parts_of_definitions, parts_of_definition, parts_of_starts, prefix_code, infix_code, by_turns, value_code, each_code, jump_code, address_code, store_code, value_codes, store_codes, command_code, through_code, declarations_code, declaration_code, definitions_code, definition_code, starts_code, procedure_code, word_code, data_code, scheme, outermost, valued, looping, switching, push, truth_value, cases, cases_through, entry_of, entries_of, test_of_step, nodes_of_declarations, StatementsAreFew, WordsAreFew, LabelsAreSetOnce}
+use Rattle.bk_trans.proofs.Terms.{Operator as o, Prefix as q, Simple as w, Bound as b, text_size, Stmt as t, Dyadic as two, Around, Target, Term, Terms, Condition, Lvalue, Lvalues, NamedCommand, NamedCommands, Declaration, Declarations, Definition, Definitions, Starts, StaticItem, program_of, labels, labels_each, labels_if, labels_at, labels_onto, labels_in, labels_through, labels_of_procedure, labels_of_declaration, labels_of_declarations, labels_of_definition, labels_of_definitions, labels_of_starts, count, behind_declaration, behind_declarations, behind_definition, has_variables, Part, parts_of_items, parts, parts_each, parts_if, parts_at, parts_onto, parts_from, parts_in, parts_through, target_of, parts_of_declarations, parts_of_declaration, parts_of_definitions, parts_of_definition, parts_of_starts, prefix_code, infix_code, by_turns, value_code, each_code, jump_code, address_code, store_code, value_codes, store_codes, command_code, through_code, declarations_code, declaration_code, definitions_code, definition_code, starts_code, procedure_code, word_code, data_code, scheme, outermost, valued, looping, switching, push, truth_value, cases, cases_through, entry_of, entries_of, test_of_step, nodes_of_declarations, StatementsAreFew, WordsAreFew, LabelsAreSetOnce}
 use Rattle.bk_ocode.specs.StmtText.{stmt_words, byte_words, case_words, global_words}
 use Rattle.bk_trans.specs.Program as p
 use Rattle.bk_trans.proofs.Steps.{short_bytes}
@@ -240,7 +240,7 @@ module _ (l : ℕ) (ts : List Target) where
     values m s n (p.more e es) = simp sums (omega (arith, value m s n e, values m s (n + labels e) es))
     values m s n _ = omega arith
 
-    command : (m : Measure) (a : Around) (s n : ℕ) (c : Command)
+    command : (m : Measure) (a : Around) (s n : ℕ) (c : NamedCommand)
         → weigh m l (command_code ts a s n c) + weigh_apart m l ts (parts_in s n c) + weigh_cases m (cases n c) + left m l (n + labels_in c) ≤ left m l n + most m (nodes_in c)
     command costing a s n (p.simple w.Break) = omega arith
     command m a s n (p.assign xs es) =
@@ -277,10 +277,10 @@ module _ (l : ℕ) (ts : List Target) where
     command m a s n (p.simple w.Break) = omega arith
     command m a s n _ = omega arith
 
-    through : (m : Measure) (a : Around) (s n : ℕ) (cs : Commands)
+    through : (m : Measure) (a : Around) (s n : ℕ) (cs : NamedCommands)
         → weigh m l (through_code ts a s n cs) + weigh_apart m l ts (parts_through s n cs) + weigh_cases m (cases_through n cs) + left m l (n + labels_through cs)
         ≤ left m l n + most m (nodes_through cs)
-    through costing a s n p.no_commands = omega arith
+    through costing a s n p.no_named_commands = omega arith
     through m a s n (p.also c cs) = simp sums (omega (arith, command m a s n c, through m a s (n + labels_in c) cs))
     through m a s n _ = omega arith
 

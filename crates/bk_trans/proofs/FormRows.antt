@@ -1,11 +1,11 @@
 -- Worked forms: what the table of the scheme in docs/SCHEME.md says of each, read off that table. Each form stands in a procedure
 -- F(A, B), whose name means no global: its entry is L1, the word of its name L2, the first label of the form L3, and its depth 4.
-use Rattle.bk_trans.proofs.Words.{◌≡◌, ℕ, true, false, pos, negsuc, List, [], ◌∷◌, ◌++◌, map, refl, Operator, Mention, Expression, Expressions, Action, Actions, Declarations, Definition, name, number, text, truth, query, parens, unary, binary, choice, apply, valof, table, none, more, empty, assign, call, goto, label, case_of, default, when, test, while, for_loop, switch, result, simple, block, repeat, repeat_while, no_actions, also, constants, definitions, no_declarations, declare, no_items, item, routine, function, variables, no_definitions, define, no_starts, value, vector, Local, Stmt}
+use Rattle.bk_trans.proofs.Words.{◌≡◌, ℕ, true, false, pos, negsuc, List, [], ◌∷◌, ◌++◌, map, refl, Operator, Mention, Expression, Expressions, Command, Commands, Declarations, Definition, name, number, text, truth, query, parens, unary, binary, choice, apply, valof, table, none, more, empty, assign, call, goto, label, case_of, default, when, test, while, for_loop, switch, result, simple, block, repeat, repeat_while, no_commands, also, constants, definitions, no_declarations, declare, no_items, item, routine, function, variables, no_definitions, define, no_starts, value, vector, Local, Stmt}
 use Rattle.bk_trans.proofs.Terms.{Operator as o, Prefix as q, Simple as w, Sort as s, Global, Static, Monadic as m, Dyadic as d, Stmt as t}
 use Rattle.bk_trans.proofs.Rows.{translated}
 
 abbrev mention : ℕ → Mention
-mention x = record { line = 1; letters = x ∷ [] }
+mention x = record { at = 1; letters = x ∷ [] }
 
 -- A, B, C, F, L and M
 abbrev a : Expression
@@ -29,8 +29,8 @@ just e = more e none
 abbrev pair : Expression → Expression → Expressions
 pair x y = more x (just y)
 
-abbrev only : Action → Actions
-only x = also x no_actions
+abbrev only : Command → Commands
+only x = also x no_commands
 
 abbrev formals : List Mention
 formals = mention 65 ∷ mention 66 ∷ []
@@ -49,11 +49,11 @@ ending more_data = t.EndProcedure ∷ t.DataLabel 2 ∷ t.DataAddress 1 ∷ (mor
 data Row : Type 0 where
   pushes : Expression → List Stmt → Row
   operates : Operator → List Stmt → Row
-  does : Action → List Stmt → Row
+  does : Command → List Stmt → Row
   translates : Declarations → List Stmt → Row
 
 -- A := 1, and its statements
-abbrev act : Action
+abbrev act : Command
 act = assign 1 (just a) (just (k 1))
 
 abbrev done : List Stmt

@@ -3,7 +3,7 @@
 use Rattle.bk_trans.proofs.Words.{arith, ◌≡◌, ℕ, ◌+◌, ◌-◌, ◌≤◌, Bool, true, false, not, cond, List, [], ◌∷◌, ◌++◌, map, refl, subst, ◌∙◌, ⊤, signed, FRAME_WORDS, OCODE_LABEL, Case, Stmt, IsLabel, AreCases, Use, jumps, results, AllJump, Fits, done, lands, takes}
 use Rattle.bk_trans.proofs.Terms.{Simple as w, Bound as b, Variable as v, Dyadic as two, Stmt as t, Around, Target, labels, labels_each, labels_if, labels_at, labels_onto, labels_in, labels_through, labels_of_declaration, labels_of_declarations, labels_of_definition, labels_of_definitions, labels_of_starts, count, behind_starts, behind_declaration, behind_declarations, behind_definition, behind_definitions, has_variables, Part, static_table, parts, parts_each, parts_if, parts_at, parts_onto, parts_from, parts_in, parts_through, parts_of_declarations, parts_of_declaration, parts_of_definitions, parts_of_definition, parts_of_starts, goal_of, push, truth_value, by_turns, value_code, each_code, jump_code, address_code, store_code, value_codes, store_codes, command_code, through_code, declarations_code, declaration_code, definitions_code, definition_code, starts_code, goal, variable, valued, looping, switching, label_or, default_in, cases, test_of_step}
 use Rattle.bk_ocode.specs.Typing as typing
-use Rattle.bk_trans.specs.Program.{Term, Terms, Condition, Lvalue, Lvalues, Command, Commands, Declaration, Declarations, Definition, Definitions, Starts, named, number, text, truth, query, parens, unary, address, binary, choice, apply, valof, table, none, more, holds, within, fails, both, either, word, contents, subscript, byte, inside, nowhere, no_lvalues, onto, assign, call, goto, label, case_of, default, when, test, while, for_loop, switch, result, simple, block, repeat, repeat_while, no_commands, also, statics, lets, no_declarations, declare, variables, no_definitions, define, no_starts, value, vector}
+use Rattle.bk_trans.specs.Program.{Term, Terms, Condition, Lvalue, Lvalues, NamedCommand, NamedCommands, Declaration, Declarations, Definition, Definitions, Starts, named, number, text, truth, query, parens, unary, address, binary, choice, apply, valof, table, none, more, holds, within, fails, both, either, word, contents, subscript, byte, inside, nowhere, no_lvalues, onto, assign, call, goto, label, case_of, default, when, test, while, for_loop, switch, result, simple, block, repeat, repeat_while, no_named_commands, also, statics, lets, no_declarations, declare, variables, no_definitions, define, no_starts, value, vector}
 use Rattle.bk_trans.proofs.Marks.{Mark, marks, marks_each, marks_if, marks_at, marks_onto, marks_all_onto, marks_from, marks_by_turns, marks_in, marks_through, marks_of_declaration, marks_of_declarations, marks_of_definition, marks_of_definitions, marks_of_starts, AllRight, right_front, right_back}
 use Rattle.bk_trans.proofs.Good.{Exits, in_loop, in_switch, in_valof, IsGoal, Good, GoodEach, GoodIf, GoodAt, GoodOnto, GoodAllOnto, GoodFrom, GoodIn, GoodThrough, GoodDeclared, GoodOneDeclared, GoodDefined, GoodOneDefined, GoodStarted}
 use Rattle.bk_trans.proofs.Steps.{back, Steps, append, step, last, fits_number, fits_truth, next_truth, fits_query, fits_text, fits_local, fits_push, next_push, fits_address, fits_assign, fits_assign_local, fits_address_local, fits_dyadic, fits_assign_at, fits_assign_byte, fits_jump, fits_jump_if, fits_give, fits_stack, fits_store, fits_function, fits_routine, fits_return, fits_finish, fits_test, next_test, prefix_steps, dyadic_steps, infix_steps, go_steps}
@@ -271,7 +271,7 @@ module _ (plan : ℕ → Use) (ts : List Target) (p : ℕ) where
       all_onto_typed s (n + labels_at x) (m + labels e) xs es deep (omega (arith, low)) (omega (arith, high)) g.1 top (tables_back plan (parts_at (s + 1) n x) _ a),
     )
 
-    pub command_typed : (x : Exits) (ar : Around) (s n : ℕ) (c : Command) → 2 ≤ s → s ≤ FRAME_WORDS → 1 ≤ n → n + labels_in c ≤ OCODE_LABEL + 1
+    pub command_typed : (x : Exits) (ar : Around) (s n : ℕ) (c : NamedCommand) → 2 ≤ s → s ≤ FRAME_WORDS → 1 ≤ n → n + labels_in c ≤ OCODE_LABEL + 1
         → Surrounds plan p x s ar → GoodIn plan ts p x s c → AllTables plan (parts_in s n c) → AllRight plan (marks_in p s n c) → Steps plan p s (command_code ts ar s n c) s
     command_typed x ar s n (assign (onto y ys) (more e es)) deep top low high i g a r =
         let much = room plan ts p s e g.1.0 in
@@ -419,9 +419,9 @@ module _ (plan : ℕ → Use) (ts : List Target) (p : ℕ) where
     command_typed x ar s n (assign no_lvalues none) deep top low high i g a r = done
     command_typed x ar s n _ deep top low high i g a r = done
 
-    through_typed : (x : Exits) (ar : Around) (s n : ℕ) (cs : Commands) → 2 ≤ s → s ≤ FRAME_WORDS → 1 ≤ n → n + labels_through cs ≤ OCODE_LABEL + 1
+    through_typed : (x : Exits) (ar : Around) (s n : ℕ) (cs : NamedCommands) → 2 ≤ s → s ≤ FRAME_WORDS → 1 ≤ n → n + labels_through cs ≤ OCODE_LABEL + 1
         → Surrounds plan p x s ar → GoodThrough plan ts p x s cs → AllTables plan (parts_through s n cs) → AllRight plan (marks_through p s n cs) → Steps plan p s (through_code ts ar s n cs) s
-    through_typed x ar s n no_commands deep top low high i g a r = done
+    through_typed x ar s n no_named_commands deep top low high i g a r = done
     through_typed x ar s n (also c cs) deep top low high i g a r =
         append (command_typed x ar s n c deep top low (omega (arith, high)) i g.0 (tables_front plan (parts_in s n c) _ a) (right_front plan (marks_in p s n c) _ r))
         (through_typed x ar s (n + labels_in c) cs deep top (omega (arith, low)) (omega (arith, high)) i g.1 (tables_back plan (parts_in s n c) _ a) (right_back plan (marks_in p s n c) _ r))

@@ -3,7 +3,7 @@
 use Rattle.bk_trans.proofs.Words.{◌≡◌, ℕ, ◌+◌, ◌<◌, ◌≤◌, ◌^◌, Bool, true, false, Some, List, [], ◌∷◌, ◌++◌, ⊤, FRAME_WORDS, GLOBAL_NUMBER, Bound, AllDiffer, IsLabel, IsDepth, Use}
 use Rattle.bk_trans.proofs.Terms.{Simple as w, Bound as b, Goal, Target, count, behind_definition, behind_declaration, behind_declarations, goal_of}
 use Rattle.bk_ocode.specs.Typing as typing
-use Rattle.bk_trans.specs.Program.{Term, Terms, Condition, Lvalue, Lvalues, Command, Commands, Declaration, Declarations, Definition, Definitions, Starts, named, parens, unary, address, binary, choice, apply, valof, none, more, holds, within, fails, both, either, word, contents, subscript, byte, inside, nowhere, onto, assign, call, goto, label, case_of, default, when, test, while, for_loop, switch, result, simple, block, repeat, repeat_while, no_commands, also, statics, lets, no_declarations, declare, variables, no_definitions, define, no_starts, value, vector}
+use Rattle.bk_trans.specs.Program.{Term, Terms, Condition, Lvalue, Lvalues, NamedCommand, NamedCommands, Declaration, Declarations, Definition, Definitions, Starts, named, parens, unary, address, binary, choice, apply, valof, none, more, holds, within, fails, both, either, word, contents, subscript, byte, inside, nowhere, onto, assign, call, goto, label, case_of, default, when, test, while, for_loop, switch, result, simple, block, repeat, repeat_while, no_named_commands, also, statics, lets, no_declarations, declare, variables, no_definitions, define, no_starts, value, vector}
 
 -- which exits there are
 pub record Exits : Type 0 where
@@ -50,7 +50,7 @@ Goes plan ts p _ = ⊥
 
 -- the words of the CASEs that belong to a SWITCHON
 abbrev mutual
-  pub case_words : Command → List ℕ
+  pub case_words : NamedCommand → List ℕ
   case_words (label b c) = case_words c
   case_words (case_of w c) = w ∷ case_words c
   case_words (default c) = case_words c
@@ -62,8 +62,8 @@ abbrev mutual
   case_words (repeat_while b c e) = case_words c
   case_words _ = []
 
-  pub case_words_through : Commands → List ℕ
-  case_words_through no_commands = []
+  pub case_words_through : NamedCommands → List ℕ
+  case_words_through no_named_commands = []
   case_words_through (also c cs) = case_words c ++ case_words_through cs
 
 abbrev pub AllWords : List ℕ → Type 0
@@ -121,7 +121,7 @@ abbrev mutual
   GoodFrom plan ts p s (more e es) (onto x xs) = Good plan ts p s e × GoodFrom plan ts p s es xs
   GoodFrom plan ts p s _ _ = ⊤
 
-  pub GoodIn : (ℕ → Use) → List Target → ℕ → Exits → ℕ → Command → Type 0
+  pub GoodIn : (ℕ → Use) → List Target → ℕ → Exits → ℕ → NamedCommand → Type 0
   GoodIn plan ts p x s (assign ys es) = GoodAllOnto plan ts p s ys es × GoodFrom plan ts p s es ys
   GoodIn plan ts p x s (call e es) = GoodEach plan ts p (s + 2) es × Good plan ts p (s + 2 + count es) e
   GoodIn plan ts p x s (goto y) = Goes plan ts p y
@@ -143,8 +143,8 @@ abbrev mutual
   GoodIn plan ts p x s (repeat_while t c e) = GoodIn plan ts p (in_loop x) s c × GoodIf plan ts p s e
   GoodIn plan ts p x s _ = ⊤
 
-  pub GoodThrough : (ℕ → Use) → List Target → ℕ → Exits → ℕ → Commands → Type 0
-  GoodThrough plan ts p x s no_commands = ⊤
+  pub GoodThrough : (ℕ → Use) → List Target → ℕ → Exits → ℕ → NamedCommands → Type 0
+  GoodThrough plan ts p x s no_named_commands = ⊤
   GoodThrough plan ts p x s (also c cs) = GoodIn plan ts p x s c × GoodThrough plan ts p x s cs
 
   -- procedures are apart

@@ -1,6 +1,6 @@
 -- The code of a part sets each label as often as its marks have it.
 use Rattle.bk_trans.proofs.Words.{arith, ◌≡◌, ℕ, ◌+◌, Bool, true, false, not, pos, int_lt, Some, List, [], ◌∷◌, ◌++◌, refl, ⊤, signed, Stmt, sets, times_set}
-use Rattle.bk_trans.proofs.Terms.{Simple as w, Dyadic as two, Stmt as t, Around, Target, Term, Terms, Condition, Lvalue, Lvalues, Command, Commands, Declaration, Declarations, Definition, Definitions, Starts, named, truth, parens, unary, address, binary, choice, apply, valof, none, more, holds, within, fails, both, either, contents, subscript, byte, inside, no_lvalues, onto, assign, call, label, case_of, default, when, test, while, for_loop, switch, result, simple, block, repeat, repeat_while, no_commands, also, statics, lets, no_declarations, declare, routine, function, variables, no_definitions, define, no_starts, value, vector, labels, labels_if, labels_at, labels_onto, labels_in, labels_of_declaration, labels_of_declarations, labels_of_definition, count, behind_declaration, behind_declarations, behind_definition, has_variables, by_turns, value_code, each_code, jump_code, address_code, store_code, value_codes, store_codes, command_code, through_code, declarations_code, declaration_code, definitions_code, definition_code, starts_code, valued, looping, switching}
+use Rattle.bk_trans.proofs.Terms.{Simple as w, Dyadic as two, Stmt as t, Around, Target, Term, Terms, Condition, Lvalue, Lvalues, NamedCommand, NamedCommands, Declaration, Declarations, Definition, Definitions, Starts, named, truth, parens, unary, address, binary, choice, apply, valof, none, more, holds, within, fails, both, either, contents, subscript, byte, inside, no_lvalues, onto, assign, call, label, case_of, default, when, test, while, for_loop, switch, result, simple, block, repeat, repeat_while, no_named_commands, also, statics, lets, no_declarations, declare, routine, function, variables, no_definitions, define, no_starts, value, vector, labels, labels_if, labels_at, labels_onto, labels_in, labels_of_declaration, labels_of_declarations, labels_of_definition, count, behind_declaration, behind_declarations, behind_definition, has_variables, by_turns, value_code, each_code, jump_code, address_code, store_code, value_codes, store_codes, command_code, through_code, declarations_code, declaration_code, definitions_code, definition_code, starts_code, valued, looping, switching}
 use Rattle.bk_trans.proofs.Once.{set_both, push_none, truth_none, chosen_none, store_none, prefix_none, infix_none}
 use Rattle.bk_trans.proofs.Marks.{Mark, marks, marks_each, marks_if, marks_at, marks_onto, marks_all_onto, marks_from, marks_by_turns, marks_in, marks_through, marks_of_declaration, marks_of_declarations, marks_of_definition, marks_of_definitions, marks_of_starts}
 
@@ -83,7 +83,7 @@ module _ (l : ℕ) (ts : List Target) where
     from_marked p s n none = tt
     from_marked p s n (more e es) = (value_marked p s n e, from_marked p s (n + labels e) es)
 
-    pub command_marked : (a : Around) (p s n : ℕ) (c : Command) → times_set l (command_code ts a s n c) ≡ times_marked l (marks_in p s n c)
+    pub command_marked : (a : Around) (p s n : ℕ) (c : NamedCommand) → times_set l (command_code ts a s n c) ≡ times_marked l (marks_in p s n c)
     command_marked a p s n (assign xs es) = turns_marked l _ _ _ _ (from_marked p s (n + labels_onto xs) es) (all_onto_marked p (s + 1) n xs)
     command_marked a p s n (call e es) =
         let h = value_marked p (s + 2 + count es) n e in let i = each_marked p (s + 2) (n + labels e) es in simp (set_both, marked_both) (omega (arith, h, i))
@@ -115,8 +115,8 @@ module _ (l : ℕ) (ts : List Target) where
     command_marked a p s n (simple w.Break) = refl
     command_marked a p s n _ = refl
 
-    through_marked : (a : Around) (p s n : ℕ) (cs : Commands) → times_set l (through_code ts a s n cs) ≡ times_marked l (marks_through p s n cs)
-    through_marked a p s n no_commands = refl
+    through_marked : (a : Around) (p s n : ℕ) (cs : NamedCommands) → times_set l (through_code ts a s n cs) ≡ times_marked l (marks_through p s n cs)
+    through_marked a p s n no_named_commands = refl
     through_marked a p s n (also c cs) = simp (set_both, marked_both) (omega (arith, command_marked a p s n c, through_marked a p s (n + labels_in c) cs))
 
     declared_marked : (p s n : ℕ) (xs : Declarations) → times_set l (declarations_code ts s n xs) ≡ times_marked l (marks_of_declarations p s n xs)

@@ -2,7 +2,7 @@
 -- words and tables are apart.
 use Rattle.bk_trans.proofs.Words.{◌≡◌, ℕ, ◌+◌, Bool, true, false, not, List, [], ◌∷◌, ◌++◌, ⊤, Use}
 use Rattle.bk_ocode.specs.Typing as typing
-use Rattle.bk_trans.proofs.Terms.{Term, Terms, Condition, Lvalue, Lvalues, Command, Commands, Declaration, Declarations, Definition, Definitions, Starts, parens, unary, address, binary, choice, apply, valof, none, more, holds, within, fails, both, either, contents, subscript, byte, inside, no_lvalues, onto, assign, call, label, case_of, default, when, test, while, for_loop, switch, result, block, repeat, repeat_while, no_commands, also, statics, lets, no_declarations, declare, variables, no_definitions, define, no_starts, value, vector, labels, labels_if, labels_at, labels_onto, labels_in, labels_of_declarations, labels_of_declaration, labels_of_definition, count, behind_definition, behind_declaration, behind_declarations}
+use Rattle.bk_trans.proofs.Terms.{Term, Terms, Condition, Lvalue, Lvalues, NamedCommand, NamedCommands, Declaration, Declarations, Definition, Definitions, Starts, parens, unary, address, binary, choice, apply, valof, none, more, holds, within, fails, both, either, contents, subscript, byte, inside, no_lvalues, onto, assign, call, label, case_of, default, when, test, while, for_loop, switch, result, block, repeat, repeat_while, no_named_commands, also, statics, lets, no_declarations, declare, variables, no_definitions, define, no_starts, value, vector, labels, labels_if, labels_at, labels_onto, labels_in, labels_of_declarations, labels_of_declaration, labels_of_definition, count, behind_definition, behind_declaration, behind_declarations}
 
 pub record Mark : Type 0 where
   pub spot : ℕ
@@ -69,7 +69,7 @@ abbrev mutual
   marks_all_onto p s n no_lvalues = []
   marks_all_onto p s n (onto x xs) = marks_onto p s n x ∷ marks_all_onto p s (n + labels_at x) xs
 
-  pub marks_in : ℕ → ℕ → ℕ → Command → List Mark
+  pub marks_in : ℕ → ℕ → ℕ → NamedCommand → List Mark
   marks_in p s n (assign xs es) = marks_by_turns (marks_from p s (n + labels_onto xs) es) (marks_all_onto p (s + 1) n xs)
   marks_in p s n (call e es) = marks_each p (s + 2) (n + labels e) es ++ marks p (s + 2 + count es) n e
   marks_in p s n (label b c) = jump_mark n p s ∷ marks_in p s (n + 1) c
@@ -93,8 +93,8 @@ abbrev mutual
       jump_mark n p s ∷ jump_mark (n + 1) p s ∷ jump_mark (n + 2) p s ∷ marks_in p s (n + 3) c ++ marks_if p s (n + 3 + labels_in c) e b
   marks_in p s n _ = []
 
-  pub marks_through : ℕ → ℕ → ℕ → Commands → List Mark
-  marks_through p s n no_commands = []
+  pub marks_through : ℕ → ℕ → ℕ → NamedCommands → List Mark
+  marks_through p s n no_named_commands = []
   marks_through p s n (also c cs) = marks_in p s n c ++ marks_through p s (n + labels_in c) cs
 
   pub marks_of_declarations : ℕ → ℕ → ℕ → Declarations → List Mark

@@ -1,6 +1,6 @@
 -- Filling gives the named tree: of a node that is sound, going on from what is told of it takes just the meanings and the words that
 -- stand there, and gives its named tree.
-use Rattle.bk_trans.proofs.Words.{◌≡◌, ℕ, ◌+◌, ◌==◌, Bool, true, false, cond, Option, Some, None, List, [], ◌∷◌, ◌++◌, length, refl, sym, ap, ◌∙◌, false≢true, Mention, Expression, Expressions, Action, Actions, Declaration, Declarations, Items, Definition, Definitions, Starts, name, parens, unary, binary, choice, apply, valof, table, none, more, empty, assign, call, goto, label, case_of, default, when, test, while, for_loop, switch, result, simple, block, repeat, repeat_while, no_actions, also, constants, definitions, no_declarations, declare, no_items, item, routine, function, variables, no_definitions, define, no_starts, value, vector, line_of, size, GLOBAL_NUMBER, VEC_NUMBER, Bound, Constant, Global, Static, Variable, Label, Enclosing, Role, Value, Address, Destination, Wrong, dynamic_name, label_not_here, not_assignable, no_result_or_return, global_out_of_range, vec_out_of_range, text_of, Binding, bound_in, bind, has_address, constant_word, kept, deeper, looping, switching, labelled, valued, called, outermost, labels_of, labels_of_each, with_formals, parenthesised, words_of_start, Spot, procedures_in, onward, past, numbered, behind, behind_each, behind_done, behind_declared, behind_one_declared, behind_one_defined, behind_constant, symbols_each, beginning, Point, meaning, word, depth, at, deepest, without_depths, meanings_of, words_of, labels_in_scope, procedures_in_scope, place_behind_one_defined, scope_behind_one, place_behind_one, scope_behind, place_behind_all, unless, used_at, gone_to, its_word, constant, each_constant, at_most, addressed, assigned, prefixed, depth_named, pushed, chosen_at, defaulted_at, single_at, each_of, one_of, manifest_items, static_items, global_items, its_meaning, its_global, its_frame, inside_procedure, procedure, told, told_each, told_destinations, told_done, told_done_each, told_declared, told_one_declared, told_defined, told_one_defined, told_started, told_of, meanings, words, Usable, GoesTo, Callable, HasWord, HaveWords, ManifestsSound, StaticsSound, GlobalsSound, Sound, SoundEach, SoundDestinations, SoundDone, SoundDoneEach, SoundDeclared, SoundOneDeclared, SoundDefined, SoundOneDefined, SoundStarted, SoundSection}
+use Rattle.bk_trans.proofs.Words.{◌≡◌, ℕ, ◌+◌, ◌==◌, Bool, true, false, cond, Option, Some, None, List, [], ◌∷◌, ◌++◌, length, refl, sym, ap, ◌∙◌, false≢true, Mention, Expression, Expressions, Command, Commands, Declaration, Declarations, Items, Definition, Definitions, Starts, name, parens, unary, binary, choice, apply, valof, table, none, more, empty, assign, call, goto, label, case_of, default, when, test, while, for_loop, switch, result, simple, block, repeat, repeat_while, no_commands, also, constants, definitions, no_declarations, declare, no_items, item, routine, function, variables, no_definitions, define, no_starts, value, vector, at_expression, size, GLOBAL_NUMBER, VEC_NUMBER, Bound, Constant, Global, Static, Variable, Label, Enclosing, Role, Value, Address, Destination, Wrong, dynamic_name, label_not_here, not_assignable, no_result_or_return, global_out_of_range, vec_out_of_range, text_of, Binding, bound_in, bind, has_address, constant_word, kept, deeper, looping, switching, labelled, valued, called, outermost, labels_of, labels_of_each, with_formals, parenthesised, words_of_start, Spot, procedures_in, onward, past, numbered, behind, behind_each, behind_done, behind_declared, behind_one_declared, behind_one_defined, behind_constant, symbols_each, beginning, Point, meaning, word, depth, at, deepest, without_depths, meanings_of, words_of, labels_in_scope, procedures_in_scope, place_behind_one_defined, scope_behind_one, place_behind_one, scope_behind, place_behind_all, unless, used_at, gone_to, its_word, constant, each_constant, at_most, addressed, assigned, prefixed, depth_named, pushed, chosen_at, defaulted_at, single_at, each_of, one_of, manifest_items, static_items, global_items, its_meaning, its_global, its_frame, inside_procedure, procedure, told, told_each, told_destinations, told_done, told_done_each, told_declared, told_one_declared, told_defined, told_one_defined, told_started, told_of, meanings, words, Usable, GoesTo, Callable, HasWord, HaveWords, ManifestsSound, StaticsSound, GlobalsSound, Sound, SoundEach, SoundDestinations, SoundDone, SoundDoneEach, SoundDeclared, SoundOneDeclared, SoundDefined, SoundOneDefined, SoundStarted, SoundSection}
 use Rattle.bk_trans.proofs.Terms.{eq-eqb, Operator as o, Prefix as q, Simple, Simple as w, Sort as sort, constant_right, section_sound, Supply, Filled, filled, meant, worth, words_named, step_named, statics_named, term_named, terms_named, condition_named, lvalue_named, lvalues_named, command_named, commands_named, declarations_named, declaration_named, definitions_named, definition_named, starts_named, named_tree, FillingNames}
 use Rattle.bk_trans.specs.Program as t
 use Rattle.bk_trans.specs.Filling as f
@@ -188,8 +188,8 @@ statics_filled m k bs s (item l x e is) h =
 globals_filled : (m k : ℕ) (bs : List Binding) (s : Spot) (is : Items) → GlobalsSound bs is → Fills (f.dropped is) (global_items m bs k s is) []
 globals_filled m k bs s no_items h = record { at_all = λ g. refl }
 globals_filled m k bs s (item l x e is) h =
-    two_parts (λ z zs. zs) (before_quiet (at_most GLOBAL_NUMBER (s.place + 1) (line_of e) global_out_of_range (constant_word bs e))
-    (quiet_at_most GLOBAL_NUMBER (s.place + 1) (line_of e) global_out_of_range (constant_word bs e)) (item_filled m k bs s l x e (h.0.0, h.0.1)))
+    two_parts (λ z zs. zs) (before_quiet (at_most GLOBAL_NUMBER (s.place + 1) (at_expression e) global_out_of_range (constant_word bs e))
+    (quiet_at_most GLOBAL_NUMBER (s.place + 1) (at_expression e) global_out_of_range (constant_word bs e)) (item_filled m k bs s l x e (h.0.0, h.0.1)))
     (globals_filled m k bs (behind_constant e (past 1 s)) is h.1)
 
 -- what is told of a procedure: what its name means, and then its body
@@ -241,7 +241,7 @@ mutual
   filling ask bs p s (name l x) h = holding ask (one_part t.named (named_filled (role ask) p p.depth s.place l x (bound_in bs x) h))
   filling ask bs p s (unary l q.Address e) h =
       holding ask (one_part t.address (after_quiet (prefixed q.Address bs (past 1 s) e)
-      (quiet_unless (addressed bs e) (past 1 s).place (line_of e) not_assignable) (lvalue_filled bs p (past 1 s) (Address false (line_of e)) e (addressed_assigned bs e h.0) h.1)))
+      (quiet_unless (addressed bs e) (past 1 s).place (at_expression e) not_assignable) (lvalue_filled bs p (past 1 s) (Address false (at_expression e)) e (addressed_assigned bs e h.0) h.1)))
   filling ask bs p s (unary l x e) h = holding ask (one_part (t.unary x) (filling for_value bs p (past 1 s) e h.1))
   filling ask bs p s (choice l m c a b) h =
       let u : Spot = past 1 (behind c s) in
@@ -272,21 +272,21 @@ mutual
   lvalues_filled : (bs : List Binding) (p : Enclosing) (s : Spot) (es : Expressions) → SoundDestinations bs p s es → Fills (f.lvalues es) (told_destinations bs p s es) (lvalues_named bs p s es)
   lvalues_filled bs p s none h = record { at_all = λ g. refl }
   lvalues_filled bs p s (more e es) h =
-      let us : List Point = unless (assigned bs e) (at s.place (line_of e) not_assignable) in
+      let us : List Point = unless (assigned bs e) (at s.place (at_expression e) not_assignable) in
       two_parts t.onto
-      (after_quiet us (quiet_unless (assigned bs e) s.place (line_of e) not_assignable) (lvalue_filled bs p s (Destination false (line_of e)) e h.0 h.1))
+      (after_quiet us (quiet_unless (assigned bs e) s.place (at_expression e) not_assignable) (lvalue_filled bs p s (Destination false (at_expression e)) e h.0 h.1))
       (lvalues_filled bs p (behind e s) es h.2)
 
   terms_filled : (n : ℕ) (bs : List Binding) (p : Enclosing) (s : Spot) (es : Expressions) → SoundEach n bs p s es → Fills (f.terms es) (told_each n bs p s es) (terms_named n bs p s es)
   terms_filled n bs p s none h = record { at_all = λ g. refl }
   terms_filled n bs p s (more e es) h = two_parts t.more (filling for_value bs p s e h.0) (terms_filled n bs (deeper n p) (behind e s) es h.1)
 
-  command_filled : (bs : List Binding) (p : Enclosing) (s : Spot) (c : Action) → SoundDone bs p s c → Fills (f.command c) (told_done bs p s c) (command_named bs p s c)
+  command_filled : (bs : List Binding) (p : Enclosing) (s : Spot) (c : Command) → SoundDone bs p s c → Fills (f.command c) (told_done bs p s c) (command_named bs p s c)
   command_filled bs p s empty h = record { at_all = λ g. refl }
   command_filled bs p s (assign l xs es) h = two_parts t.assign (lvalues_filled bs (deeper 1 p) s xs h.0) (terms_filled 0 bs p (behind_each xs s) es h.1)
   command_filled bs p s (call l e es) h =
       two_parts t.call (filling for_value bs (deeper (size es + 2) p) s e h.0) (terms_filled 1 bs (deeper 2 p) (behind e s) es h.1)
-  command_filled bs p s (goto l x) h = one_part t.goto (gone_filled p.procedure s.place x.line x.letters (bound_in bs x.letters) h)
+  command_filled bs p s (goto l x) h = one_part t.goto (gone_filled p.procedure s.place x.at x.letters (bound_in bs x.letters) h)
   command_filled bs p s (label l x c) h =
       two_parts t.label (after_quiet (one_of p.labels s.place l x) (λ g. refl) (its_filled (bound_in bs x) _ h.0.1)) (command_filled bs p (past 1 s) c h.1)
   command_filled bs p s (case_of l e c) h =
@@ -322,8 +322,8 @@ mutual
   command_filled bs p s (repeat_while l x c e) h =
       two_parts (t.repeat_while x) (command_filled bs (looping p) s c h.0) (filling (for_truth true) bs p (behind_done c s) e h.1)
 
-  commands_filled : (bs : List Binding) (p : Enclosing) (s : Spot) (cs : Actions) → SoundDoneEach bs p s cs → Fills (f.commands cs) (told_done_each bs p s cs) (commands_named bs p s cs)
-  commands_filled bs p s no_actions h = record { at_all = λ g. refl }
+  commands_filled : (bs : List Binding) (p : Enclosing) (s : Spot) (cs : Commands) → SoundDoneEach bs p s cs → Fills (f.commands cs) (told_done_each bs p s cs) (commands_named bs p s cs)
+  commands_filled bs p s no_commands h = record { at_all = λ g. refl }
   commands_filled bs p s (also c cs) h = two_parts t.also (command_filled bs p s c h.0) (commands_filled bs p (behind_done c s) cs h.1)
 
   declarations_filled : (bs : List Binding) (p : Enclosing) (s : Spot) (ds : Declarations) → SoundDeclared bs p s ds
@@ -365,9 +365,9 @@ mutual
   starts_filled bs p s no_starts h = record { at_all = λ g. refl }
   starts_filled bs p s (value e is) h = two_parts t.value (filling for_value bs p s e h.0) (starts_filled bs (deeper 1 p) (behind e s) is h.1)
   starts_filled bs p s (vector l e is) h =
-      let vs : List Point = at_most VEC_NUMBER s.place (line_of e) vec_out_of_range (constant_word bs e) in
+      let vs : List Point = at_most VEC_NUMBER s.place (at_expression e) vec_out_of_range (constant_word bs e) in
       two_parts t.vector (before_quiet (pushed p (words_of_start bs e + 1)) (λ g. refl)
-      (before_quiet vs (quiet_at_most VEC_NUMBER s.place (line_of e) vec_out_of_range (constant_word bs e)) (constant_filled bs p.procedure s e h.0.0 h.0.1)))
+      (before_quiet vs (quiet_at_most VEC_NUMBER s.place (at_expression e) vec_out_of_range (constant_word bs e)) (constant_filled bs p.procedure s e h.0.0 h.0.1)))
       (starts_filled bs (deeper (words_of_start bs e + 1) p) (behind_constant e s) is h.1)
 
 -- a whole section

@@ -1,6 +1,6 @@
 -- Each part of a section without faults that stands by itself is good: its procedures, wherever they are nested, its items of STATIC and
 -- its tables.
-use Rattle.bk_trans.proofs.Words.{arith, ◌≡◌, ℕ, ◌+◌, ◌<◌, ◌≤◌, ◌^◌, max, true, false, cond, Option, Some, List, [], ◌∷◌, ◌++◌, length, refl, sym, ap, subst, ◌∙◌, ⊤, false≢true, FRAME_WORDS, VEC_NUMBER, OCODE_LABEL, Mention, Expression, Expressions, Action, Actions, Declaration, Declarations, Definition, Definitions, Starts, name, parens, unary, binary, choice, apply, valof, table, none, more, assign, call, label, case_of, default, when, test, while, for_loop, switch, result, block, repeat, repeat_while, no_actions, also, constants, definitions, no_declarations, declare, routine, function, variables, no_definitions, define, no_starts, value, vector, line_of, size, Bound, Constant, Global, Static, Variable, Label, Enclosing, Role, Value, Truth, Address, Destination, not_assignable, no_result_or_return, vec_out_of_range, Binding, bound_in, bind, constant_word, kept, deeper, looping, switching, labelled, valued, called, outermost, labels_of, labels_of_each, with_formals, parenthesised, words_of_start, place_behind, variables_of, Spot, procedures_in, onward, past, numbered, behind, behind_each, behind_done, behind_declared, behind_one_declared, behind_one_defined, behind_constant, symbols_each, beginning, Claim, is_claimed, Point, meaning, word, depth, wrong, claim, claimed, judged, deepest, without_depths, at, labels_in_scope, procedures_in_scope, place_behind_one_defined, variables_in_scope, scope_behind_one, place_behind_one, scope_behind, place_behind_all, unless, its_meaning, its_global, its_frame, inside_procedure, constant, each_constant, at_most, assigned, prefixed, pushed, chosen_at, defaulted_at, one_of, each_of, told, told_each, told_destinations, told_done, told_done_each, told_declared, told_one_declared, told_defined, told_one_defined, told_started, Callable, FrameSound, Sound, SoundEach, SoundDestinations, SoundDone, SoundDoneEach, SoundDeclared, SoundOneDeclared, SoundDefined, SoundOneDefined, SoundStarted, Use}
+use Rattle.bk_trans.proofs.Words.{arith, ◌≡◌, ℕ, ◌+◌, ◌<◌, ◌≤◌, ◌^◌, max, true, false, cond, Option, Some, List, [], ◌∷◌, ◌++◌, length, refl, sym, ap, subst, ◌∙◌, ⊤, false≢true, FRAME_WORDS, VEC_NUMBER, OCODE_LABEL, Mention, Expression, Expressions, Command, Commands, Declaration, Declarations, Definition, Definitions, Starts, name, parens, unary, binary, choice, apply, valof, table, none, more, assign, call, label, case_of, default, when, test, while, for_loop, switch, result, block, repeat, repeat_while, no_commands, also, constants, definitions, no_declarations, declare, routine, function, variables, no_definitions, define, no_starts, value, vector, at_expression, size, Bound, Constant, Global, Static, Variable, Label, Enclosing, Role, Value, Truth, Address, Destination, not_assignable, no_result_or_return, vec_out_of_range, Binding, bound_in, bind, constant_word, kept, deeper, looping, switching, labelled, valued, called, outermost, labels_of, labels_of_each, with_formals, parenthesised, words_of_start, place_behind, variables_of, Spot, procedures_in, onward, past, numbered, behind, behind_each, behind_done, behind_declared, behind_one_declared, behind_one_defined, behind_constant, symbols_each, beginning, Claim, is_claimed, Point, meaning, word, depth, wrong, claim, claimed, judged, deepest, without_depths, at, labels_in_scope, procedures_in_scope, place_behind_one_defined, variables_in_scope, scope_behind_one, place_behind_one, scope_behind, place_behind_all, unless, its_meaning, its_global, its_frame, inside_procedure, constant, each_constant, at_most, assigned, prefixed, pushed, chosen_at, defaulted_at, one_of, each_of, told, told_each, told_destinations, told_done, told_done_each, told_declared, told_one_declared, told_defined, told_one_defined, told_started, Callable, FrameSound, Sound, SoundEach, SoundDestinations, SoundDone, SoundDoneEach, SoundDeclared, SoundOneDeclared, SoundDefined, SoundOneDefined, SoundStarted, Use}
 use Rattle.bk_trans.proofs.Terms.{Operator as o, Prefix as sign, Sort as sort, Target, meant, worth, statics_named, term_named, terms_named, condition_named, lvalue_named, lvalues_named, command_named, commands_named, declarations_named, declaration_named, definitions_named, definition_named, starts_named, labels, labels_each, labels_if, labels_at, labels_onto, labels_in, labels_through, labels_of_declaration, labels_of_declarations, labels_of_definition, labels_of_definitions, labels_of_starts, count, behind_definition, behind_declaration, behind_declarations, Part, procedure, static_table, parts, parts_each, parts_if, parts_at, parts_onto, parts_from, parts_in, parts_through, parts_of_items, parts_of_declarations, parts_of_declaration, parts_of_definitions, parts_of_definition, parts_of_starts, goal_of, labels_of_procedure}
 use Rattle.bk_trans.specs.Program as t
 use Rattle.bk_trans.proofs.Marks.{right_back}
@@ -200,7 +200,7 @@ inside plan ts q bs p z k formals n fs a size same deep high = record {
   low = omega arith;
 }
 
-routine_good : (plan : ℕ → Use) (ts : List Target) (m : ℕ) (bs : List Binding) (p : Enclosing) (s : Spot) (l : ℕ) (x : List ℕ) (fs : List Mention) (c : Action) (d n : ℕ) → Out plan ts bs p.procedure s.number
+routine_good : (plan : ℕ → Use) (ts : List Target) (m : ℕ) (bs : List Binding) (p : Enclosing) (s : Spot) (l : ℕ) (x : List ℕ) (fs : List Mention) (c : Command) (d n : ℕ) → Out plan ts bs p.procedure s.number
     → SoundOneDefined bs p s (routine l x fs c)
     → Given plan ts n (labels_of_definition (definition_named bs p s (routine l x fs c))) (told_one_defined m bs p s (routine l x fs c)) (parts_of_definition d n (definition_named bs p s (routine l x fs c)))
     → GoodPart plan ts (procedure n (definition_named bs p s (routine l x fs c)))
@@ -265,7 +265,7 @@ module _ (plan : ℕ → Use) (ts : List Target) where
         good_both plan ts _ _ (nest (for_truth z) bs p s x d (n + 1) a h.0 (front _ _ g (omega arith) (omega arith)))
         (nest (for_truth z) bs p (past 1 (behind x s)) y d _ (onto _ a (omega arith)) h.1 (back _ _ g (omega arith) (omega arith)))
     nest ask bs p s (unary l sign.Address e) d n a h g =
-        nest_onto bs p (past 1 s) (Address false (line_of e)) e d n (onto _ a (omega arith)) (addressed_assigned bs e h.0) h.1 (behind_told (prefixed sign.Address bs (past 1 s) e) g (omega arith) (omega arith))
+        nest_onto bs p (past 1 s) (Address false (at_expression e)) e d n (onto _ a (omega arith)) (addressed_assigned bs e h.0) h.1 (behind_told (prefixed sign.Address bs (past 1 s) e) g (omega arith) (omega arith))
     nest ask bs p s (unary l sign.Not e) d n a h g = nest ask bs p (past 1 s) e d n (onto _ a (omega arith)) h.1 g
     nest ask bs p s (unary l y e) d n a h g = nest for_value bs p (past 1 s) e d n (onto _ a (omega arith)) h.1 g
     nest ask bs p s (choice l m c x y) d n a h g =
@@ -323,12 +323,12 @@ module _ (plan : ℕ → Use) (ts : List Target) where
         → Given plan ts n (labels_onto (lvalues_named bs p s xs)) (told_destinations bs p s xs) (parts_onto d n (lvalues_named bs p s xs)) → AllGood plan ts (parts_onto d n (lvalues_named bs p s xs))
     nest_all_onto bs p s none d n a h g = tt
     nest_all_onto bs p s (more x xs) d n a h g =
-        let us : List Point = unless (assigned bs x) (at s.place (line_of x) not_assignable) in
-        let fore : Given plan ts n (labels_at (lvalue_named bs p s x)) (us ++ told (Destination false (line_of x)) bs p s x) _ = front _ _ g (omega arith) (omega arith) in
-        good_both plan ts _ _ (nest_onto bs p s (Destination false (line_of x)) x d n a h.0 h.1 (behind_told us fore (omega arith) (omega arith)))
+        let us : List Point = unless (assigned bs x) (at s.place (at_expression x) not_assignable) in
+        let fore : Given plan ts n (labels_at (lvalue_named bs p s x)) (us ++ told (Destination false (at_expression x)) bs p s x) _ = front _ _ g (omega arith) (omega arith) in
+        good_both plan ts _ _ (nest_onto bs p s (Destination false (at_expression x)) x d n a h.0 h.1 (behind_told us fore (omega arith) (omega arith)))
         (nest_all_onto bs p (behind x s) xs d _ (onto _ a (omega arith)) h.2 (back _ _ g (omega arith) (omega arith)))
 
-    nest_in : (bs : List Binding) (p : Enclosing) (s : Spot) (c : Action) (d n : ℕ) → Out plan ts bs p.procedure s.number → SoundDone bs p s c
+    nest_in : (bs : List Binding) (p : Enclosing) (s : Spot) (c : Command) (d n : ℕ) → Out plan ts bs p.procedure s.number → SoundDone bs p s c
         → Given plan ts n (labels_in (command_named bs p s c)) (told_done bs p s c) (parts_in d n (command_named bs p s c)) → AllGood plan ts (parts_in d n (command_named bs p s c))
     nest_in bs p s (assign l xs es) d n a h g =
         good_both plan ts _ _ (nest_all_onto bs (deeper 1 p) s xs (d + 1) n a h.0 (front _ _ g (omega arith) (omega arith)))
@@ -403,9 +403,9 @@ module _ (plan : ℕ → Use) (ts : List Target) where
         (nest (for_truth true) bs p (behind_done c s) e d _ (onto _ a (omega arith)) h.1 (back _ _ g (omega arith) (omega arith)))
     nest_in bs p s _ d n a h g = tt
 
-    nest_through : (bs : List Binding) (p : Enclosing) (s : Spot) (cs : Actions) (d n : ℕ) → Out plan ts bs p.procedure s.number → SoundDoneEach bs p s cs
+    nest_through : (bs : List Binding) (p : Enclosing) (s : Spot) (cs : Commands) (d n : ℕ) → Out plan ts bs p.procedure s.number → SoundDoneEach bs p s cs
         → Given plan ts n (labels_through (commands_named bs p s cs)) (told_done_each bs p s cs) (parts_through d n (commands_named bs p s cs)) → AllGood plan ts (parts_through d n (commands_named bs p s cs))
-    nest_through bs p s no_actions d n a h g = tt
+    nest_through bs p s no_commands d n a h g = tt
     nest_through bs p s (also c cs) d n a h g =
         good_both plan ts _ _ (nest_in bs p s c d n a h.0 (front _ _ g (omega arith) (omega arith)))
         (nest_through bs p (behind_done c s) cs d _ (onto _ a (omega arith)) h.1 (back _ _ g (omega arith) (omega arith)))
@@ -470,7 +470,7 @@ module _ (plan : ℕ → Use) (ts : List Target) where
         (nest_started bs (deeper 1 p) (behind e s) is (d + 1) _ (onto _ a (omega arith)) h.1 (back _ _ g (omega arith) (omega arith)))
     nest_started bs p s (vector l e is) d n a h g =
         nest_started bs (deeper (words_of_start bs e + 1) p) (behind_constant e s) is (d + worth (constant_word bs e) + 2) n (onto _ a (omega arith)) h.1
-        (behind_told (constant bs p.procedure s e ++ at_most VEC_NUMBER s.place (line_of e) vec_out_of_range (constant_word bs e) ++ pushed p (words_of_start bs e + 1)) g (omega arith) (omega arith))
+        (behind_told (constant bs p.procedure s e ++ at_most VEC_NUMBER s.place (at_expression e) vec_out_of_range (constant_word bs e) ++ pushed p (words_of_start bs e + 1)) g (omega arith) (omega arith))
 
 -- THE PARTS OF A SECTION ARE GOOD
 pub section_good : (plan : ℕ → Use) (ts : List Target) (xs : Declarations) → SoundDeclared [] outermost beginning xs → Quiet (told_declared [] outermost beginning xs)

@@ -1,6 +1,6 @@
 -- Each number has one target at most: labels have numbers of their own where they come into scope, and so have the procedures of a LET
 -- and the items of STATIC; in one list no name stands twice.
-use Rattle.bk_trans.proofs.Words.{arith, ◌≡◌, inl, inr, ℕ, ◌+◌, ◌≤◌, Bool, true, false, cond, Option, Some, List, [], ◌∷◌, ◌++◌, length, refl, sym, ap, subst, ◌∙◌, ⊤, VEC_NUMBER, Expression, Expressions, Action, Actions, Declaration, Declarations, Items, Definition, Definitions, Starts, parens, unary, binary, choice, apply, valof, none, more, assign, call, label, case_of, default, when, test, while, for_loop, switch, result, block, repeat, repeat_while, no_actions, also, constants, definitions, no_declarations, declare, no_items, item, routine, function, variables, no_definitions, define, no_starts, value, vector, line_of, size, Bound, Static, Variable, Label, Enclosing, Role, Value, Truth, Address, Destination, not_assignable, no_result_or_return, vec_out_of_range, Binding, bound_in, bind, constant_word, deeper, looping, switching, labelled, valued, called, outermost, labels_of, labels_of_each, with_formals, parenthesised, words_of_start, Spot, procedures_in, onward, past, behind, behind_each, behind_done, behind_declared, behind_one_declared, behind_one_defined, behind_constant, symbols_each, beginning, Claim, is_claimed, Point, meaning, word, depth, wrong, claim, claimed, judged, at, labels_in_scope, procedures_in_scope, place_behind_one_defined, scope_behind_one, place_behind_one, scope_behind, place_behind_all, unless, its_meaning, constant, each_constant, at_most, assigned, prefixed, pushed, chosen_at, defaulted_at, one_of, each_of, told, told_each, told_destinations, told_done, told_done_each, told_declared, told_one_declared, told_defined, told_one_defined, told_started, naming, same_claim, Fault, is_global, numbers, numbers_each, numbers_done, numbers_done_each, numbers_declared, numbers_one_declared, numbers_items, numbers_defined, numbers_one_defined, numbers_started, procedure_in_scope, eqb-true, eq-eqb, ◌==◌, joined, sets}
+use Rattle.bk_trans.proofs.Words.{arith, ◌≡◌, inl, inr, ℕ, ◌+◌, ◌≤◌, Bool, true, false, cond, Option, Some, List, [], ◌∷◌, ◌++◌, length, refl, sym, ap, subst, ◌∙◌, ⊤, VEC_NUMBER, Expression, Expressions, Command, Commands, Declaration, Declarations, Items, Definition, Definitions, Starts, parens, unary, binary, choice, apply, valof, none, more, assign, call, label, case_of, default, when, test, while, for_loop, switch, result, block, repeat, repeat_while, no_commands, also, constants, definitions, no_declarations, declare, no_items, item, routine, function, variables, no_definitions, define, no_starts, value, vector, at_expression, size, Bound, Static, Variable, Label, Enclosing, Role, Value, Truth, Address, Destination, not_assignable, no_result_or_return, vec_out_of_range, Binding, bound_in, bind, constant_word, deeper, looping, switching, labelled, valued, called, outermost, labels_of, labels_of_each, with_formals, parenthesised, words_of_start, Spot, procedures_in, onward, past, behind, behind_each, behind_done, behind_declared, behind_one_declared, behind_one_defined, behind_constant, symbols_each, beginning, Claim, is_claimed, Point, meaning, word, depth, wrong, claim, claimed, judged, at, labels_in_scope, procedures_in_scope, place_behind_one_defined, scope_behind_one, place_behind_one, scope_behind, place_behind_all, unless, its_meaning, constant, each_constant, at_most, assigned, prefixed, pushed, chosen_at, defaulted_at, one_of, each_of, told, told_each, told_destinations, told_done, told_done_each, told_declared, told_one_declared, told_defined, told_one_defined, told_started, naming, same_claim, Fault, is_global, numbers, numbers_each, numbers_done, numbers_done_each, numbers_declared, numbers_one_declared, numbers_items, numbers_defined, numbers_one_defined, numbers_started, procedure_in_scope, eqb-true, eq-eqb, ◌==◌, joined, sets}
 use Rattle.bk_trans.proofs.Terms.{Operator as o, Prefix as sign, Sort as sort, Clean, Target, meant, worth, statics_named, term_named, terms_named, condition_named, lvalue_named, lvalues_named, command_named, commands_named, declarations_named, declaration_named, definitions_named, definition_named, starts_named, labels, labels_if, labels_at, labels_onto, labels_in, labels_of_declaration, labels_of_declarations, labels_of_definition, count, behind_definition, behind_declaration, behind_declarations, Part, parts_each, parts_if, parts_at, parts_onto, parts_from, parts_in, parts_through, parts_of_items, parts_of_declarations, parts_of_declaration, parts_of_definitions, parts_of_definition, parts_of_starts, goal_of, labels_of_procedure, Goal, bytes_eq, bytes_eq-Decides, target_of, target_of_word, target_of_label, goal}
 use Rattle.bk_scope.specs.Spots as spots
 use Rattle.bk_trans.proofs.Once.{past as beyond, own, no_more}
@@ -127,7 +127,7 @@ distinct_names k (x ∷ xs) h =
 
 -- the labels of some commands are claimed by them
 mutual
-  labels_claimed : (y : List ℕ) (bs : List Binding) (p : Enclosing) (s : Spot) (c : Action) → name_times p.labels y (labels_of c) ≤ times_claimed p.labels y (told_done bs p s c)
+  labels_claimed : (y : List ℕ) (bs : List Binding) (p : Enclosing) (s : Spot) (c : Command) → name_times p.labels y (labels_of c) ≤ times_claimed p.labels y (told_done bs p s c)
   labels_claimed y bs p s (label l x c) = let h = labels_claimed y bs p (past 1 s) c in simp (claimed_both) (omega (arith, h))
   labels_claimed y bs p s (case_of l e c) = let h = labels_claimed y bs p (behind_constant e (past 1 s)) c in simp (claimed_both) (omega (arith, h))
   labels_claimed y bs p s (default l c) = let h = labels_claimed y bs p (past 1 s) c in simp (claimed_both) (omega (arith, h))
@@ -141,16 +141,16 @@ mutual
   labels_claimed y bs p s (repeat_while l b c e) = let h = labels_claimed y bs (looping p) s c in simp (claimed_both) (omega (arith, h))
   labels_claimed y bs p s _ = omega arith
 
-  labels_claimed_each : (y : List ℕ) (bs : List Binding) (p : Enclosing) (s : Spot) (cs : Actions) → name_times p.labels y (labels_of_each cs) ≤ times_claimed p.labels y (told_done_each bs p s cs)
-  labels_claimed_each y bs p s no_actions = omega arith
+  labels_claimed_each : (y : List ℕ) (bs : List Binding) (p : Enclosing) (s : Spot) (cs : Commands) → name_times p.labels y (labels_of_each cs) ≤ times_claimed p.labels y (told_done_each bs p s cs)
+  labels_claimed_each y bs p s no_commands = omega arith
   labels_claimed_each y bs p s (also c cs) =
       let h = labels_claimed y bs p s c in let i = labels_claimed_each y bs p (behind_done c s) cs in simp (claimed_both, names_both) (omega (arith, h, i))
 
-labels_distinct : (bs : List Binding) (p : Enclosing) (s : Spot) (c : Action) → Quiet (told_done bs p s c) → Distinct (labels_of c)
+labels_distinct : (bs : List Binding) (p : Enclosing) (s : Spot) (c : Command) → Quiet (told_done bs p s c) → Distinct (labels_of c)
 labels_distinct bs p s c f =
     distinct_names p.labels (labels_of c) (λ y. let h = labels_claimed y bs p s c in let i = claimed_at_most_once p.labels y (told_done bs p s c) f.claims f.clean in omega (arith, h, i))
 
-labels_distinct_each : (bs : List Binding) (p : Enclosing) (s : Spot) (cs : Actions) → Quiet (told_done_each bs p s cs) → Distinct (labels_of_each cs)
+labels_distinct_each : (bs : List Binding) (p : Enclosing) (s : Spot) (cs : Commands) → Quiet (told_done_each bs p s cs) → Distinct (labels_of_each cs)
 labels_distinct_each bs p s cs f =
     distinct_names p.labels (labels_of_each cs) (λ y. let h = labels_claimed_each y bs p s cs in let i = claimed_at_most_once p.labels y (told_done_each bs p s cs) f.claims f.clean in omega (arith, h, i))
 
@@ -266,7 +266,7 @@ module _ (m : ℕ) where
         let u : Spot = past 1 (behind x s) in
         let h = counts (for_truth z) bs p s x d (n + 1) (told_front (told Truth bs p s x) _ f) in
         let i = counts (for_truth z) bs p u y d (n + 1 + labels_if (condition_named bs p s x)) (told_back (told Truth bs p s x) _ f) in simp (numbered_both) (omega (arith, h, i))
-    counts ask bs p s (unary l sign.Address e) d n f = let h = count_at bs p (past 1 s) (Address false (line_of e)) e d n (told_back (prefixed sign.Address bs (past 1 s) e) _ f) in omega (arith, h)
+    counts ask bs p s (unary l sign.Address e) d n f = let h = count_at bs p (past 1 s) (Address false (at_expression e)) e d n (told_back (prefixed sign.Address bs (past 1 s) e) _ f) in omega (arith, h)
     counts ask bs p s (unary l sign.Not e) d n f = let h = counts ask bs p (past 1 s) e d n f in omega (arith, h)
     counts ask bs p s (unary l y e) d n f = let h = counts for_value bs p (past 1 s) e d n f in omega (arith, h)
     counts ask bs p s (choice l k c x y) d n f =
@@ -330,12 +330,12 @@ module _ (m : ℕ) where
     count_onto : (bs : List Binding) (p : Enclosing) (s : Spot) (xs : Expressions) (d n : ℕ) → Quiet (told_destinations bs p s xs) → parts_numbered m (parts_onto d n (lvalues_named bs p s xs)) + beyond m (s.number + numbers_each xs) ≤ beyond m s.number
     count_onto bs p s none d n f = omega arith
     count_onto bs p s (more x xs) d n f =
-        let us : List Point = unless (assigned bs x) (at s.place (line_of x) not_assignable) in
-        let vs = told (Destination false (line_of x)) bs p s x in
-        let h = count_at bs p s (Destination false (line_of x)) x d n (told_back us vs (told_front (us ++ vs) _ f)) in
+        let us : List Point = unless (assigned bs x) (at s.place (at_expression x) not_assignable) in
+        let vs = told (Destination false (at_expression x)) bs p s x in
+        let h = count_at bs p s (Destination false (at_expression x)) x d n (told_back us vs (told_front (us ++ vs) _ f)) in
         let i = count_onto bs p (behind x s) xs d (n + labels_at (lvalue_named bs p s x)) (told_back (us ++ vs) _ f) in simp (numbered_both) (omega (arith, h, i))
 
-    count_in : (bs : List Binding) (p : Enclosing) (s : Spot) (c : Action) (d n : ℕ) → Quiet (told_done bs p s c) → parts_numbered m (parts_in d n (command_named bs p s c)) + beyond m (s.number + numbers_done c) ≤ beyond m s.number + own_labels m bs (labels_of c)
+    count_in : (bs : List Binding) (p : Enclosing) (s : Spot) (c : Command) (d n : ℕ) → Quiet (told_done bs p s c) → parts_numbered m (parts_in d n (command_named bs p s c)) + beyond m (s.number + numbers_done c) ≤ beyond m s.number + own_labels m bs (labels_of c)
     count_in bs p s (assign l xs es) d n f =
         let v = lvalues_named bs (deeper 1 p) s xs in
         let h = count_onto bs (deeper 1 p) s xs (d + 1) n (told_front (told_destinations bs (deeper 1 p) s xs) _ f) in
@@ -407,8 +407,8 @@ module _ (m : ℕ) where
         let i = counts (for_truth true) bs p (behind_done c s) e d (n + 3 + labels_in (command_named bs (looping p) s c)) (told_back (told_done bs (looping p) s c) _ f) in simp (numbered_both) (omega (arith, h, i))
     count_in bs p s _ d n f = omega arith
 
-    count_through : (bs : List Binding) (p : Enclosing) (s : Spot) (cs : Actions) (d n : ℕ) → Quiet (told_done_each bs p s cs) → parts_numbered m (parts_through d n (commands_named bs p s cs)) + beyond m (s.number + numbers_done_each cs) ≤ beyond m s.number + own_labels m bs (labels_of_each cs)
-    count_through bs p s no_actions d n f = omega arith
+    count_through : (bs : List Binding) (p : Enclosing) (s : Spot) (cs : Commands) (d n : ℕ) → Quiet (told_done_each bs p s cs) → parts_numbered m (parts_through d n (commands_named bs p s cs)) + beyond m (s.number + numbers_done_each cs) ≤ beyond m s.number + own_labels m bs (labels_of_each cs)
+    count_through bs p s no_commands d n f = omega arith
     count_through bs p s (also c cs) d n f =
         let h = count_in bs p s c d n (told_front (told_done bs p s c) _ f) in
         let i = count_through bs p (behind_done c s) cs d (n + labels_in (command_named bs p s c)) (told_back (told_done bs p s c) _ f) in simp (numbered_both, own_both) (omega (arith, h, i))
@@ -465,7 +465,7 @@ module _ (m : ℕ) where
         let i = count_started bs (deeper 1 p) (behind e s) is (d + 1) (n + labels (term_named bs p s e)) (told_back (told Value bs p s e) _ f) in simp (numbered_both) (omega (arith, h, i))
     count_started bs p s (vector l e is) d n f =
         let h = count_started bs (deeper (words_of_start bs e + 1) p) (behind_constant e s) is (d + worth (constant_word bs e) + 2) n
-        (told_back (constant bs p.procedure s e ++ at_most VEC_NUMBER s.place (line_of e) vec_out_of_range (constant_word bs e) ++ pushed p (words_of_start bs e + 1)) _ f) in
+        (told_back (constant bs p.procedure s e ++ at_most VEC_NUMBER s.place (at_expression e) vec_out_of_range (constant_word bs e) ++ pushed p (words_of_start bs e + 1)) _ f) in
         omega (arith, h)
 
 -- so each target is found by its number

@@ -1,6 +1,6 @@
 -- What names in scope mean at a place of a section without faults, and that a label and a static word that are in scope have a
 -- target in their plan.
-use Rattle.bk_trans.proofs.Words.{arith, ◌≡◌, ◌⊎◌, inl, inr, ℕ, ◌+◌, ◌≤◌, Bool, true, false, cond, Option, Some, None, List, [], ◌∷◌, ◌++◌, length, refl, sym, ap, subst, ◌∙◌, ⊤, OCODE_LABEL, Action, Actions, Items, Definitions, label, case_of, default, when, test, while, switch, block, repeat, repeat_while, no_actions, also, no_declarations, no_items, item, routine, function, variables, no_definitions, define, Bound, Static, Label, Enclosing, Binding, bound_in, bind, bind_all, is_global, looping, switching, labels_of, labels_of_each, Spot, past, numbered, behind, behind_done, behind_constant, behind_one_defined, labels_in_scope, procedure_in_scope, procedures_in_scope, statics_in_scope, place_behind_one_defined, IsLabel, IsDepth, Use}
+use Rattle.bk_trans.proofs.Words.{arith, ◌≡◌, ◌⊎◌, inl, inr, ℕ, ◌+◌, ◌≤◌, Bool, true, false, cond, Option, Some, None, List, [], ◌∷◌, ◌++◌, length, refl, sym, ap, subst, ◌∙◌, ⊤, OCODE_LABEL, Command, Commands, Items, Definitions, label, case_of, default, when, test, while, switch, block, repeat, repeat_while, no_commands, also, no_declarations, no_items, item, routine, function, variables, no_definitions, define, Bound, Static, Label, Enclosing, Binding, bound_in, bind, bind_all, is_global, looping, switching, labels_of, labels_of_each, Spot, past, numbered, behind, behind_done, behind_constant, behind_one_defined, labels_in_scope, procedure_in_scope, procedures_in_scope, statics_in_scope, place_behind_one_defined, IsLabel, IsDepth, Use}
 use Rattle.bk_trans.proofs.Terms.{bytes_eq, bytes_eq-Decides, Goal, Target, meant, statics_named, term_named, condition_named, command_named, commands_named, definition_named, definitions_named, labels, labels_if, labels_in, labels_through, labels_of_procedure, labels_of_definition, labels_of_definitions, behind_definition, Part, label_place, target_of, target_of_word, parts_of_items, parts, parts_if, parts_in, parts_through, parts_of_definition, parts_of_definitions, goal, goal_of}
 use Rattle.bk_ocode.specs.Typing as typing
 use Rattle.bk_trans.proofs.Marks.{Mark, marks, marks_if, marks_in, marks_through, AllRight, right_front, right_back}
@@ -152,7 +152,7 @@ place_found plan ts q k d n i b e r is low deep =
     subst (λ (g : Goal). IsGoal plan q g) (sym h.0.0) (is, low, deep)
 
 mutual
-  pub label_found : (plan : ℕ → Use) (ts : List Target) (q k i : ℕ) (y : List ℕ) (bs : List Binding) (p : Enclosing) (s : Spot) (c : Action) (d n : ℕ) → bound_in bs y ≡ Some (Label k i) → IsDepth d
+  pub label_found : (plan : ℕ → Use) (ts : List Target) (q k i : ℕ) (y : List ℕ) (bs : List Binding) (p : Enclosing) (s : Spot) (c : Command) (d n : ℕ) → bound_in bs y ≡ Some (Label k i) → IsDepth d
       → 1 ≤ n → n + labels_in (command_named bs p s c) ≤ OCODE_LABEL + 1 → Among y (labels_of c) → PartsRight plan ts (parts_in d n (command_named bs p s c))
       → AllRight plan (marks_in q d n (command_named bs p s c)) → IsGoal plan q (goal_of ts i)
   label_found plan ts q k i y bs p s (label l x c) d n e deep low high (inl same) a r =
@@ -198,10 +198,10 @@ mutual
       (right_front plan (marks_in q d (n + 3) body) _ r.1.1.1)
   label_found plan ts q k i y bs p s _ d n e deep low high among a r = elim among [ ]
 
-  pub label_found_through : (plan : ℕ → Use) (ts : List Target) (q k i : ℕ) (y : List ℕ) (bs : List Binding) (p : Enclosing) (s : Spot) (cs : Actions) (d n : ℕ) → bound_in bs y ≡ Some (Label k i) → IsDepth d
+  pub label_found_through : (plan : ℕ → Use) (ts : List Target) (q k i : ℕ) (y : List ℕ) (bs : List Binding) (p : Enclosing) (s : Spot) (cs : Commands) (d n : ℕ) → bound_in bs y ≡ Some (Label k i) → IsDepth d
       → 1 ≤ n → n + labels_through (commands_named bs p s cs) ≤ OCODE_LABEL + 1 → Among y (labels_of_each cs) → PartsRight plan ts (parts_through d n (commands_named bs p s cs))
       → AllRight plan (marks_through q d n (commands_named bs p s cs)) → IsGoal plan q (goal_of ts i)
-  label_found_through plan ts q k i y bs p s no_actions d n e deep low high among a r = elim among [ ]
+  label_found_through plan ts q k i y bs p s no_commands d n e deep low high among a r = elim among [ ]
   label_found_through plan ts q k i y bs p s (also c cs) d n e deep low high among a r =
       let first = command_named bs p s c in
       elim (among_first y (labels_of c) (labels_of_each cs) among) [

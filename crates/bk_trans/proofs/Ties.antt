@@ -1,6 +1,6 @@
 -- What is written of a part of a section is the scheme's code of it: going through a part adds its statements, what stands by
 -- itself in it, and its choices, where what declarations went to is the same in words.
-use Rattle.bk_trans.proofs.Words.{◌≡◌, ℕ, ◌+◌, Bool, true, false, not, cond, None, List, [], ◌∷◌, ◌++◌, map, length, refl, sym, ap, ◌∙◌, append_assoc, arith, append-nil, map-append, first_bytes, signed, Operator, Expression, Expressions, Action, Actions, Declaration, Declarations, Definition, Definitions, Starts, name, number, text, truth, query, parens, unary, binary, choice, apply, valof, table, none, more, empty, assign, call, goto, label, case_of, default, when, test, while, for_loop, switch, result, simple, block, repeat, repeat_while, no_actions, also, constants, definitions, no_declarations, declare, routine, function, variables, no_definitions, define, no_starts, value, vector, size, Local, Stmt, Number, Query, Text, Dyadic, Assign, AssignAt, AssignByte, Jump, JumpIf, GiveResult, TakeResult, Stack, Store, CallFunction, CallRoutine, ReturnItem, Return, Finish}
+use Rattle.bk_trans.proofs.Words.{◌≡◌, ℕ, ◌+◌, Bool, true, false, not, cond, None, List, [], ◌∷◌, ◌++◌, map, length, refl, sym, ap, ◌∙◌, append_assoc, arith, append-nil, map-append, first_bytes, signed, Operator, Expression, Expressions, Command, Commands, Declaration, Declarations, Definition, Definitions, Starts, name, number, text, truth, query, parens, unary, binary, choice, apply, valof, table, none, more, empty, assign, call, goto, label, case_of, default, when, test, while, for_loop, switch, result, simple, block, repeat, repeat_while, no_commands, also, constants, definitions, no_declarations, declare, routine, function, variables, no_definitions, define, no_starts, value, vector, size, Local, Stmt, Number, Query, Text, Dyadic, Assign, AssignAt, AssignByte, Jump, JumpIf, GiveResult, TakeResult, Stack, Store, CallFunction, CallRoutine, ReturnItem, Return, Finish}
 use Rattle.bk_trans.proofs.Terms.{Operator as o, Prefix as q, Simple as w, Sort as sort, Dyadic as d, Address, Label, Aim as aim, Unresolved, Goal, Around, Target, stmt_in_words, Supply, meaning, constant, constants_of, step_of, dropped, Part, procedure, parts, parts_each, parts_if, parts_at, parts_onto, parts_from, parts_in, parts_through, parts_of_declarations, parts_of_declaration, parts_of_definitions, parts_of_definition, parts_of_starts, outermost, valued, prefix_code, infix_code, truth_value, cases, cases_through, default_in, default_through, by_turns, value_code, each_code, jump_code, address_code, store_code, value_codes, store_codes, command_code, through_code, declarations_code, declaration_code, definitions_code, definition_code, starts_code, Writing, Stored, Reached, reached, after, settled_word, settled, word_of, push_of, goto_code, puts_drafts, puts, with_code, with_choices, no_choices, takes_labels, written, each_written, address_written, store_written, stores_written, values_written, act_written, each_act_written, declared, one_declared, defined, one_defined, started, any_variables, steps_on, goes_on, begins_procedure}
 use Rattle.bk_trans.specs.Program as p
 use Rattle.bk_trans.specs.Filling as f
@@ -131,12 +131,12 @@ module _ (gs : List Goal) (ts : List Target) (placed : Placed gs ts) where
       let stacked = put (resumed callee) (same {s = Stack (after s 2)} {r = Stack (t + 2)} (ap Stack (near_after 2 ns).same)) in
       renumbered (put_drafts _ (then stacked (tes (after s 2) (t + 2) _ _ _ (near_after 2 ns) stacked.at)) (record { same = callee.its_code.same })) (omega arith)
 
-  abbrev Acted : Action → Type 0
+  abbrev Acted : Command → Type 0
   Acted c = (x y : Around) (s t : ℕ) (w : Writing) (g : Supply) (k : ℕ) → NearAround x y → Near s t → At w g k
       → Adds gs ts w (command_code ts y t k (f.command c g).part) (parts_in t k (f.command c g).part) (cases k (f.command c g).part) (default_in k (f.command c g).part) (f.command c g).left
       (k + n.labels_in (f.command c g).part) (act_written x s c w)
 
-  abbrev Acted_each : Actions → Type 0
+  abbrev Acted_each : Commands → Type 0
   Acted_each cs = (x y : Around) (s t : ℕ) (w : Writing) (g : Supply) (k : ℕ) → NearAround x y → Near s t → At w g k
       → Adds gs ts w (through_code ts y t k (f.commands cs g).part) (parts_through t k (f.commands cs g).part) (cases_through k (f.commands cs g).part) (default_through k (f.commands cs g).part) (f.commands cs g).left
       (k + n.labels_through (f.commands cs g).part) (each_act_written x s cs w)
@@ -144,7 +144,7 @@ module _ (gs : List Goal) (ts : List Target) (placed : Placed gs ts) where
   at_choices : {w : Writing} {g : Supply} {k : ℕ} → At w g k → At (with_choices no_choices w) g k
   at_choices at = record { left = at.left; next = at.next }
 
-  valof_value : (l : ℕ) (c : Action) → Acted c → Valued (valof l c)
+  valof_value : (l : ℕ) (c : Command) → Acted c → Valued (valof l c)
   valof_value l c tc s t w g k ns at =
       let own = labelled {gs = gs} {ts = ts} 1 at in
       let body = unchosen no_choices (tc (valued w.next) (valued k) s t (with_choices no_choices (takes_labels 1 w)) g (k + 1) (in_valof at.next) ns (at_choices own.at)) in
@@ -152,17 +152,17 @@ module _ (gs : List Goal) (ts : List Target) (placed : Placed gs ts) where
       renumbered (recoded ends (append_assoc _ (Label k ∷ []) (TakeResult t ∷ []))) (omega arith)
 
   -- with choices of its own
-  acted_alone : (c : Action) → Acted c → (x y : Around) (s t : ℕ) (v : Writing) (g : Supply) (k : ℕ) → NearAround x y → Near s t → At v g k
+  acted_alone : (c : Command) → Acted c → (x y : Around) (s t : ℕ) (v : Writing) (g : Supply) (k : ℕ) → NearAround x y → Near s t → At v g k
       → Adds gs ts v (command_code ts y t k (f.command c g).part) (parts_in t k (f.command c g).part) [] None (f.command c g).left (k + n.labels_in (f.command c g).part)
       (with_choices v.choices (act_written x s c (with_choices no_choices v)))
   acted_alone c tc x y s t v g k na ns at = unchosen no_choices (tc x y s t (with_choices no_choices v) g k na ns (at_choices at))
 
-  acted_each_alone : (cs : Actions) → Acted_each cs → (x y : Around) (s t : ℕ) (v : Writing) (g : Supply) (k : ℕ) → NearAround x y → Near s t → At v g k
+  acted_each_alone : (cs : Commands) → Acted_each cs → (x y : Around) (s t : ℕ) (v : Writing) (g : Supply) (k : ℕ) → NearAround x y → Near s t → At v g k
       → Adds gs ts v (through_code ts y t k (f.commands cs g).part) (parts_through t k (f.commands cs g).part) [] None (f.commands cs g).left (k + n.labels_through (f.commands cs g).part)
       (with_choices v.choices (each_act_written x s cs (with_choices no_choices v)))
   acted_each_alone cs tc x y s t v g k na ns at = unchosen no_choices (tc x y s t (with_choices no_choices v) g k na ns (at_choices at))
 
-  acted_aside : (c : Action) → Acted c → (x y : Around) (s t : ℕ) (v : Writing) (g : Supply) (k : ℕ) → NearAround x y → Near s t → At v g k
+  acted_aside : (c : Command) → Acted c → (x y : Around) (s t : ℕ) (v : Writing) (g : Supply) (k : ℕ) → NearAround x y → Near s t → At v g k
       → Adds gs ts (with_choices no_choices (with_code [] v)) (command_code ts y t k (f.command c g).part) (parts_in t k (f.command c g).part) (cases k (f.command c g).part) (default_in k (f.command c g).part)
       (f.command c g).left (k + n.labels_in (f.command c g).part) (act_written x s c (with_choices no_choices (with_code [] v)))
   acted_aside c tc x y s t v g k na ns at = tc x y s t (with_choices no_choices (with_code [] v)) g k na ns (record { left = at.left; next = at.next })
@@ -311,7 +311,7 @@ module _ (gs : List Goal) (ts : List Target) (placed : Placed gs ts) where
         renumbered (then first (set es s t _ xs ys _ _ ns first.at (tails_are x y xs ys h))) (omega arith)
     set (more e es) s t w _ _ g k ns at h = absurd cc
 
-    acted : (c : Action) → Acted c
+    acted : (c : Command) → Acted c
     acted empty x y s t w g k na ns at = renumbered (nothing at) (omega arith)
     acted (assign l xs es) x y s t w g k na ns at =
         let onto = stored xs (after s 1) (t + 1) (record { codes = []; writing = w }) [] g k (near_after 1 ns) at refl in
@@ -387,8 +387,8 @@ module _ (gs : List Goal) (ts : List Target) (placed : Placed gs ts) where
         let test = then between ((tied e).jump s t _ _ _ ns between.at v w.next k at.next) in
         renumbered (put (tail_cases (then body test)) (same {s = Label (after w.next 2)} {r = Label (k + 2)} (ap Label (near_after 2 at.next).same))) (omega arith)
 
-    acted_each : (cs : Actions) → Acted_each cs
-    acted_each no_actions y z s t w g k na ns at = renumbered (nothing at) (omega arith)
+    acted_each : (cs : Commands) → Acted_each cs
+    acted_each no_commands y z s t w g k na ns at = renumbered (nothing at) (omega arith)
     acted_each (also c cs) y z s t w g k na ns at =
         let first = acted c y z s t w g k na ns at in
         renumbered (then first (acted_each cs y z s t _ _ _ na ns first.at)) (omega arith)

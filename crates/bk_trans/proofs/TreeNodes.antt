@@ -1,5 +1,5 @@
 -- The nodes of the named tree of a section: filling gives no more of them than its source has.
-use Rattle.bk_trans.proofs.Words.{arith, ◌≤◌, ℕ, ◌+◌, length, Expression, Expressions, Action, Actions, Declaration, Declarations, Items, Definition, Definitions, Starts}
+use Rattle.bk_trans.proofs.Words.{arith, ◌≤◌, ℕ, ◌+◌, length, Expression, Expressions, Command, Commands, Declaration, Declarations, Items, Definition, Definitions, Starts}
 use Rattle.bk_trans.proofs.Terms.{Operator as o, Prefix as q, Sort as s}
 use Rattle.bk_tree.specs.Tree as t
 use Rattle.bk_tree.specs.Limits as tree
@@ -42,7 +42,7 @@ abbrev mutual
   nodes_onto p.no_lvalues = 0
   nodes_onto (p.onto x xs) = nodes_at x + nodes_onto xs
 
-  pub nodes_in : p.Command → ℕ
+  pub nodes_in : p.NamedCommand → ℕ
   nodes_in p.empty = 0
   nodes_in (p.assign xs es) = 1 + nodes_onto xs + nodes_of_each es
   nodes_in (p.call e es) = 1 + nodes e + nodes_of_each es
@@ -60,8 +60,8 @@ abbrev mutual
   nodes_in (p.repeat_while x c e) = 1 + nodes_in c + nodes_if e
   nodes_in _ = 1
 
-  pub nodes_through : p.Commands → ℕ
-  nodes_through p.no_commands = 0
+  pub nodes_through : p.NamedCommands → ℕ
+  nodes_through p.no_named_commands = 0
   nodes_through (p.also c cs) = nodes_in c + nodes_through cs
 
   pub nodes_declared : p.Declarations → ℕ
@@ -147,7 +147,7 @@ mutual
   kept_onto t.none g = omega arith
   kept_onto (t.more e es) g = let h = kept_at e g in let i = kept_onto es (lvalue e g).left in omega (arith, h, i)
 
-  kept_in : (c : Action) (g : Supply) → nodes_in (command c g).part ≤ tree.nodes_of_action c
+  kept_in : (c : Command) (g : Supply) → nodes_in (command c g).part ≤ tree.nodes_of_command c
   kept_in (t.assign l xs es) g = let h = kept_onto xs g in let i = kept_each es (lvalues xs g).left in omega (arith, h, i)
   kept_in (t.call l e es) g = let h = (kept e g).0 in let i = kept_each es (term e g).left in omega (arith, h, i)
   kept_in (t.label l x c) g = let h = kept_in c (meaning g).left in omega (arith, h)
@@ -164,8 +164,8 @@ mutual
   kept_in (t.repeat_while l x c e) g = let h = kept_in c g in let i = (kept e (command c g).left).1 in omega (arith, h, i)
   kept_in _ g = omega arith
 
-  kept_through : (cs : Actions) (g : Supply) → nodes_through (commands cs g).part ≤ tree.nodes_of_actions cs
-  kept_through t.no_actions g = omega arith
+  kept_through : (cs : Commands) (g : Supply) → nodes_through (commands cs g).part ≤ tree.nodes_of_commands cs
+  kept_through t.no_commands g = omega arith
   kept_through (t.also c cs) g = let h = kept_in c g in let i = kept_through cs (command c g).left in omega (arith, h, i)
 
   pub kept_declared : (ds : Declarations) (g : Supply) → nodes_declared (all_declared ds g).part ≤ tree.nodes_of_declarations ds

@@ -1,10 +1,10 @@
 -- What the proofs cite of the crates below: numbers and lists, the tree, scopes, and OCODE.
-pub use Rattle.bk_trans.proofs.Terms.{Bool, List, None, Option, Some, [], ap, append_assoc, arith, cond, eq-eqb, eqb-true, false, inl, inr, int_lt, length, length-append, map, max, min, negsuc, not, pos, refl, slice_get, subst, suc, sym, true, zero, ℕ, ℤ, ◌%◌, ◌*◌, ◌++◌, ◌+◌, ◌-◌, ◌<◌, ◌==◌, ◌^◌, ◌∙◌, ◌∷◌, ◌≡◌, ◌≤◌, ◌⊎◌, cases_lt, false≢true, le-ltb, ne_eqb, signed, line_of, size, Operator, Prefix, Bound, Stmt, Local}
+pub use Rattle.bk_trans.proofs.Terms.{Bool, List, None, Option, Some, [], ap, append_assoc, arith, cond, eq-eqb, eqb-true, false, inl, inr, int_lt, length, length-append, map, max, min, negsuc, not, pos, refl, slice_get, subst, suc, sym, true, zero, ℕ, ℤ, ◌%◌, ◌*◌, ◌++◌, ◌+◌, ◌-◌, ◌<◌, ◌==◌, ◌^◌, ◌∙◌, ◌∷◌, ◌≡◌, ◌≤◌, ◌⊎◌, cases_lt, false≢true, le-ltb, ne_eqb, signed, at_expression, size, Operator, Prefix, Bound, Stmt, Local}
 pub use Rattle.std.proofs.lemmas.List.{append-nil, length-take, map-append}
 pub use Rattle.std.specs.Bool.{⊤}
 pub use Rattle.bk_base.specs.Strings.{first_bytes}
 pub use Rattle.bk_base.specs.declared.limit.TheConstants.{FRAME_WORDS, GLOBAL_NUMBER, NAME_BYTES, OCODE_LABEL, OCODE_STATEMENTS, OCODE_WORDS, VEC_NUMBER}
-pub use Rattle.bk_tree.specs.Tree.{Action, Actions, Declaration, Declarations, Definition, Definitions, Expression, Expressions, Items, Mention, Starts, also, apply, assign, binary, block, call, case_of, choice, constants, declarations_in, declare, default, define, definitions, empty, for_loop, function, goto, item, label, more, name, no_actions, no_declarations, no_definitions, no_items, no_starts, none, number, parens, query, repeat, repeat_while, result, routine, simple, switch, table, test, text, truth, unary, valof, value, variables, vector, when, while}
+pub use Rattle.bk_tree.specs.Tree.{Command, Commands, Declaration, Declarations, Definition, Definitions, Expression, Expressions, Items, Mention, Starts, also, apply, assign, binary, block, call, case_of, choice, constants, declarations_in, declare, default, define, definitions, empty, for_loop, function, goto, item, label, more, name, no_commands, no_declarations, no_definitions, no_items, no_starts, none, number, parens, query, repeat, repeat_while, result, routine, simple, switch, table, test, text, truth, unary, valof, value, variables, vector, when, while}
 pub use Rattle.bk_scope.specs.Cases.{AllDiffer, NoneOf}
 pub use Rattle.bk_scope.specs.Constants.{constant_word}
 pub use Rattle.bk_scope.specs.Entering.{labels_of, labels_of_each, with_formals}

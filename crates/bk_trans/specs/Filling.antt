@@ -4,11 +4,11 @@ use Rattle.std.specs.Prelude.{ℕ, None, List, [], ◌∷◌, length}
 use Rattle.bk_tree.specs.declared.tree.Operator.TheVariants as o
 use Rattle.bk_tree.specs.declared.tree.Prefix.TheVariants as q
 use Rattle.bk_tree.specs.declared.tree.Sort.TheVariants as s
-use Rattle.bk_tree.specs.Tree.{Expression, Expressions, Action, Actions, Declaration, Declarations, Items, Definition, Definitions, Starts, name, number, text, truth, query, parens, unary, binary, choice, apply, valof, table, none, more, empty, assign, call, goto, label, case_of, default, when, test, while, for_loop, switch, result, simple, block, repeat, repeat_while, no_actions, also, constants, definitions, no_declarations, declare, no_items, item, routine, function, variables, no_definitions, define, no_starts, value, vector}
+use Rattle.bk_tree.specs.Tree.{Expression, Expressions, Command, Commands, Declaration, Declarations, Items, Definition, Definitions, Starts, name, number, text, truth, query, parens, unary, binary, choice, apply, valof, table, none, more, empty, assign, call, goto, label, case_of, default, when, test, while, for_loop, switch, result, simple, block, repeat, repeat_while, no_commands, also, constants, definitions, no_declarations, declare, no_items, item, routine, function, variables, no_definitions, define, no_starts, value, vector}
 use Rattle.bk_scope.specs.declared.bound.Bound.{Bound}
 use Rattle.bk_scope.specs.declared.bound.Bound.TheVariants.{Constant}
 use Rattle.bk_trans.specs.Program as p
-use Rattle.bk_trans.specs.Program.{StaticItem, Term, Terms, Condition, Lvalue, Lvalues, Command, Commands}
+use Rattle.bk_trans.specs.Program.{StaticItem, Term, Terms, Condition, Lvalue, Lvalues, NamedCommand, NamedCommands}
 
 -- the meanings and the words that are left
 pub record Supply : Type 0 where
@@ -126,7 +126,7 @@ abbrev mutual
   lvalues none g = filled p.no_lvalues g
   lvalues (more e es) g = two p.onto (lvalue e g) (lvalues es)
 
-  pub command : Action → Supply → Filled Command
+  pub command : Command → Supply → Filled NamedCommand
   command empty g = filled p.empty g
   command (assign l xs es) g = two p.assign (lvalues xs g) (terms es)
   command (call l e es) g = two p.call (term e g) (terms es)
@@ -145,8 +145,8 @@ abbrev mutual
   command (repeat l c) g = one p.repeat (command c g)
   command (repeat_while l b c e) g = two (p.repeat_while b) (command c g) (condition e)
 
-  pub commands : Actions → Supply → Filled Commands
-  commands no_actions g = filled p.no_commands g
+  pub commands : Commands → Supply → Filled NamedCommands
+  commands no_commands g = filled p.no_named_commands g
   commands (also c cs) g = two p.also (command c g) (commands cs)
 
   pub all_declared : Declarations → Supply → Filled p.Declarations

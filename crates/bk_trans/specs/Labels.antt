@@ -2,7 +2,7 @@
 use Rattle.std.specs.Prelude.{ℕ, ◌+◌, length}
 use Rattle.bk_scope.specs.declared.bound.Bound.{Bound}
 use Rattle.bk_scope.specs.declared.bound.Bound.TheVariants.{Static}
-use Rattle.bk_trans.specs.Program.{Term, Terms, Condition, Lvalue, Lvalues, Command, Commands, Declaration, Declarations, Definition, Definitions, Starts, parens, unary, address, binary, choice, apply, valof, table, none, more, holds, within, fails, both, either, contents, subscript, byte, inside, no_lvalues, onto, assign, call, label, case_of, default, when, test, while, for_loop, switch, result, block, repeat, repeat_while, no_commands, also, statics, lets, no_declarations, declare, routine, function, variables, no_definitions, define, no_starts, value, vector}
+use Rattle.bk_trans.specs.Program.{Term, Terms, Condition, Lvalue, Lvalues, NamedCommand, NamedCommands, Declaration, Declarations, Definition, Definitions, Starts, parens, unary, address, binary, choice, apply, valof, table, none, more, holds, within, fails, both, either, contents, subscript, byte, inside, no_lvalues, onto, assign, call, label, case_of, default, when, test, while, for_loop, switch, result, block, repeat, repeat_while, no_named_commands, also, statics, lets, no_declarations, declare, routine, function, variables, no_definitions, define, no_starts, value, vector}
 
 -- a procedure that sets a global has an entry, another one a word too
 abbrev pub labels_of_procedure : Bound → ℕ
@@ -43,7 +43,7 @@ abbrev mutual
   labels_onto no_lvalues = 0
   labels_onto (onto x xs) = labels_at x + labels_onto xs
 
-  pub labels_in : Command → ℕ
+  pub labels_in : NamedCommand → ℕ
   labels_in (assign xs es) = labels_onto xs + labels_each es
   labels_in (call e es) = labels e + labels_each es
   labels_in (label b c) = 1 + labels_in c
@@ -60,8 +60,8 @@ abbrev mutual
   labels_in (repeat_while b c e) = 3 + labels_in c + labels_if e
   labels_in _ = 0
 
-  pub labels_through : Commands → ℕ
-  labels_through no_commands = 0
+  pub labels_through : NamedCommands → ℕ
+  labels_through no_named_commands = 0
   labels_through (also c cs) = labels_in c + labels_through cs
 
   pub labels_of_declarations : Declarations → ℕ

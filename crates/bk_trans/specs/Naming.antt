@@ -5,7 +5,7 @@ use Rattle.std.specs.Prelude.{ℕ, ◌+◌, true, false, Option, Some, None, Lis
 use Rattle.bk_tree.specs.declared.tree.Operator.TheVariants as o
 use Rattle.bk_tree.specs.declared.tree.Prefix.TheVariants as q
 use Rattle.bk_tree.specs.declared.tree.Sort.TheVariants as sort
-use Rattle.bk_tree.specs.Tree.{Expression, Expressions, Action, Actions, Declaration, Declarations, Items, Definition, Definitions, Starts, name, number, text, truth, query, parens, unary, binary, choice, apply, valof, table, none, more, empty, assign, call, goto, label, case_of, default, when, test, while, for_loop, switch, result, simple, block, repeat, repeat_while, no_actions, also, constants, definitions, no_declarations, declare, no_items, item, routine, function, variables, no_definitions, define, no_starts, value, vector}
+use Rattle.bk_tree.specs.Tree.{Expression, Expressions, Command, Commands, Declaration, Declarations, Items, Definition, Definitions, Starts, name, number, text, truth, query, parens, unary, binary, choice, apply, valof, table, none, more, empty, assign, call, goto, label, case_of, default, when, test, while, for_loop, switch, result, simple, block, repeat, repeat_while, no_commands, also, constants, definitions, no_declarations, declare, no_items, item, routine, function, variables, no_definitions, define, no_starts, value, vector}
 use Rattle.bk_tree.specs.Parts.{size}
 use Rattle.bk_scope.specs.declared.bound.Bound.{Bound}
 use Rattle.bk_scope.specs.declared.bound.Bound.TheVariants.{Constant, Static, Variable}
@@ -18,7 +18,7 @@ use Rattle.bk_scope.specs.Names.{words_of_start}
 use Rattle.bk_scope.specs.Spots.{Spot, procedures_in, onward, past, numbered, behind, behind_each, behind_done, behind_declared, behind_one_declared, behind_one_defined, behind_constant, symbols_each, beginning}
 use Rattle.bk_scope.specs.Scoping.{labels_in_scope, procedures_in_scope, place_behind_one_defined, scope_behind_one, place_behind_one, scope_behind, place_behind_all}
 use Rattle.bk_trans.specs.Program as t
-use Rattle.bk_trans.specs.Program.{StaticItem, Term, Terms, Condition, Lvalue, Lvalues, Command, Commands}
+use Rattle.bk_trans.specs.Program.{StaticItem, Term, Terms, Condition, Lvalue, Lvalues, NamedCommand, NamedCommands}
 
 -- what a name means, and the word of a constant; a name that means nothing and a constant without a word are no part of a section
 -- without faults
@@ -101,7 +101,7 @@ abbrev mutual
   lvalues_named bs p s none = t.no_lvalues
   lvalues_named bs p s (more e es) = t.onto (lvalue_named bs p s e) (lvalues_named bs p (behind e s) es)
 
-  pub command_named : List Binding → Enclosing → Spot → Action → Command
+  pub command_named : List Binding → Enclosing → Spot → Command → NamedCommand
   command_named bs p s empty = t.empty
   command_named bs p s (assign l xs es) = t.assign (lvalues_named bs (deeper 1 p) s xs) (terms_named 0 bs p (behind_each xs s) es)
   command_named bs p s (call l e es) = t.call (term_named bs (deeper (size es + 2) p) s e) (terms_named 1 bs (deeper 2 p) (behind e s) es)
@@ -130,8 +130,8 @@ abbrev mutual
   command_named bs p s (repeat l c) = t.repeat (command_named bs (looping p) s c)
   command_named bs p s (repeat_while l b c e) = t.repeat_while b (command_named bs (looping p) s c) (condition_named bs p (behind_done c s) e)
 
-  pub commands_named : List Binding → Enclosing → Spot → Actions → Commands
-  commands_named bs p s no_actions = t.no_commands
+  pub commands_named : List Binding → Enclosing → Spot → Commands → NamedCommands
+  commands_named bs p s no_commands = t.no_named_commands
   commands_named bs p s (also c cs) = t.also (command_named bs p s c) (commands_named bs p (behind_done c s) cs)
 
   pub declarations_named : List Binding → Enclosing → Spot → Declarations → t.Declarations

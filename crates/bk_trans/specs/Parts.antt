@@ -4,7 +4,7 @@ use Rattle.std.specs.Prelude.{ℕ, ◌+◌, List, [], ◌∷◌, ◌++◌}
 use Rattle.bk_scope.specs.declared.bound.Bound.{Bound}
 use Rattle.bk_scope.specs.declared.bound.Bound.TheVariants as b
 use Rattle.bk_trans.specs.declared.around.Target.{Target}
-use Rattle.bk_trans.specs.Program.{StaticItem, Term, Terms, Condition, Lvalue, Lvalues, Command, Commands, Declaration, Declarations, Definition, Definitions, Starts, parens, unary, address, binary, choice, apply, valof, table, none, more, holds, within, fails, both, either, contents, subscript, byte, inside, no_lvalues, onto, assign, call, label, case_of, default, when, test, while, for_loop, switch, result, block, repeat, repeat_while, no_commands, also, statics, lets, no_declarations, declare, routine, function, variables, no_definitions, define, no_starts, value, vector}
+use Rattle.bk_trans.specs.Program.{StaticItem, Term, Terms, Condition, Lvalue, Lvalues, NamedCommand, NamedCommands, Declaration, Declarations, Definition, Definitions, Starts, parens, unary, address, binary, choice, apply, valof, table, none, more, holds, within, fails, both, either, contents, subscript, byte, inside, no_lvalues, onto, assign, call, label, case_of, default, when, test, while, for_loop, switch, result, block, repeat, repeat_while, no_named_commands, also, statics, lets, no_declarations, declare, routine, function, variables, no_definitions, define, no_starts, value, vector}
 use Rattle.bk_trans.specs.Labels.{labels, labels_if, labels_at, labels_onto, labels_in, labels_of_declarations, labels_of_declaration, labels_of_definition, labels_of_procedure}
 use Rattle.bk_trans.specs.Depths.{count, behind_definition, behind_declaration, behind_declarations}
 
@@ -62,7 +62,7 @@ abbrev mutual
   parts_from s n none = []
   parts_from s n (more e es) = parts s n e ++ parts_from s (n + labels e) es
 
-  pub parts_in : ℕ → ℕ → Command → List Part
+  pub parts_in : ℕ → ℕ → NamedCommand → List Part
   parts_in s n (assign xs es) = parts_onto (s + 1) n xs ++ parts_from s (n + labels_onto xs) es
   parts_in s n (call e es) = parts (s + 2 + count es) n e ++ parts_each (s + 2) (n + labels e) es
   parts_in s n (label b c) = label_place n s b ∷ parts_in s (n + 1) c
@@ -79,8 +79,8 @@ abbrev mutual
   parts_in s n (repeat_while b c e) = parts_in s (n + 3) c ++ parts_if s (n + 3 + labels_in c) e
   parts_in s n _ = []
 
-  pub parts_through : ℕ → ℕ → Commands → List Part
-  parts_through s n no_commands = []
+  pub parts_through : ℕ → ℕ → NamedCommands → List Part
+  parts_through s n no_named_commands = []
   parts_through s n (also c cs) = parts_in s n c ++ parts_through s (n + labels_in c) cs
 
   pub parts_of_declarations : ℕ → ℕ → Declarations → List Part

@@ -26,7 +26,7 @@ mutual
     binary : Operator → Term → Term → Term
     choice : Condition → Term → Term → Term
     apply : Term → Terms → Term
-    valof : Command → Term
+    valof : NamedCommand → Term
     table : List ℕ → Term
 
   pub data Terms : Type 0 where
@@ -55,28 +55,28 @@ mutual
     onto : Lvalue → Lvalues → Lvalues
 
   -- a command
-  pub data Command : Type 0 where
-    empty : Command
-    assign : Lvalues → Terms → Command
-    call : Term → Terms → Command
-    goto : Bound → Command
-    label : Bound → Command → Command
-    case_of : ℕ → Command → Command
-    default : Command → Command
-    when : Bool → Condition → Command → Command
-    test : Condition → Command → Command → Command
-    while : Bool → Condition → Command → Command
-    for_loop : Term → Term → ℕ → Command → Command
-    switch : Term → Command → Command
-    result : Term → Command
-    simple : Simple → Command
-    block : Declarations → Commands → Command
-    repeat : Command → Command
-    repeat_while : Bool → Command → Condition → Command
+  pub data NamedCommand : Type 0 where
+    empty : NamedCommand
+    assign : Lvalues → Terms → NamedCommand
+    call : Term → Terms → NamedCommand
+    goto : Bound → NamedCommand
+    label : Bound → NamedCommand → NamedCommand
+    case_of : ℕ → NamedCommand → NamedCommand
+    default : NamedCommand → NamedCommand
+    when : Bool → Condition → NamedCommand → NamedCommand
+    test : Condition → NamedCommand → NamedCommand → NamedCommand
+    while : Bool → Condition → NamedCommand → NamedCommand
+    for_loop : Term → Term → ℕ → NamedCommand → NamedCommand
+    switch : Term → NamedCommand → NamedCommand
+    result : Term → NamedCommand
+    simple : Simple → NamedCommand
+    block : Declarations → NamedCommands → NamedCommand
+    repeat : NamedCommand → NamedCommand
+    repeat_while : Bool → NamedCommand → Condition → NamedCommand
 
-  pub data Commands : Type 0 where
-    no_commands : Commands
-    also : Command → Commands → Commands
+  pub data NamedCommands : Type 0 where
+    no_named_commands : NamedCommands
+    also : NamedCommand → NamedCommands → NamedCommands
 
   -- a declaration: MANIFEST and GLOBAL leave nothing
   pub data Declaration : Type 0 where
@@ -89,7 +89,7 @@ mutual
 
   -- a procedure has what its name means, its name, and the number of its formals
   pub data Definition : Type 0 where
-    routine : Bound → List ℕ → ℕ → Command → Definition
+    routine : Bound → List ℕ → ℕ → NamedCommand → Definition
     function : Bound → List ℕ → ℕ → Term → Definition
     variables : Starts → Definition
 

@@ -22,7 +22,7 @@ use Rattle.bk_ocode.specs.Lists.{joined}
 use Rattle.bk_trans.specs.declared.around.Goal.{Goal}
 use Rattle.bk_trans.specs.declared.around.Around.{Around}
 use Rattle.bk_trans.specs.declared.around.Target.{Target}
-use Rattle.bk_trans.specs.Program.{Term, Terms, Condition, Lvalue, Lvalues, Command, Commands, Declaration, Declarations, Definition, Definitions, Starts, named, number, text, truth, query, parens, unary, address, binary, choice, apply, valof, table, none, more, holds, within, fails, both, either, word, contents, subscript, byte, inside, nowhere, no_lvalues, onto, empty, assign, call, goto, label, case_of, default, when, test, while, for_loop, switch, result, simple, block, repeat, repeat_while, no_commands, also, statics, lets, no_declarations, declare, routine, function, variables, no_definitions, define, no_starts, value, vector}
+use Rattle.bk_trans.specs.Program.{Term, Terms, Condition, Lvalue, Lvalues, NamedCommand, NamedCommands, Declaration, Declarations, Definition, Definitions, Starts, named, number, text, truth, query, parens, unary, address, binary, choice, apply, valof, table, none, more, holds, within, fails, both, either, word, contents, subscript, byte, inside, nowhere, no_lvalues, onto, empty, assign, call, goto, label, case_of, default, when, test, while, for_loop, switch, result, simple, block, repeat, repeat_while, no_named_commands, also, statics, lets, no_declarations, declare, routine, function, variables, no_definitions, define, no_starts, value, vector}
 use Rattle.bk_trans.specs.Labels.{labels, labels_if, labels_at, labels_onto, labels_in, labels_of_declarations, labels_of_declaration, labels_of_definition, labels_of_procedure}
 use Rattle.bk_trans.specs.Depths.{count, behind_definition, behind_declaration, behind_declarations, has_variables}
 use Rattle.bk_trans.specs.Parts.{Part, procedure, static_item, static_table, label_place, target_of, parts_of_declarations}
@@ -107,7 +107,7 @@ test_of_step k = cond (int_lt (signed k) (pos 0)) (Dyadic d.AtLeast) (Dyadic d.A
 
 -- the cases of a SWITCHON, in order, and its DEFAULT
 abbrev mutual
-  pub cases : ℕ → Command → List Case
+  pub cases : ℕ → NamedCommand → List Case
   cases n (label b c) = cases (n + 1) c
   cases n (case_of w c) = record { value = signed w; label = n } ∷ cases (n + 1) c
   cases n (default c) = cases (n + 1) c
@@ -119,8 +119,8 @@ abbrev mutual
   cases n (repeat_while b c e) = cases (n + 3) c
   cases n _ = []
 
-  pub cases_through : ℕ → Commands → List Case
-  cases_through n no_commands = []
+  pub cases_through : ℕ → NamedCommands → List Case
+  cases_through n no_named_commands = []
   cases_through n (also c cs) = cases n c ++ cases_through (n + labels_in c) cs
 
 abbrev pub first_of : Option ℕ → Option ℕ → Option ℕ
@@ -128,7 +128,7 @@ first_of None y = y
 first_of (Some l) y = Some l
 
 abbrev mutual
-  pub default_in : ℕ → Command → Option ℕ
+  pub default_in : ℕ → NamedCommand → Option ℕ
   default_in n (label b c) = default_in (n + 1) c
   default_in n (case_of w c) = default_in (n + 1) c
   default_in n (default c) = Some n
@@ -140,8 +140,8 @@ abbrev mutual
   default_in n (repeat_while b c e) = default_in (n + 3) c
   default_in n _ = None
 
-  pub default_through : ℕ → Commands → Option ℕ
-  default_through n no_commands = None
+  pub default_through : ℕ → NamedCommands → Option ℕ
+  default_through n no_named_commands = None
   default_through n (also c cs) = first_of (default_in n c) (default_through (n + labels_in c) cs)
 
 abbrev pub label_or : ℕ → Option ℕ → ℕ
@@ -214,7 +214,7 @@ abbrev mutual
   store_codes ts s n no_lvalues = []
   store_codes ts s n (onto x xs) = store_code ts s n x ∷ store_codes ts s (n + labels_at x) xs
 
-  pub command_code : List Target → Around → ℕ → ℕ → Command → List Stmt
+  pub command_code : List Target → Around → ℕ → ℕ → NamedCommand → List Stmt
   command_code ts a s n empty = []
   command_code ts a s n (assign xs es) = by_turns (value_codes ts s (n + labels_onto xs) es) (store_codes ts (s + 1) n xs)
   command_code ts a s n (call e es) = Stack (s + 2) ∷ each_code ts (s + 2) (n + labels e) es ++ value_code ts (s + 2 + count es) n e ++ CallRoutine s ∷ []
@@ -252,8 +252,8 @@ abbrev mutual
       Label n ∷ command_code ts (looping (n + 1) (n + 2) s a) s (n + 3) c
       ++ Label (n + 1) ∷ jump_code ts s (n + 3 + labels_in c) e b n ++ Label (n + 2) ∷ []
 
-  pub through_code : List Target → Around → ℕ → ℕ → Commands → List Stmt
-  through_code ts a s n no_commands = []
+  pub through_code : List Target → Around → ℕ → ℕ → NamedCommands → List Stmt
+  through_code ts a s n no_named_commands = []
   through_code ts a s n (also c cs) = command_code ts a s n c ++ through_code ts a s (n + labels_in c) cs
 
   -- declarations, with depth t before them

@@ -15,7 +15,7 @@ use Rattle.bk_tree.specs.declared.tree.Prefix.TheVariants as q
 use Rattle.bk_tree.specs.declared.tree.Simple.{Simple}
 use Rattle.bk_tree.specs.declared.tree.Simple.TheVariants as w
 use Rattle.bk_tree.specs.declared.tree.Sort.TheVariants as sort
-use Rattle.bk_tree.specs.Tree.{Expression, Expressions, Action, Actions, Declaration, Declarations, Items, Definition, Definitions, Starts, name, number, text, truth, query, parens, unary, binary, choice, apply, valof, table, none, more, empty, assign, call, goto, label, case_of, default, when, test, while, for_loop, switch, result, simple, block, repeat, repeat_while, no_actions, also, constants, definitions, no_declarations, declare, no_items, item, routine, function, variables, no_definitions, define, no_starts, value, vector}
+use Rattle.bk_tree.specs.Tree.{Expression, Expressions, Command, Commands, Declaration, Declarations, Items, Definition, Definitions, Starts, name, number, text, truth, query, parens, unary, binary, choice, apply, valof, table, none, more, empty, assign, call, goto, label, case_of, default, when, test, while, for_loop, switch, result, simple, block, repeat, repeat_while, no_commands, also, constants, definitions, no_declarations, declare, no_items, item, routine, function, variables, no_definitions, define, no_starts, value, vector}
 use Rattle.bk_tree.specs.Parts.{size}
 use Rattle.bk_scope.specs.declared.bound.Bound.{Bound}
 use Rattle.bk_scope.specs.declared.bound.Bound.TheVariants as b
@@ -399,7 +399,7 @@ abbrev mutual
   values_written s (more e es) [] w = values_written s es [] (with_code w.code (written s aim.Value e (with_code [] w)))
   values_written s (more e es) (c ∷ cs) w = values_written s es cs (puts_drafts c (written s aim.Value e w))
 
-  pub act_written : Around → ℕ → Action → Writing → Writing
+  pub act_written : Around → ℕ → Command → Writing → Writing
   act_written a s empty w = w
   act_written a s (assign l xs es) w =
       let r : Stored = stores_written (after s 1) xs (record { codes = []; writing = w }) in
@@ -443,8 +443,8 @@ abbrev mutual
       let n : ℕ = w.next in
       puts (Label (after n 2)) (written s (aim.Jump t n) e (puts (Label (after n 1)) (act_written (looping (after n 1) (after n 2) s a) s c (puts (Label n) (takes_labels 3 w)))))
 
-  pub each_act_written : Around → ℕ → Actions → Writing → Writing
-  each_act_written a s no_actions w = w
+  pub each_act_written : Around → ℕ → Commands → Writing → Writing
+  each_act_written a s no_commands w = w
   each_act_written a s (also c cs) w = each_act_written a s cs (act_written a s c w)
 
   pub declared : Declarations → Reached → Reached
@@ -475,10 +475,10 @@ abbrev mutual
       started is (reached (after r.depth (k + 2)) (puts_all (Stack (after r.depth (k + 1)) ∷ Address (Local r.depth) ∷ []) (past_word r.writing)))
 
 -- a command and commands whose choices are their own
-abbrev pub acted_apart : Around → ℕ → Action → Writing → Writing
+abbrev pub acted_apart : Around → ℕ → Command → Writing → Writing
 acted_apart a s c w = with_choices w.choices (act_written a s c (with_choices no_choices w))
 
-abbrev pub each_acted_apart : Around → ℕ → Actions → Writing → Writing
+abbrev pub each_acted_apart : Around → ℕ → Commands → Writing → Writing
 each_acted_apart a s cs w = with_choices w.choices (each_act_written a s cs (with_choices no_choices w))
 
 -- a section: what is written of it from nothing on, and its statements, where declarations went to these places

@@ -1,6 +1,6 @@
 //! Going through the nodes of a section.
 ghost use Rattle.std.specs.Prelude.{◌≡◌, [], ◌∷◌, OnOk, IfOk};
-ghost use Rattle.bk_tree.specs.Tree.{expression, expressions_in, action, actions_in, declaration, declarations_in, definition, definitions_in, starts_in};
+ghost use Rattle.bk_tree.specs.Tree.{expression, expressions_in, command_in, commands_in, declaration, declarations_in, definition, definitions_in, starts_in};
 ghost use Rattle.bk_trans.specs.Writing.{written, each_written, address_written, store_written, stores_written, values_written, act_written, each_act_written, declared, one_declared, defined, one_defined, started, reached, any_variables, acted_apart, each_acted_apart};
 
 use crate::aim::Aim;
@@ -21,45 +21,62 @@ pub fn value(out: &mut Writing<'_>, depth: u32, aim: Aim, expr: &Expr) -> Result
     ensures { OnOk result (out.new ≡ written depth aim (expression expr.now) out.old) }
 {
     match expr {
-        Expr::Name(_, _) => {
+        Expr::Name { .. } => {
             out.put_name()?;
             out.serve(aim)
         }
-        Expr::Number(_, word) => {
+        Expr::Number { word, .. } => {
             out.put(Stmt::Number {
                 value: word.cast_signed(),
             })?;
             out.serve(aim)
         }
-        Expr::Text(_, bytes) => {
+        Expr::Text { bytes, .. } => {
             out.put(Stmt::Text {
                 bytes: first_bytes(out.alloc, bytes)?,
             })?;
             out.serve(aim)
         }
-        Expr::Truth(_, truth) => {
+        Expr::Truth { truth, .. } => {
             out.put(truth_value(*truth))?;
             out.serve(aim)
         }
-        Expr::Query(_) => {
+        Expr::Query { .. } => {
             out.put(Stmt::Query)?;
             out.serve(aim)
         }
-        Expr::Parens(_, inside) => value(out, depth, aim, inside),
-        Expr::Unary(_, Prefix::Address, operand) => {
+        Expr::Parens { inside, .. } => value(out, depth, aim, inside),
+        Expr::Unary {
+            prefix: Prefix::Address,
+            operand,
+            ..
+        } => {
             address(out, depth, operand)?;
             out.serve(aim)
         }
-        Expr::Unary(_, Prefix::Not, operand) => {
+        Expr::Unary {
+            prefix: Prefix::Not,
+            operand,
+            ..
+        } => {
             value(out, depth, aim.negated(), operand)?;
             out.put_not(aim)
         }
-        Expr::Unary(_, prefix, operand) => {
+        Expr::Unary {
+            prefix,
+            operand,
+            ..
+        } => {
             value(out, depth, Aim::Value, operand)?;
             out.put_prefix(*prefix)?;
             out.serve(aim)
         }
-        Expr::Binary(_, operator, _, left, right) => {
+        Expr::Binary {
+            operator,
+            left,
+            right,
+            ..
+        } => {
             match evaluation_through(*operator, aim, out.next) {
                 Evaluation::Plain => {
                     value(out, depth, Aim::Value, left)?;
@@ -78,7 +95,12 @@ pub fn value(out: &mut Writing<'_>, depth: u32, aim: Aim, expr: &Expr) -> Result
                 }
             }
         }
-        Expr::Choice(_, _, condition, yes, no) => {
+        Expr::Choice {
+            condition,
+            yes,
+            no,
+            ..
+        } => {
             let first = out.labels(2);
             let second = after(first, 1);
             value(out, depth, Aim::Jump(false, first), condition)?;
@@ -88,7 +110,11 @@ pub fn value(out: &mut Writing<'_>, depth: u32, aim: Aim, expr: &Expr) -> Result
             out.end_choice(second, depth)?;
             out.serve(aim)
         }
-        Expr::Apply(_, _, callee, arguments) => {
+        Expr::Apply {
+            callee,
+            arguments,
+            ..
+        } => {
             // What is called has the first labels, and follows the arguments.
             let before = out.aside();
             value(out, after(depth, arguments.len() + 2), Aim::Value, callee)?;
@@ -101,14 +127,14 @@ pub fn value(out: &mut Writing<'_>, depth: u32, aim: Aim, expr: &Expr) -> Result
             out.put(Stmt::CallFunction { frame: depth })?;
             out.serve(aim)
         }
-        Expr::Valof(_, command) => {
+        Expr::Valof { command, .. } => {
             let label = out.labels(1);
             act_apart(out, Around::valued(label), depth, command)?;
             out.put(Stmt::Label { label })?;
             out.put(Stmt::TakeResult { depth })?;
             out.serve(aim)
         }
-        Expr::Table(_, items) => {
+        Expr::Table { items, .. } => {
             out.put_table(items)?;
             out.serve(aim)
         }
@@ -134,13 +160,22 @@ fn address(out: &mut Writing<'_>, depth: u32, expr: &Expr) -> Result<(), AllocEr
     ensures { OnOk result (out.new ≡ address_written depth (expression expr.now) out.old) }
 {
     match expr {
-        Expr::Name(_, _) => {
+        Expr::Name { .. } => {
             let bound = out.meaning();
             out.put_draft(Unresolved::Address(word_of(bound)))
         }
-        Expr::Parens(_, inside) => address(out, depth, inside),
-        Expr::Unary(_, Prefix::Contents, operand) => { value(out, depth, Aim::Value, operand) }
-        Expr::Binary(_, operator, _, left, right) => match access_by(*operator) {
+        Expr::Parens { inside, .. } => address(out, depth, inside),
+        Expr::Unary {
+            prefix: Prefix::Contents,
+            operand,
+            ..
+        } => { value(out, depth, Aim::Value, operand) }
+        Expr::Binary {
+            operator,
+            left,
+            right,
+            ..
+        } => match access_by(*operator) {
             Access::Word => {
                 value(out, depth, Aim::Value, left)?;
                 value(out, after(depth, 1), Aim::Value, right)?;
@@ -168,16 +203,25 @@ fn store(out: &mut Writing<'_>, depth: u32, expr: &Expr) -> Result<(), AllocErro
     ensures { OnOk result (out.new ≡ store_written depth (expression expr.now) out.old) }
 {
     match expr {
-        Expr::Name(_, _) => {
+        Expr::Name { .. } => {
             let bound = out.meaning();
             out.put_draft(Unresolved::Assign(word_of(bound)))
         }
-        Expr::Parens(_, inside) => store(out, depth, inside),
-        Expr::Unary(_, Prefix::Contents, operand) => {
+        Expr::Parens { inside, .. } => store(out, depth, inside),
+        Expr::Unary {
+            prefix: Prefix::Contents,
+            operand,
+            ..
+        } => {
             value(out, depth, Aim::Value, operand)?;
             out.put(Stmt::AssignAt)
         }
-        Expr::Binary(_, operator, _, left, right) => match access_by(*operator) {
+        Expr::Binary {
+            operator,
+            left,
+            right,
+            ..
+        } => match access_by(*operator) {
             Access::Word => {
                 value(out, depth, Aim::Value, left)?;
                 value(out, after(depth, 1), Aim::Value, right)?;
@@ -250,16 +294,24 @@ pub fn act(
     depth: u32,
     command: &Command,
 ) -> Result<(), AllocError>
-    ensures { OnOk result (out.new ≡ act_written around depth (action command.now) out.old) }
+    ensures { OnOk result (out.new ≡ act_written around depth (command_in command.now) out.old) }
 {
     match command {
         Command::Empty => Ok(()),
-        Command::Assign(_, destinations, values) => {
+        Command::Assign {
+            destinations,
+            values,
+            ..
+        } => {
             let mut codes = Codes::new(out.alloc);
             each_store(out, after(depth, 1), destinations, &mut codes)?;
             each_stored(out, depth, values, &mut codes)
         }
-        Command::Call(_, callee, arguments) => {
+        Command::Call {
+            callee,
+            arguments,
+            ..
+        } => {
             // What is called has the first labels, and follows the arguments.
             let before = out.aside();
             value(out, after(depth, arguments.len() + 2), Aim::Value, callee)?;
@@ -271,26 +323,36 @@ pub fn act(
             out.put_all(called)?;
             out.put(Stmt::CallRoutine { frame: depth })
         }
-        Command::Goto(_, _) => { out.put_goto(depth) }
-        Command::Label(_, _, body) => {
+        Command::Goto { .. } => { out.put_goto(depth) }
+        Command::Label { body, .. } => {
             out.put_label(depth)?;
             act(out, around, depth, body)
         }
-        Command::Case(_, _, body) => {
+        Command::Case { body, .. } => {
             out.put_case()?;
             act(out, around, depth, body)
         }
-        Command::Default(_, body) => {
+        Command::Default { body, .. } => {
             out.put_default()?;
             act(out, around, depth, body)
         }
-        Command::If(_, sense, condition, body) => {
+        Command::If {
+            truth: sense,
+            condition,
+            body,
+            ..
+        } => {
             let first = out.labels(1);
             value(out, depth, Aim::Jump(!*sense, first), condition)?;
             act(out, around, depth, body)?;
             out.put(Stmt::Label { label: first })
         }
-        Command::Test(_, condition, yes, no) => {
+        Command::Test {
+            condition,
+            yes,
+            no,
+            ..
+        } => {
             let first = out.labels(2);
             let second = after(first, 1);
             value(out, depth, Aim::Jump(false, first), condition)?;
@@ -300,7 +362,12 @@ pub fn act(
             act(out, around, depth, no)?;
             out.put(Stmt::Label { label: second })
         }
-        Command::While(_, sense, condition, body) => {
+        Command::While {
+            truth: sense,
+            condition,
+            body,
+            ..
+        } => {
             let first = out.labels(3);
             let second = after(first, 1);
             let third = after(first, 2);
@@ -314,7 +381,13 @@ pub fn act(
             out.put_all(test)?;
             out.put(Stmt::Label { label: third })
         }
-        Command::For(_, _, from, to, by, body) => {
+        Command::For {
+            from,
+            to,
+            by,
+            body,
+            ..
+        } => {
             let first = out.labels(4);
             value(out, depth, Aim::Value, from)?;
             value(out, after(depth, 1), Aim::Value, to)?;
@@ -325,7 +398,11 @@ pub fn act(
             act_apart(out, inner, inside, body)?;
             out.end_for(first, depth, step)
         }
-        Command::SwitchOn(_, expr, body) => {
+        Command::SwitchOn {
+            value: expr,
+            body,
+            ..
+        } => {
             let label = out.labels(1);
             value(out, depth, Aim::Value, expr)?;
             let before = out.aside();
@@ -333,14 +410,18 @@ pub fn act(
             act(out, around.switching(label, depth), depth, body)?;
             out.end_switch(label, before, choices)
         }
-        Command::ResultIs(_, expr) => {
+        Command::ResultIs { value: expr, .. } => {
             value(out, depth, Aim::Value, expr)?;
             out.put(Stmt::GiveResult {
                 label: around.valof,
             })
         }
-        Command::Simple(_, word) => out.put_simple(around, depth, *word),
-        Command::Block(_, decls, commands) => {
+        Command::Simple { word, .. } => out.put_simple(around, depth, *word),
+        Command::Block {
+            decls,
+            commands,
+            ..
+        } => {
             if decls.is_empty() {
                 each_act(out, around, depth, commands)
             } else {
@@ -349,7 +430,7 @@ pub fn act(
                 out.put(Stmt::Stack { depth })
             }
         }
-        Command::Repeat(_, body) => {
+        Command::Repeat { body, .. } => {
             let first = out.labels(2);
             let second = after(first, 1);
             out.put(Stmt::Label { label: first })?;
@@ -357,7 +438,12 @@ pub fn act(
             out.put(Stmt::Jump { label: first })?;
             out.put(Stmt::Label { label: second })
         }
-        Command::RepeatWhile(_, sense, body, condition) => {
+        Command::RepeatWhile {
+            truth: sense,
+            body,
+            condition,
+            ..
+        } => {
             let first = out.labels(3);
             let second = after(first, 1);
             let third = after(first, 2);
@@ -378,7 +464,7 @@ fn act_apart(
     depth: u32,
     command: &Command,
 ) -> Result<(), AllocError>
-    ensures { OnOk result (out.new ≡ acted_apart around depth (action command.now) out.old) }
+    ensures { OnOk result (out.new ≡ acted_apart around depth (command_in command.now) out.old) }
 {
     let choices = out.leave_switch();
     act(out, around, depth, command)?;
@@ -394,7 +480,7 @@ fn each_act_apart(
     depth: u32,
     commands: &[Command],
 ) -> Result<(), AllocError>
-    ensures { OnOk result (out.new ≡ each_acted_apart around depth (actions_in commands.now) out.old) }
+    ensures { OnOk result (out.new ≡ each_acted_apart around depth (commands_in commands.now) out.old) }
 {
     let choices = out.leave_switch();
     each_act(out, around, depth, commands)?;
@@ -410,7 +496,7 @@ fn each_act(
     depth: u32,
     commands: &[Command],
 ) -> Result<(), AllocError>
-    ensures { OnOk result (out.new ≡ each_act_written around depth (actions_in commands.now) out.old) }
+    ensures { OnOk result (out.new ≡ each_act_written around depth (commands_in commands.now) out.old) }
 {
     for command in commands {
         act(out, around, depth, command)?;
@@ -436,7 +522,7 @@ fn declare(out: &mut Writing<'_>, depth: u32, decl: &Decl) -> Result<u32, AllocE
     ensures { IfOk result (λ behind. reached behind out.new ≡ one_declared (declaration decl.now) (reached depth out.old)) }
 {
     match decl {
-        Decl::Constants(_, sort, items) => {
+        Decl::Constants { sort, items, .. } => {
             match sort {
                 Sort::Static => out.put_items(items)?,
                 Sort::Manifest => out.pass_items(items),
@@ -444,7 +530,7 @@ fn declare(out: &mut Writing<'_>, depth: u32, decl: &Decl) -> Result<u32, AllocE
             }
             Ok(depth)
         }
-        Decl::Let(_, defs) => {
+        Decl::Let { defs, .. } => {
             let behind = define_each(out, depth, defs)?;
             if has_variables(defs) {
                 out.put(Stmt::Store)?;
@@ -472,19 +558,29 @@ fn define(out: &mut Writing<'_>, depth: u32, def: &Def) -> Result<u32, AllocErro
     ensures { IfOk result (λ behind. reached behind out.new ≡ one_defined (definition def.now) (reached depth out.old)) }
 {
     match def {
-        Def::Routine(_, name, formals, body) => {
+        Def::Routine {
+            letters: name,
+            formals,
+            body,
+            ..
+        } => {
             let outside = out.begin_procedure(name, formals.len())?;
             act(out, Around::outermost(), after(2, formals.len()), body)?;
             out.end_procedure(outside, Stmt::Return)?;
             Ok(depth)
         }
-        Def::Function(_, name, formals, body) => {
+        Def::Function {
+            letters: name,
+            formals,
+            body,
+            ..
+        } => {
             let outside = out.begin_procedure(name, formals.len())?;
             value(out, after(2, formals.len()), Aim::Value, body)?;
             out.end_procedure(outside, Stmt::ReturnItem)?;
             Ok(depth)
         }
-        Def::Variables(_, _, starts) => start_each(out, depth, starts),
+        Def::Variables { inits: starts, .. } => start_each(out, depth, starts),
     }
 }
 
@@ -510,7 +606,7 @@ fn start_one(out: &mut Writing<'_>, depth: u32, start: &Init) -> Result<u32, All
             value(out, depth, Aim::Value, expr)?;
             Ok(after(depth, 1))
         }
-        Init::Vector(_, _) => {
+        Init::Vector { .. } => {
             let words = out.word() as usize;
             out.put(Stmt::Stack {
                 depth: after(depth, words + 1),
@@ -528,7 +624,7 @@ fn has_variables(defs: &[Def]) -> bool
     ensures { result ≡ any_variables (definitions_in defs.now) }
 {
     for def in defs {
-        if let Def::Variables(_, _, _) = def {
+        if let Def::Variables { .. } = def {
             return true;
         }
     }

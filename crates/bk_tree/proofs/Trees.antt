@@ -4,7 +4,7 @@ use Rattle.bk_tree.specs.declared.tree.Name.{Name}
 use Rattle.bk_tree.specs.declared.tree.Sort.{Sort}
 use Rattle.bk_tree.specs.declared.tree.Expr.{Expr, Row_of-Expr, end_of-Expr, more_of-Expr, items-the_row-Expr, items_hidden-the_row-Expr-0}
 use Rattle.bk_tree.specs.declared.tree.Expr.TheVariants as e
-use Rattle.bk_tree.specs.declared.tree.Command.{Command, Row_of-Command, end_of-Command, more_of-Command, items-the_row-Command, items_hidden-the_row-Command-2}
+use Rattle.bk_tree.specs.declared.tree.Command.{Command as CommandNode, Row_of-Command, end_of-Command, more_of-Command, items-the_row-Command, items_hidden-the_row-Command-2}
 use Rattle.bk_tree.specs.declared.tree.Command.TheVariants as c
 use Rattle.bk_tree.specs.declared.tree.Decl.{Decl}
 use Rattle.bk_tree.specs.declared.tree.Command.{Row_of-Decl, end_of-Decl, more_of-Decl, items-the_row-Decl, items_hidden-the_row-Decl-1}
@@ -19,10 +19,10 @@ use Rattle.bk_tree.specs.declared.tree.Init.{Init}
 use Rattle.bk_tree.specs.declared.tree.Def.{Row_of-Init, end_of-Init, more_of-Init, items-the_row-Init, items_hidden-the_row-Init-5}
 use Rattle.bk_tree.specs.declared.tree.Init.TheVariants as b
 use Rattle.bk_tree.specs.declared.tree.Command.TheBlock.{hidden-the_row-Expr-0, hidden-the_row-Decl-1, hidden-the_row-Command-2, hidden-the_row-ConstItem-3, hidden-the_row-Def-4, hidden-the_row-Init-5}
-use Rattle.bk_tree.specs.Tree.{Expression, Expressions, Action, Actions, Declaration, Declarations, Items, Definition, Definitions, Starts, no_items, no_starts, apply, table, none, more, assign, call, for_loop, block, no_actions, also, constants, definitions, no_declarations, declare, item, variables, no_definitions, define, value, vector, mention, expression, expressions, action, actions, declaration, declarations, items, definition, definitions_of, starts, expressions_in, step_in, actions_in, declarations_in, items_in, definitions_in, starts_in}
-use Rattle.bk_tree.specs.Parts.{each_then, actions_then, declarations_then, items_then, definitions_then, starts_then}
+use Rattle.bk_tree.specs.Tree.{Expression, Expressions, Command, Commands, Declaration, Declarations, Items, Definition, Definitions, Starts, no_items, no_starts, apply, table, none, more, assign, call, for_loop, block, no_commands, also, constants, definitions, no_declarations, declare, item, variables, no_definitions, define, value, vector, mention, expression, expressions, command_in, command_row, declaration, declarations, items, definition, definitions_of, starts, expressions_in, step_in, commands_in, declarations_in, items_in, definitions_in, starts_in}
+use Rattle.bk_tree.specs.Parts.{each_then, commands_then, declarations_then, items_then, definitions_then, starts_then}
 use Rattle.bk_tree.specs.Parts.{size, start_count}
-use Rattle.bk_tree.specs.Limits.{depth, depth_of_each, depth_of_action, depth_of_actions, depth_of_declaration, depth_of_declarations, depth_of_items, depth_of_definition, depth_of_definitions, depth_of_starts, nodes, nodes_of_each, nodes_of_action, nodes_of_actions, nodes_of_declaration, nodes_of_declarations, nodes_of_items, nodes_of_definition, nodes_of_definitions, nodes_of_starts}
+use Rattle.bk_tree.specs.Limits.{depth, depth_of_each, depth_of_command, depth_of_commands, depth_of_declaration, depth_of_declarations, depth_of_items, depth_of_definition, depth_of_definitions, depth_of_starts, nodes, nodes_of_each, nodes_of_command, nodes_of_commands, nodes_of_declaration, nodes_of_declarations, nodes_of_items, nodes_of_definition, nodes_of_definitions, nodes_of_starts}
 
 -- rows of parts as lists
 
@@ -30,9 +30,9 @@ expressions_row : (n : _) (row : Row_of-Expr n) → expressions row ≡ expressi
 expressions_row n end_of-Expr = refl
 expressions_row n (more_of-Expr x xs) = ap (more (expression x)) (expressions_row _ xs)
 
-actions_row : (n : _) (row : Row_of-Command n) → actions row ≡ actions_in (items-the_row-Command n row)
-actions_row n end_of-Command = refl
-actions_row n (more_of-Command x xs) = ap (also (action x)) (actions_row _ xs)
+commands_row : (n : _) (row : Row_of-Command n) → command_row row ≡ commands_in (items-the_row-Command n row)
+commands_row n end_of-Command = refl
+commands_row n (more_of-Command x xs) = ap (also (command_in x)) (commands_row _ xs)
 
 declarations_row : (n : _) (row : Row_of-Decl n) → declarations row ≡ declarations_in (items-the_row-Decl n row)
 declarations_row n end_of-Decl = refl
@@ -54,8 +54,8 @@ starts_row n (more_of-Init (b.Vector l y) xs) = ap (vector l (expression y)) (st
 expressions_all : (xs : Vec Expr Global) → expressions (hidden-the_row-Expr-0 xs) ≡ expressions_in xs.items
 expressions_all xs = expressions_row _ (hidden-the_row-Expr-0 xs) ∙ ap expressions_in (items_hidden-the_row-Expr-0 xs)
 
-actions_all : (xs : Vec Command Global) → actions (hidden-the_row-Command-2 xs) ≡ actions_in xs.items
-actions_all xs = actions_row _ (hidden-the_row-Command-2 xs) ∙ ap actions_in (items_hidden-the_row-Command-2 xs)
+commands_all : (xs : Vec CommandNode Global) → command_row (hidden-the_row-Command-2 xs) ≡ commands_in xs.items
+commands_all xs = commands_row _ (hidden-the_row-Command-2 xs) ∙ ap commands_in (items_hidden-the_row-Command-2 xs)
 
 declarations_all : (xs : Vec Decl Global) → declarations (hidden-the_row-Decl-1 xs) ≡ declarations_in xs.items
 declarations_all xs = declarations_row _ (hidden-the_row-Decl-1 xs) ∙ ap declarations_in (items_hidden-the_row-Decl-1 xs)
@@ -77,18 +77,18 @@ Apply_is l m x xs = ap (apply l m (expression x.value)) (expressions_all xs)
 pub Table_is : (l : ℕ) (xs : Vec Expr Global) → expression (e.Table l xs) ≡ table l (expressions_in xs.items)
 Table_is l xs = ap (table l) (expressions_all xs)
 
-pub Assign_is : (l : ℕ) (xs ys : Vec Expr Global) → action (c.Assign l xs ys) ≡ assign l (expressions_in xs.items) (expressions_in ys.items)
+pub Assign_is : (l : ℕ) (xs ys : Vec Expr Global) → command_in (c.Assign l xs ys) ≡ assign l (expressions_in xs.items) (expressions_in ys.items)
 Assign_is l xs ys = ap (λ z. assign l z (expressions (hidden-the_row-Expr-0 ys))) (expressions_all xs) ∙ ap (assign l (expressions_in xs.items)) (expressions_all ys)
 
-pub Call_is : (l : ℕ) (x : Box Expr Global) (xs : Vec Expr Global) → action (c.Call l x xs) ≡ call l (expression x.value) (expressions_in xs.items)
+pub Call_is : (l : ℕ) (x : Box Expr Global) (xs : Vec Expr Global) → command_in (c.Call l x xs) ≡ call l (expression x.value) (expressions_in xs.items)
 Call_is l x xs = ap (call l (expression x.value)) (expressions_all xs)
 
-pub For_is : (l : ℕ) (x : Name) (y z : Box Expr Global) (h : Option (Box Expr Global)) (a : Box Command Global) → action (c.For l x y z h a) ≡ for_loop l (mention x) (expression y.value) (expression z.value) (step_in h) (action a.value)
+pub For_is : (l : ℕ) (x : Name) (y z : Box Expr Global) (h : Option (Box Expr Global)) (a : Box CommandNode Global) → command_in (c.For l x y z h a) ≡ for_loop l (mention x) (expression y.value) (expression z.value) (step_in h) (command_in a.value)
 For_is l x y z None a = refl
 For_is l x y z (Some h) a = refl
 
-pub Block_is : (l : ℕ) (ds : Vec Decl Global) (cs : Vec Command Global) → action (c.Block l ds cs) ≡ block l (declarations_in ds.items) (actions_in cs.items)
-Block_is l ds cs = ap (λ z. block l z (actions (hidden-the_row-Command-2 cs))) (declarations_all ds) ∙ ap (block l (declarations_in ds.items)) (actions_all cs)
+pub Block_is : (l : ℕ) (ds : Vec Decl Global) (cs : Vec CommandNode Global) → command_in (c.Block l ds cs) ≡ block l (declarations_in ds.items) (commands_in cs.items)
+Block_is l ds cs = ap (λ z. block l z (command_row (hidden-the_row-Command-2 cs))) (declarations_all ds) ∙ ap (block l (declarations_in ds.items)) (commands_all cs)
 
 pub Constants_is : (l : ℕ) (s : Sort) (xs : Vec ConstItem Global) → declaration (d.Constants l s xs) ≡ constants l s (items_in xs.items)
 Constants_is l s xs = ap (constants l s) (items_all xs)
@@ -105,9 +105,9 @@ pub expressions_push : (xs : List Expr) (x : Expr) → expressions_in (xs ++ x �
 expressions_push [] x = refl
 expressions_push (y ∷ xs) x = ap (more (expression y)) (expressions_push xs x)
 
-pub actions_push : (xs : List Command) (x : Command) → actions_in (xs ++ x ∷ []) ≡ actions_then (actions_in xs) (also (action x) no_actions)
-actions_push [] x = refl
-actions_push (y ∷ xs) x = ap (also (action y)) (actions_push xs x)
+pub commands_push : (xs : List CommandNode) (x : CommandNode) → commands_in (xs ++ x ∷ []) ≡ commands_then (commands_in xs) (also (command_in x) no_commands)
+commands_push [] x = refl
+commands_push (y ∷ xs) x = ap (also (command_in y)) (commands_push xs x)
 
 pub declarations_push : (xs : List Decl) (x : Decl) → declarations_in (xs ++ x ∷ []) ≡ declarations_then (declarations_in xs) (declare (declaration x) no_declarations)
 declarations_push [] x = refl
@@ -140,13 +140,13 @@ pub each_nodes : (xs : Expressions) (e : Expression) → nodes_of_each (each_the
 each_nodes none e = omega arith
 each_nodes (more x xs) e = let h = each_nodes xs e in omega (arith, h)
 
-pub actions_depth : (xs : Actions) (c : Action) → depth_of_actions (actions_then xs (also c no_actions)) ≡ max (depth_of_actions xs) (depth_of_action c)
-actions_depth no_actions c = omega arith
-actions_depth (also x xs) c = let h = actions_depth xs c in omega (arith, h)
+pub commands_depth : (xs : Commands) (c : Command) → depth_of_commands (commands_then xs (also c no_commands)) ≡ max (depth_of_commands xs) (depth_of_command c)
+commands_depth no_commands c = omega arith
+commands_depth (also x xs) c = let h = commands_depth xs c in omega (arith, h)
 
-pub actions_nodes : (xs : Actions) (c : Action) → nodes_of_actions (actions_then xs (also c no_actions)) ≡ nodes_of_actions xs + nodes_of_action c
-actions_nodes no_actions c = omega arith
-actions_nodes (also x xs) c = let h = actions_nodes xs c in omega (arith, h)
+pub commands_nodes : (xs : Commands) (c : Command) → nodes_of_commands (commands_then xs (also c no_commands)) ≡ nodes_of_commands xs + nodes_of_command c
+commands_nodes no_commands c = omega arith
+commands_nodes (also x xs) c = let h = commands_nodes xs c in omega (arith, h)
 
 pub declarations_depth : (xs : Declarations) (d : Declaration) → depth_of_declarations (declarations_then xs (declare d no_declarations)) ≡ max (depth_of_declarations xs) (depth_of_declaration d)
 declarations_depth no_declarations d = omega arith
@@ -182,7 +182,7 @@ starts_nodes no_starts ys = omega arith
 starts_nodes (value e xs) ys = let h = starts_nodes xs ys in omega (arith, h)
 starts_nodes (vector l e xs) ys = let h = starts_nodes xs ys in omega (arith, h)
 
-pub ruleset more_sizes = (each_depth, each_nodes, actions_depth, actions_nodes, declarations_depth, declarations_nodes, definitions_depth, definitions_nodes, items_depth, items_nodes, starts_depth, starts_nodes)
+pub ruleset more_sizes = (each_depth, each_nodes, commands_depth, commands_nodes, declarations_depth, declarations_nodes, definitions_depth, definitions_nodes, items_depth, items_nodes, starts_depth, starts_nodes)
 
 -- how many they are
 
@@ -201,6 +201,6 @@ names_count (x ∷ xs) = let h = names_count xs in omega (arith, h)
 
 pub ruleset whole_is = (Apply_is, Table_is, Assign_is, Call_is, For_is, Block_is, Constants_is, Let_is, Variables_is)
 
-pub ruleset one_more = (expressions_push, actions_push, declarations_push, items_push, definitions_push, starts_push, names_push)
+pub ruleset one_more = (expressions_push, commands_push, declarations_push, items_push, definitions_push, starts_push, names_push)
 
 pub ruleset counts = (expressions_count, starts_count, names_count)

@@ -1,49 +1,49 @@
--- Parts of trees: the lines on which they begin, how many a list has, and lists one after another.
+-- Parts of trees: the positions at which they begin, how many a list has, and lists one after another.
 use Rattle.std.specs.Prelude.{ℕ, ◌+◌, List, [], ◌∷◌}
-use Rattle.bk_tree.specs.Tree.{Mention, Expression, Expressions, Action, Actions, Declarations, Items, Definitions, Starts, name, number, text, truth, query, parens, unary, binary, choice, apply, valof, table, none, more, empty, assign, call, goto, label, case_of, default, when, test, while, for_loop, switch, result, simple, block, repeat, repeat_while, no_actions, also, no_declarations, declare, no_items, item, no_definitions, define, no_starts, value, vector}
+use Rattle.bk_tree.specs.Tree.{Mention, Expression, Expressions, Command, Commands, Declarations, Items, Definitions, Starts, name, number, text, truth, query, parens, unary, binary, choice, apply, valof, table, none, more, empty, assign, call, goto, label, case_of, default, when, test, while, for_loop, switch, result, simple, block, repeat, repeat_while, no_commands, also, no_declarations, declare, no_items, item, no_definitions, define, no_starts, value, vector}
 
--- the line of an expression's first symbol
-abbrev pub line_of : Expression → ℕ
-line_of (name l x) = l
-line_of (number l n) = l
-line_of (text l x) = l
-line_of (truth l b) = l
-line_of (query l) = l
-line_of (parens l e) = l
-line_of (unary l p e) = l
-line_of (binary l o s a b) = l
-line_of (choice l s c a b) = l
-line_of (apply l s f es) = l
-line_of (valof l c) = l
-line_of (table l es) = l
+-- the position of an expression's first symbol
+abbrev pub at_expression : Expression → ℕ
+at_expression (name l x) = l
+at_expression (number l n) = l
+at_expression (text l x) = l
+at_expression (truth l b) = l
+at_expression (query l) = l
+at_expression (parens l e) = l
+at_expression (unary l p e) = l
+at_expression (binary l o s a b) = l
+at_expression (choice l s c a b) = l
+at_expression (apply l s f es) = l
+at_expression (valof l c) = l
+at_expression (table l es) = l
 
-abbrev pub line_of_first : Expressions → ℕ
-line_of_first none = 1
-line_of_first (more e es) = line_of e
+abbrev pub at_expressions : Expressions → ℕ
+at_expressions none = 1
+at_expressions (more e es) = at_expression e
 
-abbrev pub line_of_names : List Mention → ℕ
-line_of_names [] = 1
-line_of_names (x ∷ xs) = x.line
+abbrev pub at_names : List Mention → ℕ
+at_names [] = 1
+at_names (x ∷ xs) = x.at
 
--- the line of a command's first symbol; an empty one has none, and counts as on the first
-abbrev pub line_of_action : Action → ℕ
-line_of_action empty = 1
-line_of_action (assign l xs es) = l
-line_of_action (call l f es) = l
-line_of_action (goto l x) = l
-line_of_action (label l x c) = l
-line_of_action (case_of l e c) = l
-line_of_action (default l c) = l
-line_of_action (when l b e c) = l
-line_of_action (test l e a b) = l
-line_of_action (while l b e c) = l
-line_of_action (for_loop l x a b h c) = l
-line_of_action (switch l e c) = l
-line_of_action (result l e) = l
-line_of_action (simple l w) = l
-line_of_action (block l ds cs) = l
-line_of_action (repeat l c) = l
-line_of_action (repeat_while l b c e) = l
+-- the position of a command's first symbol; an empty one has none, and counts as on the first line
+abbrev pub at_command : Command → ℕ
+at_command empty = 1
+at_command (assign l xs es) = l
+at_command (call l f es) = l
+at_command (goto l x) = l
+at_command (label l x c) = l
+at_command (case_of l e c) = l
+at_command (default l c) = l
+at_command (when l b e c) = l
+at_command (test l e a b) = l
+at_command (while l b e c) = l
+at_command (for_loop l x a b h c) = l
+at_command (switch l e c) = l
+at_command (result l e) = l
+at_command (simple l w) = l
+at_command (block l ds cs) = l
+at_command (repeat l c) = l
+at_command (repeat_while l b c e) = l
 
 -- how many expressions, and how many beginnings of variables
 abbrev pub size : Expressions → ℕ
@@ -60,9 +60,9 @@ abbrev pub each_then : Expressions → Expressions → Expressions
 each_then none ys = ys
 each_then (more x xs) ys = more x (each_then xs ys)
 
-abbrev pub actions_then : Actions → Actions → Actions
-actions_then no_actions ys = ys
-actions_then (also x xs) ys = also x (actions_then xs ys)
+abbrev pub commands_then : Commands → Commands → Commands
+commands_then no_commands ys = ys
+commands_then (also x xs) ys = also x (commands_then xs ys)
 
 abbrev pub declarations_then : Declarations → Declarations → Declarations
 declarations_then no_declarations ys = ys

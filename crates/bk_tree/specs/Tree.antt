@@ -1,4 +1,4 @@
--- Trees of a section, without where they are in memory. Each node but an empty command begins with the line of its
+-- Trees of a section, without where they are in memory. Each node but an empty command begins with the position of its
 -- first symbol; a name is its bytes in upper case.
 use Rattle.std.specs.Prelude.{ℕ, Bool, Option, Some, None, List, [], ◌∷◌, map, Box}
 use Rattle.std.specs.Global.{Global}
@@ -9,7 +9,7 @@ use Rattle.bk_tree.specs.declared.tree.Simple.{Simple}
 use Rattle.bk_tree.specs.declared.tree.Sort.{Sort}
 use Rattle.bk_tree.specs.declared.tree.Expr.{Expr, Row_of-Expr, end_of-Expr, more_of-Expr}
 use Rattle.bk_tree.specs.declared.tree.Expr.TheVariants as e
-use Rattle.bk_tree.specs.declared.tree.Command.{Command, Row_of-Command, end_of-Command, more_of-Command, Row_of-Decl, end_of-Decl, more_of-Decl, Held-Command-For-4, None', Some'}
+use Rattle.bk_tree.specs.declared.tree.Command.{Command as CommandNode, Row_of-Command, end_of-Command, more_of-Command, Row_of-Decl, end_of-Decl, more_of-Decl, Held-Command-For-4, None', Some'}
 use Rattle.bk_tree.specs.declared.tree.Command.TheVariants as c
 use Rattle.bk_tree.specs.declared.tree.Decl.{Decl, Row_of-ConstItem, end_of-ConstItem, more_of-ConstItem, Row_of-Def, end_of-Def, more_of-Def}
 use Rattle.bk_tree.specs.declared.tree.Decl.TheVariants as d
@@ -22,7 +22,7 @@ use Rattle.bk_tree.specs.declared.tree.Init.TheVariants as b
 
 -- a name and its line
 pub record Mention : Type 0 where
-  pub line : ℕ
+  pub at : ℕ
   pub letters : List ℕ
 
 mutual
@@ -38,7 +38,7 @@ mutual
     binary : ℕ → Operator → ℕ → Expression → Expression → Expression
     choice : ℕ → ℕ → Expression → Expression → Expression → Expression
     apply : ℕ → ℕ → Expression → Expressions → Expression
-    valof : ℕ → Action → Expression
+    valof : ℕ → Command → Expression
     table : ℕ → Expressions → Expression
 
   pub data Expressions : Type 0 where
@@ -46,28 +46,28 @@ mutual
     more : Expression → Expressions → Expressions
 
   -- the truth says IF and not UNLESS, WHILE and not UNTIL, REPEATWHILE and not REPEATUNTIL
-  pub data Action : Type 0 where
-    empty : Action
-    assign : ℕ → Expressions → Expressions → Action
-    call : ℕ → Expression → Expressions → Action
-    goto : ℕ → Mention → Action
-    label : ℕ → List ℕ → Action → Action
-    case_of : ℕ → Expression → Action → Action
-    default : ℕ → Action → Action
-    when : ℕ → Bool → Expression → Action → Action
-    test : ℕ → Expression → Action → Action → Action
-    while : ℕ → Bool → Expression → Action → Action
-    for_loop : ℕ → Mention → Expression → Expression → Expressions → Action → Action
-    switch : ℕ → Expression → Action → Action
-    result : ℕ → Expression → Action
-    simple : ℕ → Simple → Action
-    block : ℕ → Declarations → Actions → Action
-    repeat : ℕ → Action → Action
-    repeat_while : ℕ → Bool → Action → Expression → Action
+  pub data Command : Type 0 where
+    empty : Command
+    assign : ℕ → Expressions → Expressions → Command
+    call : ℕ → Expression → Expressions → Command
+    goto : ℕ → Mention → Command
+    label : ℕ → List ℕ → Command → Command
+    case_of : ℕ → Expression → Command → Command
+    default : ℕ → Command → Command
+    when : ℕ → Bool → Expression → Command → Command
+    test : ℕ → Expression → Command → Command → Command
+    while : ℕ → Bool → Expression → Command → Command
+    for_loop : ℕ → Mention → Expression → Expression → Expressions → Command → Command
+    switch : ℕ → Expression → Command → Command
+    result : ℕ → Expression → Command
+    simple : ℕ → Simple → Command
+    block : ℕ → Declarations → Commands → Command
+    repeat : ℕ → Command → Command
+    repeat_while : ℕ → Bool → Command → Expression → Command
 
-  pub data Actions : Type 0 where
-    no_actions : Actions
-    also : Action → Actions → Actions
+  pub data Commands : Type 0 where
+    no_commands : Commands
+    also : Command → Commands → Commands
 
   pub data Declaration : Type 0 where
     constants : ℕ → Sort → Items → Declaration
@@ -83,7 +83,7 @@ mutual
     item : ℕ → List ℕ → Expression → Items → Items
 
   pub data Definition : Type 0 where
-    routine : ℕ → List ℕ → List Mention → Action → Definition
+    routine : ℕ → List ℕ → List Mention → Command → Definition
     function : ℕ → List ℕ → List Mention → Expression → Definition
     variables : ℕ → List Mention → Starts → Definition
 
@@ -99,7 +99,7 @@ mutual
 
 -- the tree of what is in memory
 abbrev pub mention : Name → Mention
-mention x = record { line = x.line; letters = x.letters.items }
+mention x = record { at = x.at; letters = x.letters.items }
 
 abbrev mutual
   pub expression : Expr → Expression
@@ -113,39 +113,39 @@ abbrev mutual
   expression (e.Binary' l o s p x q y) = binary l o s (expression x) (expression y)
   expression (e.Choice' l s p z q x r y) = choice l s (expression z) (expression x) (expression y)
   expression (e.Apply' l s p x q es) = apply l s (expression x) (expressions es)
-  expression (e.Valof' l p a) = valof l (action a)
+  expression (e.Valof' l p a) = valof l (command_in a)
   expression (e.Table' l q es) = table l (expressions es)
 
   pub expressions : {m : _} → Row_of-Expr m → Expressions
   expressions end_of-Expr = none
   expressions (more_of-Expr x xs) = more (expression x) (expressions xs)
 
-  pub action : Command → Action
-  action c.Empty = empty
-  action (c.Assign' l p xs q es) = assign l (expressions xs) (expressions es)
-  action (c.Call' l p x q es) = call l (expression x) (expressions es)
-  action (c.Goto l x) = goto l (mention x)
-  action (c.Label' l x p a) = label l x.items (action a)
-  action (c.Case' l p x q a) = case_of l (expression x) (action a)
-  action (c.Default' l p a) = default l (action a)
-  action (c.If' l b p x q a) = when l b (expression x) (action a)
-  action (c.Test' l p x q a r o) = test l (expression x) (action a) (action o)
-  action (c.While' l b p x q a) = while l b (expression x) (action a)
-  action (c.For' l n p x q y h r a) = for_loop l (mention n) (expression x) (expression y) (step h) (action a)
-  action (c.SwitchOn' l p x q a) = switch l (expression x) (action a)
-  action (c.ResultIs' l p x) = result l (expression x)
-  action (c.Simple l w) = simple l w
-  action (c.Block' l p ds q cs) = block l (declarations ds) (actions cs)
-  action (c.Repeat' l p a) = repeat l (action a)
-  action (c.RepeatWhile' l b p a q x) = repeat_while l b (action a) (expression x)
+  pub command_in : CommandNode → Command
+  command_in c.Empty = empty
+  command_in (c.Assign' l p xs q es) = assign l (expressions xs) (expressions es)
+  command_in (c.Call' l p x q es) = call l (expression x) (expressions es)
+  command_in (c.Goto l x) = goto l (mention x)
+  command_in (c.Label' l x p a) = label l x.items (command_in a)
+  command_in (c.Case' l p x q a) = case_of l (expression x) (command_in a)
+  command_in (c.Default' l p a) = default l (command_in a)
+  command_in (c.If' l b p x q a) = when l b (expression x) (command_in a)
+  command_in (c.Test' l p x q a r o) = test l (expression x) (command_in a) (command_in o)
+  command_in (c.While' l b p x q a) = while l b (expression x) (command_in a)
+  command_in (c.For' l n p x q y h r a) = for_loop l (mention n) (expression x) (expression y) (step h) (command_in a)
+  command_in (c.SwitchOn' l p x q a) = switch l (expression x) (command_in a)
+  command_in (c.ResultIs' l p x) = result l (expression x)
+  command_in (c.Simple l w) = simple l w
+  command_in (c.Block' l p ds q cs) = block l (declarations ds) (command_row cs)
+  command_in (c.Repeat' l p a) = repeat l (command_in a)
+  command_in (c.RepeatWhile' l b p a q x) = repeat_while l b (command_in a) (expression x)
 
   pub step : Held-Command-For-4 → Expressions
   step None' = none
   step (Some' p x) = more (expression x) none
 
-  pub actions : {m : _} → Row_of-Command m → Actions
-  actions end_of-Command = no_actions
-  actions (more_of-Command a cs) = also (action a) (actions cs)
+  pub command_row : {m : _} → Row_of-Command m → Commands
+  command_row end_of-Command = no_commands
+  command_row (more_of-Command a cs) = also (command_in a) (command_row cs)
 
   pub declarations : {m : _} → Row_of-Decl m → Declarations
   declarations end_of-Decl = no_declarations
@@ -164,7 +164,7 @@ abbrev mutual
   definitions_of (more_of-Def x ds) = define (definition x) (definitions_of ds)
 
   pub definition : Def → Definition
-  definition (f.Routine' l x xs p a) = routine l x.items (map mention xs.items) (action a)
+  definition (f.Routine' l x xs p a) = routine l x.items (map mention xs.items) (command_in a)
   definition (f.Function' l x xs p y) = function l x.items (map mention xs.items) (expression y)
   definition (f.Variables' l xs p is) = variables l (map mention xs.items) (starts is)
 
@@ -182,9 +182,9 @@ abbrev pub step_in : Option (Box Expr Global) → Expressions
 step_in None = none
 step_in (Some x) = more (expression x.value) none
 
-abbrev pub actions_in : List Command → Actions
-actions_in [] = no_actions
-actions_in (c ∷ cs) = also (action c) (actions_in cs)
+abbrev pub commands_in : List CommandNode → Commands
+commands_in [] = no_commands
+commands_in (c ∷ cs) = also (command_in c) (commands_in cs)
 
 abbrev pub declarations_in : List Decl → Declarations
 declarations_in [] = no_declarations

@@ -1,6 +1,6 @@
 //! Copies of trees: the operand that two relations share is in the tree twice.
 ghost use Rattle.std.specs.Prelude.{◌≡◌, [], ◌∷◌, IfOk, map};
-ghost use Rattle.bk_tree.specs.Tree.{expression, expressions_in, action, actions_in, declaration, declarations_in, items_in, definition, definitions_in, starts_in, mention};
+ghost use Rattle.bk_tree.specs.Tree.{expression, expressions_in, command_in, commands_in, declaration, declarations_in, items_in, definition, definitions_in, starts_in, mention};
 
 use crate::make::{apply, assign, block, call, constants, for_loop, let_of, table, variables};
 use crate::tree::{Command, ConstItem, Decl, Def, Expr, Init, Letters, Name};
@@ -19,7 +19,7 @@ fn copy_name(name: &Name) -> Result<Name, AllocError>
 {
     let letters = copy_letters(&name.letters)?;
     Ok(Name {
-        line: name.line,
+        at: name.at,
         letters,
     })
 }
@@ -42,48 +42,94 @@ pub fn copy(alloc: Global, expr: &Expr) -> Result<Expr, AllocError>
     ensures { IfOk result (λ copy. expression copy ≡ expression expr.now) }
 {
     match expr {
-        Expr::Name(line, letters) => {
+        Expr::Name { at, letters } => {
             let letters = copy_letters(letters)?;
-            Ok(Expr::Name(*line, letters))
+            Ok(Expr::Name { at: *at, letters })
         }
-        Expr::Number(line, word) => Ok(Expr::Number(*line, *word)),
-        Expr::Text(line, bytes) => {
+        Expr::Number { at, word } => Ok(Expr::Number {
+            at: *at,
+            word: *word,
+        }),
+        Expr::Text { at, bytes } => {
             let bytes = bytes.clone()?;
-            Ok(Expr::Text(*line, bytes))
+            Ok(Expr::Text { at: *at, bytes })
         }
-        Expr::Truth(line, truth) => Ok(Expr::Truth(*line, *truth)),
-        Expr::Query(line) => Ok(Expr::Query(*line)),
-        Expr::Parens(line, inner) => {
+        Expr::Truth { at, truth } => Ok(Expr::Truth {
+            at: *at,
+            truth: *truth,
+        }),
+        Expr::Query { at } => Ok(Expr::Query { at: *at }),
+        Expr::Parens { at, inside: inner } => {
             let inner = copy_boxed(alloc, inner)?;
-            Ok(Expr::Parens(*line, inner))
+            Ok(Expr::Parens {
+                at: *at,
+                inside: inner,
+            })
         }
-        Expr::Unary(line, prefix, operand) => {
+        Expr::Unary {
+            at,
+            prefix,
+            operand,
+        } => {
             let operand = copy_boxed(alloc, operand)?;
-            Ok(Expr::Unary(*line, *prefix, operand))
+            Ok(Expr::Unary {
+                at: *at,
+                prefix: *prefix,
+                operand,
+            })
         }
-        Expr::Binary(line, operator, sign, left, right) => {
+        Expr::Binary {
+            at,
+            operator,
+            sign,
+            left,
+            right,
+        } => {
             let left = copy_boxed(alloc, left)?;
             let right = copy_boxed(alloc, right)?;
-            Ok(Expr::Binary(*line, *operator, *sign, left, right))
+            Ok(Expr::Binary {
+                at: *at,
+                operator: *operator,
+                sign: *sign,
+                left,
+                right,
+            })
         }
-        Expr::Choice(line, sign, condition, yes, no) => {
+        Expr::Choice {
+            at,
+            sign,
+            condition,
+            yes,
+            no,
+        } => {
             let condition = copy_boxed(alloc, condition)?;
             let yes = copy_boxed(alloc, yes)?;
             let no = copy_boxed(alloc, no)?;
-            Ok(Expr::Choice(*line, *sign, condition, yes, no))
+            Ok(Expr::Choice {
+                at: *at,
+                sign: *sign,
+                condition,
+                yes,
+                no,
+            })
         }
-        Expr::Apply(line, sign, callee, items) => {
+        Expr::Apply {
+            at,
+            sign,
+            callee,
+            arguments: items,
+        } => {
             let callee = copy_boxed(alloc, callee)?;
             let items = copy_list(alloc, items)?;
-            Ok(apply(*line, *sign, callee, items))
+            Ok(apply(*at, *sign, callee, items))
         }
-        Expr::Valof(line, command) => {
+        Expr::Valof { at, command } => {
             let command = copy_body(alloc, command)?;
-            Ok(Expr::Valof(*line, command))
+            Ok(Expr::Valof { at: *at, command })
         }
-        Expr::Table(line, items) => {
+        Expr::Table { at, items } => {
             let items = copy_list(alloc, items)?;
-            Ok(table(*line, items))
+            Ok(table(*at, items))
         }
     }
 }
@@ -100,7 +146,7 @@ fn copy_boxed(alloc: Global, expr: &Expr) -> Result<Box<Expr>, AllocError>
 /// A copy of a command, in a box.
 #[cycle(copy)]
 fn copy_body(alloc: Global, command: &Command) -> Result<Box<Command>, AllocError>
-    ensures { IfOk result (λ copy. action copy.value ≡ action command.now) }
+    ensures { IfOk result (λ copy. command_in copy.value ≡ command_in command.now) }
 {
     let copy = copy_command(alloc, command)?;
     Ok(Box::new(alloc, copy)?)
@@ -123,52 +169,108 @@ fn copy_list(alloc: Global, exprs: &[Expr]) -> Result<Vec<Expr>, AllocError>
 /// A copy of a command.
 #[cycle(copy)]
 fn copy_command(alloc: Global, command: &Command) -> Result<Command, AllocError>
-    ensures { IfOk result (λ copy. action copy ≡ action command.now) }
+    ensures { IfOk result (λ copy. command_in copy ≡ command_in command.now) }
 {
     match command {
         Command::Empty => Ok(Command::Empty),
-        Command::Assign(line, dests, values) => {
+        Command::Assign {
+            at,
+            destinations: dests,
+            values,
+        } => {
             let dests = copy_list(alloc, dests)?;
             let values = copy_list(alloc, values)?;
-            Ok(assign(*line, dests, values))
+            Ok(assign(*at, dests, values))
         }
-        Command::Call(line, callee, items) => {
+        Command::Call {
+            at,
+            callee,
+            arguments: items,
+        } => {
             let callee = copy_boxed(alloc, callee)?;
             let items = copy_list(alloc, items)?;
-            Ok(call(*line, callee, items))
+            Ok(call(*at, callee, items))
         }
-        Command::Goto(line, name) => Ok(Command::Goto(*line, copy_name(name)?)),
-        Command::Label(line, letters, body) => {
+        Command::Goto { at, name } => Ok(Command::Goto {
+            at: *at,
+            name: copy_name(name)?,
+        }),
+        Command::Label { at, letters, body } => {
             let letters = copy_letters(letters)?;
             let body = copy_body(alloc, body)?;
-            Ok(Command::Label(*line, letters, body))
+            Ok(Command::Label {
+                at: *at,
+                letters,
+                body,
+            })
         }
-        Command::Case(line, value, body) => {
+        Command::Case { at, value, body } => {
             let value = copy_boxed(alloc, value)?;
             let body = copy_body(alloc, body)?;
-            Ok(Command::Case(*line, value, body))
+            Ok(Command::Case {
+                at: *at,
+                value,
+                body,
+            })
         }
-        Command::Default(line, body) => {
+        Command::Default { at, body } => {
             let body = copy_body(alloc, body)?;
-            Ok(Command::Default(*line, body))
+            Ok(Command::Default { at: *at, body })
         }
-        Command::If(line, truth, condition, body) => {
+        Command::If {
+            at,
+            truth,
+            condition,
+            body,
+        } => {
             let condition = copy_boxed(alloc, condition)?;
             let body = copy_body(alloc, body)?;
-            Ok(Command::If(*line, *truth, condition, body))
+            Ok(Command::If {
+                at: *at,
+                truth: *truth,
+                condition,
+                body,
+            })
         }
-        Command::Test(line, condition, yes, no) => {
+        Command::Test {
+            at,
+            condition,
+            yes,
+            no,
+        } => {
             let condition = copy_boxed(alloc, condition)?;
             let yes = copy_body(alloc, yes)?;
             let no = copy_body(alloc, no)?;
-            Ok(Command::Test(*line, condition, yes, no))
+            Ok(Command::Test {
+                at: *at,
+                condition,
+                yes,
+                no,
+            })
         }
-        Command::While(line, truth, condition, body) => {
+        Command::While {
+            at,
+            truth,
+            condition,
+            body,
+        } => {
             let condition = copy_boxed(alloc, condition)?;
             let body = copy_body(alloc, body)?;
-            Ok(Command::While(*line, *truth, condition, body))
+            Ok(Command::While {
+                at: *at,
+                truth: *truth,
+                condition,
+                body,
+            })
         }
-        Command::For(line, name, from, to, by, body) => {
+        Command::For {
+            at,
+            name,
+            from,
+            to,
+            by,
+            body,
+        } => {
             let name = copy_name(name)?;
             let from = copy_boxed(alloc, from)?;
             let to = copy_boxed(alloc, to)?;
@@ -176,43 +278,64 @@ fn copy_command(alloc: Global, command: &Command) -> Result<Command, AllocError>
             match by {
                 Some(by) => {
                     let by = copy_boxed(alloc, by)?;
-                    Ok(for_loop(*line, name, from, to, Some(by), body))
+                    Ok(for_loop(*at, name, from, to, Some(by), body))
                 }
-                None => Ok(for_loop(*line, name, from, to, None, body)),
+                None => Ok(for_loop(*at, name, from, to, None, body)),
             }
         }
-        Command::SwitchOn(line, value, body) => {
+        Command::SwitchOn { at, value, body } => {
             let value = copy_boxed(alloc, value)?;
             let body = copy_body(alloc, body)?;
-            Ok(Command::SwitchOn(*line, value, body))
+            Ok(Command::SwitchOn {
+                at: *at,
+                value,
+                body,
+            })
         }
-        Command::ResultIs(line, value) => {
+        Command::ResultIs { at, value } => {
             let value = copy_boxed(alloc, value)?;
-            Ok(Command::ResultIs(*line, value))
+            Ok(Command::ResultIs { at: *at, value })
         }
-        Command::Simple(line, word) => Ok(Command::Simple(*line, *word)),
-        Command::Block(line, decls, commands) => {
+        Command::Simple { at, word } => Ok(Command::Simple {
+            at: *at,
+            word: *word,
+        }),
+        Command::Block {
+            at,
+            decls,
+            commands,
+        } => {
             let decls = copy_declarations(alloc, decls)?;
             let commands = copy_commands(alloc, commands)?;
-            Ok(block(*line, decls, commands))
+            Ok(block(*at, decls, commands))
         }
-        Command::Repeat(line, body) => {
+        Command::Repeat { at, body } => {
             let body = copy_body(alloc, body)?;
-            Ok(Command::Repeat(*line, body))
+            Ok(Command::Repeat { at: *at, body })
         }
-        Command::RepeatWhile(line, truth, body, condition) => {
+        Command::RepeatWhile {
+            at,
+            truth,
+            body,
+            condition,
+        } => {
             let body = copy_body(alloc, body)?;
             let condition = copy_boxed(alloc, condition)?;
-            Ok(Command::RepeatWhile(*line, *truth, body, condition))
+            Ok(Command::RepeatWhile {
+                at: *at,
+                truth: *truth,
+                body,
+                condition,
+            })
         }
     }
 }
 
 /// A copy of commands.
 #[cycle(copy)]
-#[tactic(auto, using(crate::proofs::Copies::actions_next))]
+#[tactic(auto, using(crate::proofs::Copies::commands_next))]
 fn copy_commands(alloc: Global, commands: &[Command]) -> Result<Vec<Command>, AllocError>
-    ensures { IfOk result (λ copies. actions_in copies.items ≡ actions_in commands.now) }
+    ensures { IfOk result (λ copies. commands_in copies.items ≡ commands_in commands.now) }
 {
     let mut copies = Vec::with_capacity(alloc, commands.len())?;
     for command in commands {
@@ -228,13 +351,13 @@ fn copy_declaration(alloc: Global, decl: &Decl) -> Result<Decl, AllocError>
     ensures { IfOk result (λ copy. declaration copy ≡ declaration decl.now) }
 {
     match decl {
-        Decl::Constants(line, sort, items) => {
+        Decl::Constants { at, sort, items } => {
             let items = copy_items(alloc, items)?;
-            Ok(constants(*line, *sort, items))
+            Ok(constants(*at, *sort, items))
         }
-        Decl::Let(line, defs) => {
+        Decl::Let { at, defs } => {
             let defs = copy_definitions(alloc, defs)?;
-            Ok(let_of(*line, defs))
+            Ok(let_of(*at, defs))
         }
     }
 }
@@ -259,10 +382,14 @@ fn copy_item(alloc: Global, item: &ConstItem) -> Result<ConstItem, AllocError>
     ensures { IfOk result (λ copy. items_in (copy ∷ []) ≡ items_in (item.now ∷ [])) }
 {
     match item {
-        ConstItem::Item(line, letters, expr) => {
+        ConstItem::Item { at, letters, expr } => {
             let letters = copy_letters(letters)?;
             let expr = copy(alloc, expr)?;
-            Ok(ConstItem::Item(*line, letters, expr))
+            Ok(ConstItem::Item {
+                at: *at,
+                letters,
+                expr,
+            })
         }
     }
 }
@@ -287,22 +414,42 @@ fn copy_definition(alloc: Global, def: &Def) -> Result<Def, AllocError>
     ensures { IfOk result (λ copy. definition copy ≡ definition def.now) }
 {
     match def {
-        Def::Routine(line, letters, formals, body) => {
+        Def::Routine {
+            at,
+            letters,
+            formals,
+            body,
+        } => {
             let letters = copy_letters(letters)?;
             let formals = copy_names(alloc, formals)?;
             let body = copy_body(alloc, body)?;
-            Ok(Def::Routine(*line, letters, formals, body))
+            Ok(Def::Routine {
+                at: *at,
+                letters,
+                formals,
+                body,
+            })
         }
-        Def::Function(line, letters, formals, body) => {
+        Def::Function {
+            at,
+            letters,
+            formals,
+            body,
+        } => {
             let letters = copy_letters(letters)?;
             let formals = copy_names(alloc, formals)?;
             let body = copy_boxed(alloc, body)?;
-            Ok(Def::Function(*line, letters, formals, body))
+            Ok(Def::Function {
+                at: *at,
+                letters,
+                formals,
+                body,
+            })
         }
-        Def::Variables(line, names, inits) => {
+        Def::Variables { at, names, inits } => {
             let names = copy_names(alloc, names)?;
             let inits = copy_inits(alloc, inits)?;
-            Ok(variables(*line, names, inits))
+            Ok(variables(*at, names, inits))
         }
     }
 }
@@ -331,9 +478,12 @@ fn copy_init(alloc: Global, init: &Init) -> Result<Init, AllocError>
             let expr = copy(alloc, expr)?;
             Ok(Init::Value(expr))
         }
-        Init::Vector(line, expr) => {
+        Init::Vector { at, size: expr } => {
             let expr = copy(alloc, expr)?;
-            Ok(Init::Vector(*line, expr))
+            Ok(Init::Vector {
+                at: *at,
+                size: expr,
+            })
         }
     }
 }

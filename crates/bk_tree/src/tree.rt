@@ -1,8 +1,8 @@
 //! Trees of a section.
 //!
-//! Every node but an empty command has the line of its first symbol. Names are in upper case.
+//! Every node but an empty command has the position of its first symbol. Names are in upper case.
 
-use bk_base::Line;
+use crate::position::Position;
 use smallvec::SmallVec;
 
 /// Most names have at most this number of bytes. These are kept without an allocation of their own.
@@ -11,11 +11,11 @@ const USUAL_LETTERS: usize = 16;
 /// The letters, digits and dots of a name, in upper case.
 pub type Letters = SmallVec<u8, USUAL_LETTERS>;
 
-/// A name and its line.
+/// A name, with its position.
 #[derive(Drop)]
 pub struct Name {
-    /// Its line.
-    pub line: Line,
+    /// Its position.
+    pub at: Position,
     /// Its letters, digits and dots, in upper case.
     pub letters: Letters,
 }
@@ -109,30 +109,74 @@ pub enum Sort {
 #[cycle(tree)]
 pub enum Expr {
     /// A name.
-    Name(Line, Letters),
+    Name {
+        at: Position,
+        letters: Letters,
+    },
     /// A number or a character constant, as a word.
-    Number(Line, u32),
+    Number {
+        at: Position,
+        word: u32,
+    },
     /// The bytes of a string.
-    Text(Line, Vec<u8>),
+    Text {
+        at: Position,
+        bytes: Vec<u8>,
+    },
     /// `TRUE` or `FALSE`.
-    Truth(Line, bool),
+    Truth {
+        at: Position,
+        truth: bool,
+    },
     /// `?`
-    Query(Line),
+    Query {
+        at: Position,
+    },
     /// An expression in parentheses.
-    Parens(Line, Box<Expr>),
+    Parens {
+        at: Position,
+        inside: Box<Expr>,
+    },
     /// A prefix operator and its operand.
-    Unary(Line, Prefix, Box<Expr>),
-    /// Two operands, and the line of the operator between them. A chain of relations is the `&` of its relations,
-    /// with each shared operand copied; the `&` has the line of the later relation's operator.
-    Binary(Line, Operator, Line, Box<Expr>, Box<Expr>),
-    /// `E -> E, E`, and the line of its arrow.
-    Choice(Line, Line, Box<Expr>, Box<Expr>, Box<Expr>),
-    /// `E(Es)`, and the line of its parenthesis.
-    Apply(Line, Line, Box<Expr>, Vec<Expr>),
+    Unary {
+        at: Position,
+        prefix: Prefix,
+        operand: Box<Expr>,
+    },
+    /// Two operands, and the position `sign` of the operator between them. A chain of relations is the `&` of its relations,
+    /// with each shared operand copied; the `&` has the position of the later relation's operator.
+    Binary {
+        at: Position,
+        operator: Operator,
+        sign: Position,
+        left: Box<Expr>,
+        right: Box<Expr>,
+    },
+    /// `E -> E, E`, and the position `sign` of its arrow.
+    Choice {
+        at: Position,
+        sign: Position,
+        condition: Box<Expr>,
+        yes: Box<Expr>,
+        no: Box<Expr>,
+    },
+    /// `E(Es)`, and the position `sign` of its parenthesis.
+    Apply {
+        at: Position,
+        sign: Position,
+        callee: Box<Expr>,
+        arguments: Vec<Expr>,
+    },
     /// `VALOF C`
-    Valof(Line, Box<Command>),
+    Valof {
+        at: Position,
+        command: Box<Command>,
+    },
     /// `TABLE Es`
-    Table(Line, Vec<Expr>),
+    Table {
+        at: Position,
+        items: Vec<Expr>,
+    },
 }
 
 /// A command.
@@ -142,37 +186,103 @@ pub enum Command {
     /// The empty command after the colon of a label, CASE or DEFAULT. It is no node.
     Empty,
     /// `Es := Es`: destinations and as many values.
-    Assign(Line, Vec<Expr>, Vec<Expr>),
+    Assign {
+        at: Position,
+        destinations: Vec<Expr>,
+        values: Vec<Expr>,
+    },
     /// `E(Es)`
-    Call(Line, Box<Expr>, Vec<Expr>),
+    Call {
+        at: Position,
+        callee: Box<Expr>,
+        arguments: Vec<Expr>,
+    },
     /// `GOTO name`
-    Goto(Line, Name),
+    Goto {
+        at: Position,
+        name: Name,
+    },
     /// `name: C`
-    Label(Line, Letters, Box<Command>),
+    Label {
+        at: Position,
+        letters: Letters,
+        body: Box<Command>,
+    },
     /// `CASE E: C`
-    Case(Line, Box<Expr>, Box<Command>),
+    Case {
+        at: Position,
+        value: Box<Expr>,
+        body: Box<Command>,
+    },
     /// `DEFAULT: C`
-    Default(Line, Box<Command>),
+    Default {
+        at: Position,
+        body: Box<Command>,
+    },
     /// `IF E DO C` (true) or `UNLESS E DO C` (false).
-    If(Line, bool, Box<Expr>, Box<Command>),
+    If {
+        at: Position,
+        truth: bool,
+        condition: Box<Expr>,
+        body: Box<Command>,
+    },
     /// `TEST E DO C OR C`
-    Test(Line, Box<Expr>, Box<Command>, Box<Command>),
+    Test {
+        at: Position,
+        condition: Box<Expr>,
+        yes: Box<Command>,
+        no: Box<Command>,
+    },
     /// `WHILE E DO C` (true) or `UNTIL E DO C` (false).
-    While(Line, bool, Box<Expr>, Box<Command>),
+    While {
+        at: Position,
+        truth: bool,
+        condition: Box<Expr>,
+        body: Box<Command>,
+    },
     /// `FOR name = E TO E BY E DO C`
-    For(Line, Name, Box<Expr>, Box<Expr>, Option<Box<Expr>>, Box<Command>),
+    For {
+        at: Position,
+        name: Name,
+        from: Box<Expr>,
+        to: Box<Expr>,
+        by: Option<Box<Expr>>,
+        body: Box<Command>,
+    },
     /// `SWITCHON E INTO C`
-    SwitchOn(Line, Box<Expr>, Box<Command>),
+    SwitchOn {
+        at: Position,
+        value: Box<Expr>,
+        body: Box<Command>,
+    },
     /// `RESULTIS E`
-    ResultIs(Line, Box<Expr>),
+    ResultIs {
+        at: Position,
+        value: Box<Expr>,
+    },
     /// A command of one word.
-    Simple(Line, Simple),
+    Simple {
+        at: Position,
+        word: Simple,
+    },
     /// `$( .. $)`: declarations and commands.
-    Block(Line, Vec<Decl>, Vec<Command>),
+    Block {
+        at: Position,
+        decls: Vec<Decl>,
+        commands: Vec<Command>,
+    },
     /// `C REPEAT`
-    Repeat(Line, Box<Command>),
+    Repeat {
+        at: Position,
+        body: Box<Command>,
+    },
     /// `C REPEATWHILE E` (true) or `C REPEATUNTIL E` (false).
-    RepeatWhile(Line, bool, Box<Command>, Box<Expr>),
+    RepeatWhile {
+        at: Position,
+        truth: bool,
+        body: Box<Command>,
+        condition: Box<Expr>,
+    },
 }
 
 /// A declaration. It is no node; its items and definitions are.
@@ -180,16 +290,27 @@ pub enum Command {
 #[cycle(tree)]
 pub enum Decl {
     /// `MANIFEST`, `STATIC` or `GLOBAL` with its items.
-    Constants(Line, Sort, Vec<ConstItem>),
+    Constants {
+        at: Position,
+        sort: Sort,
+        items: Vec<ConstItem>,
+    },
     /// `LET` with its definitions.
-    Let(Line, Vec<Def>),
+    Let {
+        at: Position,
+        defs: Vec<Def>,
+    },
 }
 
 /// A name with a constant: `name = E`.
 #[derive(Drop)]
 #[cycle(tree)]
 pub enum ConstItem {
-    Item(Line, Letters, Expr),
+    Item {
+        at: Position,
+        letters: Letters,
+        expr: Expr,
+    },
 }
 
 /// A definition of a LET.
@@ -197,11 +318,25 @@ pub enum ConstItem {
 #[cycle(tree)]
 pub enum Def {
     /// `name(names) BE C`
-    Routine(Line, Letters, Vec<Name>, Box<Command>),
+    Routine {
+        at: Position,
+        letters: Letters,
+        formals: Vec<Name>,
+        body: Box<Command>,
+    },
     /// `name(names) = E`
-    Function(Line, Letters, Vec<Name>, Box<Expr>),
+    Function {
+        at: Position,
+        letters: Letters,
+        formals: Vec<Name>,
+        body: Box<Expr>,
+    },
     /// `names = items`, with as many items as names.
-    Variables(Line, Vec<Name>, Vec<Init>),
+    Variables {
+        at: Position,
+        names: Vec<Name>,
+        inits: Vec<Init>,
+    },
 }
 
 /// What a variable begins with. It is no node; its expression is.
@@ -210,6 +345,6 @@ pub enum Def {
 pub enum Init {
     /// `E`
     Value(Expr),
-    /// `VEC E`, and the line of `VEC`.
-    Vector(Line, Expr),
+    /// `VEC E`, with the position of `VEC`.
+    Vector { at: Position, size: Expr },
 }

@@ -1,5 +1,5 @@
 -- Trees of worked programs, all on line 1, the header in front of them, and the form of their rows.
-use Rattle.bk_meaning.proofs.Terms.{ℕ, ◌-◌, ◌≡◌, Bool, List, [], ◌∷◌, map, Operator, Operator as o, Prefix, Prefix as q, Simple, Sort, Sort as s, Mention, Expression, Expressions, Action, Actions, Declaration, Declarations, Items, Definition, Definitions, Starts, Run, meaning}
+use Rattle.bk_meaning.proofs.Terms.{ℕ, ◌-◌, ◌≡◌, Bool, List, [], ◌∷◌, map, Operator, Operator as o, Prefix, Prefix as q, Simple, Sort, Sort as s, Mention, Expression, Expressions, Command, Commands, Declaration, Declarations, Items, Definition, Definitions, Starts, Run, meaning}
 use Rattle.bk_tree.specs.Tree as t
 use Rattle.bk_meaning.proofs.Rows.Names as n
 
@@ -8,9 +8,9 @@ abbrev pub expressions : List Expression → Expressions
 expressions [] = t.none
 expressions (e ∷ es) = t.more e (expressions es)
 
-abbrev pub actions : List Action → Actions
-actions [] = t.no_actions
-actions (c ∷ cs) = t.also c (actions cs)
+abbrev pub command_row : List Command → Commands
+command_row [] = t.no_commands
+command_row (c ∷ cs) = t.also c (command_row cs)
 
 abbrev pub declarations : List Declaration → Declarations
 declarations [] = t.no_declarations
@@ -30,7 +30,7 @@ starts (i ∷ is) = i (starts is)
 
 abbrev pub mentions : List (List ℕ) → List Mention
 mentions [] = []
-mentions (x ∷ xs) = record { line = 1; letters = x } ∷ mentions xs
+mentions (x ∷ xs) = record { at = 1; letters = x } ∷ mentions xs
 
 -- expressions
 abbrev pub named : List ℕ → Expression
@@ -63,62 +63,62 @@ choice c a b = t.choice 1 1 c a b
 abbrev pub apply : Expression → List Expression → Expression
 apply f es = t.apply 1 1 f (expressions es)
 
-abbrev pub valof : Action → Expression
+abbrev pub valof : Command → Expression
 valof c = t.valof 1 c
 
 abbrev pub table : List Expression → Expression
 table es = t.table 1 (expressions es)
 
 -- commands
-abbrev pub assign : List Expression → List Expression → Action
+abbrev pub assign : List Expression → List Expression → Command
 assign xs es = t.assign 1 (expressions xs) (expressions es)
 
-abbrev pub call : Expression → List Expression → Action
+abbrev pub call : Expression → List Expression → Command
 call f es = t.call 1 f (expressions es)
 
-abbrev pub goto : List ℕ → Action
-goto x = t.goto 1 (record { line = 1; letters = x })
+abbrev pub goto : List ℕ → Command
+goto x = t.goto 1 (record { at = 1; letters = x })
 
-abbrev pub label : List ℕ → Action → Action
+abbrev pub label : List ℕ → Command → Command
 label x c = t.label 1 x c
 
-abbrev pub case : Expression → Action → Action
+abbrev pub case : Expression → Command → Command
 case e c = t.case_of 1 e c
 
-abbrev pub default : Action → Action
+abbrev pub default : Command → Command
 default c = t.default 1 c
 
-abbrev pub when : Bool → Expression → Action → Action
+abbrev pub when : Bool → Expression → Command → Command
 when b e c = t.when 1 b e c
 
-abbrev pub test : Expression → Action → Action → Action
+abbrev pub test : Expression → Command → Command → Command
 test e a b = t.test 1 e a b
 
-abbrev pub while : Bool → Expression → Action → Action
+abbrev pub while : Bool → Expression → Command → Command
 while b e c = t.while 1 b e c
 
-abbrev pub for_loop : List ℕ → Expression → Expression → List Expression → Action → Action
-for_loop x a b step c = t.for_loop 1 (record { line = 1; letters = x }) a b (expressions step) c
+abbrev pub for_loop : List ℕ → Expression → Expression → List Expression → Command → Command
+for_loop x a b step c = t.for_loop 1 (record { at = 1; letters = x }) a b (expressions step) c
 
-abbrev pub switch : Expression → Action → Action
+abbrev pub switch : Expression → Command → Command
 switch e c = t.switch 1 e c
 
-abbrev pub result : Expression → Action
+abbrev pub result : Expression → Command
 result e = t.result 1 e
 
-abbrev pub simple : Simple → Action
+abbrev pub simple : Simple → Command
 simple w = t.simple 1 w
 
-abbrev pub compound : List Action → Action
-compound cs = t.block 1 t.no_declarations (actions cs)
+abbrev pub compound : List Command → Command
+compound cs = t.block 1 t.no_declarations (command_row cs)
 
-abbrev pub block : List Declaration → List Action → Action
-block ds cs = t.block 1 (declarations ds) (actions cs)
+abbrev pub block : List Declaration → List Command → Command
+block ds cs = t.block 1 (declarations ds) (command_row cs)
 
-abbrev pub repeat : Action → Action
+abbrev pub repeat : Command → Command
 repeat c = t.repeat 1 c
 
-abbrev pub repeat_while : Bool → Action → Expression → Action
+abbrev pub repeat_while : Bool → Command → Expression → Command
 repeat_while b c e = t.repeat_while 1 b c e
 
 -- declarations
@@ -131,7 +131,7 @@ constants sort is = t.constants 1 sort (items is)
 abbrev pub lets : List Definition → Declaration
 lets ds = t.definitions 1 (definitions ds)
 
-abbrev pub routine : List ℕ → List (List ℕ) → Action → Definition
+abbrev pub routine : List ℕ → List (List ℕ) → Command → Definition
 routine x xs c = t.routine 1 x (mentions xs) c
 
 abbrev pub function : List ℕ → List (List ℕ) → Expression → Definition
@@ -173,22 +173,22 @@ element a b = binary o.Subscript a b
 abbrev pub plus : Expression → Expression → Expression
 plus a b = binary o.Add a b
 
-abbrev pub store : Expression → Expression → Action
+abbrev pub store : Expression → Expression → Command
 store a e = assign (a ∷ []) (e ∷ [])
 
-abbrev pub set : List ℕ → Expression → Action
+abbrev pub set : List ℕ → Expression → Command
 set x e = store (named x) e
 
-abbrev pub wrch : Expression → Action
+abbrev pub wrch : Expression → Command
 wrch e = call (named n.wrch) (e ∷ [])
 
-abbrev pub writen : Expression → Action
+abbrev pub writen : Expression → Command
 writen e = call (named n.writen) (e ∷ [])
 
-abbrev pub writes : Expression → Action
+abbrev pub writes : Expression → Command
 writes e = call (named n.writes) (e ∷ [])
 
-abbrev pub a_routine : List ℕ → List (List ℕ) → Action → Declaration
+abbrev pub a_routine : List ℕ → List (List ℕ) → Command → Declaration
 a_routine x xs c = lets (routine x xs c ∷ [])
 
 abbrev pub a_function : List ℕ → List (List ℕ) → Expression → Declaration
@@ -204,7 +204,7 @@ a_vector x e = lets (variables (x ∷ []) (vector e ∷ []) ∷ [])
 abbrev pub program : List Declaration → List Declarations
 program ds = with_header ds ∷ []
 
-abbrev pub main : Action → List Declarations
+abbrev pub main : Command → List Declarations
 main c = program (a_routine n.start [] c ∷ [])
 
 -- a program, with its input and its turns: its end

@@ -9,5 +9,5 @@ returns-in-Value c = meets c.start_value.result _ (λ b. world c.start_value.new
 
 pub returns-in-Vector : goal.returns-in-Vector
 returns-in-Vector c = meets c.vector.result _ (λ b. world c.vector.new.m b) _ _
-    (λ p b. ap (λ (u : Outcome Done). resumed p c.args.m.now.frames.items (tag done_tag u)) (vector_is p c.in-Vector.line (expression c.in-Vector.size) (starts_in c.args.others.now) (env_in c.args.here) (λ vs w. started_then p c.args.rest.value (letters_in c.args.names.now) vs w) (world c.args.m.now b))
+    (λ p b. ap (λ (u : Outcome Done). resumed p c.args.m.now.frames.items (tag done_tag u)) (vector_is p c.in-Vector.at (expression c.in-Vector.size) (starts_in c.args.others.now) (env_in c.args.here) (λ vs w. started_then p c.args.rest.value (letters_in c.args.names.now) vs w) (world c.args.m.now b))
     ∙ ap (λ (x : Init). resumed p c.args.m.now.frames.items (tag done_tag (starting_then p (starts_in (x ∷ c.args.others.now)) (env_in c.args.here) (letters_in c.args.names.now) c.args.rest.value (world c.args.m.now b)))) (sym c.in-Vector.is)) c.vector.ensures

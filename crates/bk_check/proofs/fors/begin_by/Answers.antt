@@ -1,4 +1,4 @@
-use Rattle.bk_check.proofs.Terms.{ℕ, List, ap, ◌∙◌, action, Outcome, Done, remembering, bind, cell, for_test, for_rounds_of, full, value_in, env_in, world, tag, done_tag, resumed}
+use Rattle.bk_check.proofs.Terms.{ℕ, List, ap, ◌∙◌, command_in, Outcome, Done, remembering, bind, cell, for_test, for_rounds_of, full, value_in, env_in, world, tag, done_tag, resumed}
 use Rattle.bk_check.proofs.Resuming.{meets, pushed_closing}
 use Rattle.bk_check.proofs.ForLoops.{for_begun}
 use Rattle.bk_check.proofs.fors.begin_by.Goals as goal
@@ -7,7 +7,7 @@ pub returns : goal.returns
 returns c =
     let n = c.made-object.result in
     let inside = env_in c.in_ok-inside.inside in
-    let a = action c.args.body.now in
+    let a = command_in c.args.body.now in
     let h = value_in c.args.limit in
     meets c.first_round.result _ (λ b. world c.first_round.new.m b) _ _
     (λ p b. pushed_closing p c.args.m.now.frames.items _ n (for_test n h c.args.step (λ w. for_rounds_of (full p) a n h c.args.step inside w) (remembering c.make_one.new.store (world c.args.m.now b))) c.in_ok-push.ensures.items

@@ -1,4 +1,4 @@
-use Rattle.bk_check.proofs.Terms.{◌-◌, ◌<◌, ap, sym, ◌∙◌, arith, action, World, Outcome, Done, full, value_in, env_in, world, tag, done_tag, resumed, full_for_rounds, turn_left}
+use Rattle.bk_check.proofs.Terms.{◌-◌, ◌<◌, ap, sym, ◌∙◌, arith, command_in, World, Outcome, Done, full, value_in, env_in, world, tag, done_tag, resumed, full_for_rounds, turn_left}
 use Rattle.bk_check.proofs.Resuming.{meets}
 use Rattle.bk_check.proofs.fors.further_round.Goals as goal
 
@@ -9,5 +9,5 @@ returns c =
     meets c.for_round.result _ (λ b. world c.for_round.new.m b) _ _
     (λ p b. let w = world c.args.m.now b in
     ap (λ (u : Outcome Done). resumed p c.args.m.now.frames.items (tag done_tag u))
-    (sym (full_for_rounds p (action f.body.now) f.object (value_in f.limit) f.step (env_in f.env) (record w { turns = w.turns - 1 }))
-    ∙ turn_left w (λ (w : World). (full p).for_rounds (action f.body.now) f.object (value_in f.limit) f.step (env_in f.env) w) lt)) c.for_round.ensures
+    (sym (full_for_rounds p (command_in f.body.now) f.object (value_in f.limit) f.step (env_in f.env) (record w { turns = w.turns - 1 }))
+    ∙ turn_left w (λ (w : World). (full p).for_rounds (command_in f.body.now) f.object (value_in f.limit) f.step (env_in f.env) w) lt)) c.for_round.ensures

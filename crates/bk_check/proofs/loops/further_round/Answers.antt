@@ -1,4 +1,4 @@
-use Rattle.bk_check.proofs.Terms.{◌-◌, ◌<◌, ap, sym, ◌∙◌, arith, action, World, Outcome, Done, forwards, full, env_in, world, tag, done_tag, resumed, full_rounds, turn_left}
+use Rattle.bk_check.proofs.Terms.{◌-◌, ◌<◌, ap, sym, ◌∙◌, arith, command_in, World, Outcome, Done, forwards, full, env_in, world, tag, done_tag, resumed, full_rounds, turn_left}
 use Rattle.bk_check.proofs.Resuming.{meets}
 use Rattle.bk_check.proofs.loops.further_round.Goals as goal
 
@@ -8,5 +8,5 @@ returns c =
     meets c.round.result _ (λ b. world c.round.new.m b) _ _
     (λ p b. let w = world c.args.m.now b in
     ap (λ (u : Outcome Done). resumed p c.args.m.now.frames.items (tag done_tag u))
-    (sym (full_rounds p (action c.args.command.now) forwards (env_in c.args.env) (record w { turns = w.turns - 1 }))
-    ∙ turn_left w (λ (w : World). (full p).rounds (action c.args.command.now) forwards (env_in c.args.env) w) lt)) c.round.ensures
+    (sym (full_rounds p (command_in c.args.command.now) forwards (env_in c.args.env) (record w { turns = w.turns - 1 }))
+    ∙ turn_left w (λ (w : World). (full p).rounds (command_in c.args.command.now) forwards (env_in c.args.env) w) lt)) c.round.ensures

@@ -1,4 +1,5 @@
-use Rattle.bk_frames.proofs.Terms.{◌≡◌, refl, sym, subst, Guard, Expression, Command, Closing, Completion, One, Two, IsKept, AreKept, node, completions_of_guard, Guard as g, Link as l}
+use Rattle.bk_frames.proofs.Terms.{◌≡◌, refl, sym, subst, Guard, Expression, Closing, Completion, One, Two, IsKept, AreKept, node, completions_of_guard, Guard as g, Link as l}
+use Rattle.bk_frames.specs.declared.budget.Category.TheVariants.{Command}
 use Rattle.bk_frames.proofs.completions.completions_of_guard.Goals as goal
 
 case : (k : Guard) (x y : Completion) → k ≡ g.Case → AreKept (Two x y) (completions_of_guard g.Case) → AreKept (Two x y) (completions_of_guard k)

@@ -1,4 +1,4 @@
-use Rattle.bk_frames.proofs.Terms.{◌≡◌, ◌↔◌, Bool, true, ◌||◌, ◌+◌, refl, sym, subst, ap, ◌∙◌, ParserState, Call, expression, action, depth, nodes, depth_of_action, nodes_of_action, Stack, State, node_of, Limit, counted, has_budget, category_of, Completes, state}
+use Rattle.bk_frames.proofs.Terms.{◌≡◌, ◌↔◌, Bool, true, ◌||◌, ◌+◌, refl, sym, subst, ap, ◌∙◌, ParserState, Call, expression, command_in, depth, nodes, depth_of_command, nodes_of_command, Stack, State, node_of, Limit, counted, has_budget, category_of, Completes, state}
 use Rattle.bk_frames.proofs.Sizes.{node_kept}
 use Rattle.bk_frames.proofs.Asks.{asks_want, asks_have, asks_begin, asks_maybe, asks_did, asks_due}
 use Rattle.bk_frames.proofs.limits.has_budget_for.Goals as goal
@@ -28,8 +28,8 @@ returns-in-Maybe c st h = answer c.args.counts st c.args.now.now _ _ c.has_eithe
 
 pub returns-in-Did : goal.returns-in-Did
 returns-in-Did c st h =
-    let a = action c.in-Did.done.command in
-    answer c.args.counts st c.args.now.now _ _ c.has_budget-in-Did.result (ap (state st) c.in-Did.is) (c.has_budget-in-Did.ensures (depth_of_action a) (nodes_of_action a) c.in-Did.done.sizes) (asks_did c.args.counts st c.args.budgets.now h a)
+    let a = command_in c.in-Did.done.command in
+    answer c.args.counts st c.args.now.now _ _ c.has_budget-in-Did.result (ap (state st) c.in-Did.is) (c.has_budget-in-Did.ensures (depth_of_command a) (nodes_of_command a) c.in-Did.done.sizes) (asks_did c.args.counts st c.args.budgets.now h a)
 
 pub returns-in-Due : goal.returns-in-Due
 returns-in-Due c st h = answer c.args.counts st c.args.now.now _ _ c.has_budget-in-Due.result (ap (state st) c.in-Due.is) (c.has_budget-in-Due.ensures 0 0 refl) (asks_due c.args.counts st c.args.budgets.now h)

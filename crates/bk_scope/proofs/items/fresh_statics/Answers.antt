@@ -2,5 +2,5 @@ use Rattle.bk_scope.proofs.Terms.{arith, common_steps}
 use Rattle.bk_scope.proofs.FreshSteps.{bind_all-push}
 use Rattle.bk_scope.proofs.items.fresh_statics.Goals as goal
 
-pub loop-line-preserved : goal.loop-line-preserved
-loop-line-preserved c = λ scope. grind (arith, common_steps, bind_all-push, c.loop-line.invariant scope)
+pub loop-at-preserved : goal.loop-at-preserved
+loop-at-preserved c = λ scope. grind (arith, common_steps, bind_all-push, c.loop-at.invariant scope)

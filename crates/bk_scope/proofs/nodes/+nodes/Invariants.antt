@@ -1,10 +1,10 @@
-use Rattle.bk_scope.proofs.Terms.{◌≡◌, ◌++◌, map, drop, expressions_in, actions_in, declarations_in, definitions_in, starts_in, mention, each_evaluated, destinations, each_done, declared, defined, started, place_behind, variables_of}
+use Rattle.bk_scope.proofs.Terms.{◌≡◌, ◌++◌, map, drop, expressions_in, commands_in, declarations_in, definitions_in, starts_in, mention, each_evaluated, destinations, each_done, declared, defined, started, place_behind, variables_of}
 use Rattle.bk_scope.proofs.nodes.+nodes.Given as goal
 
 abbrev pub invariant-act_each-loop-command : goal.invariant-act_each-loop-command
 invariant-act_each-loop-command l = record {
   scope : l.walk.scope ≡ l.fn.walk.scope;
-  found : each_done l.fn.walk.scope l.place (actions_in (drop l.command-index l.commands)) l.walk.found ≡ each_done l.fn.walk.scope l.place (actions_in l.commands) l.fn.walk.found;
+  found : each_done l.fn.walk.scope l.place (commands_in (drop l.command-index l.commands)) l.walk.found ≡ each_done l.fn.walk.scope l.place (commands_in l.commands) l.fn.walk.found;
 }
 
 abbrev pub invariant-declare_each-loop-decl : goal.invariant-declare_each-loop-decl

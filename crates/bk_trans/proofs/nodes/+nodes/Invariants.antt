@@ -1,4 +1,4 @@
-use Rattle.bk_trans.proofs.Terms.{◌≡◌, drop, expressions_in, actions_in, declarations_in, definitions_in, starts_in, reached, each_written, stores_written, values_written, each_act_written, declared, defined, started}
+use Rattle.bk_trans.proofs.Terms.{◌≡◌, drop, expressions_in, commands_in, declarations_in, definitions_in, starts_in, reached, each_written, stores_written, values_written, each_act_written, declared, defined, started}
 use Rattle.bk_trans.proofs.nodes.+nodes.Given as goal
 
 abbrev pub invariant-each_value-loop-expr : goal.invariant-each_value-loop-expr
@@ -11,7 +11,7 @@ abbrev pub invariant-each_stored-loop-expr : goal.invariant-each_stored-loop-exp
 invariant-each_stored-loop-expr l = values_written l.depth (expressions_in (drop l.expr-index l.exprs)) l.codes l.out ≡ values_written l.depth (expressions_in l.exprs) l.fn.codes l.fn.out
 
 abbrev pub invariant-each_act-loop-command : goal.invariant-each_act-loop-command
-invariant-each_act-loop-command l = each_act_written l.around l.depth (actions_in (drop l.command-index l.commands)) l.out ≡ each_act_written l.around l.depth (actions_in l.commands) l.fn.out
+invariant-each_act-loop-command l = each_act_written l.around l.depth (commands_in (drop l.command-index l.commands)) l.out ≡ each_act_written l.around l.depth (commands_in l.commands) l.fn.out
 
 abbrev pub invariant-declare_each-loop-decl : goal.invariant-declare_each-loop-decl
 invariant-declare_each-loop-decl l = declared (declarations_in (drop l.decl-index l.decls)) (reached l.behind l.out) ≡ declared (declarations_in l.decls) (reached l.fn.depth l.fn.out)

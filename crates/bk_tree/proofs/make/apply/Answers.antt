@@ -2,4 +2,4 @@ use Rattle.bk_tree.proofs.Trees.{Apply_is}
 use Rattle.bk_tree.proofs.make.apply.Goals as goal
 
 pub returns : goal.returns
-returns c = Apply_is c.args.line c.args.sign c.args.callee c.args.items
+returns c = Apply_is c.args.at c.args.sign c.args.callee c.args.items

@@ -1,11 +1,11 @@
-use Rattle.bk_check.proofs.Terms.{ap, ◌∙◌, action, Outcome, Done, in_order, alone, full, mode_in, env_in, world, tag, done_tag, resumed, OnDone as d}
+use Rattle.bk_check.proofs.Terms.{ap, ◌∙◌, command_in, Outcome, Done, in_order, alone, full, mode_in, env_in, world, tag, done_tag, resumed, OnDone as d}
 use Rattle.bk_check.proofs.Resuming.{pushed_done}
 use Rattle.bk_check.proofs.Scoped.{scope_is}
 use Rattle.bk_check.proofs.machine.Evaluator.alone.Goals as goal
 
 pub returns : goal.returns
 returns c = λ p b.
-    let cs = alone (action c.args.command.now) in
+    let cs = alone (command_in c.args.command.now) in
     c.from_place.ensures p c.push.new.self.items (world c.args.self.now b)
     ∙ pushed_done p c.args.self.now.frames.items c.push.new.self.items (d.Alone c.args.command c.in_ok-again.field-0) (in_order (full p) cs (mode_in c.args.mode) (env_in c.in_ok-inside.inside) (world c.args.self.now b)) c.in_ok-push.ensures.items
     ∙ ap (λ (u : Outcome Done). resumed p c.args.self.now.frames.items (tag done_tag u)) (scope_is p cs (mode_in c.args.mode) (env_in c.args.env) (env_in c.in_ok-again.field-0) (env_in c.in_ok-inside.inside) (world c.args.self.now b) c.in_ok-again.ensures c.in_ok-inside.ensures)

@@ -1,5 +1,0 @@
-use Rattle.bk_syntax.proofs.Terms.{take, symbols_of, stack_of, state, Bounded, tags, AfterSymbols}
-use Rattle.bk_syntax.proofs.parser.parse.Given as goal
-
-abbrev pub invariant-loop-token : goal.invariant-loop-token
-invariant-loop-token l = AfterSymbols (symbols_of (take l.token-index l.tokens)) (tags l.opened.items) (state (stack_of l.frames) l.now) × Bounded (state (stack_of l.frames) l.now)
