@@ -68,7 +68,7 @@ pub fn open_sections(scene: &Scene) -> Result<OpenSections, AllocError> {
 }
 
 /// What is reported where a `$(` is not closed: which one, or perhaps which, by how the lines are.
-pub fn hint_unclosed(scene: &Scene, opened: &OpenSections) -> Result<Option<Told>, AllocError> {
+fn hint_unclosed(scene: &Scene, opened: &OpenSections) -> Result<Option<Told>, AllocError> {
     let Some(open) = opened.indices.last().copied() else {
         return Ok(None);
     };

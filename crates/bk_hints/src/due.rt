@@ -5,127 +5,63 @@ use crate::sentence::{Sentence, Told};
 use bk_lex::Kind;
 use std::alloc::AllocError;
 
-/// A symbol that may be due, and how it is spelled.
-struct Due {
-    kind: Kind,
-    spelling: &'static [u8],
-}
-
 /// Symbols that are tried before the refused one.
-static MISSING: [Due; 11] = [
-    Due {
-        kind: Kind::Be,
-        spelling: b"BE",
-    },
-    Due {
-        kind: Kind::Into,
-        spelling: b"INTO",
-    },
-    Due {
-        kind: Kind::To,
-        spelling: b"TO",
-    },
-    Due {
-        kind: Kind::Do,
-        spelling: b"DO",
-    },
-    Due {
-        kind: Kind::Valof,
-        spelling: b"VALOF",
-    },
-    Due {
-        kind: Kind::Close,
-        spelling: b")",
-    },
-    Due {
-        kind: Kind::Colon,
-        spelling: b":",
-    },
-    Due {
-        kind: Kind::Comma,
-        spelling: b",",
-    },
-    Due {
-        kind: Kind::Semicolon,
-        spelling: b";",
-    },
-    Due {
-        kind: Kind::SectionOpen,
-        spelling: b"$(",
-    },
-    Due {
-        kind: Kind::SectionClose,
-        spelling: b"$)",
-    },
+static MISSING: [Kind; 11] = [
+    Kind::Be,
+    Kind::Into,
+    Kind::To,
+    Kind::Do,
+    Kind::Valof,
+    Kind::Close,
+    Kind::Colon,
+    Kind::Comma,
+    Kind::Semicolon,
+    Kind::SectionOpen,
+    Kind::SectionClose,
 ];
 
 /// Symbols of which it is reported that they could be in the place of the refused one.
-static POSSIBLE: [Due; 16] = [
-    Due {
-        kind: Kind::Be,
-        spelling: b"BE",
-    },
-    Due {
-        kind: Kind::Into,
-        spelling: b"INTO",
-    },
-    Due {
-        kind: Kind::To,
-        spelling: b"TO",
-    },
-    Due {
-        kind: Kind::Do,
-        spelling: b"DO",
-    },
-    Due {
-        kind: Kind::By,
-        spelling: b"BY",
-    },
-    Due {
-        kind: Kind::Or,
-        spelling: b"ELSE",
-    },
-    Due {
-        kind: Kind::Assign,
-        spelling: b":=",
-    },
-    Due {
-        kind: Kind::Equal,
-        spelling: b"=",
-    },
-    Due {
-        kind: Kind::Open,
-        spelling: b"(",
-    },
-    Due {
-        kind: Kind::Close,
-        spelling: b")",
-    },
-    Due {
-        kind: Kind::Comma,
-        spelling: b",",
-    },
-    Due {
-        kind: Kind::Colon,
-        spelling: b":",
-    },
-    Due {
-        kind: Kind::Semicolon,
-        spelling: b";",
-    },
-    Due {
-        kind: Kind::SectionOpen,
-        spelling: b"$(",
-    },
-    Due {
-        kind: Kind::SectionClose,
-        spelling: b"$)",
-    },
-    Due {
-        kind: Kind::Let,
-        spelling: b"LET",
-    },
+static POSSIBLE: [Kind; 16] = [
+    Kind::Be,
+    Kind::Into,
+    Kind::To,
+    Kind::Do,
+    Kind::By,
+    Kind::Or,
+    Kind::Assign,
+    Kind::Equal,
+    Kind::Open,
+    Kind::Close,
+    Kind::Comma,
+    Kind::Colon,
+    Kind::Semicolon,
+    Kind::SectionOpen,
+    Kind::SectionClose,
+    Kind::Let,
 ];
+
+/// How one of these symbols is spelled.
+fn spelling(kind: Kind) -> &'static [u8] {
+    match kind {
+        Kind::Be => b"BE",
+        Kind::Into => b"INTO",
+        Kind::To => b"TO",
+        Kind::Do => b"DO",
+        Kind::By => b"BY",
+        Kind::Or => b"ELSE",
+        Kind::Let => b"LET",
+        Kind::Valof => b"VALOF",
+        Kind::Assign => b":=",
+        Kind::Equal => b"=",
+        Kind::Open => b"(",
+        Kind::Close => b")",
+        Kind::Colon => b":",
+        Kind::Comma => b",",
+        Kind::SectionOpen => b"$(",
+        Kind::SectionClose => b"$)",
+        _ => b";",
+    }
+}
 
 /// Whether a `$(` or a comma may be missing, which would fit in most places.
 fn may_miss(scene: &Scene, kind: Kind) -> bool {
@@ -140,8 +76,8 @@ fn may_miss(scene: &Scene, kind: Kind) -> bool {
 
 /// What is reported where one symbol is missing.
 pub fn hint_missing(scene: &Scene) -> Result<Option<Told>, AllocError> {
-    for due in &MISSING {
-        if may_miss(scene, due.kind) && scene.lacks(&[due.kind])? {
+    for due in MISSING {
+        if may_miss(scene, due) && scene.lacks(&[due])? {
             return Ok(Some(hint_due(scene, due)?));
         }
     }
@@ -149,8 +85,8 @@ pub fn hint_missing(scene: &Scene) -> Result<Option<Told>, AllocError> {
 }
 
 /// What is reported of a missing symbol.
-fn hint_due(scene: &Scene, due: &Due) -> Result<Told, AllocError> {
-    let sentence = scene.sentence().quote(due.spelling)?.say(match due.kind {
+fn hint_due(scene: &Scene, due: Kind) -> Result<Told, AllocError> {
+    let sentence = scene.sentence().quote(spelling(due))?.say(match due {
         Kind::Do => " (or `THEN`) is missing before ",
         Kind::Be => " (or `=`) is missing before ",
         _ => " is missing before ",
@@ -203,11 +139,11 @@ const MOST: usize = 4;
 fn put_possible(scene: &Scene, sentence: Sentence) -> Result<Sentence, AllocError> {
     let mut sentence = sentence;
     let mut count = 0;
-    for due in &POSSIBLE {
-        if count < MOST && scene.takes(due.kind)? {
+    for due in POSSIBLE {
+        if count < MOST && scene.takes(due)? {
             sentence = sentence
                 .say(if count == 0 { "; what could is " } else { ", " })?
-                .quote(due.spelling)?;
+                .quote(spelling(due))?;
             count += 1;
         }
     }

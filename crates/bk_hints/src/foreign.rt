@@ -1,445 +1,234 @@
 //! Words that mean something elsewhere: in other dialects and languages, in the headers and in the library.
 
 use crate::scene::Scene;
-use crate::sentence::Told;
+use crate::sentence::{Sentence, Told};
 use bk_lex::Kind;
 use std::alloc::AllocError;
 
-/// A word, and what is reported of it.
-struct Word {
-    spelling: &'static [u8],
-    says: &'static str,
-}
+/// Words, and what is reported of each of them.
+type Row = (&'static [&'static [u8]], &'static str);
 
-/// Words of other dialects and languages, which are names here.
-static FOREIGN: [Word; 63] = [
-    Word {
-        spelling: b"LV",
-        says: "`LV E` is `@E` here",
-    },
-    Word {
-        spelling: b"RV",
-        says: "`RV E` is `!E` here",
-    },
-    Word {
-        spelling: b"LOGAND",
-        says: "`LOGAND` is `&` here",
-    },
-    Word {
-        spelling: b"LOGOR",
-        says: "`LOGOR` is `|` here",
-    },
-    Word {
-        spelling: b"LS",
-        says: "`LS` is `<` here",
-    },
-    Word {
-        spelling: b"LT",
-        says: "`LT` is `<` here",
-    },
-    Word {
-        spelling: b"GR",
-        says: "`GR` is `>` here",
-    },
-    Word {
-        spelling: b"GT",
-        says: "`GT` is `>` here",
-    },
-    Word {
-        spelling: b"LE",
-        says: "`LE` is `<=` here",
-    },
-    Word {
-        spelling: b"GE",
-        says: "`GE` is `>=` here",
-    },
-    Word {
-        spelling: b"LSHIFT",
-        says: "`LSHIFT` is `<<` here",
-    },
-    Word {
-        spelling: b"RSHIFT",
-        says: "`RSHIFT` is `>>` here",
-    },
-    Word {
-        spelling: b"MOD",
-        says: "`MOD` is `REM` here",
-    },
-    Word {
-        spelling: b"XOR",
-        says: "`XOR` is `NEQV` here",
-    },
-    Word {
-        spelling: b"ABS",
-        says: "`ABS` is left out; `N < 0 -> -N, N` serves",
-    },
-    Word {
-        spelling: b"SECTION",
-        says: "`SECTION` is left out; a `.` ends a section",
-    },
-    Word {
-        spelling: b"NEEDS",
-        says: "`NEEDS` is left out; `tools/join` puts files together",
-    },
-    Word {
-        spelling: b"SLCT",
-        says: "`SLCT` and `OF` are left out; a shift and a mask take a part of a word",
-    },
-    Word {
-        spelling: b"OF",
-        says: "`SLCT` and `OF` are left out; a shift and a mask take a part of a word",
-    },
-    Word {
-        spelling: b"FLOAT",
-        says: "there is no floating point",
-    },
-    Word {
-        spelling: b"FIX",
-        says: "there is no floating point",
-    },
-    Word {
-        spelling: b"FLT",
-        says: "there is no floating point",
-    },
-    Word {
-        spelling: b"IFSO",
-        says: "`IFSO` is `THEN` here",
-    },
-    Word {
-        spelling: b"IFNOT",
-        says: "`IFNOT` is `ELSE` here",
-    },
-    Word {
-        spelling: b"MATCH",
-        says: "`MATCH` is left out; `SWITCHON` and `TEST` serve",
-    },
-    Word {
-        spelling: b"EVERY",
-        says: "`EVERY` is left out; `SWITCHON` and `TEST` serve",
-    },
-    Word {
-        spelling: b"STEP",
-        says: "the step of FOR is `BY` and a constant",
-    },
-    Word {
-        spelling: b"DOWNTO",
-        says: "a FOR that counts down is `FOR I = A TO B BY -1 DO`",
-    },
-    Word {
-        spelling: b"BEGIN",
-        says: "`BEGIN` is `$(` here",
-    },
-    Word {
-        spelling: b"END",
-        says: "`END` is `$)` here",
-    },
-    Word {
-        spelling: b"ENDIF",
-        says: "`ENDIF` is left out; `$(` and `$)` enclose commands",
-    },
-    Word {
-        spelling: b"ELSEIF",
-        says: "`ELSEIF` is left out; write `ELSE TEST`",
-    },
-    Word {
-        spelling: b"ELSIF",
-        says: "`ELSIF` is left out; write `ELSE TEST`",
-    },
-    Word {
-        spelling: b"ELIF",
-        says: "`ELIF` is left out; write `ELSE TEST`",
-    },
-    Word {
-        spelling: b"VAR",
-        says: "a variable is declared by `LET X = E`",
-    },
-    Word {
-        spelling: b"INT",
-        says: "a variable is declared by `LET X = E`, and each is a word",
-    },
-    Word {
-        spelling: b"CHAR",
-        says: "a variable is declared by `LET X = E`, and each is a word",
-    },
-    Word {
-        spelling: b"AUTO",
-        says: "a variable is declared by `LET X = E`",
-    },
-    Word {
-        spelling: b"VOID",
-        says: "a routine is `LET F() BE ..`",
-    },
-    Word {
-        spelling: b"DEF",
-        says: "a procedure is `LET F() BE ..` or `LET F() = ..`",
-    },
-    Word {
-        spelling: b"FUNCTION",
-        says: "a function is `LET F() = E`",
-    },
-    Word {
-        spelling: b"PROCEDURE",
-        says: "a routine is `LET F() BE ..`",
-    },
-    Word {
-        spelling: b"CONST",
-        says: "a constant is `MANIFEST $( N = E $)`",
-    },
-    Word {
-        spelling: b"SWITCH",
-        says: "`SWITCH` is `SWITCHON E INTO` here",
-    },
-    Word {
-        spelling: b"CONTINUE",
-        says: "`CONTINUE` is `LOOP` here",
-    },
-    Word {
-        spelling: b"EXIT",
-        says: "`FINISH` ends the program, and `STOP(N)` with a status",
-    },
-    Word {
-        spelling: b"NIL",
-        says: "there is no `NIL`; `0` serves",
-    },
-    Word {
-        spelling: b"NULL",
-        says: "there is no `NULL`; `0` serves",
-    },
-    Word {
-        spelling: b"PRINTF",
-        says: "`WRITEF`, of `GET \"LIBHDR2\"`, writes with a format",
-    },
-    Word {
-        spelling: b"PRINT",
-        says: "`WRITES` writes a string, and `WRITEN` a number",
-    },
-    Word {
-        spelling: b"LEVEL",
-        says: "`LEVEL` and `LONGJUMP` are left out; a result that each caller tests serves",
-    },
-    Word {
-        spelling: b"LONGJUMP",
-        says: "`LEVEL` and `LONGJUMP` are left out; a result that each caller tests serves",
-    },
-    Word {
-        spelling: b"APTOVEC",
-        says: "`APTOVEC` is left out; a vector of the largest size serves",
-    },
-    Word {
-        spelling: b"CREATECO",
-        says: "coroutines are left out",
-    },
-    Word {
-        spelling: b"CALLCO",
-        says: "coroutines are left out",
-    },
-    Word {
-        spelling: b"COWAIT",
-        says: "coroutines are left out",
-    },
-    Word {
-        spelling: b"FINDINPUT",
-        says: "there is one input and one output; `bcpl run FILE < IN > OUT` names them",
-    },
-    Word {
-        spelling: b"FINDOUTPUT",
-        says: "there is one input and one output; `bcpl run FILE < IN > OUT` names them",
-    },
-    Word {
-        spelling: b"SELECTINPUT",
-        says: "there is one input and one output; `bcpl run FILE < IN > OUT` names them",
-    },
-    Word {
-        spelling: b"SELECTOUTPUT",
-        says: "there is one input and one output; `bcpl run FILE < IN > OUT` names them",
-    },
-    Word {
-        spelling: b"ENDREAD",
-        says: "there is one input and one output, which are never closed",
-    },
-    Word {
-        spelling: b"ENDWRITE",
-        says: "there is one input and one output, which are never closed",
-    },
-    Word {
-        spelling: b"NEWPAGE",
-        says: "`WRCH('*P')` writes a form feed",
-    },
+/// Words of other compilers of BCPL, which are names here.
+static OLD: [Row; 26] = [
+    (&[b"LV"], "`LV E` is `@E` here"),
+    (&[b"RV"], "`RV E` is `!E` here"),
+    (&[b"LOGAND"], "`LOGAND` is `&` here"),
+    (&[b"LOGOR"], "`LOGOR` is `|` here"),
+    (&[b"LS"], "`LS` is `<` here"),
+    (&[b"LT"], "`LT` is `<` here"),
+    (&[b"GR"], "`GR` is `>` here"),
+    (&[b"GT"], "`GT` is `>` here"),
+    (&[b"LE"], "`LE` is `<=` here"),
+    (&[b"GE"], "`GE` is `>=` here"),
+    (&[b"LSHIFT"], "`LSHIFT` is `<<` here"),
+    (&[b"RSHIFT"], "`RSHIFT` is `>>` here"),
+    (&[b"MOD"], "`MOD` is `REM` here"),
+    (&[b"XOR"], "`XOR` is `NEQV` here"),
+    (&[b"ABS"], "`ABS` is left out; `N < 0 -> -N, N` serves"),
+    (&[b"SECTION"], "`SECTION` is left out; a `.` ends a section"),
+    (
+        &[b"NEEDS"],
+        "`NEEDS` is left out; `tools/join` puts files together",
+    ),
+    (
+        &[b"SLCT", b"OF"],
+        "`SLCT` and `OF` are left out; a shift and a mask take a part of a word",
+    ),
+    (&[b"FLOAT", b"FIX", b"FLT"], "there is no floating point"),
+    (&[b"IFSO"], "`IFSO` is `THEN` here"),
+    (&[b"IFNOT"], "`IFNOT` is `ELSE` here"),
+    (
+        &[b"MATCH"],
+        "`MATCH` is left out; `SWITCHON` and `TEST` serve",
+    ),
+    (
+        &[b"EVERY"],
+        "`EVERY` is left out; `SWITCHON` and `TEST` serve",
+    ),
+    (&[b"NIL"], "there is no `NIL`; `0` serves"),
+    (
+        &[b"LEVEL", b"LONGJUMP"],
+        "`LEVEL` and `LONGJUMP` are left out; a result that each caller tests serves",
+    ),
+    (
+        &[b"CREATECO", b"CALLCO", b"COWAIT"],
+        "coroutines are left out",
+    ),
 ];
 
-/// Names that a header declares, or that the library beside this one has.
-static LIBRARY: [Word; 39] = [
-    Word {
-        spelling: b"START",
-        says: "`GET \"LIBHDR\"` at the head of its section declares it",
-    },
-    Word {
-        spelling: b"STOP",
-        says: "`GET \"LIBHDR\"` at the head of its section declares it",
-    },
-    Word {
-        spelling: b"RDCH",
-        says: "`GET \"LIBHDR\"` at the head of its section declares it",
-    },
-    Word {
-        spelling: b"WRCH",
-        says: "`GET \"LIBHDR\"` at the head of its section declares it",
-    },
-    Word {
-        spelling: b"NEWLINE",
-        says: "`GET \"LIBHDR\"` at the head of its section declares it",
-    },
-    Word {
-        spelling: b"WRITES",
-        says: "`GET \"LIBHDR\"` at the head of its section declares it",
-    },
-    Word {
-        spelling: b"WRITEN",
-        says: "`GET \"LIBHDR\"` at the head of its section declares it",
-    },
-    Word {
-        spelling: b"WRITED",
-        says: "`GET \"LIBHDR\"` at the head of its section declares it",
-    },
-    Word {
-        spelling: b"GETBYTE",
-        says: "`GET \"LIBHDR\"` at the head of its section declares it",
-    },
-    Word {
-        spelling: b"PUTBYTE",
-        says: "`GET \"LIBHDR\"` at the head of its section declares it",
-    },
-    Word {
-        spelling: b"ENDSTREAMCH",
-        says: "`GET \"LIBHDR\"` at the head of its section declares it",
-    },
-    Word {
-        spelling: b"BYTESPERWORD",
-        says: "`GET \"LIBHDR\"` at the head of its section declares it",
-    },
-    Word {
-        spelling: b"WRITEF",
-        says: "`GET \"LIBHDR2\"` declares it, and what LIBHDR does",
-    },
-    Word {
-        spelling: b"READCH",
-        says: "`library/input.b` has it, and `library/header` its number; `tools/join` puts files together",
-    },
-    Word {
-        spelling: b"UNRDCH",
-        says: "`library/input.b` has it, and `library/header` its number; `tools/join` puts files together",
-    },
-    Word {
-        spelling: b"READN",
-        says: "`library/input.b` has it, and `library/header` its number; `tools/join` puts files together",
-    },
-    Word {
-        spelling: b"TERMINATOR",
-        says: "`library/input.b` has it, and `library/header` its number; `tools/join` puts files together",
-    },
-    Word {
-        spelling: b"RESULT2",
-        says: "`library/input.b` has it, and `library/header` its number; `tools/join` puts files together",
-    },
-    Word {
-        spelling: b"WRITEHEX",
-        says: "`library/output.b` has it, and `library/header` its number; `tools/join` puts files together",
-    },
-    Word {
-        spelling: b"WRITEOCT",
-        says: "`library/output.b` has it, and `library/header` its number; `tools/join` puts files together",
-    },
-    Word {
-        spelling: b"WRITEDEC",
-        says: "`library/output.b` has it, and `library/header` its number; `tools/join` puts files together",
-    },
-    Word {
-        spelling: b"CAPITALCH",
-        says: "`library/characters.b` has it, and `library/header` its number; `tools/join` puts files together",
-    },
-    Word {
-        spelling: b"COMPCH",
-        says: "`library/characters.b` has it, and `library/header` its number; `tools/join` puts files together",
-    },
-    Word {
-        spelling: b"COMPSTRING",
-        says: "`library/characters.b` has it, and `library/header` its number; `tools/join` puts files together",
-    },
-    Word {
-        spelling: b"PACKSTRING",
-        says: "`library/strings.b` has it, and `library/header` its number; `tools/join` puts files together",
-    },
-    Word {
-        spelling: b"UNPACKSTRING",
-        says: "`library/strings.b` has it, and `library/header` its number; `tools/join` puts files together",
-    },
-    Word {
-        spelling: b"COPYSTRING",
-        says: "`library/strings.b` has it, and `library/header` its number; `tools/join` puts files together",
-    },
-    Word {
-        spelling: b"CONCAT",
-        says: "`library/strings.b` has it, and `library/header` its number; `tools/join` puts files together",
-    },
-    Word {
-        spelling: b"APPEND",
-        says: "`library/strings.b` has it, and `library/header` its number; `tools/join` puts files together",
-    },
-    Word {
-        spelling: b"INITHEAP",
-        says: "`library/heap.b` has it, and `library/header` its number; `tools/join` puts files together",
-    },
-    Word {
-        spelling: b"GETVEC",
-        says: "`library/heap.b` has it, and `library/header` its number; `tools/join` puts files together",
-    },
-    Word {
-        spelling: b"FREEVEC",
-        says: "`library/heap.b` has it, and `library/header` its number; `tools/join` puts files together",
-    },
-    Word {
-        spelling: b"MOVE",
-        says: "`library/vectors.b` has it, and `library/header` its number; `tools/join` puts files together",
-    },
-    Word {
-        spelling: b"MOVEBACK",
-        says: "`library/vectors.b` has it, and `library/header` its number; `tools/join` puts files together",
-    },
-    Word {
-        spelling: b"FILL",
-        says: "`library/vectors.b` has it, and `library/header` its number; `tools/join` puts files together",
-    },
-    Word {
-        spelling: b"QUICKSORT",
-        says: "`library/vectors.b` has it, and `library/header` its number; `tools/join` puts files together",
-    },
-    Word {
-        spelling: b"RANDOM",
-        says: "`library/arithmetic.b` has it, and `library/header` its number; `tools/join` puts files together",
-    },
-    Word {
-        spelling: b"MULDIV",
-        says: "`library/arithmetic.b` has it, and `library/header` its number; `tools/join` puts files together",
-    },
-    Word {
-        spelling: b"WRITEFX",
-        says: "`library/format.b` has it, and `library/header` its number; `tools/join` puts files together",
-    },
+/// Words of other languages, which are names here.
+static FOREIGN: [Row; 22] = [
+    (&[b"STEP"], "the step of FOR is `BY` and a constant"),
+    (
+        &[b"DOWNTO"],
+        "a FOR that counts down is `FOR I = A TO B BY -1 DO`",
+    ),
+    (&[b"BEGIN"], "`BEGIN` is `$(` here"),
+    (&[b"END"], "`END` is `$)` here"),
+    (
+        &[b"ENDIF"],
+        "`ENDIF` is left out; `$(` and `$)` enclose commands",
+    ),
+    (&[b"ELSEIF"], "`ELSEIF` is left out; write `ELSE TEST`"),
+    (&[b"ELSIF"], "`ELSIF` is left out; write `ELSE TEST`"),
+    (&[b"ELIF"], "`ELIF` is left out; write `ELSE TEST`"),
+    (&[b"VAR"], "a variable is declared by `LET X = E`"),
+    (
+        &[b"INT", b"CHAR"],
+        "a variable is declared by `LET X = E`, and each is a word",
+    ),
+    (&[b"AUTO"], "a variable is declared by `LET X = E`"),
+    (&[b"VOID"], "a routine is `LET F() BE ..`"),
+    (
+        &[b"DEF"],
+        "a procedure is `LET F() BE ..` or `LET F() = ..`",
+    ),
+    (&[b"FUNCTION"], "a function is `LET F() = E`"),
+    (&[b"PROCEDURE"], "a routine is `LET F() BE ..`"),
+    (&[b"CONST"], "a constant is `MANIFEST $( N = E $)`"),
+    (&[b"SWITCH"], "`SWITCH` is `SWITCHON E INTO` here"),
+    (&[b"CONTINUE"], "`CONTINUE` is `LOOP` here"),
+    (
+        &[b"EXIT"],
+        "`FINISH` ends the program, and `STOP(N)` with a status",
+    ),
+    (&[b"NULL"], "there is no `NULL`; `0` serves"),
+    (
+        &[b"PRINTF"],
+        "`WRITEF`, of `GET \"LIBHDR2\"`, writes with a format",
+    ),
+    (
+        &[b"PRINT"],
+        "`WRITES` writes a string, and `WRITEN` a number",
+    ),
+];
+
+/// Names of the headers and of the files of the library in BCPL.
+static LIBRARY: [Row; 13] = [
+    (
+        &[
+            b"START",
+            b"STOP",
+            b"RDCH",
+            b"WRCH",
+            b"NEWLINE",
+            b"WRITES",
+            b"WRITEN",
+            b"WRITED",
+            b"GETBYTE",
+            b"PUTBYTE",
+            b"ENDSTREAMCH",
+            b"BYTESPERWORD",
+        ],
+        "`GET \"LIBHDR\"` at the head of its section declares it",
+    ),
+    (
+        &[b"WRITEF"],
+        "`GET \"LIBHDR2\"` declares it, and what LIBHDR does",
+    ),
+    (
+        &[
+            b"READCH",
+            b"UNRDCH",
+            b"READN",
+            b"TERMINATOR",
+            b"RESULT2",
+            b"READNUMBER",
+        ],
+        "`library/input.b` has it, and `library/header` its number; `tools/join` puts files together",
+    ),
+    (
+        &[
+            b"WRITEHEX",
+            b"WRITEOCT",
+            b"WRITEDEC",
+            b"NEWPAGE",
+            b"WRITEBIN",
+            b"WRITEU",
+            b"WRITET",
+            b"WRITEZ",
+            b"ABORT",
+        ],
+        "`library/output.b` has it, and `library/header` its number; `tools/join` puts files together",
+    ),
+    (
+        &[b"CAPITALCH", b"COMPCH", b"COMPSTRING", b"STR2NUMB"],
+        "`library/characters.b` has it, and `library/header` its number; `tools/join` puts files together",
+    ),
+    (
+        &[
+            b"PACKSTRING",
+            b"UNPACKSTRING",
+            b"COPYSTRING",
+            b"CONCAT",
+            b"APPEND",
+        ],
+        "`library/strings.b` has it, and `library/header` its number; `tools/join` puts files together",
+    ),
+    (
+        &[b"INITHEAP", b"GETVEC", b"FREEVEC", b"WITHHEAP"],
+        "`library/heap.b` has it, and `library/header` its number; `tools/join` puts files together",
+    ),
+    (
+        &[b"APTOVEC", b"MOVE", b"MOVEBACK", b"FILL", b"QUICKSORT"],
+        "`library/vectors.b` has it, and `library/header` its number; `tools/join` puts files together",
+    ),
+    (
+        &[b"RANDOM", b"MULDIV", b"RANDNO", b"SETSEED", b"ABS"],
+        "`library/arithmetic.b` has it, and `library/header` its number; `tools/join` puts files together",
+    ),
+    (
+        &[b"WRITEFX"],
+        "`library/format.b` has it, and `library/header` its number; `tools/join` puts files together",
+    ),
+    (
+        &[b"GETFIELD", b"PUTFIELD"],
+        "`library/fields.b` has it, and `library/header` its number; `tools/join` puts files together",
+    ),
+    (
+        &[b"TESTFLAGS", b"SPLIT", b"RDITEM", b"RDARGS", b"FINDARG"],
+        "`library/arguments.b` has it, and `library/header` its number; `tools/join` puts files together",
+    ),
+    (
+        &[
+            b"FINDINPUT",
+            b"FINDOUTPUT",
+            b"SELECTINPUT",
+            b"SELECTOUTPUT",
+            b"INPUT",
+            b"OUTPUT",
+            b"ENDREAD",
+            b"ENDWRITE",
+            b"REWIND",
+        ],
+        "`library/streams.b` has it, and `library/header` its number; `tools/join` puts files together",
+    ),
 ];
 
 /// What a table says of a word, in any letter case.
-fn look_up(words: &'static [Word], spelling: &[u8]) -> Option<&'static str> {
-    for word in words {
-        if word.spelling.eq_ignore_ascii_case(spelling) {
-            return Some(word.says);
+fn look_up(rows: &'static [Row], spelling: &[u8]) -> Option<&'static str> {
+    for (words, says) in rows {
+        for word in *words {
+            if word.eq_ignore_ascii_case(spelling) {
+                return Some(*says);
+            }
         }
     }
     None
 }
 
-/// What is reported of a word of another dialect or language.
-pub fn foreign(spelling: &[u8]) -> Option<&'static str> {
-    look_up(&FOREIGN, spelling)
+/// What is reported of a word of another compiler or language.
+pub fn put_foreign(sentence: Sentence, spelling: &[u8]) -> Result<Option<Sentence>, AllocError> {
+    if let Some(says) = look_up(&OLD, spelling) {
+        let sentence = sentence
+            .say(says)?
+            .say("; `tools/old` brings old programs over")?;
+        return Ok(Some(sentence));
+    }
+    match look_up(&FOREIGN, spelling) {
+        Some(says) => Ok(Some(sentence.say(says)?)),
+        None => Ok(None),
+    }
 }
 
 /// Where a name of the library is declared.
@@ -452,8 +241,8 @@ fn hint_word(scene: &Scene, index: usize) -> Result<Option<Told>, AllocError> {
     if scene.kind(index) != Some(Kind::Name) {
         return Ok(None);
     }
-    match foreign(scene.spelling(index)) {
-        Some(says) => Ok(Some(scene.told(index, scene.sentence().say(says)?))),
+    match put_foreign(scene.sentence(), scene.spelling(index))? {
+        Some(sentence) => Ok(Some(scene.told(index, sentence))),
         None => Ok(None),
     }
 }

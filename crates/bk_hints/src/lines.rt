@@ -1,6 +1,7 @@
 //! Where the lines of a text begin.
 
 use bk_base::Line;
+use bk_tree::column_after;
 use std::alloc::{AllocError, Global};
 
 /// The deepest indentation that is distinguished from a deeper one.
@@ -59,16 +60,9 @@ impl Lines {
 
 /// Where the line begins that this place is on.
 pub fn line_start(text: &[u8], at: usize) -> usize {
-    let mut start = 0;
-    for (i, byte) in text.iter().enumerate() {
-        if i >= at {
-            return start;
-        }
-        if *byte == b'\n' {
-            start = i.saturating_add(1);
-        }
-    }
-    start
+    let end = text.len().min(at);
+    let before = column_after(1, &text[..end]).saturating_sub(1);
+    end.saturating_sub(before as usize)
 }
 
 /// Where the line ends that this place is on, without what ends it.

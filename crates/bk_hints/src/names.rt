@@ -1,6 +1,6 @@
 //! What is reported of names: those that mean nothing, that another procedure owns, or that are declared twice.
 
-use crate::foreign::{foreign, library};
+use crate::foreign::{library, put_foreign};
 use crate::roles::NameRole;
 use crate::scene::Scene;
 use crate::sentence::{Sentence, Told};
@@ -217,8 +217,8 @@ pub fn hint_not_declared(names: &Names, at: usize) -> Result<Told, AllocError> {
         hint_later(names, declared)?
     } else if let Some(words) = library(names.name) {
         names.quoted("")?.say(" is not declared; ")?.say(words)?
-    } else if let Some(words) = foreign(names.name) {
-        scene.sentence().say(words)?
+    } else if let Some(sentence) = put_foreign(scene.sentence(), names.name)? {
+        sentence
     } else {
         hint_unknown(names, at)?
     };

@@ -4,10 +4,10 @@ use crate::lines::Lines;
 use crate::sentence::{Sentence, Told};
 use bk_base::{Line, Refused};
 use bk_lex::{Kind, Token};
-use bk_scope::resolve_keyed;
-use bk_syntax::parse;
+use bk_scope::resolve_placed;
+use bk_syntax::{parse, parse_placed};
 use bk_tables::KeyMaker;
-use bk_tree::Section;
+use bk_tree::Position;
 use std::alloc::{AllocError, Global};
 
 /// The number of a line that no symbol is on.
@@ -42,74 +42,85 @@ fn first<'a, 'b>(tokens: &'b [Token<'a>], count: usize) -> &'b [Token<'a>] {
     &tokens[..count.min(tokens.len())]
 }
 
-/// Adds a symbol of this kind and spelling on a line, which is nowhere.
-fn put_kind<'a>(
-    tokens: &mut Vec<Token<'a>>,
-    kind: Kind,
-    line: Line,
-    text: &'a [u8],
-) -> Result<(), AllocError> {
-    match tokens.push(Token {
-        kind,
-        line,
-        place: None,
-        text,
-    }) {
-        Ok(()) => Ok(()),
-        Err(_) => Err(AllocError),
-    }
-}
-
 /// Adds symbols of these kinds, which are nowhere.
 fn put_kinds<'a>(tokens: &mut Vec<Token<'a>>, kinds: &[Kind]) -> Result<(), AllocError> {
     for kind in kinds {
-        put_kind(tokens, *kind, Line::first(), &[])?;
+        let symbol = Token {
+            kind: *kind,
+            line: Line::first(),
+            place: None,
+            text: &[],
+        };
+        match tokens.push(symbol) {
+            Ok(()) => {}
+            Err(_) => return Err(AllocError),
+        }
     }
     Ok(())
 }
 
-/// A copy of the symbols with each on a line of its own, so that the line of a fault is the number of its symbol.
-fn numbered<'a>(alloc: Global, tokens: &[Token<'a>]) -> Result<Vec<Token<'a>>, AllocError> {
-    let mut apart = Vec::new(alloc);
-    let mut line = Line::first();
-    for token in tokens {
-        put_kind(&mut apart, token.kind, line, token.text)?;
-        line = line.next();
+/// The least index of these that begins no section with the symbols before it, where the last of them does. A section begins with
+/// the symbols before them all.
+fn first_refused(
+    alloc: Global,
+    tokens: &[Token],
+    from: usize,
+    to: usize,
+) -> Result<usize, AllocError> {
+    let mut low = from;
+    let mut high = to;
+    for _ in 0..usize::BITS {
+        if low >= high {
+            return Ok(low);
+        }
+        let middle = low.saturating_add(high.saturating_sub(low) / 2);
+        match try_out(alloc, first(tokens, middle.saturating_add(1)))? {
+            Trial::Fails => high = middle,
+            Trial::Whole | Trial::Begins => low = middle.saturating_add(1),
+        }
     }
-    Ok(apart)
+    Ok(low)
 }
 
-/// The index of the symbol of the first fault of the names of a section whose symbols are numbered.
-fn misnamed_at(
-    alloc: Global,
-    text: &[u8],
-    section: &Section,
-    count: usize,
-) -> Result<usize, AllocError> {
-    let mut key = KeyMaker::new();
-    key.add_bytes(text);
-    match resolve_keyed(alloc, section, key.hashers()) {
-        Err(Refused::Fault(fault)) => Ok(index_of(fault.line, count)),
-        Ok(_) => Ok(count),
-        Err(_) => Err(AllocError),
+/// The index of the symbol at this position; the number of the symbols where it is their end. One that is not in the text has a line
+/// alone, and is the first of its line that is refused.
+fn index_of(alloc: Global, tokens: &[Token], at: Position) -> Result<usize, AllocError> {
+    let count = tokens.len();
+    if let Some(place) = at.bytes().checked_sub(1) {
+        let there = tokens.iter().position(|token| token.place == Some(place));
+        return Ok(there.unwrap_or(count));
+    }
+    let line = at.line();
+    match tokens.iter().position(|token| token.line == line) {
+        Some(from) => {
+            let after = tokens
+                .iter()
+                .skip(from)
+                .position(|token| token.line != line);
+            let to = after.map_or(count, |lines| from.saturating_add(lines));
+            first_refused(alloc, tokens, from, to)
+        }
+        None => Ok(count),
     }
 }
 
 /// The index of the symbol at which a section is refused, for its syntax or else for its names; or the number of the symbols, where
 /// the fault is at their end. The text is that of the section.
 pub fn refused_at(alloc: Global, text: &[u8], tokens: &[Token]) -> Result<usize, AllocError> {
-    let apart = numbered(alloc, tokens)?;
-    match parse(alloc, apart.as_slice(), Line::new(NO_LINE)) {
-        Err(Refused::Fault(fault)) => Ok(index_of(fault.line, tokens.len())),
-        Ok(section) => misnamed_at(alloc, text, &section, tokens.len()),
-        Err(_) => Err(AllocError),
-    }
-}
-
-/// The index of the symbol that is on this line, where each is on one of its own and there are so many.
-fn index_of(line: Line, count: usize) -> usize {
-    let index = line.number().saturating_sub(1);
-    count.min(index as usize)
+    let at = match parse_placed(alloc, tokens, Line::new(NO_LINE)) {
+        Err(Refused::Fault(fault)) => fault.at,
+        Err(_) => return Err(AllocError),
+        Ok(section) => {
+            let mut key = KeyMaker::new();
+            key.add_bytes(text);
+            match resolve_placed(alloc, &section, key.hashers()) {
+                Err(Refused::Fault(fault)) => fault.at,
+                Err(_) => return Err(AllocError),
+                Ok(_) => return Ok(tokens.len()),
+            }
+        }
+    };
+    index_of(alloc, tokens, at)
 }
 
 /// A section, and the symbol that is refused.

@@ -1,8 +1,7 @@
 //! What is reported of a symbol that is refused.
 
 use crate::brackets::{
-    OpenSections, hint_end, hint_extra, hint_glued, hint_late, hint_unclosed, hint_wrong_tag,
-    open_sections,
+    OpenSections, hint_end, hint_extra, hint_glued, hint_late, hint_wrong_tag, open_sections,
 };
 use crate::commands::{hint_choice, hint_else, hint_equal, hint_inserted, hint_misused, hint_test};
 use crate::due::{hint_due_here, hint_missing};
@@ -17,98 +16,63 @@ use crate::statements::{
 use bk_base::SourceKind;
 use std::alloc::AllocError;
 
+/// The first of these that has something to report.
+macro_rules! first_of {
+    ($($hint:expr),+) => {{
+        $(if let Some(told) = $hint? {
+            return Ok(Some(told));
+        })+
+        Ok(None)
+    }};
+}
+
 /// What is reported by the spellings around the symbol.
 fn by_spelling(scene: &Scene) -> Result<Option<Told>, AllocError> {
-    if let Some(told) = hint_signs(scene)? {
-        return Ok(Some(told));
-    }
-    if let Some(told) = hint_dot(scene)? {
-        return Ok(Some(told));
-    }
-    if let Some(told) = hint_glued(scene)? {
-        return Ok(Some(told));
-    }
-    hint_foreign(scene)
+    first_of!(
+        hint_signs(scene),
+        hint_dot(scene),
+        hint_glued(scene),
+        hint_foreign(scene)
+    )
 }
 
 /// What is reported by the sections that are open.
 fn by_brackets(scene: &Scene, opened: &OpenSections) -> Result<Option<Told>, AllocError> {
-    if let Some(told) = hint_end(scene, opened)? {
-        return Ok(Some(told));
-    }
-    if let Some(told) = hint_extra(scene, opened)? {
-        return Ok(Some(told));
-    }
-    if let Some(told) = hint_late(scene, opened)? {
-        return Ok(Some(told));
-    }
-    if let Some(told) = hint_outermost(scene, opened)? {
-        return Ok(Some(told));
-    }
-    hint_items(scene, opened)
+    first_of!(
+        hint_end(scene, opened),
+        hint_extra(scene, opened),
+        hint_late(scene, opened),
+        hint_outermost(scene, opened),
+        hint_items(scene, opened)
+    )
 }
 
-/// What is reported by the declaration that the symbol is in.
-fn by_declaration(scene: &Scene) -> Result<Option<Told>, AllocError> {
-    if let Some(told) = hint_reserved(scene)? {
-        return Ok(Some(told));
-    }
-    if let Some(told) = hint_definition(scene)? {
-        return Ok(Some(told));
-    }
-    hint_equal(scene)
+/// What is reported by the declaration or the command that the symbol is in.
+fn by_statement(scene: &Scene) -> Result<Option<Told>, AllocError> {
+    first_of!(
+        hint_reserved(scene),
+        hint_definition(scene),
+        hint_equal(scene),
+        hint_else(scene),
+        hint_test(scene),
+        hint_misused(scene),
+        hint_choice(scene),
+        hint_inserted(scene),
+        hint_counts(scene),
+        hint_expression(scene),
+        hint_missing(scene),
+        hint_arguments(scene)
+    )
 }
 
-/// What is reported by the command that the symbol is in.
-fn by_command(scene: &Scene) -> Result<Option<Told>, AllocError> {
-    if let Some(told) = hint_else(scene)? {
-        return Ok(Some(told));
-    }
-    if let Some(told) = hint_test(scene)? {
-        return Ok(Some(told));
-    }
-    if let Some(told) = hint_misused(scene)? {
-        return Ok(Some(told));
-    }
-    if let Some(told) = hint_choice(scene)? {
-        return Ok(Some(told));
-    }
-    if let Some(told) = hint_inserted(scene)? {
-        return Ok(Some(told));
-    }
-    if let Some(told) = hint_counts(scene)? {
-        return Ok(Some(told));
-    }
-    if let Some(told) = hint_expression(scene)? {
-        return Ok(Some(told));
-    }
-    hint_missing(scene)
-}
-
-/// What is reported of an unexpected symbol.
-fn hint_unexpected(scene: &Scene) -> Result<Told, AllocError> {
+/// What is reported of an unexpected symbol, by the first of these that knows it.
+fn hint_known(scene: &Scene) -> Result<Option<Told>, AllocError> {
     let opened = open_sections(scene)?;
-    if let Some(told) = by_spelling(scene)? {
-        return Ok(told);
-    }
-    if let Some(told) = by_brackets(scene, &opened)? {
-        return Ok(told);
-    }
-    if let Some(told) = by_declaration(scene)? {
-        return Ok(told);
-    }
-    if let Some(told) = by_command(scene)? {
-        return Ok(told);
-    }
-    if let Some(told) = hint_arguments(scene)? {
-        return Ok(told);
-    }
-    if scene.refused().is_none() {
-        if let Some(told) = hint_unclosed(scene, &opened)? {
-            return Ok(told);
-        }
-    }
-    hint_due_here(scene)
+    first_of!(
+        by_spelling(scene),
+        by_brackets(scene, &opened),
+        by_statement(scene)
+    )
 }
 
 /// What is reported of a fault at a symbol.
@@ -121,6 +85,9 @@ pub fn hint_syntax(scene: &Scene, kind: &SourceKind) -> Result<Told, AllocError>
         SourceKind::TooManyNodes => scene.here(
             "the section has more than 65536 nodes here; a `.` and another section split it",
         ),
-        _ => hint_unexpected(scene),
+        _ => match hint_known(scene)? {
+            Some(told) => Ok(told),
+            None => hint_due_here(scene),
+        },
     }
 }

@@ -8,7 +8,7 @@ use crate::scene::{Scene, refused_at};
 use crate::sentence::Told;
 use crate::syntax::hint_syntax;
 use bk_base::{Line, Refused, SourceFault, SourceKind};
-use bk_lex::{Lexed, lex};
+use bk_lex::{Lexed, lex_placed};
 use std::alloc::{AllocError, Global};
 
 /// Whether a fault is at a symbol.
@@ -58,9 +58,9 @@ fn hint_at(
     from: Line,
     fault: &SourceFault,
 ) -> Result<Told, AllocError> {
-    match lex(alloc, text, from) {
+    match lex_placed(alloc, text, from) {
         Ok(lexed) => hint_section(alloc, text, lines, &lexed, fault),
-        Err(Refused::Fault(found)) => hint_bytes(alloc, text, lines, &found),
+        Err(Refused::Fault(found)) => hint_bytes(alloc, text, &found),
         Err(_) => Err(AllocError),
     }
 }
