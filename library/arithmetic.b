@@ -1,9 +1,23 @@
 // arithmetic.b: random numbers, and products of 64 bits.
-GLOBAL $( RANDOM:930; MULDIV:931; RESULT2:904 $)
+GLOBAL $( RANDOM:930; MULDIV:931; RANDNO:932; SETSEED:933; ABS:934; RESULT2:904 $)
+STATIC $( SEED = 12345 $)
 
 // RANDOM(N) is the number after N in a row of 2^32 numbers that comes back to its beginning only after all of them. The
 // high bits are the better ones: (RANDOM(N) >> 8) REM 6 throws a die.
 LET RANDOM(N) = 2147001325 * N + 715136305
+
+// RANDNO(N) is the next number at random from 1 to N; where N is below 1, it is 1.
+AND RANDNO(N) = VALOF
+$( SEED := RANDOM(SEED)
+   RESULTIS N < 1 -> 1, ABS(SEED / 3) REM N + 1
+$)
+
+// SETSEED(N) lets the next number of RANDNO be the one after N, and gives what N was.
+AND SETSEED(N) = VALOF
+$( LET OLD = SEED
+   SEED := N
+   RESULTIS OLD
+$)
 
 // MULDIV(A, B, C) is A * B / C, where the product has 64 bits, and RESULT2 is the remainder. The quotient is rounded towards
 // zero, and the remainder has the sign of the product. If the quotient has more than 32 bits, its lowest 32 are the result.

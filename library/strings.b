@@ -2,15 +2,17 @@
 // after its last byte are zeros.
 GLOBAL $( PACKSTRING:915; UNPACKSTRING:916; COPYSTRING:917; CONCAT:918; APPEND:919 $)
 
-// PACKSTRING(V, S) makes the string S of the bytes V!1 to V!(V!0), and gives the number of its last word. V!0 is at most 255.
+// PACKSTRING(V, S) makes the string S of the bytes V!1 to V!(V!0), 255 at most, and gives the number of its last word. S may be V.
 LET PACKSTRING(V, S) = VALOF
-$( FOR I = 0 TO V!0 DO S%I := V!I
+$( LET N = V!0 < 0 -> 0, V!0 > 255 -> 255, V!0
+   S%0 := N
+   FOR I = 1 TO N DO S%I := V!I
    PAD(S)
-   RESULTIS V!0 / 4
+   RESULTIS N / 4
 $)
 
-// UNPACKSTRING(S, V) sets V!0 to the length of the string S, and V!1, V!2, .. to its bytes.
-AND UNPACKSTRING(S, V) BE FOR I = 0 TO S%0 DO V!I := S%I
+// UNPACKSTRING(S, V) sets V!0 to the length of the string S, and V!1, V!2, .. to its bytes. V may be S.
+AND UNPACKSTRING(S, V) BE FOR I = S%0 TO 0 BY -1 DO V!I := S%I
 
 // COPYSTRING(S, T) makes T the same string as S.
 AND COPYSTRING(S, T) BE
@@ -27,10 +29,12 @@ $( LET M, N = S%0, T%0
    PAD(S)
 $)
 
-// CONCAT(S, T, R) makes the string R of the bytes of S and then those of T, 255 at most, and gives R.
+// CONCAT(S, T, R) makes the string R of the bytes of S and then those of T, 255 at most, and gives R. R may be S or T.
 AND CONCAT(S, T, R) = VALOF
-$( COPYSTRING(S, R)
-   APPEND(R, T)
+$( LET SECOND = VEC 63
+   COPYSTRING(T, SECOND)
+   COPYSTRING(S, R)
+   APPEND(R, SECOND)
    RESULTIS R
 $)
 

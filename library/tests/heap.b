@@ -1,10 +1,10 @@
 GET "LIBHDR2"
 GLOBAL $( INITHEAP:920; GETVEC:921; FREEVEC:922 $)
 LET START() BE
-$( // 100 words: blocks of K + 2 words
-   LET H = VEC 99
+$( // 102 words: two of the heap, and blocks of K + 2 words
+   LET H = VEC 101
    LET A, B, C, D = ?, ?, ?, ?
-   INITHEAP(H, 99)
+   INITHEAP(H, 101)
    A := GETVEC(9)
    B := GETVEC(18)
    C := GETVEC(50)
@@ -26,6 +26,16 @@ $( // 100 words: blocks of K + 2 words
    WRITEF("%N %N*N", D - H, GETVEC(0))
    D!98 := 7
    FREEVEC(D)
+   // a vector that is given back twice
+   FREEVEC(D)
    D := GETVEC(99)
    WRITEF("%N*N", D)
+   // sizes that no heap has
+   WRITEF("%N %N %N %N*N", GETVEC(-1), GETVEC(-2), GETVEC(#X7FFFFFFF), GETVEC(#X80000000))
+   WRITEF("%N*N", GETVEC(98) - H)
+   // heaps without room
+   INITHEAP(H, 2)
+   WRITEF("%N ", GETVEC(0))
+   INITHEAP(H, -1)
+   WRITEF("%N*N", GETVEC(0))
 $)

@@ -1,7 +1,7 @@
 GET "LIBHDR2"
 GLOBAL $( PACKSTRING:915; UNPACKSTRING:916; COPYSTRING:917; CONCAT:918; APPEND:919 $)
 LET START() BE
-$( LET V, S, R = VEC 256, VEC 63, VEC 63
+$( LET V, S, R = VEC 300, VEC 63, VEC 63
    UNPACKSTRING("HELLO", V)
    WRITEF("%N %C%C*N", V!0, V!1, V!5)
    V!1 := 'J'
@@ -19,4 +19,23 @@ $( LET V, S, R = VEC 256, VEC 63, VEC 63
    WRITEF("%N ", PACKSTRING(V, S))
    APPEND(S, "ABCDEFGHIJ")
    WRITEF("%N %C%C%C*N", S%0, S%250, S%251, S%255)
+   // in place
+   UNPACKSTRING("HELLO", V)
+   WRITEF("%N ", PACKSTRING(V, V))
+   WRITEF("%S ", V)
+   UNPACKSTRING(V, V)
+   FOR I = 1 TO V!0 DO WRCH(V!I)
+   NEWLINE()
+   // lengths that no string has
+   V!0 := -1
+   WRITEF("%N %N ", PACKSTRING(V, S), S%0)
+   FOR I = 1 TO 256 DO V!I := 'X'
+   V!0 := 300
+   WRITEF("%N %N*N", PACKSTRING(V, S), S%0)
+   // onto one of the two
+   COPYSTRING("AB", R); CONCAT(R, "CD", R); WRITEF("%S ", R)
+   COPYSTRING("AB", R); CONCAT("CD", R, R); WRITEF("%S ", R)
+   COPYSTRING("AB", R); CONCAT(R, R, R); WRITEF("%S*N", R)
+   COPYSTRING(R, R); WRITEF("%S*N", R)
+   CONCAT(S, S, R); WRITEF("%N %C*N", R%0, R%255)
 $)
