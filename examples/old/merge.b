@@ -1,0 +1,3 @@
+Bat
+cat
+dog
