@@ -227,6 +227,17 @@ def forms():
         ("test-backwards", "TEST A DO N: F(1) OR GOTO N"), ("repeat", "N: GOTO N REPEAT"), ("labels", "N: M: TEST A DO GOTO M OR GOTO N")):
         put(table, "goto-in-a-body-of-%s" % name,
             "GLOBAL $( A:200 $)\nLET F(X, Y) BE %s\nLET G(X, Y, Z) BE FOR I = 1 TO 2 DO %s\nLET H(X) = 1 + VALOF %s\nLET K() BE $( LET P = 1; %s $)\n" % ((command,) * 4), True)
+    empties = ["N: $)", "N: ; F(1) $)", "N: M: $)", "N:\n$)", "SWITCHON A INTO $( CASE 1: $) $)", "SWITCHON A INTO $( CASE 1: ; F(1) $) $)",
+               "SWITCHON A INTO $( CASE 1: CASE 2: $) $)", "SWITCHON A INTO $( CASE 1:\nCASE 2: F(1) $) $)",
+                   "SWITCHON A INTO $( DEFAULT: $) $)",
+               "SWITCHON A INTO $( DEFAULT: ; F(1) $) $)", "SWITCHON A INTO $( CASE 1: DEFAULT: $) $)",
+                   "SWITCHON A INTO CASE 1: ; F(1) $)", "N: REPEAT $)",
+               "SWITCHON A INTO CASE 1: REPEAT $)", "N: REPEATWHILE A $)", "SWITCHON A INTO DEFAULT: REPEATUNTIL A $)",
+                   "IF A DO N: ; F(1) $)",
+               "TEST A DO N: OR M: $)", "; $)", ";; F(1);; $)", "$)", "$( $) $)", "$( ; $) $)", "$( LET X = 1 $) $)",
+                   "$( LET X = 1; ; $) $)", "WHILE A DO N: $)"]
+    for number, text in enumerate(empties, 1):
+        put(table, "empty-commands-%d" % number, "GLOBAL $( A:200; F:201 $)\nLET G() BE $( %s\n" % text, True)
     table.rule("LANGUAGE", "Brackets")
     for text in ("$(A F() $)A", "$(a F() $)A", "$(A F() $)a", "$(aB1.c F() $)Ab1.C", "$(1 F() $)1", "$(A F() $)B", "$(A F() $)AB",
         "$(AB F() $)A", "$(A $(B F() $)B $)A", "$(A $(B F() $)A", "$(A $(B F() $)a", "$(A $(A F() $)A F(1) $)A",
@@ -371,6 +382,16 @@ def faults():
                     "K3 =").replace("K:", "K3:")
                 put(table, "%s-before-a-fault-of-%s" % (name, kinds[other_kind][0]), GOOD + line + "\n" + TAIL + second + "\n", False)
                 put(table, "%s-after-a-fault-of-%s" % (name, kinds[other_kind][0]), GOOD + second + "\n" + TAIL + line + "\n", False)
+    for sign in OPERATORS:
+        for name, left, right in (("at-the-right", "1", "NONE"), ("at-the-left", "NONE", "1"), ("of-a-static", "S", "0"),
+            ("before-0", "NONE", "0")):
+            for where, text in (("manifest", "MANIFEST $( M = %s $)"), ("case", "LET F(X) BE SWITCHON X INTO $( CASE %s: F(1) $)")):
+                source = "STATIC $( S = 1 $)\n" + text % ("%s %s\n%s" % (left, sign, right)) + "\nLET K() = NEVER\n"
+                put(table, "operand-without-a-value-%s-of-%s-in-%s" % (name, words(sign), where), source, False)
+    for name, text in (("after-a-fault-at-the-end-of-the-first", "VALOF $(\nLET G() = 1\nRESULTIS 1 $) +\nNONE"),
+        ("after-a-fault-in-the-first", "VALOF $(\nLET G() = 1\nRESULTIS NONE\n$) + 1"),
+                       ("before-a-fault-after-it", "VALOF $(\nLET G() = 1\nRESULTIS 1 $) + 1")):
+        put(table, "a-second-copy-%s" % name, "GLOBAL $( G:200 $)\nLET F(A, B) = A < %s <\nNEVER\n" % text, False)
     table.rule("LANGUAGE", "Symbols")
     before, after = "GLOBAL $( F:200 $)\n", "LET H() = 2\n"
     for byte in range(256):
@@ -403,18 +424,27 @@ def faults():
 
 
 # What may be before a line end or a blank, and what after it.
-ENDS = {"a-name": "A := B", "a-number": "A := 1", "a-string": "A := \"S\"", "a-character": "A := 'C'", "true": "A := TRUE", "false": "A := FALSE", "a-query": "A := ?", "a-parenthesis": "F(1)",
-        "a-bracket": "$( F(1) $)", "break": "BREAK", "loop": "LOOP", "endcase": "ENDCASE", "return": "RETURN", "finish": "FINISH", "repeat": "F(1) REPEAT", "a-tag": "$(T F(1) $)T",
-        "becomes": "A :=", "an-operator": "A := B +", "a-comma": "A := F(1,", "do": "IF A DO", "a-colon": "N:", "a-semicolon": "F(1);", "nothing": "", "if": "IF A", "goto": "GOTO P"}
-BEGINS = {"a-bracket": "$( F(2) $)", "goto": "GOTO P", "if": "IF A DO F(2)", "unless": "UNLESS A DO F(2)", "test": "TEST A DO F(2) OR F(3)", "while": "WHILE A DO F(2)", "until": "UNTIL A DO F(2)",
-          "for": "FOR I = 1 TO 2 DO F(2)", "switchon": "SWITCHON A INTO CASE 9: F(2)", "break": "BREAK", "loop": "LOOP", "endcase": "ENDCASE", "resultis": "RESULTIS 1", "return": "RETURN", "finish": "FINISH",
-          "a-name": "F(2)", "a-number": "5(2)", "a-parenthesis": "(F)(2)", "contents": "!A := 1", "case": "CASE 1: F(2)", "default": "DEFAULT: F(2)", "a-string": "\"S\"(2)", "a-character": "'C'(2)", "true": "TRUE(2)",
-          "a-query": "?(2)", "an-address": "@A!1 := 2", "plus": "+ 1", "minus": "- 1", "not": "NOT A", "valof": "VALOF RESULTIS 1", "table": "TABLE 1", "repeat": "REPEAT", "repeatwhile": "REPEATWHILE A",
-          "equals": "= 1", "a-choice": "-> 1, 2", "becomes": ":= 1", "a-byte": "% 1", "do": "DO F(2)", "let": "LET X = 1", "a-closing-bracket": "$)"}
+ENDS = {"a-name": "A := B", "a-number": "A := 1", "a-string": "A := \"S\"", "a-character": "A := 'C'", "true": "A := TRUE",
+    "false": "A := FALSE", "a-query": "A := ?", "a-parenthesis": "F(1)",
+        "a-bracket": "$( F(1) $)", "break": "BREAK", "loop": "LOOP", "endcase": "ENDCASE", "return": "RETURN", "finish": "FINISH",
+            "repeat": "F(1) REPEAT", "a-tag": "$(T F(1) $)T",
+        "becomes": "A :=", "an-operator": "A := B +", "a-comma": "A := F(1,", "do": "IF A DO", "a-colon": "N:", "a-semicolon": "F(1);",
+            "nothing": "", "if": "IF A", "goto": "GOTO P"}
+BEGINS = {"a-bracket": "$( F(2) $)", "goto": "GOTO P", "if": "IF A DO F(2)", "unless": "UNLESS A DO F(2)",
+    "test": "TEST A DO F(2) OR F(3)", "while": "WHILE A DO F(2)", "until": "UNTIL A DO F(2)",
+          "for": "FOR I = 1 TO 2 DO F(2)", "switchon": "SWITCHON A INTO CASE 9: F(2)", "break": "BREAK", "loop": "LOOP",
+              "endcase": "ENDCASE", "resultis": "RESULTIS 1", "return": "RETURN", "finish": "FINISH",
+          "a-name": "F(2)", "a-number": "5(2)", "a-parenthesis": "(F)(2)", "contents": "!A := 1", "case": "CASE 1: F(2)",
+              "default": "DEFAULT: F(2)", "a-string": "\"S\"(2)", "a-character": "'C'(2)", "true": "TRUE(2)",
+          "a-query": "?(2)", "an-address": "@A!1 := 2", "plus": "+ 1", "minus": "- 1", "not": "NOT A", "valof": "VALOF RESULTIS 1",
+              "table": "TABLE 1", "repeat": "REPEAT", "repeatwhile": "REPEATWHILE A",
+          "equals": "= 1", "a-choice": "-> 1, 2", "becomes": ":= 1", "a-byte": "% 1", "do": "DO F(2)", "let": "LET X = 1",
+              "a-closing-bracket": "$)"}
 
 
 def insertion():
-    table = Table("compiler/table-insertion", "What may end a command before what may begin one, with a line end between them and with a blank.")
+    table = Table("compiler/table-insertion",
+        "What may end a command before what may begin one, with a line end between them and with a blank.")
     table.rule("LANGUAGE", "Symbols")
     for end, one in ENDS.items():
         for begin, two in BEGINS.items():
