@@ -7,6 +7,7 @@ mod Places
 mod Reaching
 mod Routines
 mod RunSteps
+mod KeptSteps
 mod Settings
 mod TellSteps
 pub mod Lemmas

@@ -1,4 +1,5 @@
 -- Settings of globals, and segments that are placed one after another.
+use Rattle.bk_machine.specs.Kept.{padded}
 use Rattle.bk_machine.proofs.Terms.{◌≡◌, ℕ, ◌+◌, ◌-◌, ◌<◌, ◌≤◌, List, [], ◌∷◌, ◌++◌, length, get_or, set, take, drop, refl, sym, ap, ◌∙◌, arith, map, length-append, append_assoc, take_more, drop_more, map_more, append-nil, drop_all, take_all, length-set, set-append_left, fold-append, fold_push, Item, Instruction, SetGlobal, IsSegment, items_of, Setting, Growth, SEGMENTS, grown, library_settings, item_settings, segment_settings, all_settings, all_words, with_setting, segment_size, segment_words, label_number, stack_start, loaded_store, placed, AreSegments, AreBounded, settings_joined, items_bounded, segments_bounded, library_bounded, settings_length, below, below_length, stack_more, grown_behind, fold, replicate}
 use Rattle.bk_machine.specs.declared.segment.Intcode.{Intcode}
 use Rattle.bk_machine.specs.SizeLaws.{segment_length}
@@ -141,20 +142,19 @@ placed-next base store next segments i s items within read shown known is =
     is ∙ ap (λ l. placed store l) e ∙ ap (λ l. placed l (items_of (get_or segments i s))) known ∙ sym (placed-more base segments i s within)
 
 -- the store, filled up with zeros
-pub store-whole : (words count i : ℕ) (segments : List Intcode) (base store filled : List ℕ) → base ≡ fold with_setting below library_settings
+pub store-whole : (words i : ℕ) (segments : List Intcode) (base store : List ℕ) → base ≡ fold with_setting below library_settings
     → store ≡ fold placed base (map items_of (take i segments)) → length segments ≤ i
     → stack_start (length store) (map items_of (drop i segments)) ≡ stack_start SEGMENTS (map items_of segments)
-    → stack_start SEGMENTS (map items_of segments) ≤ words → count ≡ length store → filled ≡ take words store ++ replicate (words - count) 0
-    → filled ≡ loaded_store words (map items_of segments)
-store-whole words count i segments base store filled library known all rest room counted is =
+    → (padded words store ≡ loaded_store words (map items_of segments)) × (length store ≡ stack_start SEGMENTS (map items_of segments))
+store-whole words i segments base store library known all rest =
     let size : length store ≡ stack_start SEGMENTS (map items_of segments) =
-    sym (ap (λ l. stack_start (length store) (map items_of l)) (drop_all i segments all)) ∙ rest in
-    let short : length store ≤ words = omega arith in
-    is ∙ ap (λ l. l ++ replicate (words - count) 0)
-    (take_all words store short ∙ known ∙ ap (λ l. fold placed base (map items_of l)) (take_all i segments all)
-    ∙ ap (λ l. fold placed l (map items_of segments)) library)
-    ∙ ap (λ n. fold placed (fold with_setting below library_settings) (map items_of segments) ++ replicate (words - n) 0) (counted ∙ size)
-    ∙ loaded-is words segments
+    sym (ap (λ l. stack_start (length store) (map items_of l)) (drop_all i segments all)) ∙ rest in (
+      ap (λ l. l ++ replicate (words - length store) 0)
+          (known ∙ ap (λ l. fold placed base (map items_of l)) (take_all i segments all) ∙ ap (λ l. fold placed l (map items_of segments)) library)
+          ∙ ap (λ n. fold placed (fold with_setting below library_settings) (map items_of segments) ++ replicate (words - n) 0) size
+          ∙ loaded-is words segments,
+      size,
+    )
 
 -- a global is set
 pub settings-set : (labels : ℕ → ℕ) (store now : List ℕ) (items : List Item) (i number label value : ℕ) (d : Item) → i < length items

@@ -93,6 +93,9 @@ pub string_rest-byte : (n m : ℕ) (store : List ℕ) (s i b : ℕ) → n ≡ su
     → string_rest n store s i ≡ text_then (whole_text (b ∷ [])) (string_rest m store s (i + 1))
 string_rest-byte n m store s i b count found = rw (count, found) refl
 
+pub string_rest-cut : (n m : ℕ) (store : List ℕ) (s i : ℕ) → n ≡ suc m → byte_of store s i ≡ None → string_rest n store s i ≡ cut_text
+string_rest-cut n m store s i count missing = rw (count, missing) refl
+
 -- ---- a directive of a format, and the rest of it
 
 pub format_rest-none : (n : ℕ) (store : List ℕ) (f i left a : ℕ) → left ≡ 0 → format_rest n store f i left a ≡ whole_text []

@@ -7,3 +7,4 @@ pub mod Packing
 pub mod Placed
 pub mod Effects
 pub mod Telling
+pub mod Stops

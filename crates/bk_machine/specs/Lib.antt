@@ -19,3 +19,4 @@ pub mod RunLengths
 pub mod ShorterStores
 pub mod RunInputs
 pub mod State
+pub mod Kept

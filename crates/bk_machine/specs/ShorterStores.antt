@@ -60,7 +60,7 @@ after_writes n (Asks s r) i o = run-begins n s _ _ o
 after_writes n (Ends e) i o = ([], sym (append-nil o))
 
 module _ (t : List ℕ) where
-  abbrev longer : Turn → Turn
+  abbrev pub longer : Turn → Turn
   longer (Goes s r) = Goes (s ++ t) r
   longer (Outputs what s r) = Outputs what (s ++ t) r
   longer (Asks s r) = Asks (s ++ t) r
@@ -159,7 +159,7 @@ module _ (t : List ℕ) where
 
   -- ---- a turn stops at the store's end, or is that of the longer store
 
-  abbrev SameTurn : Turn → Turn → Type 0
+  abbrev pub SameTurn : Turn → Turn → Type 0
   SameTurn u v = (u ≡ Ends StoreLimit) ⊎ (v ≡ longer u)
 
   map_or : {A : Type 0} (x y : Option A) (f g : A → Turn) → Same x y → ((a : A) → SameTurn (f a) (g a)) → SameTurn (option_map_or f x (Ends StoreLimit)) (option_map_or g y (Ends StoreLimit))

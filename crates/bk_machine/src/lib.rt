@@ -1,8 +1,10 @@
 //! INTCODE: items, segments, the loader, and the machine that executes them.
 #![tactic(auto)]
 
+mod board;
 mod extent;
 mod item;
+mod keeping;
 mod labels;
 mod laws;
 mod library;

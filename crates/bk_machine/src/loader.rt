@@ -1,9 +1,10 @@
 //! Loading: segments into the store of a machine.
-ghost use Rattle.std.specs.Prelude.{◌≡◌, ◌+◌, ◌<◌, ◌≤◌, ◌↔◌, false, OnOk, IfOk, MatchOption, map, vec_len};
+ghost use Rattle.std.specs.Prelude.{◌≡◌, ◌+◌, ◌<◌, ◌≤◌, ◌↔◌, false, OnOk, IfOk, MatchOption, map, vec_len, vec_capacity};
 ghost use Rattle.bk_base.specs.declared.limit.TheConstants.{STORE_LEAST, STORE_MOST};
 ghost use Rattle.bk_machine.specs.Segment.{IsSegment};
 ghost use Rattle.bk_machine.specs.SegmentItems.{items_of};
 ghost use Rattle.bk_machine.specs.Placement.{SEGMENTS, stack_start, loaded_store, greatest_frame, any_starts, segment_size};
+ghost use Rattle.bk_machine.specs.Kept.{padded};
 ghost use Rattle.bk_machine.specs.Inner.Placed.{placed};
 ghost use Rattle.bk_machine.specs.declared.load_fault.LoadFault.TheVariants.{TooSmall, NoStart};
 
@@ -23,7 +24,7 @@ const STACK_LEAST: u32 = 16;
 /// A store before its run.
 #[derive(Debug, Drop)]
 pub struct Loaded {
-    /// The words of the store.
+    /// The words of the store, up to the end of the segments.
     pub store: Vec<u32>,
     /// The first word of the stack.
     pub stack: u32,
@@ -77,19 +78,20 @@ fn place(alloc: Global, store: &mut Vec<u32>, items: &[Item]) -> Result<(), Allo
     push_items(store, &labels, items)
 }
 
-/// The store of so many words with the segments in it.
+/// The store of so many words with the segments in it, up to their end; there is memory for all its words.
 fn loaded_store(alloc: Global, segments: &[Intcode], words: u32) -> Result<Vec<u32>, AllocError>
     requires room { stack_start SEGMENTS (map items_of segments.now) ≤ words }
     requires most { words ≤ STORE_MOST }
-    ensures store { IfOk result (λ store. store.items ≡ loaded_store words (map items_of segments.now)) }
-    ensures length { IfOk result (λ store. vec_len store ≡ words) }
+    ensures store { IfOk result (λ store. padded words store.items ≡ loaded_store words (map items_of segments.now)) }
+    ensures within { IfOk result (λ store. vec_len store ≤ words) }
+    ensures capacity { IfOk result (λ store. words ≤ vec_capacity store) }
 {
     let mut store = Vec::with_capacity(alloc, words as usize)?;
     push_library(&mut store)?;
     for segment in segments {
         place(alloc, &mut store, segment.items())?;
     }
-    store.resize(words as usize, 0)?;
+    store.reserve_exact(words as usize - store.len())?;
     Ok(store)
 }
 
@@ -97,8 +99,9 @@ fn loaded_store(alloc: Global, segments: &[Intcode], words: u32) -> Result<Vec<u
 pub fn load(alloc: Global, segments: &[Intcode], words: u32) -> Result<Loaded, LoadFault>
     requires least { STORE_LEAST ≤ words }
     requires most { words ≤ STORE_MOST }
-    ensures store { IfOk result (λ loaded. loaded.store.items ≡ loaded_store words (map items_of segments.now)) }
-    ensures length { IfOk result (λ loaded. vec_len loaded.store ≡ words) }
+    ensures store { IfOk result (λ loaded. padded words loaded.store.items ≡ loaded_store words (map items_of segments.now)) }
+    ensures within { IfOk result (λ loaded. vec_len loaded.store ≤ words) }
+    ensures capacity { IfOk result (λ loaded. words ≤ vec_capacity loaded.store) }
     ensures stack { IfOk result (λ loaded. loaded.stack ≡ stack_start SEGMENTS (map items_of segments.now)) }
     ensures room { IfOk result (λ loaded. loaded.stack + 16 ≤ words) }
     ensures frame { IfOk result (λ loaded. loaded.frame ≡ greatest_frame (map items_of segments.now)) }

@@ -1,5 +1,5 @@
 //! The machine.
-ghost use Rattle.std.specs.Prelude.{ℕ, ◌≡◌, ◌≢◌, ◌+◌, ◌<◌, ◌≤◌, ◌↔◌, ◌⊎◌, None, Some, IfOk, false, map, slice_get, vec_len};
+ghost use Rattle.std.specs.Prelude.{ℕ, ◌≡◌, ◌≢◌, ◌+◌, ◌<◌, ◌≤◌, ◌↔◌, ◌⊎◌, None, Some, IfOk, false, map, slice_get};
 ghost use Rattle.std.specs.Io.KnownBytes.{Keeps};
 ghost use Rattle.bk_base.specs.declared.run_end.End.TheVariants.{StepLimit, WriteFault};
 ghost use Rattle.bk_base.specs.declared.limit.TheConstants.{STORE_LEAST, STORE_MOST};
@@ -8,12 +8,12 @@ ghost use Rattle.bk_machine.specs.Placement.{SEGMENTS, stack_start, loaded_store
 ghost use Rattle.bk_base.specs.Devices.{Begins};
 ghost use Rattle.bk_machine.specs.Runs.{HeldBy, Ran, Went, Blames, BlamesBefore, devices};
 
+use crate::board::Board;
 use crate::load_fault::LoadFault;
 use crate::loader::load;
 use crate::registers::Registers;
 use crate::run::go;
 use crate::segment::Intcode;
-use crate::store::word_at;
 use bk_base::limit::{STORE_LEAST, STORE_MOST};
 use bk_base::{ByteIn, ByteOut, End};
 use std::alloc::Global;
@@ -30,12 +30,9 @@ pub struct Sizes {
 /// A machine whose store has a fixed number of words.
 #[derive(Debug, Drop)]
 pub struct Machine {
-    store: Vec<u32>,
-    registers: Registers,
-    words: u32,
+    board: Board,
     end: Option<End>,
     sizes: Sizes,
-    pub ghost length: { vec_len store ≡ words },
     pub ghost not_paused: { end ≢ Some StepLimit },
 }
 
@@ -43,7 +40,8 @@ impl Machine {
     ghost use Rattle.bk_machine.specs.SegmentItems.{items_of};
     ghost use Rattle.bk_machine.specs.State.{store_of, registers_of, end_of, words_of, sizes_of};
 
-    /// A machine with the segments in a store of so many words, ready to begin: `TooSmall` where less than 16 words would be
+    /// A machine with the segments in a store of so many words, ready to begin. There is memory for all of them, and those after the
+    /// segments are written when they are reached: `TooSmall` where less than 16 words would be
     /// left for the stack, else `NoStart` where no segment sets global 1; both before anything grows. It takes the time
     /// of a look-up for each item.
     pub fn load(alloc: Global, segments: &[Intcode], words: u32) -> Result<Machine, LoadFault>
@@ -65,14 +63,16 @@ impl Machine {
     {
         let loaded = load(alloc, segments, words)?;
         Ok(Machine {
-            store: loaded.store,
-            registers: Registers {
-                c: 1,
-                p: loaded.stack,
-                a: 0,
-                b: 0,
+            board: Board {
+                kept: loaded.store,
+                words,
+                registers: Registers {
+                    c: 1,
+                    p: loaded.stack,
+                    a: 0,
+                    b: 0,
+                },
             },
-            words,
             end: None,
             sizes: Sizes {
                 image: loaded.stack,
@@ -93,14 +93,14 @@ impl Machine {
     pub fn registers(&self) -> Registers
         ensures { result ≡ registers_of self.now }
     {
-        self.registers
+        self.board.registers
     }
 
     /// The word of its store at an address, if the store has one; after a run, as the registers. It takes no memory.
     pub fn word(&self, at: u32) -> Option<u32>
         ensures { result ≡ slice_get (store_of self.now) at }
     {
-        word_at(self.store.as_slice(), at)
+        self.board.store().at(at)
     }
 
     /// Does up to this many steps more. `StepLimit` comes after just so many, and the machine is ready to go on in another
@@ -124,35 +124,13 @@ impl Machine {
         if let Some(end) = self.end {
             return end;
         }
-        let end = drive(&mut self.store, &mut self.registers, steps, input, out);
+        let end = go(&mut self.board, steps, input, out);
         let end = finish(end, out);
         if end != End::StepLimit {
             self.end = Some(end);
         }
         end
     }
-}
-
-/// A run over the store of a machine.
-#[inline(never)]
-fn drive<I: ByteIn, O: ByteOut>(
-    store: &mut Vec<u32>,
-    registers: &mut Registers,
-    steps: u64,
-    input: &mut I,
-    out: &mut O,
-) -> End
-    ensures length { vec_len store.new ≡ vec_len store.old }
-    ensures went { Went (HeldBy I.held) result steps store.old.items registers.old store.new.items registers.new
-        (devices I.ByteIn O.ByteOut input.old out.old) (devices I.ByteIn O.ByteOut input.new out.new) }
-    ensures passes { Begins (O.passed out.old) (O.passed out.new) }
-    ensures cause { BlamesBefore result (I.faults input.old) (I.faults input.new) (O.faults out.new) }
-{
-    // a copy of its own, which the compiler keeps in registers
-    let mut local = *registers;
-    let end = go(store.as_mut_slice(), &mut local, steps, input, out);
-    *registers = local;
-    end
 }
 
 /// Each end flushes, and one that cannot is a write fault.

@@ -1,9 +1,10 @@
 //! What the library's routines write.
 ghost use Rattle.std.specs.Prelude.{◌≡◌, ◌<◌, ◌≤◌, ◌+◌, ◌^◌, IfSome};
 ghost use Rattle.bk_machine.specs.Output.{byte_of, plain, aligning, lettered, directive};
+ghost use Rattle.bk_machine.specs.Kept.{words_in};
 ghost use Rattle.bk_base.specs.Format.{capital, is_digit};
 
-use crate::store::word_at;
+use crate::store::{Words, word_at};
 use bk_base::word;
 
 /// A piece of output.
@@ -46,6 +47,15 @@ pub fn byte_at(store: &[u32], address: u32, i: u32) -> Option<u8>
     Some(word::byte(word, word::place_of_byte(i)))
 }
 
+/// The same, of a store of which the first words are kept.
+#[inline(always)]
+pub fn byte_in(store: Words<'_>, address: u32, i: u32) -> Option<u8>
+    ensures { result ≡ byte_of (words_in store.entry) address i }
+{
+    let word = store.at(word::sum(address, word::distance_of_byte(i)))?;
+    Some(word::byte(word, word::place_of_byte(i)))
+}
+
 /// A byte that writes itself.
 fn plain_byte(byte: u8) -> Option<Directive>
     ensures value { result ≡ plain byte }
@@ -78,23 +88,23 @@ fn is_digit_byte(byte: u8) -> bool
 
 /// `%I`, and a digit at byte `i`, of which `left` bytes are left.
 fn align_directive(
-    store: &[u32],
+    store: Words<'_>,
     format: u32,
     i: u32,
     left: u32,
     argument: u32,
 ) -> Option<Directive>
-    ensures value { result ≡ aligning store.now format i left argument }
+    ensures value { result ≡ aligning (words_in store.entry) format i left argument }
     ensures within { IfSome result (λ d. (1 ≤ d.bytes) × (d.bytes ≤ left + 2)) }
 {
     if left == 0 {
         return plain_byte(b'%');
     }
-    let digit = byte_at(store, format, i)?;
+    let digit = byte_in(store, format, i)?;
     if !is_digit_byte(digit) {
         return plain_byte(b'%');
     }
-    let number = word_at(store, argument)?;
+    let number = store.at(argument)?;
     let width = u32::from(digit - 48);
     Some(Directive {
         piece: Piece::Aligned { number, width },
@@ -105,7 +115,7 @@ fn align_directive(
 
 /// `%` and a letter in upper case, at byte `i`; at least two bytes are left.
 fn letter_directive(
-    store: &[u32],
+    store: Words<'_>,
     format: u32,
     i: u32,
     left: u32,
@@ -114,13 +124,13 @@ fn letter_directive(
 ) -> Option<Directive>
     requires places { i + 2 < 2 ^ 32 }
     requires two { 1 < left }
-    ensures value { result ≡ lettered store.now format i left argument letter }
+    ensures value { result ≡ lettered (words_in store.entry) format i left argument letter }
     ensures within { IfSome result (λ d. (1 ≤ d.bytes) × (d.bytes ≤ left)) }
 {
     let piece = match letter {
-        b'S' => Piece::String(word_at(store, argument)?),
-        b'N' => Piece::Number(word_at(store, argument)?),
-        b'C' => Piece::Byte((word_at(store, argument)? % 256) as u8),
+        b'S' => Piece::String(store.at(argument)?),
+        b'N' => Piece::Number(store.at(argument)?),
+        b'C' => Piece::Byte((store.at(argument)? % 256) as u8),
         b'I' => return align_directive(store, format, i + 2, left - 2, argument),
         b'%' => {
             return Some(Directive {
@@ -141,7 +151,7 @@ fn letter_directive(
 /// The directive at byte `i` of a format, of which `left` bytes are left; `argument` is the address of the next argument.
 /// None where it leads outside the store.
 pub fn directive_at(
-    store: &[u32],
+    store: Words<'_>,
     format: u32,
     i: u32,
     left: u32,
@@ -149,12 +159,12 @@ pub fn directive_at(
 ) -> Option<Directive>
     requires places { i + 2 < 2 ^ 32 }
     requires some { 0 < left }
-    ensures value { result ≡ directive store.now format i left argument }
+    ensures value { result ≡ directive (words_in store.entry) format i left argument }
     ensures within { IfSome result (λ d. (1 ≤ d.bytes) × (d.bytes ≤ left)) }
 {
-    let byte = byte_at(store, format, i)?;
+    let byte = byte_in(store, format, i)?;
     if byte == b'%' && 1 < left {
-        let letter = byte_at(store, format, i + 1)?;
+        let letter = byte_in(store, format, i + 1)?;
         return letter_directive(store, format, i, left, argument, capital_of(letter));
     }
     plain_byte(byte)

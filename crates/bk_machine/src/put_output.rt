@@ -5,9 +5,11 @@ ghost use Rattle.bk_base.specs.Decimal.{spelling};
 ghost use Rattle.bk_base.specs.Devices.{Begins};
 ghost use Rattle.bk_base.specs.Format.{aligned, width as width_of};
 ghost use Rattle.bk_machine.specs.Output.{string_rest, string_text, piece_text, format_rest, format_text, output_text, whole_text};
+ghost use Rattle.bk_machine.specs.Kept.{words_in};
 ghost use Rattle.bk_machine.specs.Inner.Telling.{PutsText, PutsBytes};
 
-use crate::output::{Output, Piece, byte_at, directive_at};
+use crate::output::{Output, Piece, byte_in, directive_at};
+use crate::store::Words;
 use bk_base::{ByteOut, Failed, put_all, word, word_text};
 
 /// Puts so many blanks.
@@ -72,18 +74,18 @@ fn put_aligned<O: ByteOut>(out: &mut O, number: u32, width: u32) -> Result<(), F
 
 /// Puts so many bytes of a string, from its first.
 fn put_bytes<O: ByteOut>(
-    store: &[u32],
+    store: Words<'_>,
     address: u32,
     count: u32,
     out: &mut O,
 ) -> Result<bool, Failed>
     requires { count < 256 }
-    ensures text { PutsText (O.taken out.old) (O.taken out.new) (string_rest count store.now address 1) result }
+    ensures text { PutsText (O.taken out.old) (O.taken out.new) (string_rest count (words_in store.entry) address 1) result }
     ensures passes { Begins (O.passed out.old) (O.passed out.new) }
     ensures failed { OnErr result (O.faults out.new ≡ 1) }
 {
     for i in 0..count {
-        let Some(byte) = byte_at(store, address, i + 1) else {
+        let Some(byte) = byte_in(store, address, i + 1) else {
             return Ok(false);
         };
         out.put(byte)?;
@@ -94,12 +96,12 @@ fn put_bytes<O: ByteOut>(
 /// Puts a string.
 #[cold]
 #[inline(never)]
-fn put_string<O: ByteOut>(store: &[u32], address: u32, out: &mut O) -> Result<bool, Failed>
-    ensures text { PutsText (O.taken out.old) (O.taken out.new) (string_text store.now address) result }
+fn put_string<O: ByteOut>(store: Words<'_>, address: u32, out: &mut O) -> Result<bool, Failed>
+    ensures text { PutsText (O.taken out.old) (O.taken out.new) (string_text (words_in store.entry) address) result }
     ensures passes { Begins (O.passed out.old) (O.passed out.new) }
     ensures failed { OnErr result (O.faults out.new ≡ 1) }
 {
-    match byte_at(store, address, 0) {
+    match byte_in(store, address, 0) {
         Some(count) => put_bytes(store, address, u32::from(count), out),
         None => Ok(false),
     }
@@ -107,8 +109,8 @@ fn put_string<O: ByteOut>(store: &[u32], address: u32, out: &mut O) -> Result<bo
 
 /// Puts a piece.
 #[inline(always)]
-fn put_piece<O: ByteOut>(store: &[u32], piece: Piece, out: &mut O) -> Result<bool, Failed>
-    ensures text { PutsText (O.taken out.old) (O.taken out.new) (piece_text store.now piece) result }
+fn put_piece<O: ByteOut>(store: Words<'_>, piece: Piece, out: &mut O) -> Result<bool, Failed>
+    ensures text { PutsText (O.taken out.old) (O.taken out.new) (piece_text (words_in store.entry) piece) result }
     ensures passes { Begins (O.passed out.old) (O.passed out.new) }
     ensures failed { OnErr result (O.faults out.new ≡ 1) }
 {
@@ -123,14 +125,14 @@ fn put_piece<O: ByteOut>(store: &[u32], piece: Piece, out: &mut O) -> Result<boo
 
 /// Puts at most `count` directives of a format, of which that many bytes are left, from its first byte.
 fn put_directives<O: ByteOut>(
-    store: &[u32],
+    store: Words<'_>,
     format: u32,
     count: u32,
     arguments: u32,
     out: &mut O,
 ) -> Result<bool, Failed>
     requires { count < 256 }
-    ensures text { PutsText (O.taken out.old) (O.taken out.new) (format_rest count store.now format 1 count arguments) result }
+    ensures text { PutsText (O.taken out.old) (O.taken out.new) (format_rest count (words_in store.entry) format 1 count arguments) result }
     ensures passes { Begins (O.passed out.old) (O.passed out.new) }
     ensures failed { OnErr result (O.faults out.new ≡ 1) }
 {
@@ -158,16 +160,16 @@ fn put_directives<O: ByteOut>(
 #[cold]
 #[inline(never)]
 fn put_format<O: ByteOut>(
-    store: &[u32],
+    store: Words<'_>,
     format: u32,
     arguments: u32,
     out: &mut O,
 ) -> Result<bool, Failed>
-    ensures text { PutsText (O.taken out.old) (O.taken out.new) (format_text store.now format arguments) result }
+    ensures text { PutsText (O.taken out.old) (O.taken out.new) (format_text (words_in store.entry) format arguments) result }
     ensures passes { Begins (O.passed out.old) (O.passed out.new) }
     ensures failed { OnErr result (O.faults out.new ≡ 1) }
 {
-    match byte_at(store, format, 0) {
+    match byte_in(store, format, 0) {
         Some(count) => put_directives(store, format, u32::from(count), arguments, out),
         None => Ok(false),
     }
@@ -175,8 +177,8 @@ fn put_format<O: ByteOut>(
 
 /// Puts what a step writes, and answers whether it was whole.
 #[inline(always)]
-pub fn put_output<O: ByteOut>(store: &[u32], what: Output, out: &mut O) -> Result<bool, Failed>
-    ensures text { PutsText (O.taken out.old) (O.taken out.new) (output_text store.now what) result }
+pub fn put_output<O: ByteOut>(store: Words<'_>, what: Output, out: &mut O) -> Result<bool, Failed>
+    ensures text { PutsText (O.taken out.old) (O.taken out.new) (output_text (words_in store.entry) what) result }
     ensures passes { Begins (O.passed out.old) (O.passed out.new) }
     ensures failed { OnErr result (O.faults out.new ≡ 1) }
 {

@@ -1,9 +1,11 @@
 //! One step of the machine.
-ghost use Rattle.std.specs.Prelude.{◌≡◌, ◌<◌, ◌/◌, ◌^◌, slice_get};
+ghost use Rattle.std.specs.Prelude.{◌≡◌, ◌<◌, ◌/◌, ◌^◌, ℕ, List, slice_get, if◌then◌else◌};
+ghost use Rattle.std.specs.Bool.{OnFalse};
+ghost use Rattle.bk_base.specs.declared.run_end.End.TheVariants.{StoreLimit};
 ghost use Rattle.bk_base.specs.Word.{word_sum};
 ghost use Rattle.bk_machine.specs.Decoding.{form as form_of, form_function};
-ghost use Rattle.bk_machine.specs.Step.{Goes, addressed, with_local, with_global, pointed, operand, matched, switched, byte_stored, called, operated, executed, step_on, step as step_of};
-ghost use Rattle.bk_machine.specs.Inner.Effects.{turn_of, OwnEnd};
+ghost use Rattle.bk_machine.specs.Step.{Turn, Goes, Ends, addressed, with_local, with_global, pointed, operand, matched, switched, byte_stored, called, operated, executed, step_on, step as step_of};
+ghost use Rattle.bk_machine.specs.Inner.Effects.{turn_of, OwnEnd, Stays};
 
 use crate::extent::LONG_ADDRESS;
 use crate::item::Function;
@@ -116,20 +118,18 @@ fn switch(store: &[u32], c: u32, a: u32) -> Option<u32>
     match_pairs(store, count, word::sum(c, 2), a, otherwise)
 }
 
-/// Sets byte `i` of the words from an address on.
+/// Sets byte `i` of the words from an address on, if the store has its word.
 #[inline(always)]
-fn set_byte(store: &mut [u32], r: &Registers, address: u32, i: u32, byte: u32) -> Option<Effect>
-    ensures turn { byte_stored store.old address i byte (λ next. Goes next r.now) ≡ turn_of result store.new r.now }
-    ensures own { OwnEnd result }
+fn set_byte(store: &mut [u32], address: u32, i: u32, byte: u32) -> bool
+    ensures turn { (go : List ℕ → Turn) → byte_stored store.old address i byte go ≡ (if result then go store.new else Ends StoreLimit) }
+    ensures kept { OnFalse result (store.new ≡ store.old) }
 {
     let at = word::sum(address, word::distance_of_byte(i));
-    let old = word_at(store, at)?;
+    let Some(old) = word_at(store, at) else {
+        return false;
+    };
     let new = word::with_byte(old, word::place_of_byte(i), (byte % 0x100) as u8);
-    if set_word(store, at, new) {
-        Some(Effect::Goes)
-    } else {
-        None
-    }
+    set_word(store, at, new)
 }
 
 /// An argument of a library routine.
@@ -145,6 +145,7 @@ fn argument(store: &[u32], r: &Registers, n: u32) -> Option<u32>
 fn call_routine(store: &mut [u32], r: &mut Registers, routine: Routine) -> Option<Effect>
     ensures turn { called store.old r.old routine ≡ turn_of result store.new r.new }
     ensures own { OwnEnd result }
+    ensures kept { Stays result store.old r.old store.new r.new }
 {
     Some(match routine {
         Routine::Stop => Effect::Ends(End::Status(argument(store, r, 2)?.cast_signed())),
@@ -171,7 +172,10 @@ fn call_routine(store: &mut [u32], r: &mut Registers, routine: Routine) -> Optio
             let address = argument(store, r, 2)?;
             let i = argument(store, r, 3)?;
             let byte = argument(store, r, 4)?;
-            return set_byte(store, r, address, i, byte);
+            if !set_byte(store, address, i, byte) {
+                return None;
+            }
+            Effect::Goes
         }
         Routine::Writef => {
             let format = argument(store, r, 2)?;
@@ -186,14 +190,16 @@ fn call_routine(store: &mut [u32], r: &mut Registers, routine: Routine) -> Optio
 fn operate(store: &mut [u32], r: &mut Registers, operation: Operation) -> Option<Effect>
     ensures turn { operated store.old r.old operation ≡ turn_of result store.new r.new }
     ensures own { OwnEnd result }
+    ensures kept { Stays result store.old r.old store.new r.new }
 {
     match operation {
         Operation::Contents => r.a = word_at(store, r.a)?,
         Operation::Negate => r.a = word::negation(r.a),
         Operation::Not => r.a = word::bitwise_not(r.a),
         Operation::Return => {
-            r.c = word_at(store, word::sum(r.p, 1))?;
+            let c = word_at(store, word::sum(r.p, 1))?;
             r.p = word_at(store, r.p)?;
+            r.c = c;
         }
         Operation::Operator(operator) => match apply(operator, r.b, r.a) {
             Some(word) => r.a = word,
@@ -206,8 +212,10 @@ fn operate(store: &mut [u32], r: &mut Registers, operation: Operation) -> Option
         Operation::SetByteAt => {
             let n = word_at(store, r.c)?;
             let word = word_at(store, word::sum(r.p, n))?;
+            if !set_byte(store, r.b, r.a, word) {
+                return None;
+            }
             r.c = word::sum(r.c, 1);
-            return set_byte(store, r, r.b, r.a, word);
         }
         Operation::Unknown => return Some(Effect::Ends(End::BadOperation)),
     }
@@ -219,9 +227,11 @@ fn operate(store: &mut [u32], r: &mut Registers, operation: Operation) -> Option
 fn call(store: &mut [u32], r: &mut Registers, d: u32) -> Option<Effect>
     ensures turn { executed store.old r.old Function.Call d ≡ turn_of result store.new r.new }
     ensures own { OwnEnd result }
+    ensures kept { Stays result store.old r.old store.new r.new }
 {
     let frame = word::sum(r.p, d);
-    if !set_word(store, frame, r.p) || !set_word(store, word::sum(frame, 1), r.c) {
+    let next = word::sum(frame, 1);
+    if next as usize >= store.len() || !set_word(store, frame, r.p) || !set_word(store, next, r.c) {
         return None;
     }
     r.p = frame;
@@ -251,6 +261,7 @@ fn function_of(form: u32) -> Function
 fn execute(store: &mut [u32], r: &mut Registers, function: Function, d: u32) -> Option<Effect>
     ensures turn { executed store.old r.old function d ≡ turn_of result store.new r.new }
     ensures own { OwnEnd result }
+    ensures kept { Stays result store.old r.old store.new r.new }
 {
     match function {
         Function::Load => {
@@ -285,10 +296,16 @@ fn execute(store: &mut [u32], r: &mut Registers, function: Function, d: u32) -> 
 fn step_as(store: &mut [u32], r: &mut Registers, form: u32, word: u32) -> Option<Effect>
     ensures turn { step_on store.old r.old form word ≡ turn_of result store.new r.new }
     ensures own { OwnEnd result }
+    ensures kept { Stays result store.old r.old store.new r.new }
 {
-    let (d, c) = operand_of(store, r.c, r.p, form, word)?;
+    let before = r.c;
+    let (d, c) = operand_of(store, before, r.p, form, word)?;
     r.c = c;
-    execute(store, r, function_of(form), d)
+    let effect = execute(store, r, function_of(form), d);
+    if effect.is_none() {
+        r.c = before;
+    }
+    effect
 }
 
 // One dispatch a step: an arm for each form of a word, so that the form is not compared with a limit first. In the first arms
@@ -304,11 +321,13 @@ macro_rules! step_by_form {
     };
 }
 
-/// One step: None where it leads outside the store.
+/// One step: None where it leads outside the store. Then the store stays, and of the registers C alone is another, the place after
+/// the word.
 #[inline(always)]
-pub fn step(store: &mut [u32], r: &mut Registers) -> Option<Effect>
+fn step(store: &mut [u32], r: &mut Registers) -> Option<Effect>
     ensures turn { step_of store.old r.old ≡ turn_of result store.new r.new }
     ensures own { OwnEnd result }
+    ensures kept { Stays result store.old (record r.old { c = word_sum r.old.c 1 }) store.new r.new }
 {
     let c = r.c;
     r.c = word::sum(c, 1);
@@ -323,4 +342,20 @@ pub fn step(store: &mut [u32], r: &mut Registers) -> Option<Effect>
         96 97 98 99 100 101 102 103 104 105 106 107 108 109 110 111 112;
         113 114 115 116 117 118 119 120 121 122 123 124 125 126 127);
     step_as(store, r, word / LONG_ADDRESS, word)
+}
+
+/// One step: None where it leads outside the store. Then the store and the registers are as before.
+#[inline(always)]
+pub fn step_or_stay(store: &mut [u32], r: &mut Registers) -> Option<Effect>
+    ensures turn { step_of store.old r.old ≡ turn_of result store.new r.new }
+    ensures own { OwnEnd result }
+    ensures kept { Stays result store.old r.old store.new r.new }
+{
+    let c = r.c;
+    let effect = step(store, r);
+    if effect.is_none() {
+        r.c = word::difference(r.c, 1);
+        prove!(r.c == c);
+    }
+    effect
 }

@@ -26,6 +26,6 @@ loop-segment-preserved c =
 pub returns-clause-store : goal.returns-clause-store
 returns-clause-store c =
     let store = c.loop-segment.store in
-    store-whole c.args.words store.len c.loop-segment.segment-index c.args.segments.now c.push_library.new.words.items store.items c.resize.new.self.items
-    c.in_ok-push_library.ensures c.loop-segment.invariant.placed (omega arith) c.loop-segment.invariant.rest c.requires.room
-    (omega (arith, store.ok.0)) c.in_ok-resize.ensures.items
+    rw c.in_ok-reserve_exact.ensures.items
+    (store-whole c.args.words c.loop-segment.segment-index c.args.segments.now c.push_library.new.words.items store.items
+    c.in_ok-push_library.ensures c.loop-segment.invariant.placed (omega arith) c.loop-segment.invariant.rest).0

@@ -1,19 +1,42 @@
-use Rattle.bk_machine.proofs.Terms.{◌≡◌, ◌+◌, ◌-◌, arith, refl, ◌∙◌, Begins-refl, Begins-trans, StepLimit}
-use Rattle.bk_machine.proofs.RunSteps.{paused_none, went_on, went_more}
+use Rattle.bk_machine.proofs.Terms.{◌≡◌, ◌≢◌, ◌+◌, ◌-◌, arith, refl, sym, ◌∙◌, Begins-refl, Begins-trans, StepLimit, StoreLimit, Ends, step}
+use Rattle.bk_machine.specs.Kept.{padded}
+use Rattle.bk_machine.proofs.RunSteps.{paused_none, finished_ends, went_on, went_more}
+use Rattle.bk_machine.proofs.KeptSteps.{padded_all}
 use Rattle.bk_machine.proofs.run.go.Goals as goal
 
-pub loop-i-init : goal.loop-i-init
-loop-i-init g c = record { paused = paused_none _ _ _ _; passes = Begins-refl _; unblamed = refl }
+pub loop-end-init : goal.loop-end-init
+loop-end-init g c = record { done = 0; count = omega arith; words = refl; paused = paused_none _ _ _ _; passes = Begins-refl _; unblamed = refl }
 
-pub returns-in-Some-clause-went : goal.returns-in-Some-clause-went
-returns-in-Some-clause-went g c =
-    let count : c.args.steps ≡ (c.loop-i.i + 1) + (c.args.steps - (c.loop-i.i + 1)) = omega arith in
-    rw count (went_more _ (c.loop-i.i + 1) (c.args.steps - (c.loop-i.i + 1)) _ _ _ _ c.in-Some.end _ _ c.in-Some.ensures.over
-    (went_on _ c.loop-i.i 1 _ _ _ _ _ _ _ c.loop-i.invariant.paused c.in-Some.ensures.passes c.in-Some.end _ _ c.in-Some.ensures.went))
+pub returns-in-Ends-clause-went : goal.returns-in-Ends-clause-went
+returns-in-Ends-clause-went g c =
+    let before = c.loop-end.invariant in
+    rw (sym before.count, c.go_kept.ensures.words)
+    (went_on _ before.done c.loop-end.left _ _ _ _ _ _ _ before.paused c.go_kept.ensures.passes c.in-Ends.end _ _ (rw c.in-Ends.is at c.go_kept.ensures.stops))
 
-pub loop-i-preserved : goal.loop-i-preserved
-loop-i-preserved g c = record {
-  paused = went_on _ c.loop-i.i 1 _ _ _ _ _ _ _ c.loop-i.invariant.paused c.turn.ensures.passes StepLimit _ _ (rw c.in_default.is at c.turn.ensures.went);
-  passes = Begins-trans _ _ _ c.loop-i.invariant.passes c.turn.ensures.passes;
-  unblamed = (rw c.in_default.is at c.turn.ensures.cause) ∙ c.loop-i.invariant.unblamed;
-}
+pub returns-then-not-grow-clause-went : goal.returns-then-not-grow-clause-went
+returns-then-not-grow-clause-went g c =
+    let before = c.loop-end.invariant in
+    let beyond = rw c.in-Beyond.is at c.go_kept.ensures.stops in
+    let n = before.done + beyond.done in
+    let kept = c.go_kept.new.board.kept in
+    let all : padded c.loop-end.board.words kept.items ≡ kept.items = padded_all c.loop-end.board.words kept.items (omega (arith, kept.ok.0, c.if-not-grow.ensures.full, c.go_kept.ensures.words)) in
+    let outside : step (padded c.loop-end.board.words kept.items) c.go_kept.new.board.registers ≡ Ends StoreLimit = rw all beyond.outside in
+    let other : StoreLimit ≢ StepLimit = λ same. cc in
+    let count : c.args.steps ≡ (n + 1) + (c.in-Beyond.rest - 1) = omega (arith, before.count, beyond.parts, beyond.some) in
+    rw count (went_more _ (n + 1) (c.in-Beyond.rest - 1) _ _ _ _ StoreLimit kept.items c.go_kept.new.board.registers other
+    (went_on _ n 1 _ _ _ _ _ _ _ (went_on _ before.done beyond.done _ _ _ _ _ _ _ before.paused c.go_kept.ensures.passes StepLimit _ _ beyond.paused) (Begins-refl _)
+    StoreLimit kept.items c.go_kept.new.board.registers (finished_ends _ _ _ StoreLimit _ outside)))
+
+pub loop-end-preserved : goal.loop-end-preserved
+loop-end-preserved g c =
+    let before = c.loop-end.invariant in
+    let beyond = rw c.in-Beyond.is at c.go_kept.ensures.stops in
+    record {
+      done = before.done + beyond.done;
+      count = omega (arith, before.count, beyond.parts);
+      words = c.grow.ensures.words ∙ c.go_kept.ensures.words ∙ before.words;
+      paused = rw (c.grow.ensures.store, c.grow.ensures.registers, c.go_kept.ensures.words)
+          (went_on _ before.done beyond.done _ _ _ _ _ _ _ before.paused c.go_kept.ensures.passes StepLimit _ _ beyond.paused);
+      passes = Begins-trans _ _ _ before.passes c.go_kept.ensures.passes;
+      unblamed = (rw c.in-Beyond.is at c.go_kept.ensures.cause) ∙ before.unblamed;
+    }
