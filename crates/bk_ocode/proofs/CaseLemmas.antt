@@ -38,27 +38,11 @@ values-push value cases all c old new is was now =
 
 has_value-at : (cases : List Case) (k : ℕ) (c : Case) (value : ℤ) → slice_get cases k ≡ Some c → c.value ≡ value → has_value value cases ≡ true
 has_value-at [] k c value at is = absurd (let h : None ≡ Some c = at in cc)
-has_value-at (d ∷ cases) zero c value at is =
-    let same : d ≡ c = cc in
-    let eq : int_eq d.value value ≡ true = ap (λ (x : Case). int_eq x.value value) same ∙ ap (λ (z : ℤ). int_eq z value) is ∙ int_eq_equiv.refl value in
-    ap (λ b. b || has_value value cases) eq
+has_value-at (d ∷ cases) zero c value at is = grind arith
 has_value-at (d ∷ cases) (suc k) c value at is = ap (λ b. int_eq d.value value || b) (has_value-at cases k c value at is) ∙ or_true (int_eq d.value value)
 
 pub AreCases-push : (cases all : List Case) (c : Case) → all ≡ cases ++ c ∷ [] → AreCases cases → IsLabel c.label → has_value c.value cases ≡ false → length all < 2 ^ 31 → AreCases all
-AreCases-push cases all c is are label new few = subst AreCases (sym is) (record {
-  once = λ j k d e at_j at_k same. elim (at_push cases c j d at_j) [
-    | inl p ↦ elim (at_push cases c k e at_k) [
-      | inl q ↦ are.once j k d e p.1 q.1 same
-      | inr q ↦ absurd (let h : true ≡ false = sym (has_value-at cases j d c.value p.1 (same ∙ ap (λ (x : Case). x.value) (sym q.1))) ∙ new in cc)
-    ]
-    | inr p ↦ elim (at_push cases c k e at_k) [
-      | inl q ↦ absurd (let h : true ≡ false = sym (has_value-at cases k e c.value q.1 (sym same ∙ ap (λ (x : Case). x.value) (sym p.1))) ∙ new in cc)
-      | inr q ↦ p.0 ∙ sym q.0
-    ]
-  ];
-  labels = λ k d at. elim (at_push cases c k d at) [ inl p ↦ are.labels k d p.1 | inr p ↦ subst (λ (x : Case). IsLabel x.label) p.1 label ];
-  counted = subst (λ (l : List Case). length l < 2 ^ 31) is few;
-})
+AreCases-push cases all c is are label new few = grind (arith, at_push, has_value-at)
 
 pub typed-push : (cases all : List Case) (c : Case) → all ≡ cases ++ c ∷ [] → ((k : ℕ) (d : Case) → slice_get cases k ≡ Some d → FitsSigned w32 d.value) → FitsSigned w32 c.value →
     (k : ℕ) (d : Case) → slice_get all k ≡ Some d → FitsSigned w32 d.value

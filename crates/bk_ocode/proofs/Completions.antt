@@ -164,10 +164,7 @@ length-without z (c ∷ rest) has = elim (cases_Bool (int_eq c.value z)) [
 ]
 
 apart : (x y z : ℤ) → int_eq x z ≡ true → (z ≡ y → ⊥) → int_eq x y ≡ false
-apart x y z same other = elim (cases_Bool (int_eq x y)) [
-  | inl e ↦ absurd (other (sym ((Decides-int_eq x z).0 same) ∙ (Decides-int_eq x y).0 e))
-  | inr e ↦ e
-]
+apart x y z same other = grind (arith, Decides-int_eq)
 
 has-without : (y z : ℤ) (cases : List Case) → (z ≡ y → ⊥) → has_value y cases ≡ true → has_value y (without z cases) ≡ true
 has-without y z [] other has = has
@@ -268,11 +265,7 @@ goes_on-case_label draft value are fits new =
     }
 
 no_cases : AreCases []
-no_cases = record {
-  once = λ j k c d at. absurd (let h : None ≡ Some c = at in cc);
-  labels = λ k c at. absurd (let h : None ≡ Some c = at in cc);
-  counted = omega arith;
-}
+no_cases = grind arith
 
 no_values : AreValues []
 no_values k c at = absurd (let h : None ≡ Some c = at in cc)

@@ -47,14 +47,7 @@ none_if true x r e = absurd (let h : Some x ≡ None = e in cc)
 none_if false x r e = (refl, e)
 
 pub keeps_in : (before : List Stmt) (c : Context) (s : Stmt) → fault_in before c s ≡ None → Keeps before c s
-keeps_in before c s none =
-    let p1 = none_if (misplaced c s) BadWord _ none in
-    let p2 = none_if (label_not_set before c s) LabelNotSet _ p1.1 in
-    let p3 = none_if (label_set_twice c s) LabelSetTwice _ p2.1 in
-    let p4 = none_if (depths_disagree c s) DepthsDisagree _ p3.1 in
-    let p5 = none_if (slot_above c s) SlotAboveDepth _ p4.1 in
-    let p6 = none_if (too_long c s) TooLong _ p5.1 in
-    record { place = p1.0; set = p2.0; once = p3.0; agree = p4.0; below = p5.0; short = p6.0 }
+keeps_in before c s none = grind (arith, none_if, too_long)
 
 -- the depth behind a statement of a section is within the limit of frames
 pub depth_within : (stmts : List Stmt) → AreFaultless stmts → (i : ℕ) (s : Stmt) → slice_get stmts i ≡ Some s → next_depth (depth_behind 0 (take i stmts)) s ≤ FRAME_WORDS

@@ -80,22 +80,9 @@ pub context-push : (old : Context) (before all : List Stmt) (s : Stmt) (count wo
     count ≡ old.count + 1 → words ≡ old.words + length (stmt_words s) → position ≡ position_behind s → depth ≡ next_depth old.depth s → start ≡ start_behind old s →
     uses ≡ labels_named old.depth old.count s (label_followed old.position s old.uses) →
     record { count = count; words = words; position = position; depth = depth; start = start; uses = uses } ≡ context_of all
-context-push old before all s count words position depth start uses is whole a b c d e f =
-    same ∙ ap (λ (k : Context). after k s) is ∙ sym (context_of-push before all s whole)
-  where
-    same : record { count = count; words = words; position = position; depth = depth; start = start; uses = uses } ≡ after old s
-    same = cc
+context-push old before all s count words position depth start uses is whole a b c d e f = grind (arith, context_of-push)
 
 -- a statement without a fault keeps the limits
 pub fits_behind : (before : List Stmt) (c : Context) (s : Stmt) → c ≡ context_of before → fault_in before (context_of before) s ≡ None →
     (next_depth c.depth s ≤ FRAME_WORDS) × (c.words + length (stmt_words s) ≤ OCODE_WORDS) × (c.count < OCODE_STATEMENTS)
-fits_behind before c s is none =
-    let k = keeps_in before c s (ap (λ (x : Context). fault_in before x s) is ∙ none) in
-    let long : Bool = nat_lt OCODE_WORDS (c.words + length (stmt_words s)) in
-    let deep : Bool = nat_lt FRAME_WORDS (next_depth c.depth s) in
-    let p = or_parts (nat_le OCODE_STATEMENTS c.count) (long || deep) k.short in
-    let q = or_parts long deep p.1 in (
-      ltb-false FRAME_WORDS (next_depth c.depth s) q.1,
-      ltb-false OCODE_WORDS (c.words + length (stmt_words s)) q.0,
-      leb-false OCODE_STATEMENTS c.count p.0,
-    )
+fits_behind before c s is none = grind (arith, keeps_in, ltb-false, leb-false)

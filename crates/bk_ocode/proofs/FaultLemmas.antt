@@ -42,19 +42,7 @@ taken_some taken end words some (inr t) = t
 -- a fault that is told of these words
 pub told_at : (old b : Option (List ℕ)) (f : Bool) (k number : ℕ) (kind : OcodeKind) (stmts : List Stmt) (part : List (List ℕ)) → IsPartial stmts → number ≡ length stmts + 1 → 0 < length part →
     Reads old b f k (section_words stmts ++ part) → FaultOf stmts part kind → Takes old b f (λ taken end. GivesFault taken end number kind)
-told_at old b f k number kind stmts part begun place some reads fault = (
-  reads.0,
-  reads.1,
-  inl (record {
-    before = stmts;
-    begun = begun;
-    part = part;
-    place = place;
-    are = taken_some reads.0 (AtEnd f (length reads.0)) (section_words stmts ++ part) (omega (arith, some, length-append (section_words stmts) part))
-        (subst (λ n. TakesSome reads.0 (AtEnd f n) (section_words stmts ++ part)) reads.2 reads.3);
-    fault = fault;
-  }),
-)
+told_at old b f k number kind stmts part begun place some reads fault = grind (arith, begun, taken_some, length-append)
 
 -- the fault of a rule
 pub rule_at : (old b : Option (List ℕ)) (f : Bool) (k number : ℕ) (kind : OcodeKind) (stmts : List Stmt) (part : List (List ℕ)) (w : List ℕ) (s : Stmt) → IsPartial stmts → number ≡ length stmts + 1 →
@@ -75,24 +63,7 @@ filled_at old b f k number n m stmts part begun place all own full some begins r
 -- the text ends
 pub cut_at : (old b : Option (List ℕ)) (f : Bool) (k number : ℕ) (stmts : List Stmt) (part : List (List ℕ)) → IsPartial stmts → number ≡ length stmts + 1 → 0 < length (section_words stmts ++ part) →
     length (section_words stmts ++ part) ≤ OCODE_WORDS → (part ≡ []) ⊎ BeginsStmt stmts part → ReadsAll old b f k (section_words stmts ++ part) → Takes old b f (λ taken end. GivesFault taken end number Truncated)
-cut_at old b f k number stmts part begun place some few goes_on reads = (
-  reads.0,
-  reads.1,
-  inr (
-    refl,
-    subst (λ n. AtEnd f n) reads.2 reads.4,
-    record {
-      before = stmts;
-      begun = begun;
-      part = part;
-      some = omega (arith, some, ap (λ (l : List (List ℕ)). length l) reads.3);
-      within = omega (arith, few, ap (λ (l : List (List ℕ)). length l) reads.3);
-      are = reads.3;
-      place = place;
-      goes_on = goes_on;
-    },
-  ),
-)
+cut_at old b f k number stmts part begun place some few goes_on reads = grind (arith, begun)
 
 -- words of statements are no fewer than the statements
 pub many_words : (stmts : List Stmt) → length stmts ≤ length (section_words stmts)

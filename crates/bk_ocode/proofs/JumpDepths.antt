@@ -77,15 +77,8 @@ all_jumped-now k (x ∷ ls) uses l among = elim among [
 ]
 
 now_came : (c : Context) (s : Stmt) (l : ℕ) → IsAmong l (jump_labels s) → Came (jump_depth c.depth s) ((after c s).uses l)
-now_came c (Jump m) l among = elim among [
-  | inl same ↦ subst (λ (y : ℕ). Came c.depth (changed y (jumped c.depth) (label_followed c.position (Jump m) c.uses) l)) (sym same) (jumped-now c.depth (label_followed c.position (Jump m) c.uses) l)
-  | inr none ↦ absurd none
-]
-now_came c (JumpIf truth m) l among = elim among [
-  | inl same ↦ subst (λ (y : ℕ). Came (c.depth - 1) (changed y (jumped (c.depth - 1)) (label_followed c.position (JumpIf truth m) c.uses) l)) (sym same)
-      (jumped-now (c.depth - 1) (label_followed c.position (JumpIf truth m) c.uses) l)
-  | inr none ↦ absurd none
-]
+now_came c (Jump m) l among = grind (arith, jumped-now)
+now_came c (JumpIf truth m) l among = grind (arith, jumped-now)
 now_came c (Switch default cases) l among =
     all_jumped-now (c.depth - 1) (jump_labels (Switch default cases)) (label_followed c.position (Switch default cases) c.uses) l among
 now_came c _ l among = absurd among
@@ -181,10 +174,4 @@ same_place stmts i l s at among label =
     let h : IsAmong l (jump_labels (Label l)) = subst (λ (x : Stmt). IsAmong l (jump_labels x)) same among in h
 
 pub jump_has_its_labels_depth : JumpHasItsLabelsDepth
-jump_has_its_labels_depth stmts i j l s are at_i among at_j = elim (order i j) [
-  | inl low ↦ forwards stmts i j l s are at_i among at_j low
-  | inr o ↦ elim o [
-    | inl high ↦ backwards stmts i j l s are at_i among at_j high
-    | inr same ↦ absurd (same_place stmts i l s at_i among (ap (λ (k : ℕ). slice_get stmts k) same ∙ at_j))
-  ]
-]
+jump_has_its_labels_depth stmts i j l s are at_i among at_j = grind (arith, order, forwards, backwards, same_place)

@@ -123,20 +123,9 @@ after-data c l =
 
 -- what a LAB set, the last statement set or one before it
 lab_from : (c : Context) (s : Stmt) (l d p : ℕ) → ((after c s).uses l).setting ≡ setting.Lab d p → (s ≡ Label l) ⊎ ((c.uses l).setting ≡ setting.Lab d p)
-lab_from c (Label m) l d p e = elim (dec_by (m == l) m l refl) [
-  | inl same ↦ inl (ap (λ (x : ℕ). Label x) same)
-  | inr apart ↦ inr (sym (after-same c (Label m) l (λ h. apart (same_Some m l h))) ∙ e)
-]
-lab_from c (Entry m name) l d p e = elim (dec_by (m == l) m l refl) [
-  | inl same ↦
-      let h : setting.Entry ≡ setting.Lab d p = sym (after-entry c m name) ∙ ap (λ (x : ℕ). ((after c (Entry m name)).uses x).setting) same ∙ e in absurd cc
-  | inr apart ↦ inr (sym (after-same c (Entry m name) l (λ h. apart (same_Some m l h))) ∙ e)
-]
-lab_from c (DataLabel m) l d p e = elim (dec_by (m == l) m l refl) [
-  | inl same ↦
-      let h : setting.Data ≡ setting.Lab d p = sym (after-data c m) ∙ ap (λ (x : ℕ). ((after c (DataLabel m)).uses x).setting) same ∙ e in absurd cc
-  | inr apart ↦ inr (sym (after-same c (DataLabel m) l (λ h. apart (same_Some m l h))) ∙ e)
-]
+lab_from c (Label m) l d p e = grind (arith, dec_by, after-same)
+lab_from c (Entry m name) l d p e = grind (arith, dec_by, after-entry, after-same)
+lab_from c (DataLabel m) l d p e = grind (arith, dec_by, after-data, after-same)
 lab_from c s l d p e = inr (sym (after-same c s l (λ h. let k : None ≡ Some l = h in cc)) ∙ e)
 
 lab_exists : (c : Context) (stmts : List Stmt) (l d p : ℕ) → ((after_all c stmts).uses l).setting ≡ setting.Lab d p →

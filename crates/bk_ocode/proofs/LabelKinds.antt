@@ -22,33 +22,18 @@ global_stands_last (s ∷ rest) are = last_is at_start s rest are.ended
 
 -- what set a label
 data_from : (c : Context) (s : Stmt) (l : ℕ) → ((after c s).uses l).setting ≡ setting.Data → (s ≡ DataLabel l) ⊎ ((c.uses l).setting ≡ setting.Data)
-data_from c (DataLabel m) l e = elim (dec_by (m == l) m l refl) [
-  | inl same ↦ inl (ap (λ (x : ℕ). DataLabel x) same)
-  | inr apart ↦ inr (sym (after-same c (DataLabel m) l (λ h. apart (same_Some m l h))) ∙ e)
-]
-data_from c (Entry m name) l e = elim (dec_by (m == l) m l refl) [
-  | inl same ↦ let h : setting.Entry ≡ setting.Data = sym (after-entry c m name) ∙ ap (λ (x : ℕ). ((after c (Entry m name)).uses x).setting) same ∙ e in absurd cc
-  | inr apart ↦ inr (sym (after-same c (Entry m name) l (λ h. apart (same_Some m l h))) ∙ e)
-]
-data_from c (Label m) l e = elim (dec_by (m == l) m l refl) [
-  | inl same ↦ let h : setting.Lab c.depth c.count ≡ setting.Data = sym (after-label c m) ∙ ap (λ (x : ℕ). ((after c (Label m)).uses x).setting) same ∙ e in absurd cc
-  | inr apart ↦ inr (sym (after-same c (Label m) l (λ h. apart (same_Some m l h))) ∙ e)
-]
+data_from c (DataLabel m) l e = grind (arith, dec_by, after-same)
+data_from c (Entry m name) l e = grind (arith, dec_by, after-entry, after-same)
+data_from c (Label m) l e = grind (arith, dec_by, after-label, after-same)
 data_from c s l e = inr (sym (after-same c s l (λ h. let k : None ≡ Some l = h in cc)) ∙ e)
 
 entry_from : (c : Context) (s : Stmt) (l : ℕ) → ((after c s).uses l).setting ≡ setting.Entry → ((name : List ℕ) × (s ≡ Entry l name)) ⊎ ((c.uses l).setting ≡ setting.Entry)
-entry_from c (Entry m name) l e = elim (dec_by (m == l) m l refl) [
-  | inl same ↦ inl (name, ap (λ (x : ℕ). Entry x name) same)
-  | inr apart ↦ inr (sym (after-same c (Entry m name) l (λ h. apart (same_Some m l h))) ∙ e)
-]
+entry_from c (Entry m name) l e = grind (arith, dec_by, after-same)
 entry_from c (DataLabel m) l e = elim (dec_by (m == l) m l refl) [
   | inl same ↦ let h : setting.Data ≡ setting.Entry = sym (after-data c m) ∙ ap (λ (x : ℕ). ((after c (DataLabel m)).uses x).setting) same ∙ e in absurd cc
   | inr apart ↦ inr (sym (after-same c (DataLabel m) l (λ h. apart (same_Some m l h))) ∙ e)
 ]
-entry_from c (Label m) l e = elim (dec_by (m == l) m l refl) [
-  | inl same ↦ let h : setting.Lab c.depth c.count ≡ setting.Entry = sym (after-label c m) ∙ ap (λ (x : ℕ). ((after c (Label m)).uses x).setting) same ∙ e in absurd cc
-  | inr apart ↦ inr (sym (after-same c (Label m) l (λ h. apart (same_Some m l h))) ∙ e)
-]
+entry_from c (Label m) l e = grind (arith, dec_by, after-label, after-same)
 entry_from c s l e = inr (sym (after-same c s l (λ h. let k : None ≡ Some l = h in cc)) ∙ e)
 
 data_exists : (c : Context) (stmts : List Stmt) (l : ℕ) → ((after_all c stmts).uses l).setting ≡ setting.Data → ((c.uses l).setting ≡ setting.Data) ⊎ ((j : ℕ) × (slice_get stmts j ≡ Some (DataLabel l)))
@@ -101,16 +86,10 @@ in_whole : (stmts front : List Stmt) (g : Stmt) (j : ℕ) (s : Stmt) → stmts �
 in_whole stmts front g j s whole at = ap (λ (l : List Stmt). slice_get l j) whole ∙ front_at front g j s at
 
 data_there : (stmts : List Stmt) (k : Checked stmts) (l : ℕ) → is_data ((context_of k.front).uses l).setting ≡ true → (place : ℕ) × (slice_get stmts place ≡ Some (DataLabel l))
-data_there stmts k l e = elim (data_exists at_start k.front l (is_data-so ((context_of k.front).uses l).setting e)) [
-  | inl h ↦ absurd (let z : setting.Unset ≡ setting.Data = h in cc)
-  | inr q ↦ (q.0, in_whole stmts k.front (Globals k.entries) q.0 (DataLabel l) k.whole q.1)
-]
+data_there stmts k l e = grind (arith, data_exists, is_data-so, in_whole)
 
 entry_there : (stmts : List Stmt) (k : Checked stmts) (l : ℕ) → is_entry ((context_of k.front).uses l).setting ≡ true → (place : ℕ) × (name : List ℕ) × (slice_get stmts place ≡ Some (Entry l name))
-entry_there stmts k l e = elim (entry_exists at_start k.front l (is_entry-so ((context_of k.front).uses l).setting e)) [
-  | inl h ↦ absurd (let z : setting.Unset ≡ setting.Entry = h in cc)
-  | inr q ↦ (q.0, q.1, in_whole stmts k.front (Globals k.entries) q.0 (Entry l q.1) k.whole q.2)
-]
+entry_there stmts k l e = grind (arith, entry_exists, is_entry-so, in_whole)
 
 -- a statement before the last keeps the rule of data
 data_rule : (stmts : List Stmt) (k : Checked stmts) (i : ℕ) (s : Stmt) → slice_get stmts i ≡ Some s → (data_set (context_of k.front) s ≡ true) ⊎ (Globals k.entries ≡ s)

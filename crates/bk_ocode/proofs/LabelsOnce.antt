@@ -103,19 +103,10 @@ not_before stmts i j l s t are at_i at_j sets_s sets_t low =
     let h : true ≡ false = sym is ∙ once in cc
 
 pub order : (i j : ℕ) → (i < j) ⊎ ((j < i) ⊎ (i ≡ j))
-order i j = elim (leb_tells (i + 1) j) [
-  | inl p ↦ inl (omega (arith, p.1))
-  | inr q ↦ elim (leb_tells (j + 1) i) [ inl p ↦ inr (inl (omega (arith, p.1))) | inr r ↦ inr (inr (omega (arith, q.1, r.1))) ]
-]
+order i j = grind arith
 
 pub labels_are_set_once : LabelsAreSetOnce
-labels_are_set_once stmts i j l s t are at_i at_j sets_s sets_t = elim (order i j) [
-  | inl low ↦ absurd (not_before stmts i j l s t are at_i at_j sets_s sets_t low)
-  | inr o ↦ elim o [
-    | inl high ↦ absurd (not_before stmts j i l t s are at_j at_i sets_t sets_s high)
-    | inr same ↦ same
-  ]
-]
+labels_are_set_once stmts i j l s t are at_i at_j sets_s sets_t = grind (arith, order, not_before)
 
 -- another statement is not the LAB of a label
 is_not : (m l : ℕ) → Some (Label m) ≢ Some (Label l) → (m == l) ≡ false
@@ -128,13 +119,7 @@ not_label l _ other = refl
 -- the first LAB of a label is the place where a jump goes on
 first_label : (stmts : List Stmt) (i l : ℕ) → slice_get stmts i ≡ Some (Label l) → ((j : ℕ) → j < i → slice_get stmts j ≢ Some (Label l)) → from_label stmts l ≡ Some (drop i stmts)
 first_label [] i l at none = absurd (let h : None ≡ Some (Label l) = at in cc)
-first_label (s ∷ rest) zero l at none =
-    let same : s ≡ Label l = (let h : Some s ≡ Some (Label l) = at in cc) in
-    taken (is_label l s) (ap (is_label l) same ∙ eq-eqb l l refl)
-  where
-    taken : (b : Bool) → b ≡ true → (if b then Some (s ∷ rest) else from_label rest l) ≡ Some (s ∷ rest)
-    taken true e = refl
-    taken false e = absurd (let h : false ≡ true = e in cc)
+first_label (s ∷ rest) zero l at none = grind (arith, eq-eqb)
 first_label (s ∷ rest) (suc i) l at none =
     passed (is_label l s) (not_label l s (none 0 (omega arith))) ∙ first_label rest i l at (λ j low. none (suc j) (omega (arith, low)))
   where

@@ -145,34 +145,19 @@ unfit_bytes (owners.Entry label) bytes count w are short due none s rest fits is
     no_byte bytes t.1 w rest are own.1 (omega (arith, long, due)) (rests_same _ _ _ _ words) none
 
 unfit_length : (owner : Owner) (w : List ℕ) → NoNatural 0 NAME_BYTES w → BeginNone (owner_words owner ++ w ∷ [])
-unfit_length owners.Text w none s rest fits is =
-    let t = text_of s (starts s keywords.Text _ is) in
-    let own : IsStmt (stmt.Text t.0) = rw t.1 at fits in
-    none (length t.0) (omega arith) own.0 (first_same _ _ _ _ (words_so s (stmt.Text t.0) _ t.1 is))
-unfit_length (owners.Entry label) w none s rest fits is =
-    let t = entry_of s (starts s keywords.Entry _ is) in
-    let own : IsStmt (stmt.Entry t.0 t.1) = rw t.2 at fits in
-    none (length t.1) (omega arith) own.0.1 (first_same _ _ _ _ (rests_same _ _ _ _ (words_so s (stmt.Entry t.0 t.1) _ t.2 is)))
+unfit_length owners.Text w none s rest fits is = grind (arith, text_of, starts, first_same, words_so)
+unfit_length (owners.Entry label) w none s rest fits is = grind (arith, entry_of, starts, first_same, rests_same, words_so)
 
 -- with an unfit word no statement goes on
 pub unfit_none : (b : Partial) (w : List ℕ) → IsPartialStmt b → IsUnfit b w → BeginNone (partial_words b ++ w ∷ [])
 unfit_none (begun.Short k) w begun none s rest fits is =
     let same : keyword_of_stmt s ≡ k = starts s k _ is in
     no_argument s w rest fits (ap is_short same ∙ begun) (rests_same _ _ _ _ is) (rw (sym same) at none)
-unfit_none begun.EntryLabel w begun none s rest fits is =
-    let t = entry_of s (starts s keywords.Entry _ is) in
-    let own : IsStmt (stmt.Entry t.0 t.1) = rw t.2 at fits in
-    none t.0 own.0.0 (first_same _ _ _ _ (words_so s (stmt.Entry t.0 t.1) _ t.2 is))
+unfit_none begun.EntryLabel w begun none s rest fits is = grind (arith, entry_of, starts, first_same, words_so)
 unfit_none (begun.Length owner) w begun none s rest fits is = unfit_length owner w none s rest fits is
 unfit_none (begun.Bytes owner bytes count) w begun none s rest fits is = unfit_bytes owner bytes.items count w begun.1 begun.2 begun.3 none s rest fits is
-unfit_none begun.CaseCount w begun none s rest fits is =
-    let t = switch_of s (starts s keywords.Switch _ is) in
-    let own : IsStmt (stmt.Switch t.0 t.1) = rw t.2 at fits in
-    none (length t.1) (omega arith) (omega (arith, own.0.1.counted)) (first_same _ _ _ _ (words_so s (stmt.Switch t.0 t.1) _ t.2 is))
-unfit_none (begun.Default count) w begun none s rest fits is =
-    let t = switch_of s (starts s keywords.Switch _ is) in
-    let own : IsStmt (stmt.Switch t.0 t.1) = rw t.2 at fits in
-    none t.0 own.0.0 (first_same _ _ _ _ (rests_same _ _ _ _ (words_so s (stmt.Switch t.0 t.1) _ t.2 is)))
+unfit_none begun.CaseCount w begun none s rest fits is = grind (arith, switch_of, starts, first_same, words_so)
+unfit_none (begun.Default count) w begun none s rest fits is = grind (arith, switch_of, starts, first_same, rests_same, words_so)
 unfit_none (begun.CaseValue draft) w begun none s rest fits is =
     let t = switch_of s (starts s keywords.Switch _ is) in
     let own : IsStmt (stmt.Switch t.0 t.1) = rw t.2 at fits in
@@ -185,10 +170,7 @@ unfit_none (begun.CaseLabel draft value) w begun none s rest fits is =
     let words = words_so s (stmt.Switch t.0 t.1) _ t.2 is in
     let long = long_as (length t.1) draft.count _ _ own.0.1.counted begun.0.0.counted words in
     no_case_label draft.cases.items t.1 value w rest begun.0.0.typed begun.0.0.cases own.1 own.0.1 (omega (arith, long, begun.0.1)) (rests_same _ _ _ _ (rests_same _ _ _ _ words)) none
-unfit_none begun.GlobalCount w begun none s rest fits is =
-    let t = globals_of s (starts s keywords.Globals _ is) in
-    let own : IsStmt (stmt.Globals t.0) = rw t.1 at fits in
-    none (length t.0) (omega arith) (omega (arith, own.0.counted)) (first_same _ _ _ _ (words_so s (stmt.Globals t.0) _ t.1 is))
+unfit_none begun.GlobalCount w begun none s rest fits is = grind (arith, globals_of, starts, first_same, words_so)
 unfit_none (begun.GlobalNumber draft) w begun none s rest fits is =
     let t = globals_of s (starts s keywords.Globals _ is) in
     let own : IsStmt (stmt.Globals t.0) = rw t.1 at fits in

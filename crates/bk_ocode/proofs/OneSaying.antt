@@ -81,11 +81,7 @@ no_stmt before part rest z t f own is = elim (cases_lt (length f.front) (length 
 -- a word that begins no statement begins none that is begun
 no_partial : (before : List Stmt) (part rest p z : List (List ℕ)) → IsBadWord before part → BeginsStmt before p → 0 < length p → part ++ rest ≡ p ++ z → ⊥
 no_partial before part rest [] z f begun some is = omega (arith, some)
-no_partial before part rest (v ∷ p) z f begun some is =
-    let first : f.word ≡ v = first_same f.word v rest (p ++ z) (ap (λ (l : List (List ℕ)). l ++ rest) (sym f.first) ∙ is) in
-    let begins : keyword begun.stmt ≡ v = first_same (keyword begun.stmt) v (argument_words begun.stmt) (p ++ begun.word ∷ begun.rest) begun.begins in
-    let h : true ≡ false = sym (f.misplaced begun.stmt (begins ∙ sym first)) ∙ begun.may_stand in
-    cc
+no_partial before part rest (v ∷ p) z f begun some is = grind (arith, first_same)
 
 word_of : (before : List Stmt) (part rest z : List (List ℕ)) (t : Stmt) → (f : IsBadWord before part) → part ++ rest ≡ stmt_words t ++ z → misplaced (context_of before) t ≡ true
 word_of before part rest z t f is =
@@ -149,13 +145,7 @@ no_word_number before p x q y f g is =
     no_partial before p x g.front (g.word ∷ y) f g.begun g.some (is ∙ ap (λ (l : List (List ℕ)). l ++ y) g.last ∙ append_assoc g.front (g.word ∷ []) y)
 
 no_word_rule : (before : List Stmt) (p x q y : List (List ℕ)) (kind : OcodeKind) → IsBadWord before p → BreaksRule before q kind → BadWord ≢ kind → p ++ x ≡ q ++ y → ⊥
-no_word_rule before p x q y kind f g other is =
-    let bad : misplaced (context_of before) g.stmt ≡ true = word_of before p x y g.stmt f (is ∙ ap (λ (l : List (List ℕ)). l ++ y) g.words) in
-    other (told (misplaced (context_of before) g.stmt) _ bad g.breaks)
-  where
-    told : (b : Bool) (r : _) → b ≡ true → (if b then Some BadWord else r) ≡ Some kind → BadWord ≡ kind
-    told true r is e = cc
-    told false r is e = absurd (let h : false ≡ true = is in cc)
+no_word_rule before p x q y kind f g other is = grind (arith, word_of)
 
 no_word_passes : (before : List Stmt) (p x q y : List (List ℕ)) → AreFaultless before → IsBadWord before p → PassesWords before q → p ++ x ≡ q ++ y → ⊥
 no_word_passes before p x q y are f g is = no_partial before p x q y f g.begun (passes_some before q are g) is
@@ -223,11 +213,7 @@ cut_whole before p c t (inr begun) own is = no_whole before p c t begun own is
 
 -- behind the end nothing stands
 ended_next : (stmts : List Stmt) (t : Stmt) → (context_of stmts).position ≡ Ended → stmt_fault stmts t ≡ None → ⊥
-ended_next stmts t ended none =
-    let h : true ≡ false = sym (at_end t (context_of stmts).position ended) ∙ (keeps_in stmts (context_of stmts) t none).place in cc
-  where
-    at_end : (t : Stmt) (p : Position) → p ≡ Ended → not (may_stand p (role t)) ≡ true
-    at_end t p is = ap (λ (q : Position). not (may_stand q (role t))) is
+ended_next stmts t ended none = grind (arith, keeps_in)
 
 -- the statements of both begin the words, those of the second are more
 abbrev Next : List Stmt → List Stmt → List (List ℕ) → List (List ℕ) → Type 0

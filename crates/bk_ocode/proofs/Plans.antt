@@ -57,11 +57,7 @@ AllMatch plan uses = (l : ℕ) → Matches (plan l) (uses l)
 -- one label's use is changed
 pub changed_matches : (plan : ℕ → Use) (m : ℕ) (change : LabelUse → LabelUse) (uses : ℕ → LabelUse)
     → Matches (plan m) (change (uses m)) → AllMatch plan uses → AllMatch plan (changed m change uses)
-changed_matches plan m change uses h all l = pick (l == m) refl
-  where
-    pick : (b : Bool) → (l == m) ≡ b → Matches (plan l) (if b then change (uses l) else uses l)
-    pick true e = subst (λ (x : ℕ). Matches (plan x) (change (uses x))) (sym (eqb-true l m e)) h
-    pick false e = all l
+changed_matches plan m change uses h all l = grind (arith, eqb-true)
 
 -- by a change that keeps what the plan says
 use_matches : (plan : ℕ → Use) (l : ℕ) (u : Use) (change : LabelUse → LabelUse) (uses : ℕ → LabelUse) → plan l ≡ u → (Matches u (uses l) → Matches u (change (uses l)))
@@ -72,20 +68,12 @@ use_matches plan l u change uses e keeps all =
 -- and changed again
 pub changed_twice : (plan : ℕ → Use) (m : ℕ) (f g : LabelUse → LabelUse) (uses : ℕ → LabelUse)
     → Matches (plan m) (f (g (uses m))) → AllMatch plan uses → AllMatch plan (changed m f (changed m g uses))
-changed_twice plan m f g uses h all l = pick (l == m) refl
-  where
-    pick : (b : Bool) → (l == m) ≡ b → Matches (plan l) (if b then f (if b then g (uses l) else uses l) else (if b then g (uses l) else uses l))
-    pick true e = subst (λ (x : ℕ). Matches (plan x) (f (g (uses x)))) (sym (eqb-true l m e)) h
-    pick false e = all l
+changed_twice plan m f g uses h all l = grind (arith, eqb-true)
 
 -- a jump comes
 one_depth : (k : ℕ) (j : JumpDepths) → OneDepth k j → OneDepth k (with_depth k j)
 one_depth k came.Unused h = refl
-one_depth k (came.One d) h = pick (d == k) (eq-eqb d k h)
-  where
-    pick : (b : Bool) → b ≡ true → OneDepth k (if b then came.One d else came.Several)
-    pick true e = h
-    pick false e = absurd (let n : false ≡ true = e in cc)
+one_depth k (came.One d) h = grind (arith, eq-eqb)
 one_depth k came.Several h = h
 
 jump_matches : (p k : ℕ) (known : LabelUse) → Matches (jumps p k) known → Matches (jumps p k) (jumped k known)

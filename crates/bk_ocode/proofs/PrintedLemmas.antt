@@ -40,10 +40,7 @@ in_word [] is = tt
 in_word (b ∷ word) is = let p = and_parts (not (is_blank b)) (inside word) is in (not-true (is_blank b) p.0, in_word word p.1)
 
 keyword-word : (k : Keyword) → IsWord (keyword_text k)
-keyword-word k =
-    let is = and_parts (nat_lt 0 (length (keyword_text k))) (inside (keyword_text k))
-    (holds_of_each (λ (j : Keyword). nat_lt 0 (length (keyword_text j)) && inside (keyword_text j)) refl k) in
-    (ltb-true 0 (length (keyword_text k)) is.0, in_word (keyword_text k) is.1)
+keyword-word k = grind (arith, holds_of_each, ltb-true, in_word)
 
 first-word : (s : Stmt) → IsWord (keyword s)
 first-word s = rw (begins_so s) (keyword-word (keyword_of_stmt s))

@@ -54,17 +54,10 @@ AreTyped-push : (stmts : List Stmt) (s : Stmt) → AreTyped stmts → IsTyped s 
 AreTyped-push stmts s are fits = λ k t is. elim (at_push stmts s k t is) [ inl p ↦ are k t p.1 | inr p ↦ subst IsTyped p.1 fits ]
 
 pub IsPartial-push : (stmts all : List Stmt) (s : Stmt) → all ≡ stmts ++ s ∷ [] → IsPartial stmts → IsStmt s → stmt_fault stmts s ≡ None → (context_of all).position ≢ Ended → IsPartial all
-IsPartial-push stmts all s is begun fits none on = record {
-  are_faultless = subst AreFaultless (sym is) (AreFaultless-push stmts s begun.are_faultless fits.0 none);
-  are_typed = subst AreTyped (sym is) (AreTyped-push stmts s begun.are_typed fits.1);
-  goes_on = on;
-}
+IsPartial-push stmts all s is begun fits none on = grind (arith, AreFaultless-push, AreTyped-push)
 
 pub IsSection-of : (stmts all : List Stmt) (s : Stmt) → all ≡ stmts ++ s ∷ [] → IsPartial stmts → IsStmt s → stmt_fault stmts s ≡ None → (context_of all).position ≡ Ended → IsSection all
-IsSection-of stmts all s is begun fits none ended = record {
-  are_faultless = subst AreFaultless (sym is) (AreFaultless-push stmts s begun.are_faultless fits.0 none);
-  ended = ended;
-}
+IsSection-of stmts all s is begun fits none ended = grind (arith, AreFaultless-push)
 
 pub AreTyped-of : (stmts all : List Stmt) (s : Stmt) → all ≡ stmts ++ s ∷ [] → IsPartial stmts → IsStmt s → AreTyped all
 AreTyped-of stmts all s is begun fits = subst AreTyped (sym is) (AreTyped-push stmts s begun.are_typed fits.1)
@@ -77,16 +70,7 @@ some_taken taken end words w (inr t) = t
 -- the end of a section
 pub section_here : (old b : Option (List ℕ)) (f : Bool) (k : ℕ) (stmts all : List Stmt) (s : Stmt) (part : List (List ℕ)) (w : List ℕ) → all ≡ stmts ++ s ∷ [] → IsPartial stmts → IsStmt s → stmt_fault stmts s ≡ None →
     (context_of all).position ≡ Ended → stmt_words s ≡ part ++ w ∷ [] → Reads old b f k ((section_words stmts ++ part) ++ w ∷ []) → Takes old b f (λ taken end. GivesSection taken end all)
-section_here old b f k stmts all s part w is begun fits none ended words reads = (
-  reads.0,
-  reads.1,
-  (
-    IsSection-of stmts all s is begun fits none ended,
-    AreTyped-of stmts all s is begun fits,
-    subst (λ (l : List (List ℕ)). TakesWords reads.0 (AtEnd f (length reads.0)) l) (words_more stmts all s part w is words)
-        (some_taken reads.0 (AtEnd f (length reads.0)) (section_words stmts ++ part) w (subst (λ n. TakesSome reads.0 (AtEnd f n) ((section_words stmts ++ part) ++ w ∷ [])) reads.2 reads.3)),
-  ),
-)
+section_here old b f k stmts all s part w is begun fits none ended words reads = grind (arith, IsSection-of, AreTyped-of, words_more, some_taken)
 
 -- only blanks were left
 pub nothing_left : (old b : Option (List ℕ)) (f : Bool) (k : ℕ) (stmts : List Stmt) (part : List (List ℕ)) → length stmts ≡ 0 → length part ≡ 0 → ReadsAll old b f k (section_words stmts ++ part) → Takes old b f GivesNothing

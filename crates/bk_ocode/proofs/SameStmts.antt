@@ -89,14 +89,7 @@ case_rows p q x y fits own is =
     case_same v l w m value label = cc
 
 pub global_rows : AreRows GlobalEntry global_row IsEntry
-global_rows p q x y fits own is =
-    let number = natural_same p.number q.number (omega (arith, fits.0)) (omega (arith, own.0)) (first_same (natural_word p.number) (natural_word q.number) (label_word p.label ∷ x) (label_word q.label ∷ y) is) in
-    let tail = rests_same (natural_word p.number) (natural_word q.number) (label_word p.label ∷ x) (label_word q.label ∷ y) is in
-    let label = label_same p.label q.label fits.1 own.1 (first_same (label_word p.label) (label_word q.label) x y tail) in
-    (entry_same p.number p.label q.number q.label number label, rests_same (label_word p.label) (label_word q.label) x y tail)
-  where
-    entry_same : (v l w m : ℕ) → v ≡ w → l ≡ m → ◌≡◌ {A = GlobalEntry} (record { number = v; label = l }) (record { number = w; label = m })
-    entry_same v l w m number label = cc
+global_rows p q x y fits own is = grind (arith, natural_same, first_same, rests_same, label_same)
 
 one_number : (make : ℤ → Stmt) (v w : ℤ) (x y : List (List ℕ)) → FitsSigned w32 v → FitsSigned w32 w → spelling v ∷ x ≡ spelling w ∷ y → (make v ≡ make w) × (x ≡ y)
 one_number make v w x y p q is = (ap make (number_same v w p q (first_same (spelling v) (spelling w) x y is)), rests_same (spelling v) (spelling w) x y is)

@@ -92,11 +92,7 @@ variable_found (Held Variable c) content e = let same : c ≡ content = cc in ap
 variable_found y content e = absurd (let h : None ≡ Some content = e in cc)
 
 variable_there : (top : ℕ) (cells : ℕ → Cell) (a : ℕ) (content : Content) → variable_at top cells a ≡ Some content → cells a ≡ Held Variable content
-variable_there top cells a content e = by_low (nat_lt a top) e
-  where
-    by_low : (b : Bool) → (if b then variable_in (cells a) else None) ≡ Some content → cells a ≡ Held Variable content
-    by_low true e = variable_found (cells a) content e
-    by_low false e = absurd (let h : None ≡ Some content = e in cc)
+variable_there top cells a content e = grind (arith, variable_found)
 
 mapped : {A B : Type 0} → (f : A → B) (o : Option A) (y : B) → option_map f o ≡ Some y → (x : A) × (o ≡ Some x)
 mapped f (Some x) y e = (x, refl)
@@ -116,16 +112,10 @@ abbrev called_cells : (ℕ → Cell) → ℕ → ℕ → ℕ → ℕ → ℕ →
 called_cells cells frame k n back = below (frame + (k - 1)) (write (once_called cells frame n) (frame + n + 1) (Held Link (Word back)))
 
 called-other : (cells : ℕ → Cell) (frame k n back x : ℕ) → x < frame + n → n + 3 ≤ k → called_cells cells frame k n back x ≡ cells x
-called-other cells frame k n back x under room =
-    below-kept (frame + (k - 1)) (write (once_called cells frame n) (frame + n + 1) (Held Link (Word back))) x (omega (arith, under, room))
-    ∙ write-kept (once_called cells frame n) (frame + n + 1) (Held Link (Word back)) x (λ same. absurd (omega (arith, under, same)))
-    ∙ write-kept cells (frame + n) (Held Link (Word frame)) x (λ same. absurd (omega (arith, under, same)))
+called-other cells frame k n back x under room = grind (arith, below-kept, write-kept)
 
 called-here : (cells : ℕ → Cell) (frame k n back : ℕ) → n + 3 ≤ k → called_cells cells frame k n back (frame + n) ≡ Held Link (Word frame)
-called-here cells frame k n back room =
-    below-kept (frame + (k - 1)) (write (once_called cells frame n) (frame + n + 1) (Held Link (Word back))) (frame + n) (omega (arith, room))
-    ∙ write-kept (once_called cells frame n) (frame + n + 1) (Held Link (Word back)) (frame + n) (λ same. absurd (omega (arith, same)))
-    ∙ write-there cells (frame + n) (Held Link (Word frame)) (frame + n) refl
+called-here cells frame k n back room = grind (arith, below-kept, write-kept, write-there)
 
 called-next : (cells : ℕ → Cell) (frame k n back : ℕ) → n + 3 ≤ k → called_cells cells frame k n back (suc (frame + n)) ≡ Held Link (Word back)
 called-next cells frame k n back room =

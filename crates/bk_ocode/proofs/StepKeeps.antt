@@ -20,13 +20,7 @@ abbrev Kept : State → (ℕ → Cell) → List ℕ → Type 0
 Kept s cells places = (place : ℕ) → place < s.frame → IsNotAmong place places → cells place ≡ s.cells place
 
 on-keeps : (s : State) (own : Placed) (k : ℕ) (rest : List Stmt) (cells : ℕ → Cell) (places : List ℕ) → Kept s cells places → KeepsNext s (on s own k rest cells places)
-on-keeps s own k rest cells places kept = record {
-  places = places;
-  written = refl;
-  below = λ place low other. below-kept (s.frame + k) cells place (omega (arith, low)) ∙ kept place low other;
-  output = refl;
-  input = refl;
-}
+on-keeps s own k rest cells places kept = grind (arith, below-kept)
 
 push-keeps : (s : State) (own : Placed) (k : ℕ) (rest : List Stmt) (content : Content) → KeepsNext s (push s own k rest content)
 push-keeps s own k rest content =
@@ -47,13 +41,7 @@ jump-keeps : (s : State) (own : Placed) (k l : ℕ) → KeepsNext s (jump s own 
 jump-keeps s own k l = on_some-keeps s (from_label own.stmts l) _ (λ rest. same-keeps s own k rest)
 
 jump_with-keeps : (s : State) (own : Placed) (k l : ℕ) (result : Content) → KeepsNext s (jump_with s own k l result)
-jump_with-keeps s own k l result = on_some-keeps s (from_label own.stmts l) _ (λ rest. record {
-  places = [];
-  written = refl;
-  below = λ place low other. below-kept (s.frame + k) s.cells place (omega (arith, low));
-  output = refl;
-  input = refl;
-})
+jump_with-keeps s own k l result = grind (arith, on_some-keeps, below-kept)
 
 operated-keeps : (s : State) (own : Placed) (n : ℕ) (rest : List Stmt) (w : Option ℕ) → KeepsNext s (operated s own n rest w)
 operated-keeps s own n rest (Some w) = push-keeps s own n rest (Word w)
@@ -76,13 +64,7 @@ call-keeps callables s own k n e rest =
     })) tt
 
 return-keeps : (s : State) (result : Option Content) → KeepsNext s (return s result)
-return-keeps s result = on_number-keeps s (slot s 1) _ (λ c. on_number-keeps s (slot s 0) _ (λ p. record {
-  places = [];
-  written = refl;
-  below = λ place low other. below-kept s.frame s.cells place low;
-  output = refl;
-  input = refl;
-}))
+return-keeps s result = grind (arith, on_number-keeps, below-kept)
 
 step_by-keeps : (callables : Callables) (s : State) (own : Placed) (k : ℕ) (stmt : Stmt) (rest : List Stmt) → KeepsNext s (step_by callables s own k stmt rest)
 step_by-keeps callables s own k (Number value) rest = push-keeps s own k rest _

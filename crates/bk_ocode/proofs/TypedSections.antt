@@ -34,12 +34,7 @@ record Whole (plan : ℕ → Use) (before rest : List Stmt) : Type 0 where
   small : text_size before + text_size rest ≤ OCODE_WORDS
 
 whole_behind : (plan : ℕ → Use) (before : List Stmt) (s : Stmt) (rest : List Stmt) → Whole plan before (s ∷ rest) → Whole plan (before ++ s ∷ []) rest
-whole_behind plan before s rest w = record {
-  once = λ l. let h = w.once l in let i = set_behind l before s in omega (arith, h, i);
-  complete = λ l used. let h = w.complete l used in let i = set_behind l before s in omega (arith, h, i);
-  short = let h = w.short in let i = length_behind before s in omega (arith, h, i);
-  small = let h = w.small in let i = size_behind before s in omega (arith, h, i);
-}
+whole_behind plan before s rest w = grind (arith, set_behind, length_behind, size_behind)
 
 -- how often a label is set, by what is known
 abbrev times : Setting → ℕ
@@ -78,30 +73,13 @@ set_after : (c : Context) (s : Stmt) (before : List Stmt) (y : Option ℕ) → l
 set_after c s before None e known once l =
     let same = after-same c s l (λ h. let n : None ≡ Some l = sym e ∙ h in cc) in
     let h : times ((after c s).uses l).setting ≡ times_set l before = ap times same ∙ known l in omega (arith, h)
-set_after c s before (Some m) e known once l = pick (l == m) refl
-  where
-    pick : (b : Bool) → (l == m) ≡ b → times ((after c s).uses l).setting ≡ times_set l before + sets l (Some m)
-    pick true is =
-        let same : l ≡ m = eqb-true l m is in
-        let now : times ((after c s).uses l).setting ≡ 1 = subst (λ (x : ℕ). times ((after c s).uses x).setting ≡ 1) (sym same) (now_set c s m e) in
-        let one : sets l (Some m) ≡ 1 = ap (λ (b : Bool). cond b 1 0) is in
-        let low = once l in omega (arith, now, one, low)
-    pick false is =
-        let none : sets l (Some m) ≡ 0 = ap (λ (b : Bool). cond b 1 0) is in
-        let same = after-same c s l (λ h. let n : Some m ≡ Some l = sym e ∙ h in let i : m ≡ l = cc in let t : true ≡ false = sym (eq-eqb l m (sym i)) ∙ is in cc) in
-        let h : times ((after c s).uses l).setting ≡ times_set l before = ap times same ∙ known l in omega (arith, h, none)
+set_after c s before (Some m) e known once l = grind (arith, sets, eqb-true, now_set, after-same, eq-eqb)
 
 -- one statement more
 read_behind : (plan : ℕ → Use) (before : List Stmt) (c : Context) (s : Stmt) (rest : List Stmt) → Whole plan before (s ∷ rest) → Read plan before c
     → ((l q : ℕ) → Of q (plan l) → times_set l before + sets l (label_set s) ≤ times_set q before + sets q (label_set s)) → NamesData plan s
     → Read plan (before ++ s ∷ []) (after c s)
-read_behind plan before c s rest w r entered names = record {
-  count = let h = r.count in let i = length_behind before s in omega (arith, h, i);
-  words = let h = r.words in let i = size_behind before s in omega (arith, h, i);
-  set = λ l. let i = set_behind l before s in let h = set_after c s before (label_set s) refl r.set (λ x. let o = w.once x in omega (arith, o)) l in omega (arith, h, i);
-  entered = λ l q of. let i = set_behind l before s in let j = set_behind q before s in let h = entered l q of in omega (arith, h, i, j);
-  naming = all_data_behind plan before s r.naming names;
-}
+read_behind plan before c s rest w r entered names = grind (arith, length_behind, size_behind, set_behind, set_after, label_set, all_data_behind)
 
 -- A statement that keeps each rule has no fault.
 next_none : (b : Bool) (x : OcodeKind) (r : Option OcodeKind) → b ≡ false → r ≡ None → (if b then Some x else r) ≡ None
@@ -109,10 +87,7 @@ next_none true x r e h = absurd (let n : true ≡ false = e in cc)
 next_none false x r e h = h
 
 faultless : (before : List Stmt) (c : Context) (s : Stmt) → Keeps before c s → fault_in before c s ≡ None
-faultless before c s k =
-    next_none (misplaced c s) BadWord _ k.place (next_none (label_not_set before c s) LabelNotSet _ k.set
-    (next_none (label_set_twice c s) LabelSetTwice _ k.once (next_none (depths_disagree c s) DepthsDisagree _ k.agree
-    (next_none (slot_above c s) SlotAboveDepth _ k.below (next_none (too_long c s) TooLong _ k.short refl)))))
+faultless before c s k = grind (arith, next_none, too_long)
 
 unset_once : (g : Setting) → times g ≡ 0 → is_set g ≡ false
 unset_once setting.Unset e = refl
@@ -122,26 +97,7 @@ unset_once x e = absurd (omega (arith, e))
 keeps : (plan : ℕ → Use) (before : List Stmt) (c : Context) (s : Stmt) (rest : List Stmt) → Whole plan before (s ∷ rest) → Read plan before c
     → misplaced c s ≡ false → label_not_set before c s ≡ false → depths_disagree c s ≡ false → least_depth s ≤ c.depth → next_depth c.depth s ≤ FRAME_WORDS
     → Keeps before c s
-keeps plan before c s rest w r place set agree deep shallow = record {
-  place = place;
-  set = set;
-  once = twice (label_set s) refl;
-  agree = agree;
-  below = le-ltb c.depth (least_depth s) deep;
-  short =
-      let n = w.short in let m = w.small in let a = r.count in let d = r.words in
-      or_from (nat_le OCODE_STATEMENTS c.count) _ (lt-leb OCODE_STATEMENTS c.count (omega (arith, n, a)))
-      (or_from (nat_lt OCODE_WORDS (c.words + length (stmt_words s))) _ (le-ltb OCODE_WORDS (c.words + length (stmt_words s)) (omega (arith, m, d)))
-      (le-ltb FRAME_WORDS (next_depth c.depth s) shallow));
-}
-  where
-    twice : (y : Option ℕ) → label_set s ≡ y → set_again c y ≡ false
-    twice None e = refl
-    twice (Some m) e =
-        let low = w.once m in
-        let own : sets m (label_set s) ≡ 1 = ap (sets m) e ∙ own_set m in
-        let known = r.set m in
-        unset_once (c.uses m).setting (omega (arith, low, own, known))
+keeps plan before c s rest w r place set agree deep shallow = grind (arith, label_set, le-ltb, lt-leb, sets, own_set, unset_once)
 
 -- labels of a procedure's jumps and results
 abbrev AllOf : (ℕ → Use) → ℕ → List ℕ → Type 0
@@ -354,13 +310,7 @@ start_low plan p before c r i =
 
 lab_since : (plan : ℕ → Use) (p : ℕ) (c : Context) (l : ℕ) → c.start ≤ c.count → ((m : ℕ) → Of p (plan m) → FromStart c.start (c.uses m).setting)
     → (m : ℕ) → Of p (plan m) → FromStart c.start ((after c (Label l)).uses m).setting
-lab_since plan p c l low since m of = pick (l == m) refl
-  where
-    pick : (b : Bool) → (l == m) ≡ b → FromStart c.start ((after c (Label l)).uses m).setting
-    pick true e = subst (λ (x : ℕ). FromStart c.start ((after c (Label l)).uses x).setting) (eqb-true l m e) (subst (λ (g : Setting). FromStart c.start g) (sym (after-label c l)) low)
-    pick false e =
-        let apart : label_set (Label l) ≢ Some m = λ h. let i : l ≡ m = (let j : Some l ≡ Some m = h in cc) in let t : true ≡ false = sym (eq-eqb l m i) ∙ e in cc in
-        subst (λ (g : Setting). FromStart c.start g) (sym (after-same c (Label l) m apart)) (since m of)
+lab_since plan p c l low since m of = grind (arith, eqb-true, after-label, label_set, eq-eqb, after-same)
 
 of_is : (plan : ℕ → Use) (p q l : ℕ) (u : Use) → plan l ≡ u → Of p u → Of q (plan l) → p ≡ q
 of_is plan p q l (jumps r d) e of h = sym of ∙ subst (λ (x : Use). Of q x) e h
@@ -369,17 +319,7 @@ of_is plan p q l y e of h = elim of [ ]
 
 lab_entered : (plan : ℕ → Use) (p l : ℕ) (u : Use) (before : List Stmt) (rest : List Stmt) → plan l ≡ u → Of p u → Whole plan before (Label l ∷ rest) → 1 ≤ times_set p before
     → ((m q : ℕ) → Of q (plan m) → times_set m before ≤ times_set q before) → (m q : ℕ) → Of q (plan m) → times_set m before + sets m (Some l) ≤ times_set q before + sets q (Some l)
-lab_entered plan p l u before rest e of w opened entered m q h = pick (m == l) refl
-  where
-    pick : (b : Bool) → (m == l) ≡ b → times_set m before + sets m (Some l) ≤ times_set q before + sets q (Some l)
-    pick true is =
-        let same : m ≡ l = eqb-true m l is in
-        let owner : p ≡ q = of_is plan p q l u e of (subst (λ (x : ℕ). Of q (plan x)) same h) in
-        let one : sets m (Some l) ≡ 1 = ap (λ (b : Bool). cond b 1 0) is in
-        let o = w.once m in
-        let many : 1 ≤ times_set q before = subst (λ (x : ℕ). 1 ≤ times_set x before) owner opened in
-        omega (arith, o, one, many)
-    pick false is = let none : sets m (Some l) ≡ 0 = ap (λ (b : Bool). cond b 1 0) is in let i = entered m q h in omega (arith, none, i)
+lab_entered plan p l u before rest e of w opened entered m q h = grind (arith, sets, eqb-true, of_is)
 
 no_data : (plan : ℕ → Use) (l : ℕ) → NamesData plan (Label l)
 no_data plan l = (λ m a. elim a [ ], λ m a. elim a [ ])
@@ -426,11 +366,7 @@ takes_fault plan p k l n before c rest w a e =
     lab_fault plan p k l before c rest w a (ap (are_other_jumps c.depth) m.1)
 
 changed_here : (l : ℕ) (change : LabelUse → LabelUse) (uses : ℕ → LabelUse) → changed l change uses l ≡ change (uses l)
-changed_here l change uses = pick (l == l) (eq-eqb l l refl)
-  where
-    pick : (b : Bool) → b ≡ true → (if b then change (uses l) else uses l) ≡ change (uses l)
-    pick true e = refl
-    pick false e = absurd (let h : false ≡ true = e in cc)
+changed_here l change uses = grind (arith, eq-eqb)
 
 over_none : (n : ℕ) (y : Option ℕ) → AtLeast n y → over n y ≡ false
 over_none n None h = refl
@@ -438,11 +374,7 @@ over_none n (Some d) h = le-ltb d n h
 
 taker_fault : (plan : ℕ → Use) (p k l n : ℕ) (before : List Stmt) (c : Context) (rest : List Stmt) → Whole plan before (TakeResult n ∷ rest) → Read plan before c
     → c.position ≡ position.BehindLabel l → c.depth ≡ k → n ≤ k → n + 1 ≤ FRAME_WORDS → AtLeast n (c.uses l).result → fault_in before c (TakeResult n) ≡ None
-taker_fault plan p k l n before c rest w r at depth low high least =
-    let placed : misplaced c (TakeResult n) ≡ false = ap (λ (x : Position). not (may_stand x Taker)) at in
-    let follows : follows_badly c c.position (TakeResult n) ≡ false = ap (λ (x : Position). follows_badly c x (TakeResult n)) at ∙ over_none n (c.uses l).result least in
-    faultless before c (TakeResult n) (keeps plan before c (TakeResult n) rest w r placed refl
-    (or_from _ _ follows (le-ltb c.depth n (omega (arith, depth, low)))) (omega arith) high)
+taker_fault plan p k l n before c rest w r at depth low high least = grind (arith, over_none, faultless, keeps, le-ltb)
 
 takes_state : (plan : ℕ → Use) (p k l n : ℕ) (before : List Stmt) (c : Context) (rest : List Stmt) → Whole plan before (Label l ∷ TakeResult n ∷ rest) → State plan (body p k) before c
     → plan l ≡ results p n → n ≤ k → n + 1 ≤ FRAME_WORDS
@@ -581,10 +513,7 @@ never_set x y e = tt
 
 enters_fault : (plan : ℕ → Use) (x : Bool) (k p : ℕ) (name : List ℕ) (before : List Stmt) (c : Context) (rest : List Stmt) → Whole plan before (Entry p name ∷ rest) → State plan (outside x k) before c
     → plan p ≡ entry → fault_in before c (Entry p name) ≡ None
-enters_fault plan x k p name before c rest w a e =
-    faultless before c (Entry p name) (keeps plan before c (Entry p name) rest w a.read (ap not (outer_placed plan x k before c a.stands)) refl
-    (or_from _ _ (follows_clear plan c c.position (Entry p name) (outer_clear plan x k before c a.stands) a.matches)
-    (or_from _ _ (or_from _ _ (unresulted plan c p entry e (λ m. m.1) a.matches) refl) refl)) (omega arith) (omega arith))
+enters_fault plan x k p name before c rest w a e = grind (arith, faultless, keeps, outer_placed, follows_clear, outer_clear, unresulted)
 
 enters_state : (plan : ℕ → Use) (x : Bool) (k p d : ℕ) (name : List ℕ) (before : List Stmt) (c : Context) (rest : List Stmt) → Whole plan before (Entry p name ∷ Save d ∷ rest)
     → State plan (outside x k) before c → plan p ≡ entry → IsDepth d
@@ -692,22 +621,10 @@ points_step plan k l before c rest w a e = (
 
 -- The end: each word that is named is set, and each entry.
 data_is : (u : Use) (known : LabelUse) → u ≡ word → Matches u known → 1 ≤ times known.setting → is_data known.setting ≡ true
-data_is u known e m many = only known.setting (subst (λ (y : Use). Matches y known) e m).0 many
-  where
-    only : (g : Setting) → OnlyData g → 1 ≤ times g → is_data g ≡ true
-    only setting.Unset h many = absurd (omega (arith, many))
-    only setting.Data h many = refl
-    only setting.Entry h many = elim h [ ]
-    only (setting.Lab d place) h many = elim h [ ]
+data_is u known e m many = grind arith
 
 entry_is : (u : Use) (known : LabelUse) → u ≡ entry → Matches u known → 1 ≤ times known.setting → is_entry known.setting ≡ true
-entry_is u known e m many = only known.setting (subst (λ (y : Use). Matches y known) e m).0 many
-  where
-    only : (g : Setting) → OnlyEntry g → 1 ≤ times g → is_entry g ≡ true
-    only setting.Unset h many = absurd (omega (arith, many))
-    only setting.Entry h many = refl
-    only setting.Data h many = elim h [ ]
-    only (setting.Lab d place) h many = elim h [ ]
+entry_is u known e m many = grind (arith, is_entry)
 
 either_true : (a b : Bool) → (a ≡ true) ⊎ (b ≡ true) → (a || b) ≡ true
 either_true true b h = refl
@@ -830,10 +747,7 @@ walk {plan} {b = b} before c (ends {x = x} {k = k} {entries = entries} {rest = r
 at_place : (before : List Stmt) (c : Context) (rest : List Stmt) → AllFaultless before c rest → (k : ℕ) (s : Stmt) → slice_get rest k ≡ Some s
     → fault_in (before ++ take k rest) (after_all c (take k rest)) s ≡ None
 at_place before c [] all k s at = absurd (let h : None ≡ Some s = at in cc)
-at_place before c (t ∷ rest) all zero s at =
-    let same : t ≡ s = (let h : Some t ≡ Some s = at in cc) in
-    let h : fault_in before c s ≡ None = subst (λ (x : Stmt). fault_in before c x ≡ None) same all.0 in
-    subst (λ (x : List Stmt). fault_in x c s ≡ None) (sym (append-nil before)) h
+at_place before c (t ∷ rest) all zero s at = grind (arith, append-nil)
 at_place before c (t ∷ rest) all (suc k) s at =
     subst (λ (x : List Stmt). fault_in x (after_all (after c t) (take k rest)) s ≡ None) (append_assoc before (t ∷ []) (take k rest))
     (at_place (before ++ t ∷ []) (after c t) rest all.1 k s at)
@@ -869,12 +783,7 @@ nothing_matches word = (tt, refl)
 nothing_matches entry = (tt, refl)
 
 begun : (plan : ℕ → Use) → State plan (outside false 0) [] at_start
-begun plan = record {
-  read = record { count = refl; words = refl; set = λ l. refl; entered = λ l q of. omega arith; naming = tt };
-  matches = λ l. nothing_matches (plan l);
-  shallow = omega arith;
-  stands = (refl, refl);
-}
+begun plan = grind (arith, nothing_matches)
 
 pub typed_is_section : TypedIsSection
 typed_is_section plan stmts typed once complete short small =

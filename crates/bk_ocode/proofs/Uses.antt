@@ -21,24 +21,11 @@ set_beside (y ∷ ys) x (suc l) (suc j) other = set_beside ys x l j (λ e. other
 set_beside z x u v other = refl
 
 differ : (a b : ℕ) → a ≢ b → (a == b) ≡ false
-differ a b other = by (eqb_tells a b)
-  where
-    by : (((a == b) ≡ true) × (a ≡ b)) ⊎ (((a == b) ≡ false) × (a ≢ b)) → (a == b) ≡ false
-    by (inl p) = absurd (other p.1)
-    by (inr p) = p.0
+differ a b other = grind arith
 
 -- a label of the list is changed
 pub low_set : (xs : List LabelUse) (x d : LabelUse) (l j : ℕ) → l < length xs → use_or d (slice_get (set xs l x) j) ≡ (if j == l then x else use_or d (slice_get xs j))
-low_set xs x d l j low = by (eqb_tells j l)
-  where
-    by : (((j == l) ≡ true) × (j ≡ l)) ⊎ (((j == l) ≡ false) × (j ≢ l)) → use_or d (slice_get (set xs l x) j) ≡ (if j == l then x else use_or d (slice_get xs j))
-    by (inl p) =
-        ap (λ n. use_or d (slice_get (set xs l x) n)) p.1
-        ∙ ap (λ (o : Option LabelUse). use_or d o) (set_there xs x l low)
-        ∙ sym (ap (λ b. if b then x else use_or d (slice_get xs j)) p.0)
-    by (inr p) =
-        ap (λ (o : Option LabelUse). use_or d o) (set_beside xs x l j p.1)
-        ∙ sym (ap (λ b. if b then x else use_or d (slice_get xs j)) p.0)
+low_set xs x d l j low = grind (arith, set_there, set_beside)
 
 -- a label beside the list is changed
 pub high_set : (xs : List LabelUse) (old new : ℕ → Option LabelUse) (l : ℕ) (x : LabelUse) → length xs ≤ l → ((j : ℕ) → new j ≡ (if l == j then Some x else old j)) → (j : ℕ)

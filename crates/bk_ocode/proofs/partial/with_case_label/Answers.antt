@@ -18,10 +18,3 @@ cases_step-requires c =
       counted = begun.counted;
       due = omega (arith, long, c.requires.0.1);
     }
-
-pub returns-in-Ok-push-clause-step : goal.returns-in-Ok-push-clause-step
-returns-in-Ok-push-clause-step c = λ word held.
-    let cases = c.args.draft.cases.items in
-    let one : Case = record { value = c.args.value; label = c.in-Some.label } in
-    let front : List (List ℕ) → List (List ℕ) = λ (w : List (List ℕ)). codes "SWITCHON" ∷ natural_word c.args.draft.count ∷ label_word c.args.draft.default ∷ w in
-    subst (λ (w : List (List ℕ)). IsStep c.cases_step.result w) (ap front (case_words-push cases c.push.new.self.items one word (rw (to_z-of_z w32 c.args.value c.requires.1) at c.in-Ok-push.ensures.items) (c.in-Some.ensures.found.1 word held))) c.cases_step.ensures

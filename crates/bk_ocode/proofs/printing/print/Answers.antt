@@ -11,15 +11,3 @@ returns-in_err-put_stmt-clause-part g c =
     on_err c.from_residual.result
     (rw c.stmts-stmt-items.ensures.value at
     (AppendsPart-row Stmt section_text line_rows _ _ _ c.stmts-stmt-items.result.now c.loop-stmt.stmt-index x _ c.loop-stmt-test.true same c.loop-stmt.invariant.taken c.in_err-put_stmt.ensures.part))
-
-pub loop-stmt-preserved : goal.loop-stmt-preserved
-loop-stmt-preserved g c =
-    let x = c.stmt-item.result in
-    let same : section_text (get_or c.stmts-stmt-items.result.now c.loop-stmt.stmt-index x ∷ []) ≡ stmt_text x ++ 10 ∷ [] =
-    ap (λ (s : Stmt). section_text (s ∷ [])) (sym c.stmt-item.is) ∙ append-nil (stmt_text x ++ 10 ∷ []) in
-    record {
-      taken = Appends-row Stmt section_text line_rows _ _ _ c.stmts-stmt-items.result.now c.loop-stmt.stmt-index x _ c.loop-stmt-test.true same c.loop-stmt.invariant.taken c.in_ok-put_stmt.ensures.takes;
-      passed = Begins-trans _ _ _ c.loop-stmt.invariant.passed c.in_ok-put_stmt.ensures.passes;
-      again = λ was. let stays = c.loop-stmt.invariant.again was in search rules;
-      clear = λ _. c.in_ok-put_stmt.ensures.failures;
-    }

@@ -7,14 +7,3 @@ pub returns-in_err-put_byte-clause-part : goal.returns-in_err-put_byte-clause-pa
 returns-in_err-put_byte-clause-part g c = on_err c.from_residual.result
     (AppendsPart-row ℕ (λ xs. spaced (byte_words xs)) byte_rows _ _ _ c.args.bytes.now c.loop-byte.byte-index _ _ c.loop-byte-test.true (append-nil _)
     c.loop-byte.invariant.taken c.in_err-put_byte.ensures.part)
-
-pub returns-in_err-put_byte-clause-passes : goal.returns-in_err-put_byte-clause-passes
-returns-in_err-put_byte-clause-passes g c = Begins-trans _ _ _ c.loop-byte.invariant.passed c.in_err-put_byte.ensures.passes
-
-pub loop-byte-preserved : goal.loop-byte-preserved
-loop-byte-preserved g c = record {
-  taken = Appends-row ℕ (λ xs. spaced (byte_words xs)) byte_rows _ _ _ c.args.bytes.now c.loop-byte.byte-index _ _ c.loop-byte-test.true (append-nil _)
-      c.loop-byte.invariant.taken c.in_ok-put_byte.ensures.takes;
-  passed = Begins-trans _ _ _ c.loop-byte.invariant.passed c.in_ok-put_byte.ensures.passes;
-  again = λ was. let stays = c.loop-byte.invariant.again was in search rules;
-}

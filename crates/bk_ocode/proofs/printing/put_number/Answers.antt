@@ -6,6 +6,3 @@ pub returns-in_err-put_word-clause-part : goal.returns-in_err-put_word-clause-pa
 returns-in_err-put_word-clause-part g c =
     let part : AppendsPart (g.O.ByteOut.taken c.put.new.self) (g.O.ByteOut.taken c.put_word.new.out) (spelling c.args.number) = search rules in
     on_err c.from_residual-in_err-put_word.result (AppendsPart-behind _ _ _ (32 ∷ []) (spelling c.args.number) _ refl c.in_ok-put.ensures.takes part)
-
-pub returns-in_err-put_word-clause-passes : goal.returns-in_err-put_word-clause-passes
-returns-in_err-put_word-clause-passes g c = Begins-trans _ _ _ c.in_ok-put.ensures.passes c.in_err-put_word.ensures.passes
