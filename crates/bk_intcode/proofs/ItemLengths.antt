@@ -26,8 +26,4 @@ length-item End fits = omega arith
 
 -- a longer word has the fault of its first byte
 pub long_fault : (word : List ℕ) → 16 < length word → begins_item (get_or word 0 0) ≡ true → WordFault word BadNumber
-long_fault word long begins = (
-  begins,
-  (λ item fits is. absurd (omega (arith, length-item item fits, ap (λ (w : List ℕ). length w) is))),
-  (λ over. absurd (omega (arith, length-natural over.0 over.2, ap (λ (w : List ℕ). length w) over.3))),
-)
+long_fault word long begins = grind (arith, length-item, length-natural)

@@ -162,16 +162,10 @@ few-before items whole k item at =
     lt-ltb (length (take k items)) INTCODE_ITEMS (omega (arith, low, whole.counted, length-take k items))
 
 unset-before : (items : List Item) → IsSegment items → (k label : ℕ) → slice_get items k ≡ Some (SetLabel label) → sets label (take k items) ≡ false
-unset-before items whole k label at = false_from_ne_true (sets label (take k items)) (λ set.
-    let j = sets-place label (take k items) set in
-    let p = get-of_take items k j.0 (SetLabel label) j.1 in
-    let same : j.0 ≡ k = whole.set_once j.0 k label p.1 at in omega (arith, p.0, same))
+unset-before items whole k label at = grind (arith, sets, sets-place, get-of_take)
 
 no_frame-before : (items : List Item) → IsSegment items → (k n : ℕ) → slice_get items k ≡ Some (Frame n) → gives_frame (take k items) ≡ false
-no_frame-before items whole k n at = false_from_ne_true (gives_frame (take k items)) (λ given.
-    let j = frame-place (take k items) given in
-    let p = get-of_take items k j.0 (Frame j.1) j.2 in
-    let same : j.0 ≡ k = whole.one_frame j.0 k j.1 n p.1 at in omega (arith, p.0, same))
+no_frame-before items whole k n at = grind (arith, frame-place, get-of_take)
 
 -- a label that is used in a segment is set before its end
 set-before_end : (items : List Item) → IsSegment items → (k : ℕ) → slice_get items k ≡ Some End → (j label : ℕ) (item : Item) → slice_get items j ≡ Some item → IsTrue (item_uses label item) → sets label (take k items) ≡ true
@@ -345,10 +339,7 @@ one_fault m n j k words (inr f) (inl g) = absurd (fault_cut n m k words g.0 g.1 
 one_fault m n j k words (inr f) (inr g) = (cuts_same words m n f.1 g.1, f.0 ∙ sym g.0)
 
 pub one_saying : SayOneThing
-one_saying words (segment a) (segment b) s t = elim (cases_lt (length a) (length b)) [
-  | inl short ↦ ap segment (segments_same a b s.0 t.0 s.1 t.1 (sym s.2 ∙ t.2) (omega arith))
-  | inr long ↦ ap segment (sym (segments_same b a t.0 s.0 t.1 s.1 (sym t.2 ∙ s.2) long))
-]
+one_saying words (segment a) (segment b) s t = grind (arith, segments_same)
 one_saying words (segment a) nothing s t = absurd (segment_not_empty a s.0 s.1 (sym t ∙ s.2))
 one_saying words (segment a) (fault n k) s t = absurd (segment_fault a n k words s t)
 one_saying words nothing (segment b) s t = absurd (segment_not_empty b t.0 t.1 (sym s ∙ t.2))

@@ -24,11 +24,7 @@ none-append (x ∷ xs) ys is = absurd (let h : Some x ≡ None = is in cc)
 -- an item without a fault behind others has none of the four
 pub no_fault : (before : List Item) (item : Item) → item_fault before item ≡ None →
     (slice_get (label_not_set before item) 0 ≡ None) × (slice_get (label_set_twice before item) 0 ≡ None) × (slice_get (too_long before) 0 ≡ None) × (slice_get (frame_given_twice before item) 0 ≡ None)
-no_fault before item is =
-    let a = none-append (label_not_set before item) (label_set_twice before item ++ (too_long before ++ frame_given_twice before item)) is in
-    let b = none-append (label_set_twice before item) (too_long before ++ frame_given_twice before item) a.1 in
-    let c = none-append (too_long before) (frame_given_twice before item) b.1 in
-    (a.0, b.0, c.0, c.1)
+no_fault before item is = grind (arith, none-append, too_long)
 
 test-true : {X : Type 0} (b : Bool) (x : X) → slice_get (if b then [] else x ∷ []) 0 ≡ None → b ≡ true
 test-true true x is = refl

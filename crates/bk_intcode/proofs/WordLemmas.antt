@@ -58,10 +58,7 @@ text-class End fits b rest is = ap byte_class (heads 90 b _ rest is)
 
 -- a word that begins as other items do
 pub other_class : (item : Item) → IsItem item → (b : ℕ) (rest : List ℕ) (k : ℕ) → byte_class b ≡ k → nat_eq k (item_class item) ≡ false → item_text item ≢ b ∷ rest
-other_class item fits b rest k class other = λ is.
-    let same : k ≡ item_class item = sym class ∙ text-class item fits b rest is in
-    let yes : nat_eq k (item_class item) ≡ true = eq-eqb k (item_class item) same in
-    cc
+other_class item fits b rest k class other = grind (arith, text-class, eq-eqb)
 
 pub nothing-empty : MeansNothing []
 nothing-empty (Instruction f i o) fits = λ is. let h : letter f ∷ (indirect_text i ++ operand_text o) ≡ [] = is in cc

@@ -3,12 +3,6 @@ use Rattle.bk_intcode.proofs.Parts.{if_ok_map, if_err_map}
 use Rattle.bk_intcode.proofs.ItemLengths.{long_fault}
 use Rattle.bk_intcode.proofs.words.held_meaning.Goals as goal
 
-pub returns-in-Some-clause-item : goal.returns-in-Some-clause-item
-returns-in-Some-clause-item c =
-    if_ok_map c.meaning_of.result (Means c.in-Some.word.now)
-    (λ (item : Item). (first : ℕ) (rest : List ℕ) → Holds c.args.held.now (first ∷ rest) → Means (first ∷ rest) item)
-    (λ item means first rest h. subst (λ (w : List ℕ). Means w item) (c.in-Some.ensures.short (first ∷ rest) h) means) c.meaning_of.ensures.item
-
 pub returns-in-Some-clause-fault : goal.returns-in-Some-clause-fault
 returns-in-Some-clause-fault c =
     if_err_map c.meaning_of.result (WordFault c.in-Some.word.now)
