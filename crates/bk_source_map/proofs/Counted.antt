@@ -1,7 +1,6 @@
 -- A node has as many places as statements, in its own code and in what is by itself in it.
 use Rattle.std.proofs.Common.{◌≡◌, ℕ, ◌+◌, Bool, true, false, cond, Some, None, List, [], ◌∷◌, length, length-append, replicate, refl, arith}
 use Rattle.std.specs.Bool.{⊤}
-use Rattle.bk_tree.specs.declared.tree.Operator.{Operator}
 use Rattle.bk_tree.specs.declared.tree.Operator.TheVariants as o
 use Rattle.bk_tree.specs.declared.tree.Prefix.TheVariants as q
 use Rattle.bk_tree.specs.declared.tree.Simple.TheVariants as w
@@ -16,12 +15,8 @@ use Rattle.bk_trans.specs.declared.around.Around.{Around}
 use Rattle.bk_trans.specs.declared.around.Target.{Target}
 use Rattle.bk_trans.specs.Naming.{term_named, terms_named, condition_named, lvalue_named, lvalues_named, command_named, commands_named, declarations_named, declaration_named, definitions_named, definition_named, starts_named}
 use Rattle.bk_trans.specs.Depths.{has_variables}
-use Rattle.bk_trans.specs.Scheme.{infix_code, by_turns as stmts_by_turns, value_code, each_code, jump_code, address_code, store_code, value_codes, store_codes, command_code, through_code, declarations_code, declaration_code, definitions_code, definition_code, starts_code}
-use Rattle.bk_source_map.specs.Places.{infix_places, any_variables, let_places, by_turns, value_places, each_places, address_places, store_places, values_places, stores_places, command_places, through_places, declared_places, one_declared_places, defined_places, one_defined_places, started_places}
-
-infix_long : (f : Operator) (m : ℕ) → length (infix_code f) ≡ length (infix_places f m)
-infix_long o.Subscript m = refl
-infix_long _ m = refl
+use Rattle.bk_trans.specs.Scheme.{by_turns as stmts_by_turns, value_code, each_code, jump_code, address_code, store_code, value_codes, store_codes, command_code, through_code, declarations_code, declaration_code, definitions_code, definition_code, starts_code}
+use Rattle.bk_source_map.specs.Places.{any_variables, let_places, by_turns, value_places, each_places, address_places, store_places, values_places, stores_places, command_places, through_places, declared_places, one_declared_places, defined_places, one_defined_places, started_places}
 
 store_long : (b : Bool) (l : ℕ) → length (cond b (t.Store ∷ []) []) ≡ length (cond b (replicate 1 l) [])
 store_long true l = refl
