@@ -25,7 +25,8 @@ static void* take(u64 n) {
     u64 end = (u64)top + (1ul << order), pages = __builtin_wasm_memory_size(0);
     if (end > pages << 16) {
       u64 more = ((end - (pages << 16)) + 65535) >> 16;
-      if (__builtin_wasm_memory_grow(0, more) == ~0ul) return 0;
+      // (a memory that is refused is -1: of 64 bits, or of 32 bits where wasm-opt has lowered the addresses)
+      if ((unsigned)__builtin_wasm_memory_grow(0, more) == ~0u) return 0;
     }
     b = (Block*)top;
     top = (u8*)end;

@@ -26,6 +26,11 @@ const FAR = [
   "", "\n", ".", "\u0000", "LET", '"', "GET \"LIBHDR\"", "LET START() BE \u00e9\n",
 ];
 
+const DEEP = [
+  `GET "LIBHDR"\nLET F(N) = F(N+1)+1\nLET START() BE WRITEN(F(0))\n`,
+  `GET "LIBHDR"\nLET F(N) = N=0 -> 0, 1+F(N-1)\nLET START() BE WRITEN(F(500000))\n`,
+];
+
 export async function compare(page, program, count) {
   const kit = await kitOf(page);
   const folder = fs.mkdtempSync(path.join(os.tmpdir(), "differ-"));
@@ -81,6 +86,19 @@ export async function compare(page, program, count) {
     same(["check", "-t", "300000", far], far, "", ROOMS);
     same(["show", "--only", "tree", "-"], null, source, ROOMS);
   }
+  // programs that want much memory, and memory that is refused
+  for (const source of DEEP) {
+    fs.writeFileSync(far, source);
+    same(["check", far], far, "");
+  }
+  let refused = "";
+  try {
+    kit.serve(["compile"], "", "", { output: 4290000000, lines: 1 << 20 });
+  } catch (error) {
+    refused = error.message;
+  }
+  count.is("memory that is refused is told", refused === "no memory", refused);
+
   const greatest = examples().find(({ name }) => name === "queens").file;
   for (const words of ["4095", "4096", "4194304", "4194305"]) same(["run", "-s", words, greatest], greatest, "");
 

@@ -225,6 +225,37 @@ export async function use(file, program, chromium, picture, count) {
     await ready(30);
     count.is("a link may name an example", (await shown("view")) === native(program, ["show", "--only", "ocode", "-"], all.find(({ name }) => name === "queens").source).output.toString());
 
+    // ---- nothing is lost
+    const long = 'GET "LIBHDR"\n' + "// a comment\n".repeat(2000) + 'LET START() BE WRITES("long*N")\n';
+    const written = () => value('document.getElementById("source").value');
+    await choose("Run");
+    await write(long);
+    await value("new Promise((done) => setTimeout(done, 1000))");
+    await browser.go(url);
+    await ready(30);
+    count.is("a long source is there after a reload", (await written()) === long, (await written()).slice(0, 80));
+    await value('{ const box = document.getElementById("source"); box.value = "// just typed"; box.dispatchEvent(new Event("input")); }');
+    await browser.send("Page.reload");
+    await ready(30);
+    count.is("what was just typed is there after a reload", (await written()) === "// just typed", (await written()).slice(0, 80));
+    await value('{ const box = document.getElementById("program"); box.value = "queens"; box.dispatchEvent(new Event("change")); }');
+    await ready();
+    await click("undo");
+    await ready();
+    count.is("an example that was chosen can be undone", (await written()) === "// just typed", (await written()).slice(0, 80));
+    await value('{ const box = document.getElementById("drafts"); box.value = [...box.options].find((it) => it.text.includes("LET START()")).value; box.dispatchEvent(new Event("change")); }');
+    await ready();
+    count.is("a draft can be taken up", (await written()) === long, (await written()).slice(0, 80));
+    await browser.go(`${url}#source=@@@`);
+    await ready(30);
+    count.is("a damaged link says so", (await shown("notice")).startsWith("The link is damaged"), await shown("notice"));
+    await write(ENDLESS);
+    await value('document.getElementById("steps").value = "100,000"');
+    await click("run");
+    await ended();
+    count.is("steps may have commas", (await shown("status")).startsWith("status 106: step limit"), await shown("status"));
+    await value('document.getElementById("steps").value = "1000000000"');
+
     // ---- looks
     await browser.go(`${url}#program=factorial&tab=Step&step=40`);
     await ready(30);

@@ -253,8 +253,11 @@ function explain(answer, done) {
 
 // ---- runs
 
+// A number as it is typed, with commas, blanks or underlines between its digits or not.
+const typed = (id) => $(id).value.replace(/[\s,_']/g, "");
+
 function limits() {
-  return ["-s", $("words").value.trim(), "-t", $("steps").value.trim()];
+  return ["-s", typed("words"), "-t", typed("steps")];
 }
 
 function begin(words, kind) {
@@ -283,7 +286,7 @@ function begin(words, kind) {
 }
 
 const run = () => begin(["run", ...limits(), "program.b"], "running");
-const check = () => begin(["check", "-t", $("steps").value.trim(), "program.b"], "checking");
+const check = () => begin(["check", "-t", typed("steps"), "program.b"], "checking");
 
 // Ends the run, and shows what it wrote in its first steps: a run is the same each time.
 function stop(silent = false) {
@@ -295,8 +298,8 @@ function stop(silent = false) {
   if (silent) return;
   ran = { stopped: true, kind: was.kind };
   showRun();
-  const steps = String(Math.min(MOST_STEPS, Number($("steps").value) || MOST_STEPS));
-  const words = was.kind === "running" ? ["run", "-s", $("words").value.trim(), "-t", steps, "program.b"] : ["check", "-t", String(Math.ceil(steps / 100)), "program.b"];
+  const steps = String(Math.min(MOST_STEPS, Number(typed("steps")) || MOST_STEPS));
+  const words = was.kind === "running" ? ["run", "-s", typed("words"), "-t", steps, "program.b"] : ["check", "-t", String(Math.ceil(steps / 100)), "program.b"];
   runner.ask({ task: "serve", words, file: was.source, input: was.input }, ({ answer, failed }) => {
     if (running || failed) return;
     ran = { ...answer, stopped: true, kind: was.kind, steps };
@@ -330,12 +333,12 @@ function showRun() {
 let at = 0, standing = null;
 
 function steppedWords() {
-  const words = Number($("words").value) || STEPPED_WORDS;
+  const words = Number(typed("words")) || STEPPED_WORDS;
   return Math.max(4096, Math.min(words, STEPPED_WORDS));
 }
 
 function refreshStep(done = () => {}) {
-  const asked = Number($("steps").value) || MOST_STEPS;
+  const asked = Number(typed("steps")) || MOST_STEPS;
   const task = { task: "state", source: source(), input: $("input").value, at, words: steppedWords(), most: Math.min(asked, MOST_STEPS), around: AROUND_STEPS };
   listings.ask(task, ({ answer, failed }) => {
     if (failed || answer.refused) {
@@ -424,6 +427,122 @@ function go(where) {
   refreshStep();
 }
 
+// ---- drafts: each source that was typed is kept in this browser, with its time
+
+const DRAFTS = "bcpl-drafts";      // the key of the drafts
+const MOST_DRAFTS = 30;
+const DRAFT_PAUSE = 400;           // ms from the last key until a draft is kept
+
+let draft = null;                  // the time of the draft that is being typed
+let unkept = false;                // whether something that was typed is in no draft
+
+// The drafts, the latest first: { time, text, input }.
+function drafts() {
+  try {
+    const kept = JSON.parse(localStorage.getItem(DRAFTS) || "[]");
+    return Array.isArray(kept) ? kept.filter((each) => each && typeof each.text === "string") : [];
+  } catch {
+    return [];
+  }
+}
+
+// Keeps drafts, the latest of them at least; false where the browser keeps none.
+function keepDrafts(list) {
+  for (let kept = list.slice(0, MOST_DRAFTS); kept.length; kept = kept.slice(0, Math.floor(kept.length / 2))) {
+    try {
+      localStorage.setItem(DRAFTS, JSON.stringify(kept));
+      return true;
+    } catch { /* no room: with fewer */ }
+  }
+  return false;
+}
+
+const isExample = (text) => EXAMPLES.some((each) => each.source === text);
+
+// Keeps what is in the editor as the draft that is being typed. An example as it is needs none.
+function keepDraft() {
+  clearTimeout(drafting);
+  const text = $("source").value;
+  if (!unkept) return;
+  if (isExample(text) || !text.trim()) {
+    unkept = false;
+    return;
+  }
+  draft ??= Date.now();
+  const others = drafts().filter((each) => each.time !== draft && each.text !== text);
+  unkept = !keepDrafts([{ time: draft, text, input: $("input").value }, ...others]);
+  fillDrafts();
+}
+
+let drafting = 0;
+function draftSoon() {
+  unkept = true;
+  clearTimeout(drafting);
+  drafting = setTimeout(keepDraft, DRAFT_PAUSE);
+}
+
+// The drafts by their times and first lines.
+function fillDrafts() {
+  const list = drafts();
+  const named = ({ time, text }) => {
+    const line = text.split("\n").find((each) => each.trim() && !/^\s*GET\b/i.test(each)) || "";
+    return `${new Date(time).toLocaleString()}  ${line.trim().slice(0, 40)}`;
+  };
+  $("drafts").replaceChildren(new Option(list.length ? `Drafts (${list.length})` : "No drafts", ""), ...list.map((each) => new Option(named(each), String(each.time))));
+}
+
+function chooseDraft() {
+  const found = drafts().find((each) => String(each.time) === $("drafts").value);
+  $("drafts").value = "";
+  if (!found) return;
+  replaceProgram(found.text, found.input || "");
+  draft = found.time;
+}
+
+// What the editor had before an example, a draft or a file took its place.
+let replaced = [];
+
+// Puts another program into the editor; the one before can be brought back.
+function replaceProgram(text, input) {
+  keepDraft();
+  replaced.push({ text: $("source").value, input: $("input").value, draft });
+  draft = null;
+  $("undo").disabled = false;
+  setProgram(text, input);
+  at = 0;
+  refresh();
+  keepAddress();
+}
+
+function undo() {
+  const before = replaced.pop();
+  $("undo").disabled = !replaced.length;
+  if (!before) return;
+  keepDraft();
+  setProgram(before.text, before.input);
+  draft = before.draft;
+  at = 0;
+  refresh();
+  keepAddress();
+}
+
+// ---- files
+
+function saveFile() {
+  const name = $("program").value || "program";
+  const link = document.createElement("a");
+  link.href = URL.createObjectURL(new Blob([$("source").value], { type: "text/plain" }));
+  link.download = `${name}.b`;
+  link.click();
+  setTimeout(() => URL.revokeObjectURL(link.href), 10000);
+}
+
+async function openFile() {
+  const [file] = $("file").files;
+  $("file").value = "";
+  if (file) replaceProgram(await file.text(), "");
+}
+
 // ---- the address: a lesson can link to a program
 
 const toText = (bytes) => btoa(Array.from(bytes, (b) => String.fromCharCode(b)).join("")).replaceAll("+", "-").replaceAll("/", "_").replaceAll("=", "");
@@ -445,26 +564,49 @@ async function address() {
   return `#${words}`;
 }
 
+// The address names no program: a reload takes up the draft.
+function forgetAddress() {
+  if (location.hash) history.replaceState(null, "", "#");
+}
+
 let keeping = 0;
 function keepAddress() {
   clearTimeout(keeping);
-  if (source().length > 20000) return;
+  if (source().length > 20000) {
+    forgetAddress();
+    return;
+  }
   keeping = setTimeout(async () => history.replaceState(null, "", await address()), 800);
 }
 
 // Takes up what the address says; with no address, the first example.
 async function fromAddress() {
   const words = new URLSearchParams(location.hash.slice(1));
-  let text = null;
+  let text = null, damaged = "";
   if (words.has("source")) {
     try {
       text = utf8.decode(await piped(toBytes(words.get("source")), new DecompressionStream("deflate-raw")));
-    } catch { /* a bad link is as none */ }
+    } catch {
+      damaged = "The link is damaged: its program cannot be read.";
+    }
   }
-  const example = EXAMPLES.find((each) => each.name === words.get("program")) || (text === null ? EXAMPLES[0] : null);
-  setProgram(text ?? example.source, words.get("input") ?? (example ? example.input : ""));
+  const named = EXAMPLES.find((each) => each.name === words.get("program"));
+  if (words.has("program") && !named) damaged = `The link names no example: ${words.get("program")}.`;
+  const [last] = location.hash ? [] : drafts();
+  const example = named || (text === null && !last ? EXAMPLES[0] : null);
+  if (last && text === null && !named) {
+    setProgram(last.text, last.input || "");
+    draft = last.time;
+  } else setProgram(text ?? example.source, words.get("input") ?? (example ? example.input : ""));
   at = Number(words.get("step")) || 0;
   choose(TABS.find((each) => each.name === words.get("tab")) || TABS[0]);
+  notice(damaged);
+}
+
+// Says something about the page itself, until the next key.
+function notice(text) {
+  $("notice").textContent = text;
+  $("notice").hidden = !text;
 }
 
 // ---- programs
@@ -478,11 +620,7 @@ function fillPrograms() {
   $("program").append(new Option("your own", ""), ...groups.values());
   $("program").onchange = () => {
     const example = EXAMPLES.find((each) => each.name === $("program").value);
-    if (!example) return;
-    setProgram(example.source, example.input);
-    at = 0;
-    refresh();
-    keepAddress();
+    if (example) replaceProgram(example.source, example.input);
   };
 }
 
@@ -515,6 +653,9 @@ function soon(then) {
 
 function listen() {
   $("source").oninput = () => {
+    notice("");
+    draftSoon();
+    forgetAddress();
     edited();
     ran = null;
     at = 0;
@@ -524,6 +665,8 @@ function listen() {
   $("source").onscroll = draw;
   new ResizeObserver(draw).observe($("source"));
   $("input").oninput = () => {
+    draftSoon();
+    forgetAddress();
     if (tab.name === "Step") soon(refresh);
     keepAddress();
   };
@@ -546,7 +689,7 @@ function listen() {
   };
   for (const button of document.querySelectorAll("[data-go]")) button.onclick = () => go(button.dataset.go);
   $("at").onchange = () => {
-    at = Number($("at").value) || 0;
+    at = Number(typed("at")) || 0;
     refreshStep();
   };
   $("stepping").onkeydown = (event) => {
@@ -561,7 +704,22 @@ function listen() {
       run();
     }
   });
-  addEventListener("hashchange", fromAddress);
+  $("drafts").onchange = chooseDraft;
+  $("undo").onclick = undo;
+  $("save").onclick = saveFile;
+  $("open").onclick = () => $("file").click();
+  $("file").onchange = openFile;
+  addEventListener("hashchange", () => {
+    keepDraft();
+    draft = null;
+    fromAddress();
+  });
+  // what was typed last is kept as the page is left; where the browser keeps no drafts, it asks first
+  addEventListener("beforeunload", (event) => {
+    keepDraft();
+    if (unkept) event.preventDefault();
+  });
+  document.addEventListener("visibilitychange", () => { if (document.hidden) keepDraft(); });
 }
 
 async function start() {
@@ -576,6 +734,7 @@ async function start() {
   listings = new Desk(module);
   runner = new Desk(module);
   listen();
+  fillDrafts();
   await fromAddress();
   document.body.dataset.ready = "yes";
 }

@@ -6,6 +6,7 @@ pub mod Instructions
 pub mod Accumulator
 pub mod PlainCode
 pub mod Code
+pub mod ItemEnds
 pub mod Points
 pub mod Laws
 pub mod BackEnd

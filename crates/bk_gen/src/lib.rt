@@ -14,4 +14,5 @@ mod table;
 mod value;
 
 pub use laws::{back_end, parts_are_well_placed, parts_without_start};
-pub use segment::generate;
+pub use section::PlacedSegment;
+pub use segment::{generate, generate_placed};

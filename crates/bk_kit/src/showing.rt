@@ -8,10 +8,11 @@ use crate::kit_fault::KitFault;
 use crate::reading::read_source_section;
 use crate::section::{CompiledSection, compile_section, hashers_of};
 use bk_base::{ByteIn, ByteOut, Line};
-use bk_gen::generate;
+use bk_gen::generate_placed;
 use bk_lex::Lexer;
 use bk_scope::resolve_keyed;
 use bk_show::{Layout, NotShown, Part, Shown};
+use bk_source_map::places_of;
 use std::alloc::Global;
 
 /// Writes a section, if it has symbols.
@@ -37,14 +38,17 @@ fn put_section<O, L: Layout<O>>(
     let Ok(resolved) = resolve_keyed(alloc, &section.tree, hashers_of(lexer)) else {
         return Err(NotShown::Memory);
     };
-    let segment = generate(alloc, &section.code)?;
+    let placing = places_of(alloc, &section.tree, &section.code)?;
+    let placed = generate_placed(alloc, &section.code)?;
     let shown = Shown {
         number,
         line,
         tokens: lexed.tokens.as_slice(),
         resolved: &resolved,
         code: &section.code,
-        segment: &segment,
+        placing: &placing,
+        segment: &placed.segment,
+        ends: placed.ends.as_slice(),
     };
     layout.write(alloc, &shown, out)
 }

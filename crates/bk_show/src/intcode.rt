@@ -1,11 +1,15 @@
 //! The items of INTCODE of a section, each with what it does.
 
-use crate::entries::Entries;
+use crate::frame::Frame;
 use crate::instruction::{Instruction, put_instruction, say_instruction};
+use crate::origin::Origin;
+use crate::spelling::put_string;
 use crate::text::Text;
 use bk_base::Line;
-use bk_machine::{Intcode, Item};
-use bk_ocode::Ocode;
+use bk_base::limit::OCODE_LABEL;
+use bk_machine::{Function, Intcode, Item, Operand};
+use bk_ocode::Stmt;
+use bk_source_map::Mark;
 use std::alloc::{AllocError, Global};
 
 /// The column of what an item does.
@@ -13,23 +17,48 @@ const MEANING: usize = 24;
 
 /// Items that are put.
 #[derive(Drop)]
-struct Walk<'s, 'l> {
+struct Walk<'s> {
     text: Text,
-    /// The procedures of the statements from which the items come.
-    entries: Entries<'s>,
-    /// The lines of the procedures.
-    lines: &'l [Line],
+    origin: &'s Origin<'s>,
+    /// How many items there are up to the end of each statement.
+    ends: &'s [usize],
+    frame: Frame<'s>,
+    /// The statement that the next item is of; past the last of them, the strings follow.
+    stmt: usize,
+    /// The statement of the string whose bytes are next.
+    string: Option<usize>,
     /// Whether the line of bytes is not ended.
     in_bytes: bool,
 }
 
-impl Walk<'_, '_> {
-    /// Begins the line of a procedure, which is the next.
-    fn begin_procedure(&mut self) -> Result<(), AllocError> {
-        match self.lines.get(self.entries.pass()).copied() {
-            Some(line) => self.text.begin(line),
-            None => self.text.begin_without(),
+/// The statement of the string that has this label, of so many statements.
+fn string_of(label: u32, stmts: usize) -> Option<usize> {
+    let behind = label.checked_sub(OCODE_LABEL)? as usize;
+    stmts.checked_sub(behind)
+}
+
+impl<'s> Walk<'s> {
+    /// The line of the next item: that of its statement.
+    fn line(&self) -> Option<Line> {
+        match self.string {
+            Some(stmt) => self.origin.line(stmt),
+            None => self.origin.line(self.stmt),
         }
+    }
+
+    /// Goes to the statement of the item of this number.
+    fn reach(&mut self, item: usize) -> Result<(), AllocError> {
+        let stmts = self.origin.stmts();
+        for number in self.stmt..stmts.len() {
+            self.stmt = number;
+            self.frame.reach(number, &stmts[number])?;
+            if matches!(self.ends.get(number), Some(end) if item < *end) {
+                return Ok(());
+            }
+            self.frame.pass_stmt(&stmts[number]);
+            self.stmt = number.saturating_add(1);
+        }
+        Ok(())
     }
 
     /// Ends a line of bytes.
@@ -47,49 +76,94 @@ impl Walk<'_, '_> {
             self.text.say(" ")?;
         } else {
             self.in_bytes = true;
-            self.text.begin_without()?;
+            let line = self.line();
+            self.text.begin_at(line)?;
         }
         self.text.say("C")?;
         self.text.natural(u32::from(byte))
     }
 
-    /// Adds a label that is set.
-    fn put_label(&mut self, label: u32) -> Result<(), AllocError> {
-        self.text.natural(label)?;
-        self.text.go_to(MEANING)?;
-        self.text.say("label ")?;
-        self.text.natural(label)
+    /// Adds what a label is for, after a comma.
+    fn say_label(&mut self, label: u32) -> Result<(), AllocError> {
+        match string_of(label, self.origin.stmts().len()) {
+            Some(stmt) => match self.origin.stmts().get(stmt) {
+                Some(Stmt::Text { bytes }) => {
+                    self.text.say(", ")?;
+                    put_string(&mut self.text, bytes.as_bytes())
+                }
+                _ => Ok(()),
+            },
+            None => self.origin.say_label(&mut self.text, label),
+        }
     }
 
     /// Adds the line of a label that is set.
     fn label(&mut self, label: u32) -> Result<(), AllocError> {
-        match self.entries.name_at(label) {
-            Some(name) => {
-                self.begin_procedure()?;
-                self.put_label(label)?;
-                self.text.say(", the procedure ")?;
-                self.text.spell(name)?;
-            }
-            None => {
-                self.text.begin_without()?;
-                self.put_label(label)?;
-            }
-        }
+        self.string = string_of(label, self.origin.stmts().len());
+        let line = self.line();
+        self.text.begin_at(line)?;
+        self.text.natural(label)?;
+        self.text.go_to(MEANING)?;
+        self.text.say("label ")?;
+        self.text.natural(label)?;
+        self.say_label(label)?;
         self.text.end()
+    }
+
+    /// Adds what an operand is called in the source, after a comma.
+    fn say_operand(&mut self, operand: Operand) -> Result<(), AllocError> {
+        match operand {
+            Operand::Number(_) => Ok(()),
+            Operand::Local(number) => match u32::try_from(number) {
+                Ok(slot) => self.say_slot(slot),
+                Err(_) => Ok(()),
+            },
+            Operand::Global(number) => match u32::try_from(number) {
+                Ok(number) => self.say_global(number),
+                Err(_) => Ok(()),
+            },
+            Operand::Label(label) => self.say_label(label),
+        }
+    }
+
+    /// Adds the name of a word of the frame, after a comma.
+    fn say_slot(&mut self, slot: u32) -> Result<(), AllocError> {
+        if self.frame.word(slot).is_none() {
+            return Ok(());
+        }
+        self.text.say(", ")?;
+        let _named = self.frame.say_word(&mut self.text, self.origin, slot)?;
+        Ok(())
+    }
+
+    /// Adds the name of a global, after a comma.
+    fn say_global(&mut self, number: u32) -> Result<(), AllocError> {
+        match self.origin.global_name(number) {
+            Some(name) => {
+                self.text.say(", ")?;
+                self.text.name(name)
+            }
+            None => Ok(()),
+        }
     }
 
     /// Adds the line of an instruction.
     fn instruction(&mut self, instruction: Instruction) -> Result<(), AllocError> {
-        self.text.begin_without()?;
+        let line = self.line();
+        self.text.begin_at(line)?;
         put_instruction(&mut self.text, instruction)?;
         self.text.go_to(MEANING)?;
         say_instruction(&mut self.text, instruction)?;
+        if instruction.function != Function::Call {
+            self.say_operand(instruction.operand)?;
+        }
         self.text.end()
     }
 
     /// Adds the line of a word.
     fn word(&mut self, word: i32) -> Result<(), AllocError> {
-        self.text.begin_without()?;
+        let line = self.line();
+        self.text.begin_at(line)?;
         self.text.say("D")?;
         self.text.integer(word)?;
         self.text.go_to(MEANING)?;
@@ -99,18 +173,21 @@ impl Walk<'_, '_> {
 
     /// Adds the line of a word with a label.
     fn label_word(&mut self, label: u32) -> Result<(), AllocError> {
-        self.text.begin_without()?;
+        let line = self.line();
+        self.text.begin_at(line)?;
         self.text.say("DL")?;
         self.text.natural(label)?;
         self.text.go_to(MEANING)?;
         self.text.say("a word: the address of label ")?;
         self.text.natural(label)?;
+        self.say_label(label)?;
         self.text.end()
     }
 
-    /// Adds the line of a global.
+    /// Adds the line of a global, which is that of the procedure that it holds.
     fn global(&mut self, number: u32, label: u32) -> Result<(), AllocError> {
-        self.text.begin_without()?;
+        let line = self.origin.line_of_label(label);
+        self.text.begin_at(line)?;
         self.text.say("G")?;
         self.text.natural(number)?;
         self.text.say("L")?;
@@ -120,6 +197,7 @@ impl Walk<'_, '_> {
         self.text.natural(number)?;
         self.text.say(" holds the address of label ")?;
         self.text.natural(label)?;
+        self.say_label(label)?;
         self.text.end()
     }
 
@@ -168,23 +246,28 @@ impl Walk<'_, '_> {
     }
 }
 
-/// A line for each item; the bytes of a string have one line. The lines of the procedures are in the order of their code, which is
-/// that of these statements.
-pub fn intcode_text(
+/// A line for each item, with the line of its statement; the bytes of a string have one line. The largest frame and the end are of no
+/// line of the source. `ends` says how many items there are up to the end of each statement.
+pub fn intcode_text<'s>(
     alloc: Global,
     segment: &Intcode,
-    section: &Ocode,
-    procedures: &[Line],
+    ends: &'s [usize],
+    origin: &'s Origin<'s>,
+    marks: &'s [Mark],
 ) -> Result<Text, AllocError> {
     let mut walk = Walk {
         text: Text::new(alloc),
-        entries: Entries::of(alloc, section.stmts())?,
-        lines: procedures,
+        origin,
+        ends,
+        frame: Frame::new(alloc, marks),
+        stmt: 0,
+        string: None,
         in_bytes: false,
     };
     walk.text.say("  line  item            what it does")?;
     walk.text.end()?;
-    for item in segment.items() {
+    for (number, item) in segment.items().iter().enumerate() {
+        walk.reach(number)?;
         match item {
             Item::Byte(byte) => walk.byte(*byte)?,
             other => walk.item(*other)?,

@@ -3,12 +3,14 @@
 #![tactic(auto)]
 
 mod entries;
+mod frame;
 mod header;
 mod instruction;
 mod intcode;
 mod layout;
 mod names;
 mod ocode;
+mod origin;
 mod part;
 mod procedures;
 mod section;

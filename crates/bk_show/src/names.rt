@@ -1,28 +1,61 @@
 //! The names of a section, each with what it means.
 
+use crate::frame::{Frame, NamedWord};
+use crate::origin::{Origin, put_at};
 use crate::spelling::sort_spelling;
 use crate::text::Text;
-use bk_base::Line;
 use bk_scope::{Bound, Resolved};
+use bk_source_map::{Change, Mark};
 use bk_tree::{Command, ConstItem, Decl, Def, Expr, Init, Name, Position, Sort};
 use std::alloc::{AllocError, Global};
 
 /// The column of the meanings.
 const MEANING: usize = 24;
 
-/// The names of a section.
+/// The words of the frames of variables, by the tokens of their names.
 #[derive(Drop)]
-pub struct Named {
-    /// A line for each name that is used, and for each constant, static word, global, procedure and label that is declared.
-    pub text: Text,
-    /// The lines of its procedures, in the source's order, which is that of their code.
-    pub procedures: Vec<Line>,
+pub struct Slots<'a> {
+    origin: &'a Origin<'a>,
+    /// By the number of a token.
+    words: Vec<Option<NamedWord>>,
+}
+
+impl<'a> Slots<'a> {
+    /// Those of a section, whose marks these are.
+    pub fn of(
+        alloc: Global,
+        origin: &'a Origin<'a>,
+        marks: &'a [Mark],
+    ) -> Result<Slots<'a>, AllocError> {
+        let mut words = Vec::new(alloc);
+        let mut frame = Frame::new(alloc, marks);
+        for (number, stmt) in origin.stmts().iter().enumerate() {
+            let passed = frame.passed();
+            frame.reach(number, stmt)?;
+            for mark in marks.get(passed..frame.passed()).unwrap_or(&[]) {
+                if let (Some(token), Some(word)) = (
+                    origin.token_at(mark.name),
+                    frame.named(mark.name),
+                ) {
+                    put_at(&mut words, token, word)?;
+                }
+            }
+            frame.pass_stmt(stmt);
+        }
+        Ok(Slots { origin, words })
+    }
+
+    /// The word of a variable, by the position of its name where it is declared.
+    fn word(&self, at: Position) -> Option<NamedWord> {
+        self.words.get(self.origin.token_at(at)?).copied()?
+    }
 }
 
 /// Names that are put. The meanings and the words are in the source's order.
 #[derive(Drop)]
-struct Walk<'h, 'n> {
-    named: Named,
+struct Walk<'h, 'n, 's> {
+    text: Text,
+    slots: &'s Slots<'s>,
     /// Which declarations with constants are of a header.
     headers: &'h [bool],
     meanings: &'n [Bound],
@@ -56,7 +89,26 @@ fn put_meaning(text: &mut Text, bound: Bound) -> Result<(), AllocError> {
     }
 }
 
-impl Walk<'_, '_> {
+/// Adds which word of the frame a variable is.
+fn put_word(text: &mut Text, word: NamedWord) -> Result<(), AllocError> {
+    text.say(if word.change == Change::Formal {
+        "argument"
+    } else {
+        "variable"
+    })?;
+    text.say(", word ")?;
+    text.natural(word.slot)?;
+    text.say(" of the frame")?;
+    if word.change == Change::Vector {
+        text.say(", vector in words ")?;
+        text.natural(word.vector)?;
+        text.say(" to ")?;
+        text.natural(word.slot.saturating_sub(1))?;
+    }
+    Ok(())
+}
+
+impl Walk<'_, '_, '_> {
     /// The next meaning.
     fn takes_meaning(&mut self) -> Option<Bound> {
         let bound = self.meanings.get(self.meaning).copied();
@@ -85,7 +137,7 @@ impl Walk<'_, '_> {
 
     /// Begins the line of a name.
     fn begin(&mut self, at: Position, name: &[u8]) -> Result<(), AllocError> {
-        let text = &mut self.named.text;
+        let text = &mut self.text;
         text.begin(at.line())?;
         text.spell(name)?;
         text.go_to(MEANING)
@@ -95,20 +147,38 @@ impl Walk<'_, '_> {
     fn name(&mut self, at: Position, name: &[u8]) -> Result<(), AllocError> {
         self.begin(at, name)?;
         if let Some(bound) = self.takes_meaning() {
-            put_meaning(&mut self.named.text, bound)?;
+            put_meaning(&mut self.text, bound)?;
         }
-        self.named.text.end()
+        self.text.end()
     }
 
     /// Adds a procedure and what its name means.
     fn procedure(&mut self, at: Position, name: &[u8], words: &str) -> Result<(), AllocError> {
         self.begin(at, name)?;
-        self.named.text.say(words)?;
+        self.text.say(words)?;
         if let Some(bound) = self.takes_meaning() {
-            put_meaning(&mut self.named.text, bound)?;
+            put_meaning(&mut self.text, bound)?;
         }
-        self.named.text.end()?;
-        self.named.procedures.push(at.line())?;
+        self.text.end()
+    }
+
+    /// Adds a variable where it is declared.
+    fn variable(&mut self, name: &Name) -> Result<(), AllocError> {
+        self.begin(name.at, &name.letters)?;
+        let text = &mut self.text;
+        match self.slots.word(name.at) {
+            Some(word) => put_word(text, word)?,
+            None => text.say("variable")?,
+        }
+        text.say(", declared here")?;
+        text.end()
+    }
+
+    /// Adds variables where they are declared.
+    fn variables(&mut self, names: &[Name]) -> Result<(), AllocError> {
+        for name in names {
+            self.variable(name)?;
+        }
         Ok(())
     }
 
@@ -116,7 +186,7 @@ impl Walk<'_, '_> {
     fn item(&mut self, at: Position, name: &[u8], sort: Sort) -> Result<(), AllocError> {
         self.begin(at, name)?;
         let word = self.takes_word().cast_signed();
-        let text = &mut self.named.text;
+        let text = &mut self.text;
         text.say(match sort {
             Sort::Manifest => "constant ",
             Sort::Static => "static word that begins with ",
@@ -133,7 +203,7 @@ impl Walk<'_, '_> {
     /// Adds a declaration of a header.
     fn from_header(&mut self, at: Position, sort: Sort, items: usize) -> Result<(), AllocError> {
         self.skips_words(items);
-        let text = &mut self.named.text;
+        let text = &mut self.text;
         text.begin(at.line())?;
         text.natural((items % 0x1_0000_0000) as u32)?;
         text.say(" names")?;
@@ -146,7 +216,7 @@ impl Walk<'_, '_> {
 
 /// Adds the names of an expression.
 #[cycle(nodes)]
-fn put_expr(walk: &mut Walk<'_, '_>, expr: &Expr) -> Result<(), AllocError> {
+fn put_expr(walk: &mut Walk<'_, '_, '_>, expr: &Expr) -> Result<(), AllocError> {
     match expr {
         Expr::Name { at, letters } => walk.name(*at, letters),
         Expr::Number { .. } | Expr::Text { .. } | Expr::Truth { .. } | Expr::Query { .. } => Ok(()),
@@ -184,7 +254,7 @@ fn put_expr(walk: &mut Walk<'_, '_>, expr: &Expr) -> Result<(), AllocError> {
 
 /// Adds the names of expressions one after another.
 #[cycle(nodes)]
-fn put_exprs(walk: &mut Walk<'_, '_>, exprs: &[Expr]) -> Result<(), AllocError> {
+fn put_exprs(walk: &mut Walk<'_, '_, '_>, exprs: &[Expr]) -> Result<(), AllocError> {
     for expr in exprs {
         put_expr(walk, expr)?;
     }
@@ -193,7 +263,7 @@ fn put_exprs(walk: &mut Walk<'_, '_>, exprs: &[Expr]) -> Result<(), AllocError> 
 
 /// Adds the names of a command.
 #[cycle(nodes)]
-fn put_command(walk: &mut Walk<'_, '_>, command: &Command) -> Result<(), AllocError> {
+fn put_command(walk: &mut Walk<'_, '_, '_>, command: &Command) -> Result<(), AllocError> {
     match command {
         Command::Empty | Command::Simple { .. } => Ok(()),
         Command::Assign {
@@ -249,12 +319,14 @@ fn put_command(walk: &mut Walk<'_, '_>, command: &Command) -> Result<(), AllocEr
             put_command(walk, other)
         }
         Command::For {
+            name,
             from,
             to,
             by,
             body,
             ..
         } => {
+            walk.variable(name)?;
             put_expr(walk, from)?;
             put_expr(walk, to)?;
             if by.is_some() {
@@ -292,7 +364,7 @@ fn put_command(walk: &mut Walk<'_, '_>, command: &Command) -> Result<(), AllocEr
 
 /// Adds the names of commands one after another.
 #[cycle(nodes)]
-fn put_commands(walk: &mut Walk<'_, '_>, commands: &[Command]) -> Result<(), AllocError> {
+fn put_commands(walk: &mut Walk<'_, '_, '_>, commands: &[Command]) -> Result<(), AllocError> {
     for command in commands {
         put_command(walk, command)?;
     }
@@ -301,7 +373,7 @@ fn put_commands(walk: &mut Walk<'_, '_>, commands: &[Command]) -> Result<(), All
 
 /// Adds the names of declarations one after another.
 #[cycle(nodes)]
-fn put_decls(walk: &mut Walk<'_, '_>, decls: &[Decl]) -> Result<(), AllocError> {
+fn put_decls(walk: &mut Walk<'_, '_, '_>, decls: &[Decl]) -> Result<(), AllocError> {
     for decl in decls {
         put_decl(walk, decl)?;
     }
@@ -310,7 +382,7 @@ fn put_decls(walk: &mut Walk<'_, '_>, decls: &[Decl]) -> Result<(), AllocError> 
 
 /// Adds the names of a declaration. One of a header is a single line.
 #[cycle(nodes)]
-fn put_decl(walk: &mut Walk<'_, '_>, decl: &Decl) -> Result<(), AllocError> {
+fn put_decl(walk: &mut Walk<'_, '_, '_>, decl: &Decl) -> Result<(), AllocError> {
     match decl {
         Decl::Constants { at, sort, items } => {
             if walk.takes_header() {
@@ -323,7 +395,11 @@ fn put_decl(walk: &mut Walk<'_, '_>, decl: &Decl) -> Result<(), AllocError> {
 }
 
 /// Adds the items of a declaration.
-fn put_items(walk: &mut Walk<'_, '_>, sort: Sort, items: &[ConstItem]) -> Result<(), AllocError> {
+fn put_items(
+    walk: &mut Walk<'_, '_, '_>,
+    sort: Sort,
+    items: &[ConstItem],
+) -> Result<(), AllocError> {
     for ConstItem::Item {
         at,
         letters: name,
@@ -336,7 +412,7 @@ fn put_items(walk: &mut Walk<'_, '_>, sort: Sort, items: &[ConstItem]) -> Result
 
 /// Adds the names of definitions one after another.
 #[cycle(nodes)]
-fn put_defs(walk: &mut Walk<'_, '_>, defs: &[Def]) -> Result<(), AllocError> {
+fn put_defs(walk: &mut Walk<'_, '_, '_>, defs: &[Def]) -> Result<(), AllocError> {
     for def in defs {
         put_def(walk, def)?;
     }
@@ -345,33 +421,42 @@ fn put_defs(walk: &mut Walk<'_, '_>, defs: &[Def]) -> Result<(), AllocError> {
 
 /// Adds the names of a definition.
 #[cycle(nodes)]
-fn put_def(walk: &mut Walk<'_, '_>, def: &Def) -> Result<(), AllocError> {
+fn put_def(walk: &mut Walk<'_, '_, '_>, def: &Def) -> Result<(), AllocError> {
     match def {
         Def::Routine {
             at,
             letters: name,
+            formals,
             body,
-            ..
         } => {
             walk.procedure(*at, name, "routine, ")?;
+            walk.variables(formals)?;
             put_command(walk, body)
         }
         Def::Function {
             at,
             letters: name,
+            formals,
             body,
-            ..
         } => {
             walk.procedure(*at, name, "function, ")?;
+            walk.variables(formals)?;
             put_expr(walk, body)
         }
-        Def::Variables { inits: starts, .. } => put_starts(walk, starts),
+        Def::Variables {
+            names,
+            inits: starts,
+            ..
+        } => {
+            walk.variables(names)?;
+            put_starts(walk, starts)
+        }
     }
 }
 
 /// Adds the names of what variables begin with.
 #[cycle(nodes)]
-fn put_starts(walk: &mut Walk<'_, '_>, starts: &[Init]) -> Result<(), AllocError> {
+fn put_starts(walk: &mut Walk<'_, '_, '_>, starts: &[Init]) -> Result<(), AllocError> {
     for start in starts {
         put_start(walk, start)?;
     }
@@ -380,7 +465,7 @@ fn put_starts(walk: &mut Walk<'_, '_>, starts: &[Init]) -> Result<(), AllocError
 
 /// Adds the names of what a variable begins with.
 #[cycle(nodes)]
-fn put_start(walk: &mut Walk<'_, '_>, start: &Init) -> Result<(), AllocError> {
+fn put_start(walk: &mut Walk<'_, '_, '_>, start: &Init) -> Result<(), AllocError> {
     match start {
         Init::Value(expr) => put_expr(walk, expr),
         Init::Vector { .. } => {
@@ -390,17 +475,16 @@ fn put_start(walk: &mut Walk<'_, '_>, start: &Init) -> Result<(), AllocError> {
     }
 }
 
-/// The names of a section. `headers` says which declarations with constants are of a header.
-pub fn names_of(
+/// A line for each name that is used or declared. `headers` says which declarations with constants are of a header.
+pub fn names_text<'s>(
     alloc: Global,
     resolved: &Resolved<'_>,
     headers: &[bool],
-) -> Result<Named, AllocError> {
+    slots: &'s Slots<'s>,
+) -> Result<Text, AllocError> {
     let mut walk = Walk {
-        named: Named {
-            text: Text::new(alloc),
-            procedures: Vec::new(alloc),
-        },
+        text: Text::new(alloc),
+        slots,
         headers,
         meanings: resolved.meanings(),
         words: resolved.words(),
@@ -408,9 +492,9 @@ pub fn names_of(
         meaning: 0,
         word: 0,
     };
-    walk.named.text.say("  line  name            meaning")?;
-    walk.named.text.end()?;
+    walk.text.say("  line  name            meaning")?;
+    walk.text.end()?;
     put_decls(&mut walk, resolved.section().decls())?;
-    let Walk { named, .. } = walk;
-    Ok(named)
+    let Walk { text, .. } = walk;
+    Ok(text)
 }

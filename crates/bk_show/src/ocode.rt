@@ -1,9 +1,11 @@
 //! The statements of OCODE of a section, each with what it does.
 
+use crate::frame::Frame;
+use crate::origin::Origin;
 use crate::spelling::put_string;
 use crate::text::Text;
-use bk_base::Line;
-use bk_ocode::{Case, Dyadic, GlobalEntry, Monadic, Ocode, Stmt, Variable};
+use bk_ocode::{Case, Dyadic, GlobalEntry, Monadic, Stmt, Variable};
+use bk_source_map::Mark;
 use std::alloc::{AllocError, Global};
 
 /// The column of what a statement does.
@@ -201,31 +203,80 @@ fn put_arguments(text: &mut Text, stmt: &Stmt) -> Result<(), AllocError> {
     }
 }
 
-/// Adds words, and a variable as a person names it.
-fn say_variable(text: &mut Text, words: &str, variable: Variable) -> Result<(), AllocError> {
-    text.say(words)?;
-    match variable {
-        Variable::Local(slot) => {
-            text.say("word ")?;
-            text.natural(slot)?;
-            text.say(" of the frame")
+/// A statement of a section, with what is known of its source.
+#[derive(Clone, Copy)]
+struct Row<'r> {
+    origin: &'r Origin<'r>,
+    frame: &'r Frame<'r>,
+    /// Its number among the statements.
+    number: usize,
+}
+
+impl Row<'_> {
+    /// Adds a name and a comma, if there is one.
+    fn say_name(self, text: &mut Text, name: Option<&[u8]>) -> Result<(), AllocError> {
+        match name {
+            Some(name) => {
+                text.name(name)?;
+                text.say(", ")
+            }
+            None => Ok(()),
         }
-        Variable::Global(number) => {
-            text.say("global ")?;
-            text.natural(number)
+    }
+
+    /// Adds a word of the frame as a person names it.
+    fn say_local(self, text: &mut Text, slot: u32) -> Result<(), AllocError> {
+        if let Some(vector) = self.frame.vector_of(self.number) {
+            if let Some(name) = self.origin.name_at(vector) {
+                text.name(name)?;
+                text.say("!0, ")?;
+            }
+        } else if self.frame.say_word(text, self.origin, slot)? {
+            text.say(", ")?;
         }
-        Variable::Static(label) => {
-            text.say("the static word at L")?;
-            text.natural(label)
+        text.say("word ")?;
+        text.natural(slot)?;
+        text.say(" of the frame")
+    }
+
+    /// Adds a static word or a table as a person names it.
+    fn say_static(self, text: &mut Text, label: u32) -> Result<(), AllocError> {
+        match self.origin.name(self.number) {
+            Some(name) => {
+                text.name(name)?;
+                text.say(", the static word at L")?;
+            }
+            None => text.say("the TABLE at L")?,
         }
+        text.natural(label)
     }
 }
 
-/// Adds words, and a label.
-fn say_label(text: &mut Text, words: &str, label: u32) -> Result<(), AllocError> {
+/// Adds words, and a variable as a person names it.
+fn say_variable(
+    text: &mut Text,
+    words: &str,
+    variable: Variable,
+    row: Row<'_>,
+) -> Result<(), AllocError> {
+    text.say(words)?;
+    match variable {
+        Variable::Local(slot) => row.say_local(text, slot),
+        Variable::Global(number) => {
+            row.say_name(text, row.origin.name(row.number))?;
+            text.say("global ")?;
+            text.natural(number)
+        }
+        Variable::Static(label) => row.say_static(text, label),
+    }
+}
+
+/// Adds words, and a label with what it is for.
+fn say_label(text: &mut Text, words: &str, label: u32, row: Row<'_>) -> Result<(), AllocError> {
     text.say(words)?;
     text.say("L")?;
-    text.natural(label)
+    text.natural(label)?;
+    row.origin.say_label(text, label)
 }
 
 /// Adds words, a number, and more words.
@@ -251,28 +302,33 @@ fn say_dyadic(text: &mut Text, operator: Dyadic) -> Result<(), AllocError> {
     text.say(" y")
 }
 
+/// Adds what is called: the name that the statement before has, or the top item.
+fn say_callee(text: &mut Text, row: Row<'_>, frame: u32) -> Result<(), AllocError> {
+    text.say("calls ")?;
+    let before = row.number.saturating_sub(1);
+    match (row.origin.stmts().get(before), row.origin.name(before)) {
+        (Some(Stmt::Load { .. }), Some(name)) => text.name(name)?,
+        _ => text.say("the top item")?,
+    }
+    say_number(text, " with a frame at word ", frame, "")
+}
+
 /// Adds what a statement about a procedure or a call does.
-fn say_call(text: &mut Text, stmt: &Stmt) -> Result<(), AllocError> {
+fn say_call(text: &mut Text, stmt: &Stmt, row: Row<'_>) -> Result<(), AllocError> {
     match stmt {
         Stmt::Entry { name, .. } => {
             text.say("the procedure ")?;
             text.spell(name.as_bytes())
         }
-        Stmt::Save { depth } => say_number(
-            text,
-            "its frame begins with ",
-            *depth,
-            " words: two links, and the formals",
-        ),
-        Stmt::CallFunction { frame } => say_number(
-            text,
-            "calls the top item with a frame at word ",
-            *frame,
-            ", pushes its result",
-        ),
-        Stmt::CallRoutine { frame } => {
-            say_number(text, "calls the top item with a frame at word ", *frame, "")
+        Stmt::Save { depth } => {
+            say_number(text, "its frame begins with ", *depth, " words: two links")?;
+            row.frame.say_formals(text, row.origin)
         }
+        Stmt::CallFunction { frame } => {
+            say_callee(text, row, *frame)?;
+            text.say(", pushes its result")
+        }
+        Stmt::CallRoutine { frame } => say_callee(text, row, *frame),
         Stmt::ReturnItem => text.say("takes the result, returns"),
         Stmt::Return => text.say("returns"),
         Stmt::EndProcedure => text.say("the end of the procedure"),
@@ -291,23 +347,24 @@ fn say_call(text: &mut Text, stmt: &Stmt) -> Result<(), AllocError> {
 }
 
 /// Adds what a statement that jumps does.
-fn say_jump(text: &mut Text, stmt: &Stmt) -> Result<(), AllocError> {
+fn say_jump(text: &mut Text, stmt: &Stmt, row: Row<'_>) -> Result<(), AllocError> {
     match stmt {
-        Stmt::Jump { label } => say_label(text, "jumps to ", *label),
+        Stmt::Jump { label } => say_label(text, "jumps to ", *label, row),
         Stmt::JumpIf { truth: true, label } => {
-            say_label(text, "takes x, unless it is 0 jumps to ", *label)
+            say_label(text, "takes x, unless it is 0 jumps to ", *label, row)
         }
         Stmt::JumpIf {
             truth: false,
             label,
-        } => say_label(text, "takes x, if it is 0 jumps to ", *label),
-        Stmt::Label { label } => say_label(text, "the label ", *label),
-        Stmt::GiveResult { label } => say_label(text, "takes the result, jumps to ", *label),
+        } => say_label(text, "takes x, if it is 0 jumps to ", *label, row),
+        Stmt::Label { label } => say_label(text, "the label ", *label, row),
+        Stmt::GiveResult { label } => say_label(text, "takes the result, jumps to ", *label, row),
         Stmt::Switch { default, .. } => {
             say_label(
                 text,
                 "takes x, jumps to the label of its case, or to ",
                 *default,
+                row,
             )
         }
         Stmt::Finish => text.say("ends the run"),
@@ -316,28 +373,29 @@ fn say_jump(text: &mut Text, stmt: &Stmt) -> Result<(), AllocError> {
 }
 
 /// Adds what a statement of data is.
-fn say_data(text: &mut Text, stmt: &Stmt) -> Result<(), AllocError> {
+fn say_data(text: &mut Text, stmt: &Stmt, row: Row<'_>) -> Result<(), AllocError> {
     match stmt {
-        Stmt::DataLabel { label } => say_label(text, "static words, at ", *label),
+        Stmt::DataLabel { label } => say_label(text, "static words, at ", *label, row),
         Stmt::DataNumber { .. } => text.say("a word"),
-        Stmt::DataAddress { label } => say_label(text, "a word: the address of ", *label),
+        Stmt::DataAddress { label } => say_label(text, "a word: the address of ", *label, row),
         Stmt::Globals { .. } => text.say("globals and the labels that they hold; the end"),
         _ => Ok(()),
     }
 }
 
 /// Adds what a statement does.
-fn say_stmt(text: &mut Text, stmt: &Stmt) -> Result<(), AllocError> {
+fn say_stmt(text: &mut Text, stmt: &Stmt, row: Row<'_>) -> Result<(), AllocError> {
     match stmt {
         Stmt::Number { value } => {
             text.say("pushes ")?;
+            row.say_name(text, row.origin.name(row.number))?;
             text.integer(*value)
         }
         Stmt::True => text.say("pushes -1"),
         Stmt::False => text.say("pushes 0"),
         Stmt::Query => text.say("pushes a word without a value"),
-        Stmt::Load { from } => say_variable(text, "pushes ", *from),
-        Stmt::Address { of } => say_variable(text, "pushes the address of ", *of),
+        Stmt::Load { from } => say_variable(text, "pushes ", *from, row),
+        Stmt::Address { of } => say_variable(text, "pushes the address of ", *of, row),
         Stmt::Text { bytes } => {
             text.say("pushes the address of ")?;
             put_string(text, bytes.as_bytes())
@@ -345,7 +403,7 @@ fn say_stmt(text: &mut Text, stmt: &Stmt) -> Result<(), AllocError> {
         Stmt::Monadic { operator } => say_monadic(text, *operator),
         Stmt::Dyadic { operator } => say_dyadic(text, *operator),
         Stmt::LoadByte => text.say("takes i and s, pushes byte i of s"),
-        Stmt::Assign { to } => say_variable(text, "takes x, puts it into ", *to),
+        Stmt::Assign { to } => say_variable(text, "takes x, puts it into ", *to, row),
         Stmt::AssignAt => text.say("takes an address and x, puts x there"),
         Stmt::AssignByte => text.say("takes i, s and x, puts x into byte i of s"),
         Stmt::Jump { .. }
@@ -353,46 +411,44 @@ fn say_stmt(text: &mut Text, stmt: &Stmt) -> Result<(), AllocError> {
         | Stmt::Label { .. }
         | Stmt::GiveResult { .. }
         | Stmt::Switch { .. }
-        | Stmt::Finish => say_jump(text, stmt),
+        | Stmt::Finish => say_jump(text, stmt, row),
         Stmt::DataLabel { .. }
         | Stmt::DataNumber { .. }
         | Stmt::DataAddress { .. }
-        | Stmt::Globals { .. } => say_data(text, stmt),
-        _ => say_call(text, stmt),
-    }
-}
-
-/// Begins the line of a statement. That of an ENTRY has the line of the procedure.
-fn begin(text: &mut Text, procedure: Option<Line>) -> Result<(), AllocError> {
-    match procedure {
-        Some(line) => text.begin(line),
-        None => text.begin_without(),
+        | Stmt::Globals { .. } => say_data(text, stmt, row),
+        _ => say_call(text, stmt, row),
     }
 }
 
 /// Adds the line of a statement.
-fn put_stmt(text: &mut Text, stmt: &Stmt, procedure: Option<Line>) -> Result<(), AllocError> {
-    begin(text, procedure)?;
+fn put_stmt(text: &mut Text, stmt: &Stmt, row: Row<'_>) -> Result<(), AllocError> {
+    text.begin_at(row.origin.line(row.number))?;
     text.say(first_word(stmt))?;
     put_arguments(text, stmt)?;
     text.go_to(MEANING)?;
-    say_stmt(text, stmt)?;
+    say_stmt(text, stmt, row)?;
     text.end()
 }
 
-/// A line for each statement. The lines of the procedures are in the order of their code.
-pub fn ocode_text(alloc: Global, section: &Ocode, procedures: &[Line]) -> Result<Text, AllocError> {
+/// A line for each statement, with the line of the source that it is of. GLOBAL at the end is of none.
+pub fn ocode_text<'s>(
+    alloc: Global,
+    origin: &'s Origin<'s>,
+    marks: &'s [Mark],
+) -> Result<Text, AllocError> {
     let mut text = Text::new(alloc);
     text.say("  line  statement                   what it does")?;
     text.end()?;
-    let mut met = 0usize;
-    for stmt in section.stmts() {
-        if let Stmt::Entry { .. } = stmt {
-            put_stmt(&mut text, stmt, procedures.get(met).copied())?;
-            met = met.saturating_add(1);
-        } else {
-            put_stmt(&mut text, stmt, None)?;
-        }
+    let mut frame = Frame::new(alloc, marks);
+    for (number, stmt) in origin.stmts().iter().enumerate() {
+        frame.reach(number, stmt)?;
+        let row = Row {
+            origin: &*origin,
+            frame: &frame,
+            number,
+        };
+        put_stmt(&mut text, stmt, row)?;
+        frame.pass_stmt(stmt);
     }
     Ok(text)
 }

@@ -5,8 +5,9 @@ ghost use Rattle.bk_show.specs.declared.section.NotShown.TheVariants.{Device};
 
 use crate::header::header_declarations;
 use crate::intcode::intcode_text;
-use crate::names::names_of;
+use crate::names::{Slots, names_text};
 use crate::ocode::ocode_text;
+use crate::origin::Origin;
 use crate::part::{Part, is_shown};
 use crate::text::Text;
 use crate::tokens::tokens_text;
@@ -16,6 +17,7 @@ use bk_lex::Token;
 use bk_machine::Intcode;
 use bk_ocode::Ocode;
 use bk_scope::Resolved;
+use bk_source_map::Placing;
 use std::alloc::{AllocError, Global};
 
 /// What the phases of the compiler make of a section.
@@ -31,8 +33,12 @@ pub struct Shown<'a> {
     pub resolved: &'a Resolved<'a>,
     /// Its statements.
     pub code: &'a Ocode,
+    /// Where they come from in its source.
+    pub placing: &'a Placing,
     /// Its items.
     pub segment: &'a Intcode,
+    /// How many items there are up to the end of each statement.
+    pub ends: &'a [usize],
 }
 
 /// Why a section is not shown.
@@ -128,10 +134,10 @@ fn put_front<O: ByteOut>(
 }
 
 /// Writes OCODE and INTCODE, those of them that are asked for.
-fn put_code<O: ByteOut>(
+fn put_code<'s, O: ByteOut>(
     alloc: Global,
-    section: &Shown<'_>,
-    procedures: &[Line],
+    section: &'s Shown<'s>,
+    origin: &'s Origin<'s>,
     asked: Part,
     out: &mut O,
 ) -> Result<(), NotShown>
@@ -139,13 +145,35 @@ fn put_code<O: ByteOut>(
     ensures passes { Begins (O.passed out.old) (O.passed out.new) }
     ensures failed { result ≡ Err Device → O.faults out.new ≡ 1 }
 {
+    let marks = section.placing.marks.as_slice();
     if is_shown(Part::Ocode, asked) {
-        let text = ocode_text(alloc, section.code, procedures)?;
+        let text = ocode_text(alloc, origin, marks)?;
         put_part(alloc, "OCODE", &text, out)?;
     }
     if is_shown(Part::Intcode, asked) {
-        let text = intcode_text(alloc, section.segment, section.code, procedures)?;
+        let text = intcode_text(alloc, section.segment, section.ends, origin, marks)?;
         put_part(alloc, "INTCODE", &text, out)?;
+    }
+    Ok(())
+}
+
+/// Writes the names, if they are asked for.
+fn put_names<'s, O: ByteOut>(
+    alloc: Global,
+    section: &'s Shown<'s>,
+    headers: &[bool],
+    origin: &'s Origin<'s>,
+    asked: Part,
+    out: &mut O,
+) -> Result<(), NotShown>
+    ensures grows { Begins (O.taken out.old) (O.taken out.new) }
+    ensures passes { Begins (O.passed out.old) (O.passed out.new) }
+    ensures failed { result ≡ Err Device → O.faults out.new ≡ 1 }
+{
+    if is_shown(Part::Names, asked) {
+        let slots = Slots::of(alloc, origin, section.placing.marks.as_slice())?;
+        let text = names_text(alloc, section.resolved, headers, &slots)?;
+        put_part(alloc, "names", &text, out)?;
     }
     Ok(())
 }
@@ -162,11 +190,10 @@ fn put_back<O: ByteOut>(
     ensures passes { Begins (O.passed out.old) (O.passed out.new) }
     ensures failed { result ≡ Err Device → O.faults out.new ≡ 1 }
 {
-    let named = names_of(alloc, section.resolved, headers)?;
-    if is_shown(Part::Names, asked) {
-        put_part(alloc, "names", &named.text, out)?;
-    }
-    put_code(alloc, section, named.procedures.as_slice(), asked, out)
+    let places = section.placing.places.as_slice();
+    let origin = Origin::of(alloc, section.tokens, section.code, places)?;
+    put_names(alloc, &*section, headers, &origin, asked, out)?;
+    put_code(alloc, &*section, &origin, asked, out)
 }
 
 /// Writes the part of a section that is asked for, after a line that names it. What is written is made of the values given and of

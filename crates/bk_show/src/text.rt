@@ -61,6 +61,14 @@ impl Text {
         Ok(())
     }
 
+    /// Adds a name or a word of the source, in upper case.
+    pub fn name(&mut self, spelling: &[u8]) -> Result<(), AllocError> {
+        for byte in spelling {
+            self.bytes.push(shown_byte(byte.to_ascii_uppercase()))?;
+        }
+        Ok(())
+    }
+
     /// Adds a number from 0 on.
     pub fn natural(&mut self, number: u32) -> Result<(), AllocError> {
         let mut buffer = Buffer::new();
@@ -107,6 +115,14 @@ impl Text {
     pub fn begin(&mut self, line: Line) -> Result<(), AllocError> {
         self.right(u64::from(line.number()), LINE_PLACES)?;
         self.blanks(FORM - LINE_PLACES)
+    }
+
+    /// Begins a line with the number of a line of the source, if it has one.
+    pub fn begin_at(&mut self, line: Option<Line>) -> Result<(), AllocError> {
+        match line {
+            Some(line) => self.begin(line),
+            None => self.begin_without(),
+        }
     }
 
     /// Begins a line that has no line of the source.

@@ -1,0 +1,4 @@
+mod Counted
+mod Apart
+mod PlacedAll
+mod Steps
