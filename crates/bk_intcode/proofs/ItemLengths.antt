@@ -1,5 +1,5 @@
 -- No item's word has more than 16 bytes.
-use Rattle.bk_intcode.proofs.Terms.{◌≡◌, ℕ, ◌<◌, ◌≤◌, ◌^◌, Bool, true, false, pos, List, ◌∷◌, length, get_or, arith, ap, length-append, length-decimal-le, spelling, BadNumber, Operand, Number, Local, Global, Label, Item, Instruction, SetLabel, Byte, Word, LabelWord, SetGlobal, Frame, End, indirect_text, operand_text, item_text, IsOperand, IsItem, length-global, length-word, WordFault, begins_item}
+use Rattle.bk_intcode.proofs.Terms.{◌≡◌, ℕ, ◌<◌, ◌≤◌, ◌^◌, Bool, true, false, pos, List, ◌∷◌, length, get_or, arith, length-append, length-decimal-le, spelling, BadNumber, Operand, Number, Local, Global, Label, Item, Instruction, SetLabel, Byte, Word, LabelWord, SetGlobal, Frame, End, indirect_text, operand_text, item_text, IsOperand, IsItem, length-global, length-word, WordFault, begins_item}
 
 length-natural : (n : ℕ) → n < 2 ^ 31 → length (spelling (pos n)) ≤ 10
 length-natural n small = length-decimal-le 10 n (omega arith) (omega arith) (omega arith)

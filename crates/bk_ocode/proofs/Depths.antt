@@ -1,5 +1,5 @@
 -- Depths on the way through a section.
-use Rattle.bk_ocode.proofs.Terms.{◌≡◌, ℕ, ◌+◌, ◌<◌, ◌≤◌, max, Bool, true, false, ◌||◌, nat_lt, nat_le, List, [], ◌∷◌, ◌++◌, Option, Some, None, length, take, slice_get, get_or, refl, ◌∙◌, ap, subst, arith, ltb-false, leb-false, zero, suc, if◌then◌else◌, take_more, slice_get-get_or, FRAME_WORDS, OCODE_STATEMENTS, OCODE_WORDS, OcodeKind, BadWord, LabelNotSet, LabelSetTwice, DepthsDisagree, SlotAboveDepth, TooLong, stmt_words, next_depth, depth_behind, largest_behind, least_depth, Context, at_start, after, after_all, context_of, misplaced, label_not_set, label_set_twice, depths_disagree, slot_above, too_long, fault_in, AreFaultless, DepthsSuffice, SectionIsShort, Stmt, or_parts}
+use Rattle.bk_ocode.proofs.Terms.{◌≡◌, ℕ, ◌+◌, ◌<◌, ◌≤◌, max, Bool, true, false, ◌||◌, nat_lt, nat_le, List, [], ◌∷◌, ◌++◌, Option, Some, None, length, take, slice_get, get_or, refl, ◌∙◌, ap, subst, arith, ltb-false, leb-false, zero, suc, if◌then◌else◌, take_more, slice_get-get_or, FRAME_WORDS, OCODE_STATEMENTS, OCODE_WORDS, OcodeKind, stmt_words, next_depth, depth_behind, largest_behind, least_depth, Context, at_start, after, after_all, context_of, misplaced, label_not_set, label_set_twice, depths_disagree, slot_above, too_long, fault_in, AreFaultless, DepthsSuffice, SectionIsShort, Stmt, or_parts}
 
 pub depth_behind-append : (k : ℕ) (a b : List Stmt) → depth_behind k (a ++ b) ≡ depth_behind (depth_behind k a) b
 depth_behind-append k [] b = refl

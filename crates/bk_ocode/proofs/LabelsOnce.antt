@@ -1,5 +1,5 @@
 -- Labels are set once.
-use Rattle.bk_ocode.proofs.Terms.{◌≡◌, ◌≢◌, ℕ, zero, suc, ◌+◌, ◌-◌, ◌<◌, ◌==◌, Bool, true, false, List, [], ◌∷◌, Some, None, take, drop, slice_get, refl, sym, ◌∙◌, ap, subst, arith, if◌then◌else◌, inl, inr, ◌⊎◌, eq-eqb, ne_eqb, leb_tells, label_set, jump_labels, other_labels, Context, at_start, changed, all_changed, jumped, given, mentioned, set_by, followed, what_stands, label_followed, labels_named, after, after_all, context_of, is_set, set_again, AreFaultless, is_label, from_label, LabelsAreSetOnce, LabelHasOnePlace, Position, LabelUse, Stmt, Load, Address, Assign, Jump, JumpIf, Label, GiveResult, Entry, Switch, DataLabel, DataAddress, Position as position, Setting as setting, Setting, eqb-true}
+use Rattle.bk_ocode.proofs.Terms.{◌≡◌, ◌≢◌, ℕ, zero, suc, ◌-◌, ◌<◌, ◌==◌, Bool, true, false, List, [], ◌∷◌, Some, None, take, drop, slice_get, refl, sym, ◌∙◌, ap, subst, arith, if◌then◌else◌, ◌⊎◌, eq-eqb, ne_eqb, label_set, jump_labels, other_labels, Context, at_start, changed, all_changed, jumped, given, mentioned, set_by, followed, what_stands, label_followed, labels_named, after, after_all, context_of, is_set, set_again, AreFaultless, is_label, from_label, LabelsAreSetOnce, LabelHasOnePlace, Position, LabelUse, Stmt, Load, Address, Assign, Jump, JumpIf, Label, GiveResult, Entry, Switch, DataLabel, DataAddress, Position as position, Setting as setting, Setting, eqb-true}
 use Rattle.bk_ocode.specs.declared.standing.Behind.{Behind}
 use Rattle.bk_ocode.proofs.Depths.{keeps_in}
 

@@ -1,4 +1,4 @@
-use Rattle.bk_intcode.proofs.Terms.{sym, ap, ◌∙◌, ◌++◌, ◌≡◌, ◌∷◌, [], List, ℕ, item_text, AppendsPart-kept, AppendsPart-front}
+use Rattle.bk_intcode.proofs.Terms.{sym, ap, ◌∙◌, ◌++◌, ◌≡◌, ◌∷◌, [], List, ℕ, item_text, AppendsPart-front}
 use Rattle.bk_intcode.proofs.Parts.{on_err}
 use Rattle.bk_intcode.proofs.printing.put_item.Goals as goal
 

@@ -1,4 +1,4 @@
-use Rattle.bk_ocode.proofs.Terms.{rules, [], ◌∷◌, refl, AppendsPart, Begins-trans, AppendsPart-behind, spelling}
+use Rattle.bk_ocode.proofs.Terms.{rules, [], ◌∷◌, refl, AppendsPart, AppendsPart-behind, spelling}
 use Rattle.bk_ocode.proofs.Parts.{on_err}
 use Rattle.bk_ocode.proofs.printing.put_number.Goals as goal
 

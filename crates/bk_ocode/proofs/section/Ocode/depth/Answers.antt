@@ -1,4 +1,4 @@
-use Rattle.bk_ocode.proofs.Terms.{◌≡◌, ◌∙◌, ◌+◌, ℕ, sym, ap, arith, take, max, next_depth, depth_behind, largest_behind, Stmt}
+use Rattle.bk_ocode.proofs.Terms.{ℕ, arith}
 use Rattle.bk_ocode.proofs.Depths.{depth_within-at, depth_behind-more, largest_behind-more}
 use Rattle.bk_ocode.proofs.section.Ocode.depth.Goals as goal
 
