@@ -47,8 +47,3 @@ AreCases-push cases all c is are label new few = grind (arith, at_push, has_valu
 pub typed-push : (cases all : List Case) (c : Case) → all ≡ cases ++ c ∷ [] → ((k : ℕ) (d : Case) → slice_get cases k ≡ Some d → FitsSigned w32 d.value) → FitsSigned w32 c.value →
     (k : ℕ) (d : Case) → slice_get all k ≡ Some d → FitsSigned w32 d.value
 typed-push cases all c is are fits k d at = elim (at_push cases c k d (ap (λ (l : List Case). slice_get l k) (sym is) ∙ at)) [ inl p ↦ are k d p.1 | inr p ↦ subst (λ (x : Case). FitsSigned w32 x.value) p.1 fits ]
-
-pub case_words-push : (cases all : List Case) (c : Case) (word : List ℕ) → all ≡ cases ++ c ∷ [] → label_word c.label ≡ word → case_words all ≡ (case_words cases ++ spelling c.value ∷ []) ++ word ∷ []
-case_words-push cases all c word is label =
-    ap case_words is ∙ joined-append (λ (d : Case). spelling d.value ∷ label_word d.label ∷ []) cases (c ∷ [])
-    ∙ ap (λ (w : List ℕ). case_words cases ++ spelling c.value ∷ w ∷ []) label ∙ sym (append_assoc (case_words cases) (spelling c.value ∷ []) (word ∷ []))
