@@ -1,8 +1,8 @@
-"""Exercise 1: the statements are compared with those of the scheme, part by part."""
+"""Exercise 1: the statements are compared with those that `compile` gives for starter/size.b, part by part."""
 import re
 from pathlib import Path
 
-from grading import HERE, Part, interpret, run
+from grading import HERE, Part, asked, interpret, run
 
 # the statements of OCODE with the number of their words; those with None have a count
 WORDS = dict.fromkeys("TRUE FALSE QUERY RV NEG NOT MULT DIV REM PLUS MINUS EQ NE LS GR LE GE LSHIFT RSHIFT LOGAND LOGOR EQV NEQV "
@@ -49,11 +49,12 @@ def compared(what, came, wanted):
     if came == wanted:
         return what, None
     at = next((n for n, (a, b) in enumerate(zip(came, wanted)) if a != b), min(len(came), len(wanted)))
-    return what, "the one with number %d is %s" % (at + 1, came[at] if at < len(came) else "missing")
+    found = came[at] if at < len(came) else "missing"
+    return what, "the one with number %d is %s" % (at + 1, " ".join(found) if isinstance(found, list) else found)
 
 
 def parts(files, kit):
-    wanted_text = (HERE / "1-scheme" / "solution" / "size.ocode").read_text()
+    wanted_text = asked(kit, "compile", given=(HERE / "1-scheme" / "starter" / "size.b").read_bytes()).output.decode()
     text = Path(next(file for file in files if file.endswith(".ocode"))).read_text()
     (size, start), rest = split(statements(wanted_text))
     procedures, after = split(statements(text))
@@ -67,8 +68,8 @@ def parts(files, kit):
 
     half = len(size) // 2
     return [
-        Part("the statements of SIZE, in their order", 4, [compared("statements", keywords(mine[0])[:half], keywords(size)[:half]),
-                                                            compared("statements", keywords(mine[0]), keywords(size))]),
+        Part("the statements of SIZE, in their order", 4, [compared("the first half", keywords(mine[0])[:half], keywords(size)[:half]),
+                                                            compared("all", keywords(mine[0]), keywords(size))]),
         Part("slots, numbers and depths of SIZE", 4, [compared("numbers", numbers(mine[0]), numbers(size))]),
         Part("labels of SIZE", 4, [compared("labels", labels(mine[0]), labels(size))]),
         Part("START", 4, [compared("statements", keywords(mine[1]), keywords(start)), compared("statements with their words", mine[1], start)]),

@@ -4,7 +4,7 @@ from pathlib import Path
 
 from grading import HERE, Part, asked, command_of, each, run
 
-BODY = 'GET "LIBHDR"\nLET F(X) = X\nLET START() BE\n$( LET A, B = 1, 2\n   %s\n$)\n'
+BODY = 'GET "LIBHDR"\nLET F(X) = X\nLET START() BE\n$( LET A, B = 1, 2;\n   %s\n$)\n'
 BETWEEN = ["A := 1\n   B := 2", "A := 'x'\n   B := TRUE\n   A := ?\n   (A -> F, F)(B)", "F(A)\n   F(B)", "$( A := 1 $)\n   B := 2",
            "WHILE A DO $( IF B DO BREAK\n   B := 2 $)", "A := 1 REPEAT\n   B := 1", "WRITES(\"a\")\n   !A := 2", "A := F(1)\n   IF B DO FINISH",
            "SWITCHON A INTO\n   $( CASE 1: ENDCASE\n      CASE 2: RETURN\n      DEFAULT: ENDCASE\n   $)", "A := FALSE\n   GOTO L\n   L: B := 2",
@@ -14,7 +14,7 @@ GOING_ON = ["A := 1 +\n   2", "A := B\n   + 2", "A := F(\n   1,\n   2)", "IF A\n
             "A := B ->\n   1,\n   2", "$( A := 1;\n   B := 2 $) REPEATWHILE\n   A", "A :=\n   B", "A, B :=\n   1, 2", "A := VALOF\n   RESULTIS 1", "A := B\n   REM 2"]
 DO = ["IF A DO B := 1\n   IF A $( B := 1 $)", "IF A GOTO L\n   L: B := 1", "WHILE A IF B BREAK", "UNTIL F(A) FOR I = 1 TO 3 FINISH", "IF 'x' RETURN\n   IF TRUE FINISH",
       "FOR I = 1 TO 10 $( A := 1 $)", "TEST A $( B := 1 $) OR $( B := 2 $)", "IF A = ? TEST B THEN A := 1 OR B := 1", "UNLESS \"s\" SWITCHON A INTO $( $)",
-      "IF A WHILE B UNTIL A $( UNLESS B LOOP $)"]
+      "IF A WHILE B UNTIL A $( UNLESS B LOOP $)", "WHILE A $(OUT B := 1 $)OUT\n   if A $(IN goto L $)IN\n   L: A := 2", "test A then B := 1 else finish"]
 
 
 def tokens(kit, source):
@@ -38,7 +38,8 @@ def parts(files, kit):
             if ran.problem() or [row.split() for row in came] == [row.split() for row in wanted]:
                 return name, ran.problem()
             at = next((n for n, (a, b) in enumerate(zip(came, wanted)) if a.split() != b.split()), min(len(came), len(wanted)))
-            return name, "differs at row %d of the output, %s" % (at + 1, came[at].split() if at < len(came) else "which is missing")
+            rows = [" ".join(rows[at].split()) if at < len(rows) else "nothing" for rows in (came, wanted)]
+            return name, "row %d of the output is `%s`, and not `%s`" % (at + 1, *rows)
 
         def rows(texts):
             return [(" / ".join(text.split("\n")), (BODY % text).encode()) for text in texts]

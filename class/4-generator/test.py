@@ -1,4 +1,5 @@
 """Exercise 4: OCODE goes through the filter, and its INTCODE is interpreted by the kit."""
+import re
 import sys
 import tempfile
 
@@ -25,7 +26,9 @@ def parts(files, kit):
             return case.name, first_difference(case.get("out"), ran.output)
 
         statements = [case for case in suite.read("generator") if case.file.stem == "statements" and not case.needs and case.rule == "OCODE, Statements"]
+        # each operator once, with operands that differ
+        operators = [case for case in suite.read("generator") if re.fullmatch(r"operators-\w+-of-(a-constant-and-a-variable|constants)", case.name) and case.status == 0]
         programs = suite.read("programs")
-        return [Part("statements, one at a time", 10, each(check, statements)),
+        return [Part("statements, one at a time", 10, each(check, statements + operators)),
                 Part("small programs", 6, each(check, [case for case in programs if case.file.stem == "language" and not case.needs][::2])),
                 Part("programs of `examples/`", 4, each(check, [case for case in programs if case.name.partition("example-")[2] in EXAMPLES]))]

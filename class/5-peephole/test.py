@@ -50,13 +50,15 @@ def parts(files, kit):
             made = run([kit, "generate"], ran.output)
             wrote = interpret(kit, made.output).output.decode("latin-1") if made.status == 0 else made.problem()
             if wrote != str(value):
+                wrong.append(what)
                 return what, "it writes %s" % wrote
             return what, "%d statements are left over" % (count(ran.output) - most) if count(ran.output) > most else None
 
         def statements(source):
             return count(asked(kit, "compile", given=source.encode()).output)
 
-        programs = [("trap %d" % n, text.encode(), b"abc") for n, text in enumerate(TRAPS, 1)]
+        wrong = []
+        programs = [(" / ".join(text.split("\n")[1:-1]), text.encode(), b"abc") for text in TRAPS]
         for name in EXAMPLES:
             path = HERE.parent / "examples" / (name + ".b")
             programs.append((path.name, path.read_bytes(), path.with_suffix(".in").read_bytes() if path.with_suffix(".in").exists() else b""))
@@ -65,8 +67,8 @@ def parts(files, kit):
         rest = [Part("constants", 6, each(lambda row: shorter(row[0], WRITEN % row[0], row[1], one), CONSTANTS)),
                 Part("operators that change nothing", 3, each(lambda text: shorter(text, WRITEN % text, 9, x), NOTHING)),
                 Part("conditions", 3, each(lambda row: shorter(row[0], COMMAND % row[0], row[1], statements(COMMAND % row[0]) - row[2] + 1), CONDITIONS))]
-        if first.points < first.of or not any(part.points for part in rest):
+        if first.points < first.of or wrong or not any(part.points for part in rest):
             for part in [first] + rest:
                 part.points = min(part.points, 4 if part is first else 0)
-                part.failed += ["a program does something else"] if first.failed and part is not first else []
+                part.failed += ["a program does something else"] if (first.failed or wrong) and part is not first else []
         return [first] + rest

@@ -35,7 +35,7 @@ def parts(files, kit):
         return len(inputs) == 3 and inputs[1] <= inputs[2]
 
     return [
-        Part("bodies that meet the contract", 7, [("body " + letter, None if said and (letter in said) == meets(letter, ()) else "not so") for letter in BODIES]),
+        Part("bodies that meet the contract", 7, [("body " + letter, None if said and (letter in said) == meets(letter, ()) else "not so" if said else "no answer") for letter in BODIES]),
         Part("numbers that show the wrong ones", 4, [("body " + letter, None if right(shown.get(letter, ()))
              and BODIES[letter](*shown[letter]) != BODIES["A"](*shown[letter]) else "no numbers that show it") for letter in wrong]),
         Part("clauses", 3, [("body A", None if clauses and meets("A", clauses) else "it is refused, or there are no clauses"),

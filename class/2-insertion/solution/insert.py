@@ -1,5 +1,5 @@
 """insert.py: reads tokens, one a line (the line of the source, the kind, the spelling), and writes them with the `;` and the DO that
-nobody wrote. docs/LANGUAGE.md, Texts, has the rule."""
+nobody wrote. docs/LANGUAGE.md, Symbols, has the rule."""
 import sys
 
 ONLY_COMMANDS = ["$(", "GOTO", "IF", "UNLESS", "TEST", "WHILE", "UNTIL", "FOR", "SWITCHON", "BREAK", "LOOP", "ENDCASE", "RESULTIS",
@@ -15,7 +15,7 @@ class Token:
         """The spelling of a word or a sign, without a tag: `$(` for `$(LOOP`. Nothing for the others."""
         if self.kind not in ("word", "sign"):
             return None
-        return self.spelling[:2] if self.spelling[:1] == "$" else self.spelling
+        return self.spelling[:2] if self.spelling[:1] == "$" else self.spelling.upper()
 
 
 def ends_operand(token):

@@ -1,5 +1,5 @@
 """insert.py: reads tokens, one a line (the line of the source, the kind, the spelling), and writes them with the `;` and the DO that
-nobody wrote. docs/LANGUAGE.md, Texts, has the rule."""
+nobody wrote. docs/LANGUAGE.md, Symbols, has the rule."""
 import sys
 
 
