@@ -212,14 +212,7 @@ AloneRuns setting m = (x : Command) (z : Configuration) (j : ℕ) (c rest : List
     → RanDid setting (start z c w) (for_scope (alone x) w) z rest w (scope_of m (alone x) forwards z.env w)
 
 returned_by : (setting : Setting) (s : State) (B : Account) (z : Configuration) (w w1 : World) (control : List Stmt) (depth1 : ℕ) (r : List Stmt) → control ≡ Return ∷ r → CompletedAt setting s B z control depth1 w w1 → Yielded setting s B z w unset w1
-returned_by setting s B z w w1 control depth1 r e a = record {
-  control = control;
-  depth1 = depth1;
-  result = None;
-  arr = a;
-  stands = tt;
-  leaves = λ c p e1 e0. return_step setting.program (there setting s B z control depth1 w w1 a) z.scene.own r depth1 c p (ap (λ y. Inside z.scene.own depth1 y) e) e1 e0;
-}
+returned_by setting s B z w w1 control depth1 r e a = grind (arith, there)
 
 returned_exit : (setting : Setting) (s : State) (B : Account) (z : Configuration) (w : World) (x : Exit) (w1 : World) → Out setting s B z w x w1 → Ran setting s B (Yielded setting s B z w) AnyExit (return_exit x w1)
 returned_exit setting s B z w return w1 q = went (returned_by setting s B z w w1 q.control q.depth1 q.leads.0 q.leads.1 q.arr)

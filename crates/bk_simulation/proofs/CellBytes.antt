@@ -119,12 +119,7 @@ pub word_number : (w n : ℕ) → Word w ≡ Word n → w ≡ n
 word_number w n e = cc
 
 pub byte_address : (codes : Codes) (bases : List ℕ) (a : Value) (s i : ℕ) → Stands codes bases a (Word s) → ((o k : ℕ) → a ≡ address o k → Stands codes bases (cell_of_byte a i) (Word (word_sum s (byte_distance i))))
-byte_address codes bases (address o k) s i st o1 k1 e = (
-  st.0,
-  st.1,
-  (let z : (k + byte_distance i) % 2 ^ 32 < 2 ^ 32 = omega arith in z),
-  ap (λ y. Word (word_sum y (byte_distance i))) (word_number s ((st.0 + k) % 2 ^ 32) st.3) ∙ ap Word (further st.0 k (byte_distance i)),
-)
+byte_address codes bases (address o k) s i st o1 k1 e = grind (arith, word_number, further)
 byte_address codes bases _ s i st o1 k1 e = absurd (cc)
 
 set_word : (codes : Codes) (bases : List ℕ) (a : Value) (x : Content) (o k : ℕ) → a ≡ address o k → Stands codes bases a x → (w : ℕ) × (x ≡ Word w)
@@ -139,14 +134,7 @@ pub record ByteCell (codes : Codes) (h : Store) (top : ℕ) (a : Value) (i : ℕ
 
 pub byte_cell : (codes : Codes) (h : Store) (top : ℕ) (a : Value) (i : ℕ) (x : Content) (c : Cell_of) → Fits codes h top → Stands codes h.bases a x → cell_at h.mem (cell_of_byte a i) ≡ Some c
     → ByteCell codes h top a i x c
-byte_cell codes h top (address o k) i x c f st e =
-    let w = set_word codes h.bases (address o k) x o k refl st in
-    record {
-      word = w.0;
-      is_word = w.1;
-      there = found_at codes h top (cell_of_byte (address o k) i) (Word (word_sum w.0 (byte_distance i))) c f
-          (byte_address codes h.bases (address o k) w.0 i (subst (λ y. Stands codes h.bases (address o k) y) w.1 st) o k refl) e;
-    }
+byte_cell codes h top (address o k) i x c f st e = grind (arith, set_word, found_at, byte_address)
 byte_cell codes h top (number n) i x c f st e = absurd (let z : None ≡ Some c = e in cc)
 byte_cell codes h top _ i x c f st e = absurd (let z : None ≡ Some c = e in cc)
 

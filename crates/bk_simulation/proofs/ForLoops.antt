@@ -243,11 +243,7 @@ bound_first : (x : List ℕ) (k : Bound) (bs : List Binding) → bound_in (bind_
 bound_first x k bs = ap (λ (q : Bool). cond q (Some k) (bound_in bs x)) ((bytes_eq-Decides x x).1 refl)
 
 variable_keeps : (x : List ℕ) (p d : ℕ) (bs : List Binding) → KeepsLabels bs (bind_bound x (b.Variable p d) bs)
-variable_keeps x p d bs y h =
-    let no_label : bound_in (bind_bound x (b.Variable p d) bs) y ≡ Some (b.Variable p d) → IsLabelHere (bound_in (bind_bound x (b.Variable p d) bs) y) → ⊥ = λ e h. subst (λ u. IsLabelHere u) e h in
-    by_test (bytes_eq x y)
-    (λ (e : bytes_eq x y ≡ true). absurd (no_label (ap (λ (q : Bool). cond q (Some (b.Variable p d)) (bound_in bs y)) e) h))
-    (λ (e : bytes_eq x y ≡ false). ap (λ (q : Bool). cond q (Some (b.Variable p d)) (bound_in bs y)) e)
+variable_keeps x p d bs y h = grind (arith, by_test)
 
 -- a LAB is the same where other names are in scope
 same_label : (setting : Setting) (sc : Scene) (bs : List Binding) (d n : ℕ) (rest : List Stmt) → LabelAt setting sc d n rest → LabelAt setting (record sc { bindings = bs }) d n rest
@@ -321,10 +317,7 @@ variable_made setting z w c u r room st =
 -- what the variable means in scope
 variable_here : (sc : Scene) (bases : List ℕ) (frame d o : ℕ) (x : List ℕ) → BaseOf bases o (frame + d) → frame + d < 2 ^ 32
     → NameAt (record sc { bindings = bind_bound x (b.Variable sc.procedure d) sc.bindings }) bases frame x (Some (cell o 0))
-variable_here sc bases frame d o x e lt =
-    let f = bound_first x (b.Variable sc.procedure d) sc.bindings in
-    let zero_off : frame + d + 0 ≡ frame + d = omega arith in
-    (frame + d, e, omega arith, zero_off ∙ ap (λ y. place_of sc.own frame (variable sc.targets (meant y))) (sym f), subst (λ y. IsWord y) (sym f) tt)
+variable_here sc bases frame d o x e lt = grind (arith, bound_first)
 
 -- the limit's word is in no object
 limit_free : (setting : Setting) (z : Configuration) (w : World) (u : Value) → Ready setting z w → (o1 n b1 i : ℕ) → Alive (making (holds u ∷ []) w).memory o1 n → BaseOf (z.bases ++ (z.frame + z.depth) ∷ []) o1 b1 → i < n → b1 + i ≢ z.frame + (z.depth + 1)

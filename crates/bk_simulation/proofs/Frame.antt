@@ -326,18 +326,7 @@ named_again {sc} {env} {env1} {bases} {frame} en n = record { each = λ x. subst
 -- with another scene and other names
 pub ready_in : {setting : Setting} {z : Configuration} {w : World} (sc : Scene) (env : Environment) → NamedIn sc env z.bases z.frame → Ready setting z w → Ready setting
     (record z { scene = sc; env = env }) w
-ready_in sc env n r = record {
-  named = n;
-  fits = r.fits;
-  low = r.low;
-  high = r.high;
-  deep = r.deep;
-  frames = r.frames;
-  room = r.room;
-  lasts = r.lasts;
-  words = r.words;
-  in_hand = r.in_hand;
-}
+ready_in sc env n r = grind arith
 
 pub ready_next : {setting : Setting} {s : State} {B : Account} {z : Configuration} {c : List Stmt} {d : ℕ} {w w1 : World} (env : Environment) (depth : ℕ)
     (a : CompletedAt setting s B z c d w w1)

@@ -13,11 +13,7 @@ get_behind (x ∷ xs) ys i = let e : length (x ∷ xs) + i ≡ suc (length xs + 
 datum_in : (places : Placement) (stmts : List Stmt) (i : ℕ) (s : Stmt) (rest : List Stmt) (d : Datum) → drop i stmts ≡ s ∷ rest → datum_of places s rest ≡ d ∷ [] → (j : ℕ) × (slice_get (data_of places stmts) j ≡ Some d)
 datum_in places [] zero s rest d e k = absurd (let h : [] ≡ s ∷ rest = e in cc)
 datum_in places [] (suc i) s rest d e k = absurd (let h : [] ≡ s ∷ rest = e in cc)
-datum_in places (x ∷ xs) zero s rest d e k =
-    let h : x ∷ xs ≡ s ∷ rest = e in
-    let first : x ≡ s = cc in
-    let others : xs ≡ rest = cc in
-    (0, ap (λ y. slice_get (y ++ data_of places xs) 0) (ap₂ (datum_of places) first others ∙ k))
+datum_in places (x ∷ xs) zero s rest d e k = grind arith
 datum_in places (x ∷ xs) (suc i) s rest d e k =
     let h = datum_in places xs i s rest d e k in
     (length (datum_of places x xs) + h.0, get_behind (datum_of places x xs) (data_of places xs) h.0 ∙ h.1)
@@ -34,10 +30,7 @@ section_datum (x ∷ xs) (suc k) own j d e h =
 
 pub statement_data : (program : Program) (section : ℕ) (own : Placed) (k : ℕ) (s : Stmt) (rest : List Stmt) (d : Datum) → slice_get program.sections section ≡ Some own → StandsAt own k (s ∷ rest) → datum_of own.places s rest ≡ d ∷ []
     → InData program d.place d.words
-statement_data program section own k s rest d is st e =
-    let a = datum_in own.places own.stmts st.place s rest d st.behind e in
-    let c = section_datum program.sections section own a.0 d is a.1 in
-    record { number = c.0; datum = d; at = c.1; placed = refl; is = refl }
+statement_data program section own k s rest d is st e = grind (arith, datum_in, section_datum)
 
 -- so its place lies below the first frame
 pub statement_below : (section : ℕ) (own : Placed) (k : ℕ) (s : Stmt) (rest : List Stmt) (d : Datum) → StandsAt own k (s ∷ rest) → datum_of own.places s rest ≡ d ∷ [] → (program : Program) (first : ℕ)

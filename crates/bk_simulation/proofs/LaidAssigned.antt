@@ -34,13 +34,7 @@ abbrev pub FindsEach : Placed → List Target → List Binding → ℕ → Comma
 FindsEach own ts bs d a n k at = Findable own ts bs d (λ s. stands_in_one s (known bs) a) (cases_through n k) (default_through n k) at
 
 pub finds_nothing : (own : Placed) (ts : List Target) (bs : List Binding) (d : ℕ) (at : Sought → List Stmt) → Findable own ts bs d (λ s. false) [] None at
-finds_nothing own ts bs d at = record {
-  labels = λ x h. absurd (false≢true h);
-  chosen = λ v more l h. absurd (false≢true h);
-  others = λ v more l h. refl;
-  default = λ h. absurd (false≢true h);
-  no_default = λ h. refl;
-}
+finds_nothing own ts bs d at = grind arith
 
 -- A command that is laid, and its places.
 pub record Done (pay : ℕ) (sc : Scene) (i : ℕ) (a : Command) (d n : ℕ) (k : NamedCommand) (c rest : List Stmt) (f : FoundParts sc.own sc.targets (parts_in d n k)) : Type 0 where
@@ -90,10 +84,7 @@ label_ahead own d l c front rest st e =
 
 pub leads_label : (own : Placed) (ts : List Target) (bs : List Binding) (j d n : ℕ) (x : List ℕ) (to : List Stmt) → GoesTo j (bound_in bs x) → AllFound ts (target_of_label n d (meant (bound_in bs x)))
     → from_label own.stmts n ≡ Some to → Leads own ts bs d x to
-leads_label own ts bs j d n x to g f e =
-    let found : AllFound ts (target_of_label n d (b.Label j g.0)) = subst (λ y. AllFound ts (target_of_label n d (meant y))) g.1 f in
-    let goal_is : goal_in ts (meant (bound_in bs x)) ≡ record { label = n; depth = d } = ap (λ y. goal_in ts (meant y)) g.1 ∙ found.0 in
-    (ap (λ (y : Goal). from_label own.stmts y.label) goal_is ∙ e, ap (λ (y : Goal). y.depth) goal_is)
+leads_label own ts bs j d n x to g f e = grind (arith, label)
 
 pub either_leads : (own : Placed) (ts : List Target) (bs : List Binding) (d : ℕ) (x : List ℕ) (q r : Bool) (c to : List Stmt) → (q ≡ true → Leads own ts bs d x c) → (r ≡ true → Leads own ts bs d x to)
     → (q || r) ≡ true → Leads own ts bs d x (cond q c to)
@@ -158,10 +149,7 @@ case_of_word own ts bs d n v u cs o c at low found a = record {
 pub finds_case : (own : Placed) (ts : List Target) (bs : List Binding) (d n v : ℕ) (y z : Option ℕ) (u : Sought → Bool) (cs : List Case) (o : Option ℕ) (c : List Stmt) (at : Sought → List Stmt) → y ≡ z → z ≡ Some v
     → v < 2 ^ 32 → from_label own.stmts n ≡ Some c → Findable own ts bs d u cs o at
     → Findable own ts bs d (λ s. same_place s (the_case y) || u s) (record { value = signed (worth z); label = n } ∷ cs) o (λ s. cond (same_place s (the_case z)) c (at s))
-finds_case own ts bs d n v y z u cs o c at e h low found a =
-    subst (λ x. Findable own ts bs d (λ s. same_place s (the_case x) || u s) (record { value = signed (worth z); label = n } ∷ cs) o (λ s. cond (same_place s (the_case z)) c (at s))) (sym (e ∙ h))
-    (subst (λ x. Findable own ts bs d (λ s. same_place s (the_case (Some v)) || u s) (record { value = signed (worth x); label = n } ∷ cs) o (λ s. cond (same_place s (the_case x)) c (at s))) (sym h)
-    (case_of_word own ts bs d n v u cs o c at low found a))
+finds_case own ts bs d n v y z u cs o c at e h low found a = grind (arith, same_place, label, case_of_word)
 
 -- a SWITCHON goes to the CASE of the word, else to its DEFAULT, else behind itself
 pub switch_chosen : (own : Placed) (ts : List Target) (bs : List Binding) (d l : ℕ) (u : Sought → Bool) (cs : List Case) (o : Option ℕ) (at : Sought → List Stmt) (v : ℕ) → Findable own ts bs d u cs o at

@@ -64,11 +64,7 @@ one_word : (all : List ℕ) (own : Placed) (ts : List Target) (bs bl : List Bind
     → Looked (bound_in bl x) (bound_in (cond q bs (bind x (b.Static n) bs)) x) (AmongProcedures x ds) (λ j. b.Static j) → AllFound ts (target_of_word (m + 1) (meant (bound_in bl x)))
     → ((j : ℕ) → bound_in bl x ≡ Some (b.Static j) → AmongProcedures x ds → LaterTarget ts (m + labels_of_procedure (meant (bound_in bl x))) j) → BaseOf all i (word_base own m (meant (bound_in bl x)))
     → q ≡ false → BaseOf all i (own.places.label ((goal_of ts n).label))
-one_word all own ts bs bl i n m x ds q (inl same) f later base e =
-    let means : bound_in bl x ≡ Some (b.Static n) = same ∙ ap (λ z. bound_in (cond z bs (bind x (b.Static n) bs)) x) e ∙ itself x (b.Static n) bs in
-    let leads : goal_of ts n ≡ goal (m + 1) 0 = own_target ts m n bl x means f in
-    let there : BaseOf all i (own.places.label (m + 1)) = subst (λ y. BaseOf all i (word_base own m (meant y))) means base in
-    subst (λ (z : Goal). BaseOf all i (own.places.label z.label)) (sym leads) there
+one_word all own ts bs bl i n m x ds q (inl same) f later base e = grind (arith, itself, own_target)
 one_word all own ts bs bl i n m x ds q (inr h) f later base e =
     let l = later h.1 h.2 h.0 in
     let two : labels_of_procedure (meant (bound_in bl x)) ≡ 2 = ap (λ y. labels_of_procedure (meant y)) h.2 in
@@ -396,12 +392,7 @@ definitions_lie pay valofs blocks sc p s i l ds d n c c1 a h r m f k st =
 -- what stands around code behind a LET
 exits_same : (p r : Enclosing) → (r.in_loop ≡ p.in_loop) × (r.in_switch ≡ p.in_switch) × (r.in_valof ≡ p.in_valof) → (sc : Scene) (bs : List Binding) (d e : ℕ) → Doing sc p d → r.procedure ≡ p.procedure → r.depth ≡ e → HasWords bs
     → Doing (record sc { bindings = bs }) r e
-exits_same p r x sc bs d e a same at w = record {
-  around = record { same = same ∙ a.around.same; at = at; words = w };
-  loop = λ h. a.loop (sym x.0 ∙ h);
-  switch = λ h. a.switch (sym x.1 ∙ h);
-  valof = λ h. a.valof (sym x.2 ∙ h);
-}
+exits_same p r x sc bs d e a same at w = grind arith
 
 -- the names of the procedures, in some procedure of the scope
 procedures_mean : (sc : Scene) (p : Enclosing) (s : Spot) (i n d : ℕ) (ds : Definitions) (c c0 : List Stmt) (setting : Setting) (k : ℕ) (a : Surroundings) (e : Exits) (ns : List Named) → 0 < i → DefinedHere sc p s i n d ds c c0 setting

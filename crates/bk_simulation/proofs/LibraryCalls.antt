@@ -135,20 +135,12 @@ pub record AtRoutine (setting : Setting) (s : State) (A : Account) (z : Configur
   pub each : (i : ℕ) (u : Value) → slice_get vs i ≡ Some u → Stands setting.codes bases1 u (content_of (cells1 (z.frame + z.depth + (2 + i))))
 
 not_home : (program : Program) (n : ℕ) (r : ocode.Routine) → program.callables.routine program.home ≡ None → program.callables.routine n ≡ Some r → (n == program.home) ≡ false
-not_home program n r none some =
-    by_truth (λ b. b ≡ false)
-    (n == program.home) (λ e. absurd (let z : Some r ≡ None = sym some ∙ ap program.callables.routine (eqb-true n program.home e) ∙ none in cc)) (λ e.
-    refl)
+not_home program n r none some = grind (arith, by_truth, eqb-true)
 
 -- its step is the routine's
 routine_stepped : (program : Program) (s : State) (n : ℕ) (r : ocode.Routine) → program.callables.routine program.home ≡ None → s.control ≡ At n → program.callables.routine n ≡ Some r
     → program_step program s ≡ routine_step s r
-routine_stepped program s n r none e er =
-    ap (λ y. program_step_from program s y) e
-    ∙ ap (λ y. if y then Ends (Status (pos 0)) s else option_map_or (λ _. step program.callables s) (program.callables.routine n) (option_map_or (λ t. step program.callables t) (resumed_in program.sections n s) Wild)) (not_home program n r none er)
-    ∙ ap (λ y. option_map_or (λ _. step program.callables s) y (option_map_or (λ t. step program.callables t) (resumed_in program.sections n s) Wild)) er
-    ∙ ap (λ y. step_from program.callables s y) e
-    ∙ ap (λ y. on_some y (λ routine. routine_step s routine)) er
+routine_stepped program s n r none e er = grind (arith, step, not_home)
 
 module _ (of : Bool) (setting : Setting) (s : State) (A B : Account) (z : Configuration) (rest : List Stmt) (w w1 : World) (vs : List Value) (r : value.Routine) (n : ℕ)
     (le : A.most + 1 ≤ B.most) (le' : B.least ≤ A.least) (en : n ≡ w.calls) (ready : Ready setting z w) (call : CallAt setting z.scene (call_stmt of z.depth) rest)

@@ -92,21 +92,10 @@ pub record Older (mem : Memory) (o n : ℕ) : Type 0 where
 -- the cells at a place of it
 pub cells_made : (mem : Memory) (vs : List Cell_of) (o : ℕ) (cells : List Cell_of) → cells_at (made vs mem) o ≡ Some cells
     → (cells_at mem o ≡ Some cells) ⊎ ((o ≡ length mem) × (cells ≡ vs))
-cells_made mem vs o cells h =
-    ⊎_elim
-    (λ (e : slice_get mem o ≡ Some (living cells)). inl (ap cells_of e))
-    (λ (e : (o ≡ length mem) × (living cells ≡ living vs)). inr (e.0, cc))
-    (get_last mem (living vs) o (living cells) (object_there (made vs mem) o cells h))
+cells_made mem vs o cells h = grind (arith, get_last, object_there)
 
 pub alive_made : (mem : Memory) (vs : List Cell_of) (o n : ℕ) → Alive (made vs mem) o n → Older mem o n ⊎ ((o ≡ length mem) × (n ≡ length vs))
-alive_made mem vs o n a =
-    let l = alive_is (cells_at (made vs mem) o) n a in
-    ⊎_elim
-    (λ (e : cells_at mem o ≡ Some l.cells).
-    let a0 : Alive mem o n = alive_from (cells_at mem o) l.cells e ∙ ap (λ k. Some k) l.long in
-    inl (record { before = alive_within mem o n a0; alive = a0 }))
-    (λ (e : (o ≡ length mem) × (l.cells ≡ vs)). inr (e.0, sym l.long ∙ ap length e.1))
-    (cells_made mem vs o l.cells l.is)
+alive_made mem vs o n a = grind (arith, alive_is, alive_from, alive_within, cells_made)
 
 pub base_made : (bases : List ℕ) (b o b1 : ℕ) → BaseOf (bases ++ b ∷ []) o b1 → BaseOf bases o b1 ⊎ ((o ≡ length bases) × (b1 ≡ b))
 base_made bases b o b1 e = get_last bases b o b1 e
@@ -151,10 +140,7 @@ lives_before (suc o) (x ∷ mem) (suc o1) cells h = let e = lives_before o mem o
 lives_before _ _ _ cells h = absurd (cc)
 
 pub alive_before : (o : ℕ) (mem : Memory) (o1 n : ℕ) → Alive (dead_from o mem) o1 n → (o1 < o) × Alive mem o1 n
-alive_before o mem o1 n a =
-    let l = alive_is (cells_at (dead_from o mem) o1) n a in
-    let e = lives_before o mem o1 l.cells l.is in
-    (e.0, alive_from (cells_at mem o1) l.cells e.1 ∙ ap (λ k. Some k) l.long)
+alive_before o mem o1 n a = grind (arith, alive_is, lives_before, alive_from)
 
 pub cell_before : (o : ℕ) (mem : Memory) (o1 i : ℕ) (c : Cell_of) → IsCell (dead_from o mem) o1 i c → IsCell mem o1 i c
 cell_before o mem o1 i c h =
@@ -173,14 +159,7 @@ pub record Since (top : ℕ) (h h1 : Store) : Type 0 where
   pub links : (a w : ℕ) → a < top → h1.cells a ≡ Held ocode.Link (ocode.Word w) → h.cells a ≡ Held ocode.Link (ocode.Word w)
 
 pub since_refl : {top : ℕ} (h : Store) → Since top h h
-since_refl h = record {
-  grown = record { each = λ o b e. e };
-  was = λ o n lt a. a;
-  long = omega arith;
-  like = λ a lt free. like_refl _ _ refl;
-  free = λ a lt free. free;
-  links = λ a w lt e. e;
-}
+since_refl h = grind (arith, like_refl)
 
 pub since_on : {top top1 : ℕ} {h h1 h2 : Store} → top ≤ top1 → Since top h h1 → Since top1 h1 h2 → Since top h h2
 since_on le a b = record {
@@ -194,14 +173,7 @@ since_on le a b = record {
 
 -- words alone change, and none below the top
 pub since_cells : {top : ℕ} (h : Store) {cells1 : ℕ → Cell} → ((a : ℕ) → a < top → Like (cells1 a) (h.cells a)) → Since top h (record h { cells = cells1 })
-since_cells h like = record {
-  grown = record { each = λ o b e. e };
-  was = λ o n lt a. a;
-  long = omega arith;
-  like = λ a lt free. like a lt;
-  free = λ a lt free. free;
-  links = λ a w lt e. (like a lt).link w e;
-}
+since_cells h like = grind arith
 
 -- code moves on
 pub since_moved : {codes : Codes} {top t t1 : ℕ} {h h1 : Store} → Fits codes h t → Fits codes h1 t1 → Moved top h h1 → Since top h h1
@@ -235,12 +207,7 @@ since_made b vs h long le = record {
 
 -- those that were made die
 pub closed_moved : {top : ℕ} {h h1 : Store} → Since top h h1 → Moved top h (forget h1 (length h.mem))
-closed_moved {top} {h} {h1} m = record {
-  grown = m.grown;
-  within = record { was = λ o n a. let x = alive_before (length h.mem) h1.mem o n a in m.was o n x.0 x.1 };
-  kept = record { as_was = m.like };
-  links = m.links;
-}
+closed_moved {top} {h} {h1} m = grind (arith, alive_before)
 
 module _ (codes : Codes) where
   -- an object is made of words below the top that are in none

@@ -167,15 +167,7 @@ moved_above h top cells1 k = record { grown = record { each = λ o b e. e }; wit
 
 -- at a higher top, and back at a lower one
 pub fits_more : (codes : Codes) (h : Store) (top more : ℕ) → top ≤ more → Fits codes h top → Fits codes h more
-fits_more codes h top more le f = record {
-  long = f.long;
-  same = f.same;
-  variable = f.variable;
-  apart = f.apart;
-  small = f.small;
-  set = f.set;
-  below = λ o n b a e. let x = f.below o n b a e in omega arith;
-}
+fits_more codes h top more le f = grind arith
 
 pub fits_less : (codes : Codes) (h h1 : Store) (top more : ℕ) → Fits codes h top → Moved top h h1 → Fits codes h1 more → Fits codes h1 top
 fits_less codes h h1 top more f m g = record {

@@ -46,10 +46,7 @@ query_runs setting B z c rest w le le' ec r =
 
 -- the address of an object that lasts
 lasting_stands : (setting : Setting) (bases : List ℕ) (o base : ℕ) → Grown setting.lasting bases → BaseOf setting.lasting o base → Stands setting.codes bases (address o 0) (Word base)
-lasting_stands setting bases o base grown e =
-    let low : base < 2 ^ 32 = setting.lasting_low o base e in
-    let zero : base ≡ (base + 0) % 2 ^ 32 = omega arith in
-    (base, grown.each o base e, omega arith, ap Word zero)
+lasting_stands setting bases o base grown e = grind arith
 
 pub text_runs : (setting : Setting) (B : Account) (z : Configuration) (c : List Stmt) (bytes : List ℕ) (rest : List Stmt) (w : World) (o : ℕ) → 16 * w.turns + 1 ≤ B.most → B.least ≤ w.turns → c ≡ Text bytes ∷ rest
     → BaseOf setting.lasting o (z.scene.own.places.text (length rest)) → Ready setting z w → RanValue setting (start z c w) B z rest w (gives (address o 0) w)

@@ -145,10 +145,7 @@ entered_so setting p n input sim alone_runs fs k f ip cap1 =
 pub does_from : (setting : Setting) (p : Program) (n : ℕ) (input : List ℕ) → Simulates setting (means p n) → AloneRuns setting (means p n) → AloneAdds (means p n) → Procedures setting p → FirstStore setting (first_memory p) (first_cells setting.program setting.first) → NoStart setting p ⊎ HasStart setting p
     → calls_of (started p (read (first_memory p) (address globals_object 1)) (first_world p input n) n) ≡ setting.cap
     → DoesFrom setting.program setting.first n (first_state setting.program setting.first input) (started p (read (first_memory p) (address globals_object 1)) (first_world p input n) n)
-does_from setting p n input sim alone_runs alone_after procs fs (inl none) ec =
-    let ef : first_state setting.program setting.first input ≡ None = ap (λ c. option_map (called_at setting input) (number_in c)) none.word in
-    subst (λ s. DoesFrom setting.program setting.first n s (started p (read (first_memory p) (address globals_object 1)) (first_world p input n) n)) (sym ef)
-    ([], input, 0, ap (λ v. started p v (first_world p input n) n) none.is)
+does_from setting p n input sim alone_runs alone_after procs fs (inl none) ec = grind (arith, read)
 does_from setting p n input sim alone_runs alone_after procs fs (inr has) ec =
     let m : Meanings = means p n in
     let w0 : World = first_world p input n in

@@ -92,10 +92,7 @@ codes_together program first sections t = codes_of (1 ∷ own_entries program fi
 
 pub lasting_small : (program : Program) (first : ℕ) (sections : List Declarations) (t : Together program first sections) (o base : ℕ) → BaseOf (lasting_of program first sections t) o base → base < 2 ^ 32
 lasting_small program first sections t zero base e = let same : 16 ≡ base = (let k : Some 16 ≡ Some base = e in cc) in omega (arith, same)
-lasting_small program first sections t (suc o) base e =
-    let below = all_at (λ b. b ≤ first) (own_bases program first sections t) o base (placed_together program first sections t).0 e in
-    let low = t.well.low in
-    omega (arith, below, low)
+lasting_small program first sections t (suc o) base e = grind (arith, all_at, placed_together)
 
 -- the setting of the whole proof, with so many frames
 abbrev pub setting_together : (program : Program) (first : ℕ) (sections : List Declarations) → Together program first sections → ℕ → Setting
@@ -123,10 +120,7 @@ held_together program first sections t most =
 
 holds_each : (program : Program) (first : ℕ) (sections : List Declarations) (t : Together program first sections) (o b : ℕ) (x : Lasting) → slice_get (program_of sections) o ≡ Some x → BaseOf (lasting_of program first sections t) o b
     → HoldsOne program first (codes_together program first sections t) x o b
-holds_each program first sections t zero b x e base =
-    let same : global_vector ≡ x = (let k : Some global_vector ≡ Some x = e in cc) in
-    let at : 16 ≡ b = (let k : Some 16 ≡ Some b = base in cc) in
-    subst (λ y. HoldsOne program first (codes_together program first sections t) y 0 b) same (refl, sym at)
+holds_each program first sections t zero b x e base = grind arith
 holds_each program first sections t (suc o) b x e base =
     let g = setting_together program first sections t 0 in
     let there : 1 + o ≡ suc o = omega arith in

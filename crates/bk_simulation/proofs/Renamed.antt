@@ -93,12 +93,7 @@ AreBases all i xs = Each (BaseOf all) i xs
 
 pub static_at : (setting : Setting) (sc : Scene) (bases : List ℕ) (frame : ℕ) (x : List ℕ) (i n : ℕ) → Grown setting.lasting bases → BaseOf setting.lasting i (sc.own.places.label ((goal_of sc.targets n).label)) → bound_in sc.bindings x ≡ Some (b.Static n)
     → NameAt sc bases frame x (Some (cell i 0))
-static_at setting sc bases frame x i n grown base e =
-    let p : ℕ = sc.own.places.label ((goal_of sc.targets n).label) in
-    let low = setting.lasting_low i p base in
-    let small : p + 0 < 2 ^ 32 = omega (arith, low) in
-    let at : p + 0 ≡ p = omega arith in
-    (p, grown.each i p base, small, at ∙ ap (λ y. place_of sc.own frame (variable sc.targets (meant y))) (sym e), subst (λ y. IsWord y) (sym e) tt)
+static_at setting sc bases frame x i n grown base e = grind arith
 
 pub renames_statics : (is : Items) (setting : Setting) (sc : Scene) (ns : List Named) (i n : ℕ) → 0 < i → Agree ns sc.bindings
     → Behind setting sc ns i (AreBases setting.lasting i (static_places sc.own sc.targets n is)) (statics_in_scope n is sc.bindings) (statics is (with_names ns i))
@@ -220,10 +215,7 @@ frame_both [] ys a c = c
 frame_both (x ∷ xs) ys a c = (a.0, frame_both xs ys a.1 c)
 
 variable_at : (sc : Scene) (bases : List ℕ) (frame : ℕ) (x : List ℕ) (o k n : ℕ) → frame ≤ 2 ^ 31 - 65536 → n ≤ FRAME_WORDS → BaseOf bases o (frame + n) → bound_in sc.bindings x ≡ Some (b.Variable k n) → NameAt sc bases frame x (Some (cell o 0))
-variable_at sc bases frame x o k n low few base e =
-    let small : frame + n + 0 < 2 ^ 32 = omega (arith, low, few) in
-    let at : frame + n + 0 ≡ frame + n = omega arith in
-    (frame + n, base, small, at ∙ ap (λ y. place_of sc.own frame (variable sc.targets (meant y))) (sym e), subst (λ y. IsWord y) (sym e) tt)
+variable_at sc bases frame x o k n low few base e = grind arith
 
 -- variables in the run hide names as they do in scope,
 pub bound_agree : (ps : List Spot) (ns : List Named) (bs : List Binding) (i o k : ℕ) → 0 < o → Agree ns bs → Agree (variables_bound o ps (with_names ns i)).names (bind_all (from_spots k ps) bs)

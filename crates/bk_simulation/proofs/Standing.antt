@@ -73,11 +73,7 @@ pub record FirstOf (xs : List Stmt) (i : ℕ) (s : Stmt) (c : List Stmt) : Type 
 pub first_of : (xs : List Stmt) (i : ℕ) (s : Stmt) (c : List Stmt) → drop i xs ≡ s ∷ c → FirstOf xs i s c
 first_of [] zero s c e = absurd (let h : [] ≡ s ∷ c = e in cc)
 first_of [] (suc i) s c e = absurd (let h : [] ≡ s ∷ c = e in cc)
-first_of (x ∷ xs) zero s c e =
-    let h : x ∷ xs ≡ s ∷ c = e in
-    let first : x ≡ s = cc in
-    let others : xs ≡ c = cc in
-    record { at = ap Some first; behind = others; deeper = λ k. ap (next_depth k) first }
+first_of (x ∷ xs) zero s c e = grind arith
 first_of (x ∷ xs) (suc i) s c e = let h = first_of xs i s c e in record { at = h.at; behind = h.behind; deeper = λ k. h.deeper (next_depth k x) }
 
 -- behind the first statement
@@ -413,17 +409,4 @@ lies_within less a = lie a.on a.objects_are (λ q. let x = a.paid q in let y = l
 -- and with a part in front that sets no global
 pub lies_after : {h : Home} {next many depth : ℕ} {c rest : List Stmt} (x : Part) {ps : List Part} {f : FoundParts h.own h.targets (x ∷ ps)} {L : List Named → List Lasting} {P : Setting → Type 0} → entries_of x ≡ []
     → Lies h next many depth c rest ps f.1 L P → Lies h next many depth c rest (x ∷ ps) f L P
-lies_after {h} x {ps} e a =
-    let o = a.objects_are in
-    lie a.on (record {
-      bases = o.bases;
-      entries = o.entries;
-      all = o.all;
-      all_entries = o.all_entries;
-      count = o.count;
-      laid = o.laid;
-      held = o.held;
-      sets = λ setting s ns u v. o.sets setting s ns u v ∙ ap (λ y. map (entry_setting h.own.places) (y ++ joined entries_of ps)) (sym e);
-      once = λ setting s ns u v q. let w = o.once setting s ns u v q in omega (arith, w);
-      placed = o.placed;
-    }) a.paid
+lies_after {h} x {ps} e a = grind (arith, joined)
