@@ -231,7 +231,8 @@ fn call(store: &mut [u32], r: &mut Registers, d: u32) -> Option<Effect>
 {
     let frame = word::sum(r.p, d);
     let next = word::sum(frame, 1);
-    if next as usize >= store.len() || !set_word(store, frame, r.p) || !set_word(store, next, r.c) {
+    let is_kept = (frame as usize) < store.len() && (next as usize) < store.len();
+    if !is_kept || !set_word(store, frame, r.p) || !set_word(store, next, r.c) {
         return None;
     }
     r.p = frame;
