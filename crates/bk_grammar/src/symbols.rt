@@ -8,6 +8,7 @@ use bk_lex::Kind;
 use bk_tree::{Operator, Prefix, Simple, Sort};
 
 /// The operator that is between two operands.
+#[inline(always)]
 pub fn infix(kind: Kind) -> Option<Operator>
     ensures { result ≡ infix_of kind }
 {
