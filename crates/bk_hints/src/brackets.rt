@@ -81,7 +81,7 @@ fn hint_unclosed(scene: &Scene, opened: &OpenSections) -> Result<Option<Told>, A
                 .say(" is never closed, since the `$)` of ")?
                 .line(scene.line(last))?
                 .say(" is further left")?;
-            return Ok(Some(scene.told(first, sentence)));
+            return Ok(Some(scene.told(first, sentence).and(scene.spot(last))));
         }
     }
     let sentence = scene
@@ -92,7 +92,7 @@ fn hint_unclosed(scene: &Scene, opened: &OpenSections) -> Result<Option<Told>, A
         .say("$)")?
         .spell(tag_at(scene.tokens, open))?
         .say("` is missing")?;
-    Ok(Some(scene.told(open, sentence)))
+    Ok(Some(scene.told(open, sentence).and(scene.spot(scene.at))))
 }
 
 /// What is reported where a section is refused at its end.
@@ -176,7 +176,7 @@ fn hint_tag(scene: &Scene, index: usize) -> Result<Told, AllocError> {
         .say(" of ")?
         .line(scene.line(index))?
         .say(", since it comes directly after it: a blank is missing")?;
-    Ok(scene.told(index, sentence))
+    Ok(scene.told(index, sentence).and(scene.spot(scene.at)))
 }
 
 /// What is reported where the command before the refused symbol is after a bracket whose tag was meant as a word.
@@ -228,7 +228,7 @@ pub fn hint_wrong_tag(scene: &Scene) -> Result<Told, AllocError> {
             .spell(tag)?
             .say("` of ")?
             .line(scene.line(open))?;
-        return Ok(scene.told(scene.at, sentence));
+        return Ok(scene.told(scene.at, sentence).and(scene.spot(open)));
     }
     let sentence = scene
         .sentence()
@@ -261,8 +261,8 @@ fn closes(scene: &Scene, count: usize) -> Result<bool, AllocError> {
     scene.lacks(kinds.as_slice())
 }
 
-/// What is reported where a declaration is after a command: where a `$)` is perhaps missing before it.
-pub fn hint_late(scene: &Scene, opened: &OpenSections) -> Result<Option<Told>, AllocError> {
+/// The innermost open section, where a declaration is refused and a `$)` is not.
+fn late_in(scene: &Scene, opened: &OpenSections) -> Result<Option<usize>, AllocError> {
     if !matches!(
         scene.refused(),
         Some(Kind::Let | Kind::And | Kind::Manifest | Kind::Static | Kind::Global)
@@ -272,13 +272,28 @@ pub fn hint_late(scene: &Scene, opened: &OpenSections) -> Result<Option<Told>, A
     let Some(open) = opened.indices.last().copied() else {
         return Ok(None);
     };
-    if !scene.takes(Kind::SectionClose)? {
-        return Ok(None);
+    if scene.before(1) != Some(Kind::Colon) && scene.takes(Kind::SectionClose)? {
+        return Ok(Some(open));
     }
-    if lacks_closings(scene, opened, open)? {
-        return Ok(Some(hint_before(scene, opened, open)?));
+    Ok(None)
+}
+
+/// What is reported where a declaration is after a command, and a `$)` is perhaps missing before it.
+pub fn hint_unclosed_before(
+    scene: &Scene,
+    opened: &OpenSections,
+) -> Result<Option<Told>, AllocError> {
+    match late_in(scene, opened)? {
+        Some(open) if lacks_closings(scene, opened, open)? => Ok(Some(hint_before(
+            scene, opened, open,
+        )?)),
+        _ => Ok(None),
     }
-    if scene.refused() == Some(Kind::And) {
+}
+
+/// What is reported where a declaration is after a command.
+pub fn hint_late(scene: &Scene, opened: &OpenSections) -> Result<Option<Told>, AllocError> {
+    if scene.refused() == Some(Kind::And) || late_in(scene, opened)?.is_none() {
         return Ok(None);
     }
     Ok(Some(scene.here(
@@ -318,5 +333,5 @@ fn hint_before(scene: &Scene, opened: &OpenSections, open: usize) -> Result<Told
         .say(" of ")?
         .line(scene.line(scene.at))?
         .say(" comes after a command of that block")?;
-    Ok(scene.told(index, sentence))
+    Ok(scene.told(index, sentence).and(scene.spot(scene.at)))
 }

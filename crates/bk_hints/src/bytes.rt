@@ -1,5 +1,6 @@
 //! What is reported of a text that can't be cut into symbols.
 
+use crate::lines::line_start;
 use crate::sentence::Told;
 use bk_base::SourceKind;
 use bk_lex::LexicalFault;
@@ -40,10 +41,26 @@ fn sign_says(sign: u8, byte: u8) -> Option<&'static str> {
     }
 }
 
+/// Whether a `\` is before a `"`, or after a `\"` of its line.
+fn is_escape(text: &[u8], at: usize) -> bool {
+    if text.get(at.saturating_add(1)) == Some(&b'"') {
+        return true;
+    }
+    let line = text.get(line_start(text, at)..at).unwrap_or(b"");
+    line.windows(2).any(|pair| matches!(pair, b"\\\""))
+}
+
 /// What is reported of a bad byte.
 fn hint_byte(alloc: Global, text: &[u8], fault: &LexicalFault) -> Result<Told, AllocError> {
     let at = fault.byte;
     let byte = text.get(at).copied();
+    if byte == Some(b'\\') && is_escape(text, at) {
+        return Told::new(
+            alloc,
+            Some(at),
+            "`\\` begins no escape, so the string ended at the `\"`: `*\"` is a quote in a string, and `*N` the end of a line",
+        );
+    }
     if fault.piece < at {
         let last = text.get(at.saturating_sub(1)).copied().unwrap_or(b' ');
         if let Some(says) = sign_says(last, byte.unwrap_or(b' ')) {

@@ -64,10 +64,7 @@ pub fn hint_else(scene: &Scene) -> Result<Option<Told>, AllocError> {
             .sentence()
             .say("a `$)` is missing before ")?
             .quote(scene.spelling(scene.at))?;
-        return Ok(Some(Told {
-            at: scene.gap(),
-            sentence,
-        }));
+        return Ok(Some(Told::at(scene.gap(), sentence)));
     }
     if scene.means(Kind::Bar)? {
         return Ok(Some(scene.here("`|` is or; `OR` is another spelling of `ELSE`")?));
@@ -101,10 +98,7 @@ pub fn hint_test(scene: &Scene) -> Result<Option<Told>, AllocError> {
     let sentence = scene
         .sentence()
         .say("the `ELSE` of a TEST is missing before ")?;
-    Ok(Some(Told {
-        at: scene.gap(),
-        sentence: scene.name_refused(sentence)?,
-    }))
+    Ok(Some(Told::at(scene.gap(), scene.name_refused(sentence)?)))
 }
 
 /// What is reported of `:=` where `=` is due, and of `=` where `:=` is.
@@ -167,6 +161,16 @@ fn is_begun_by_do(scene: &Scene) -> Result<bool, AllocError> {
     Ok(scene.takes(Kind::If)? || scene.goes(at, &[Kind::Semicolon, Kind::If], at, at)?)
 }
 
+/// What is reported of DO or THEN where a command may begin.
+pub fn hint_do(scene: &Scene) -> Result<Option<Told>, AllocError> {
+    if scene.refused() != Some(Kind::Do) || !is_begun_by_do(scene)? {
+        return Ok(None);
+    }
+    Ok(Some(scene.here(
+        "`DO` and `THEN` begin no command; a loop with its test at the end is `C REPEATWHILE E`",
+    )?))
+}
+
 /// What is reported where the `,` of a choice is due.
 pub fn hint_choice(scene: &Scene) -> Result<Option<Told>, AllocError> {
     let Some(arrow) = scene.nearest(Kind::Arrow) else {
@@ -181,32 +185,28 @@ pub fn hint_choice(scene: &Scene) -> Result<Option<Told>, AllocError> {
     Ok(Some(scene.told(arrow, sentence)))
 }
 
-/// Whether the symbol after the refused one is right without it.
-fn is_needless(scene: &Scene) -> Result<bool, AllocError> {
-    let next = scene.at.saturating_add(1);
-    scene.goes(scene.at, &[], next, next.saturating_add(1))
-}
-
 /// What is reported of a word that is a command of another kind in C.
 pub fn hint_misused(scene: &Scene) -> Result<Option<Told>, AllocError> {
     let words = match (scene.before(1), scene.refused()) {
+        (Some(Kind::Repeat), Some(Kind::Until | Kind::While)) => {
+            "`REPEATUNTIL E` and `REPEATWHILE E` are one word each"
+        }
+        (Some(Kind::Colon), Some(Kind::Let | Kind::Manifest | Kind::Static | Kind::Global)) => {
+            "a label, CASE or DEFAULT goes before a command, and a declaration is none: `$(` and `$)` around this one and its commands make a block"
+        }
         (_, Some(Kind::Repeat | Kind::RepeatUntil | Kind::RepeatWhile)) => {
             "`REPEAT`, `REPEATUNTIL E` and `REPEATWHILE E` come after the command that they repeat"
         }
         (Some(Kind::Return), _) if starts_operand(scene) => {
-            "`RETURN` takes no value; `RESULTIS E` gives that of a `VALOF`"
+            "`RETURN` takes no value; `RESULTIS E` gives that of a `VALOF`. If a command begins here, `;` is missing"
         }
-        (Some(Kind::ResultIs), Some(Kind::Semicolon | Kind::SectionClose) | None) => {
-            "`RESULTIS` needs a value; `RETURN` takes none"
-        }
+        (Some(Kind::ResultIs), Some(Kind::Semicolon | Kind::SectionClose) | None)
+            if !scene.is_needless()? => { "`RESULTIS` needs a value; `RETURN` takes none" }
         (Some(Kind::For), Some(Kind::Open)) =>
             "a FOR is `FOR I = A TO B DO C`, without parentheses",
         (Some(Kind::Let | Kind::And), Some(Kind::Vec)) => "a vector is `LET V = VEC N`",
         (_, Some(Kind::Vec)) if scene.takes(Kind::Number)? => {
             "`VEC N` goes only after the `=` of a LET in a block; a STATIC has a constant for its value"
-        }
-        (_, Some(Kind::Do)) if is_begun_by_do(scene)? => {
-            "`DO` and `THEN` begin no command; a loop with its test at the end is `C REPEATWHILE E`"
         }
         (Some(Kind::Name | Kind::Number | Kind::Close), Some(Kind::Query)) => {
             "`C -> A, B` chooses one of two values; `?` is a value that is not set"
@@ -214,12 +214,8 @@ pub fn hint_misused(scene: &Scene) -> Result<Option<Told>, AllocError> {
         (_, Some(Kind::Do)) if scene.takes(Kind::To)? => {
             "`TO` and the limit are missing: `FOR I = A TO B DO C`"
         }
-        (_, Some(Kind::Comma)) if scene.nearest(Kind::Case).is_some() => {
+        (_, Some(Kind::Comma | Kind::To)) if scene.nearest(Kind::Case).is_some() => {
             "a CASE takes one constant: `CASE 1: CASE 2: C`"
-        }
-        (_, Some(Kind::Close)) if is_needless(scene)? => "this `)` closes nothing",
-        (_, Some(Kind::And)) if scene.means(Kind::Ampersand)? => {
-            "`&` is and; `AND` joins declarations"
         }
         _ => return Ok(None),
     };

@@ -5,21 +5,6 @@ use crate::sentence::{Sentence, Told};
 use bk_lex::Kind;
 use std::alloc::AllocError;
 
-/// Symbols that are tried before the refused one.
-static MISSING: [Kind; 11] = [
-    Kind::Be,
-    Kind::Into,
-    Kind::To,
-    Kind::Do,
-    Kind::Valof,
-    Kind::Close,
-    Kind::Colon,
-    Kind::Comma,
-    Kind::Semicolon,
-    Kind::SectionOpen,
-    Kind::SectionClose,
-];
-
 /// Symbols of which it is reported that they could be in the place of the refused one.
 static POSSIBLE: [Kind; 16] = [
     Kind::Be,
@@ -40,8 +25,8 @@ static POSSIBLE: [Kind; 16] = [
     Kind::Let,
 ];
 
-/// How one of these symbols is spelled.
-fn spelling(kind: Kind) -> &'static [u8] {
+/// How a symbol is spelled that is missing or possible.
+pub fn spelling(kind: Kind) -> &'static [u8] {
     match kind {
         Kind::Be => b"BE",
         Kind::Into => b"INTO",
@@ -59,39 +44,38 @@ fn spelling(kind: Kind) -> &'static [u8] {
         Kind::Comma => b",",
         Kind::SectionOpen => b"$(",
         Kind::SectionClose => b"$)",
+        Kind::Arrow => b"->",
+        Kind::And => b"AND",
+        Kind::Test => b"TEST",
+        Kind::If => b"IF",
+        Kind::While => b"WHILE",
+        Kind::For => b"FOR",
+        Kind::SwitchOn => b"SWITCHON",
+        Kind::ResultIs => b"RESULTIS",
+        Kind::Case => b"CASE",
+        Kind::Default => b"DEFAULT",
+        Kind::Repeat => b"REPEAT",
+        Kind::RepeatWhile => b"REPEATWHILE",
+        Kind::Vec => b"VEC",
+        Kind::Bar => b"|",
+        Kind::Ampersand => b"&",
+        Kind::Manifest => b"MANIFEST",
+        Kind::Static => b"STATIC",
+        Kind::Global => b"GLOBAL",
+        Kind::Finish => b"FINISH",
+        Kind::Unless => b"UNLESS",
+        Kind::Until => b"UNTIL",
+        Kind::RepeatUntil => b"REPEATUNTIL",
+        Kind::EndCase => b"ENDCASE",
+        Kind::Break => b"BREAK",
+        Kind::Loop => b"LOOP",
+        Kind::Goto => b"GOTO",
+        Kind::Table => b"TABLE",
+        Kind::Return => b"RETURN",
+        Kind::Plus => b"+",
+        Kind::Name => b"X",
         _ => b";",
     }
-}
-
-/// Whether a `$(` or a comma may be missing, which would fit in most places.
-fn may_miss(scene: &Scene, kind: Kind) -> bool {
-    match kind {
-        Kind::Comma => scene.nearest(Kind::Open).is_some() || scene.nearest(Kind::Table).is_some(),
-        Kind::Colon => scene.nearest(Kind::Case).is_some()
-            || scene.before(1) == Some(Kind::Default),
-        Kind::SectionOpen => !matches!(scene.refused(), Some(Kind::SectionClose) | None),
-        _ => true,
-    }
-}
-
-/// What is reported where one symbol is missing.
-pub fn hint_missing(scene: &Scene) -> Result<Option<Told>, AllocError> {
-    for due in MISSING {
-        if may_miss(scene, due) && scene.lacks(&[due])? {
-            return Ok(Some(hint_due(scene, due)?));
-        }
-    }
-    Ok(None)
-}
-
-/// What is reported of a missing symbol.
-fn hint_due(scene: &Scene, due: Kind) -> Result<Told, AllocError> {
-    let sentence = scene.sentence().quote(spelling(due))?.say(match due {
-        Kind::Do => " (or `THEN`) is missing before ",
-        Kind::Be => " (or `=`) is missing before ",
-        _ => " is missing before ",
-    })?;
-    hint_gap(scene, sentence)
 }
 
 /// The sentence with the refused symbol after it, at the gap before that symbol.
@@ -103,7 +87,7 @@ fn hint_gap(scene: &Scene, sentence: Sentence) -> Result<Told, AllocError> {
     } else {
         sentence.say(" of ")?.line(scene.line(scene.at))?
     };
-    Ok(Told { at, sentence })
+    Ok(Told::at(at, sentence))
 }
 
 /// What is due at the refused symbol, in words, if it is an operand, a name or a command.

@@ -74,8 +74,8 @@ static FOREIGN: [Row; 22] = [
     (&[b"ELIF"], "`ELIF` is left out; write `ELSE TEST`"),
     (&[b"VAR"], "a variable is declared by `LET X = E`"),
     (
-        &[b"INT", b"CHAR"],
-        "a variable is declared by `LET X = E`, and each is a word",
+        &[b"INT", b"CHAR", b"LONG", b"UNSIGNED"],
+        "there are no types: each variable is a word, declared by `LET X = E`, and a formal is a name alone",
     ),
     (&[b"AUTO"], "a variable is declared by `LET X = E`"),
     (&[b"VOID"], "a routine is `LET F() BE ..`"),
@@ -236,9 +236,30 @@ pub fn library(spelling: &[u8]) -> Option<&'static str> {
     look_up(&LIBRARY, spelling)
 }
 
+/// Whether the section declares the name that a symbol is.
+fn is_declared(scene: &Scene, index: usize) -> bool {
+    let name = scene.spelling(index);
+    for (i, token) in scene.tokens.iter().enumerate() {
+        if i != index && token.text.eq_ignore_ascii_case(name) {
+            let before = scene.before_at(i);
+            let after = scene.kind(i.saturating_add(1));
+            if matches!(before, Some(Kind::Let | Kind::And | Kind::For))
+                || matches!(before, Some(Kind::SectionOpen | Kind::Semicolon))
+                    && matches!(after, Some(Kind::Equal | Kind::Colon))
+            {
+                return true;
+            }
+        }
+    }
+    false
+}
+
 /// What is reported of a name with this index, where it is a word of another dialect or language.
 fn hint_word(scene: &Scene, index: usize) -> Result<Option<Told>, AllocError> {
-    if scene.kind(index) != Some(Kind::Name) {
+    if scene.kind(index) != Some(Kind::Name) || scene.before_at(index) == Some(Kind::Goto) {
+        return Ok(None);
+    }
+    if is_declared(scene, index) {
         return Ok(None);
     }
     match put_foreign(scene.sentence(), scene.spelling(index))? {

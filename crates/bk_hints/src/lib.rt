@@ -3,13 +3,20 @@
 
 mod brackets;
 mod bytes;
+mod changes;
 mod commands;
 mod due;
 mod foreign;
+mod further;
 mod lines;
 mod meanings;
+mod mending;
 mod names;
+mod near;
 mod page;
+mod reader;
+mod refused;
+mod repair;
 mod roles;
 mod scene;
 mod sentence;
@@ -18,4 +25,4 @@ mod statements;
 mod syntax;
 mod telling;
 
-pub use telling::hint;
+pub use telling::hints;

@@ -29,6 +29,16 @@ impl Lines {
         Ok(Lines { from, starts })
     }
 
+    /// The number of the line that a place is on.
+    pub fn number(&self, at: usize) -> u32 {
+        let later = self.starts.iter().position(|start| *start > at);
+        let count = later.unwrap_or(self.starts.len()).saturating_sub(1);
+        match u32::try_from(count) {
+            Ok(count) => self.from.number().saturating_add(count),
+            Err(_) => u32::MAX,
+        }
+    }
+
     /// Where a line begins.
     pub fn start(&self, line: Line) -> Option<usize> {
         let index = line.number().checked_sub(self.from.number())?;

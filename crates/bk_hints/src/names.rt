@@ -84,6 +84,15 @@ impl Names<'_> {
         None
     }
 
+    /// This sentence at a symbol, with that of a declaration as a second place.
+    fn told(&self, at: usize, declared: Option<usize>, sentence: Sentence) -> Told {
+        let also = match declared {
+            Some(declared) => self.scene.spot(declared),
+            None => None,
+        };
+        self.scene.told(at, sentence).and(also)
+    }
+
     /// The sentence with the name after it.
     fn quoted(&self, words: &str) -> Result<Sentence, AllocError> {
         self.scene.sentence().say(words)?.quote(self.name)
@@ -118,7 +127,7 @@ fn common(a: &[u8], b: &[u8]) -> usize {
 }
 
 /// Whether two spellings differ by one letter that is another, missing or added, or by two neighbours that are the other way round.
-fn is_alike(a: &[u8], b: &[u8]) -> bool {
+pub fn is_alike(a: &[u8], b: &[u8]) -> bool {
     if a.len() < SHORTEST || b.len() < SHORTEST {
         return false;
     }
@@ -222,7 +231,8 @@ pub fn hint_not_declared(names: &Names, at: usize) -> Result<Told, AllocError> {
     } else {
         hint_unknown(names, at)?
     };
-    Ok(scene.told(at, sentence))
+    let declared = names.last_before(at);
+    Ok(names.told(at, declared.or(names.first_behind(at)), sentence))
 }
 
 /// What is reported of a name that is declared nowhere.
@@ -273,7 +283,7 @@ pub fn hint_twice(names: &Names, at: usize) -> Result<Told, AllocError> {
             )?,
         None => sentence.say(" is declared twice in one list")?,
     };
-    Ok(names.scene.told(at, sentence))
+    Ok(names.told(at, names.last_before(at), sentence))
 }
 
 /// What is reported of a variable of an outer procedure.
@@ -286,7 +296,7 @@ pub fn hint_dynamic(names: &Names, at: usize) -> Result<Told, AllocError> {
     let sentence = sentence.say(
         " is a variable of the procedure outside, which this one can't use; STATIC, a global or an argument serves",
     )?;
-    Ok(names.scene.told(at, sentence))
+    Ok(names.told(at, names.last_before(at), sentence))
 }
 
 /// What is reported of a label that is not one here.
@@ -304,7 +314,7 @@ pub fn hint_label(names: &Names, at: usize) -> Result<Told, AllocError> {
             " is no label; `GOTO` takes a label of its procedure, and `F()` calls a procedure",
         )?
     };
-    Ok(names.scene.told(at, sentence))
+    Ok(names.told(at, names.label(), sentence))
 }
 
 /// What is reported of a second procedure of one global.
@@ -318,7 +328,7 @@ pub fn hint_procedures(names: &Names, at: usize) -> Result<Told, AllocError> {
             .line(names.scene.line(first))?,
         None => sentence,
     };
-    Ok(names.scene.told(at, sentence))
+    Ok(names.told(at, names.last_procedure(at), sentence))
 }
 
 impl Names<'_> {

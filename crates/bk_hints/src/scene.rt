@@ -1,126 +1,38 @@
 //! A section with the symbol that is refused, and trials of other symbols there.
 
 use crate::lines::Lines;
+use crate::reader::Reader;
 use crate::sentence::{Sentence, Told};
-use bk_base::{Line, Refused};
+use bk_base::Line;
 use bk_lex::{Kind, Token};
-use bk_scope::resolve_placed;
-use bk_syntax::{parse, parse_placed};
-use bk_tables::KeyMaker;
-use bk_tree::Position;
 use std::alloc::{AllocError, Global};
 
-/// The number of a line that no symbol is on.
-const NO_LINE: u32 = 4_294_967_295;
-
-/// What results from symbols.
-#[derive(Clone, Copy, Debug, PartialEq, Eq)]
-enum Trial {
-    /// They are a section.
-    Whole,
-    /// A section begins with them.
-    Begins,
-    /// No section begins with them.
-    Fails,
-}
-
-/// What results from these symbols.
-fn try_out(alloc: Global, tokens: &[Token]) -> Result<Trial, AllocError> {
-    match parse(alloc, tokens, Line::new(NO_LINE)) {
-        Ok(_) => Ok(Trial::Whole),
-        Err(Refused::Fault(fault)) => Ok(if fault.line.number() == NO_LINE {
-            Trial::Begins
-        } else {
-            Trial::Fails
-        }),
-        Err(_) => Err(AllocError),
-    }
-}
+/// How many symbols before the refused one are read anew at each trial.
+const BACK: usize = 48;
 
 /// The first so many of the symbols.
 fn first<'a, 'b>(tokens: &'b [Token<'a>], count: usize) -> &'b [Token<'a>] {
     &tokens[..count.min(tokens.len())]
 }
 
-/// Adds symbols of these kinds, which are nowhere.
-fn put_kinds<'a>(tokens: &mut Vec<Token<'a>>, kinds: &[Kind]) -> Result<(), AllocError> {
+/// Whether the symbols are read.
+fn read_all<'a>(reader: &mut Reader<'a>, tokens: &[Token<'a>]) -> Result<bool, AllocError> {
+    for token in tokens {
+        if !reader.read(token.kind, token.text)? {
+            return Ok(false);
+        }
+    }
+    Ok(true)
+}
+
+/// Whether symbols of these kinds, which are nowhere, are read.
+fn read_kinds(reader: &mut Reader, kinds: &[Kind]) -> Result<bool, AllocError> {
     for kind in kinds {
-        let symbol = Token {
-            kind: *kind,
-            line: Line::first(),
-            place: None,
-            text: &[],
-        };
-        match tokens.push(symbol) {
-            Ok(()) => {}
-            Err(_) => return Err(AllocError),
+        if !reader.read(*kind, &[])? {
+            return Ok(false);
         }
     }
-    Ok(())
-}
-
-/// The least index of these that begins no section with the symbols before it, where the last of them does. A section begins with
-/// the symbols before them all.
-fn first_refused(
-    alloc: Global,
-    tokens: &[Token],
-    from: usize,
-    to: usize,
-) -> Result<usize, AllocError> {
-    let mut low = from;
-    let mut high = to;
-    for _ in 0..usize::BITS {
-        if low >= high {
-            return Ok(low);
-        }
-        let middle = low.saturating_add(high.saturating_sub(low) / 2);
-        match try_out(alloc, first(tokens, middle.saturating_add(1)))? {
-            Trial::Fails => high = middle,
-            Trial::Whole | Trial::Begins => low = middle.saturating_add(1),
-        }
-    }
-    Ok(low)
-}
-
-/// The index of the symbol at this position; the number of the symbols where it is their end. One that is not in the text has a line
-/// alone, and is the first of its line that is refused.
-fn index_of(alloc: Global, tokens: &[Token], at: Position) -> Result<usize, AllocError> {
-    let count = tokens.len();
-    if let Some(place) = at.bytes().checked_sub(1) {
-        let there = tokens.iter().position(|token| token.place == Some(place));
-        return Ok(there.unwrap_or(count));
-    }
-    let line = at.line();
-    match tokens.iter().position(|token| token.line == line) {
-        Some(from) => {
-            let after = tokens
-                .iter()
-                .skip(from)
-                .position(|token| token.line != line);
-            let to = after.map_or(count, |lines| from.saturating_add(lines));
-            first_refused(alloc, tokens, from, to)
-        }
-        None => Ok(count),
-    }
-}
-
-/// The index of the symbol at which a section is refused, for its syntax or else for its names; or the number of the symbols, where
-/// the fault is at their end. The text is that of the section.
-pub fn refused_at(alloc: Global, text: &[u8], tokens: &[Token]) -> Result<usize, AllocError> {
-    let at = match parse_placed(alloc, tokens, Line::new(NO_LINE)) {
-        Err(Refused::Fault(fault)) => fault.at,
-        Err(_) => return Err(AllocError),
-        Ok(section) => {
-            let mut key = KeyMaker::new();
-            key.add_bytes(text);
-            match resolve_placed(alloc, &section, key.hashers()) {
-                Err(Refused::Fault(fault)) => fault.at,
-                Err(_) => return Err(AllocError),
-                Ok(_) => return Ok(tokens.len()),
-            }
-        }
-    };
-    index_of(alloc, tokens, at)
+    Ok(true)
 }
 
 /// A section, and the symbol that is refused.
@@ -134,9 +46,37 @@ pub struct Scene<'a> {
     pub at: usize,
     /// How many bytes of the text come before the `.` that ends the section, if one does.
     pub dot: Option<usize>,
+    /// What was read of the first so many symbols, with which a section begins.
+    base: Reader<'a>,
+    count: usize,
 }
 
 impl<'a> Scene<'a> {
+    /// A section with these symbols, of which the one with this index is refused. Before the `.` that ends it, if one does, come
+    /// `dot` bytes of the text.
+    pub fn new(
+        alloc: Global,
+        source: (&'a [u8], &'a Lines),
+        tokens: &'a [Token<'a>],
+        at: usize,
+        dot: Option<usize>,
+    ) -> Result<Scene<'a>, AllocError> {
+        let (text, lines) = source;
+        let count = at.saturating_sub(BACK);
+        let mut base = Reader::new(alloc);
+        let _is_read = read_all(&mut base, first(tokens, count))?;
+        Ok(Scene {
+            alloc,
+            text,
+            lines,
+            tokens,
+            at,
+            dot,
+            base,
+            count,
+        })
+    }
+
     /// The kind of a symbol.
     pub fn kind(&self, index: usize) -> Option<Kind> {
         match self.tokens.get(index) {
@@ -197,6 +137,11 @@ impl<'a> Scene<'a> {
         }
     }
 
+    /// Whether the refused symbol is a `;` that was inserted at the end of a line.
+    pub fn is_inserted_end(&self) -> bool {
+        self.is_inserted(self.at) && self.refused() == Some(Kind::Semicolon)
+    }
+
     /// The place of a symbol in the text, if it has one.
     pub fn place(&self, index: usize) -> Option<usize> {
         let place = self.tokens.get(index)?.place?;
@@ -242,13 +187,18 @@ impl<'a> Scene<'a> {
     /// Where the caret is for what is missing before the symbol that is refused: after the symbol before, where that is on
     /// another line.
     pub fn gap(&self) -> Option<usize> {
-        let before = self.back(1)?;
-        if self.refused().is_some() && self.line(before) == self.line(self.at) {
-            return self.spot(self.at);
+        self.gap_at(self.at)
+    }
+
+    /// The same for what is missing before a symbol.
+    pub fn gap_at(&self, index: usize) -> Option<usize> {
+        let before = index.checked_sub(1)?;
+        if self.kind(index).is_some() && self.line(before) == self.line(index) {
+            return self.spot(index);
         }
         match self.end_of(before) {
             Some(end) => Some(end),
-            None => self.spot(self.at),
+            None => self.spot(index),
         }
     }
 
@@ -273,14 +223,18 @@ impl<'a> Scene<'a> {
         to: usize,
         last: &[Kind],
     ) -> Result<bool, AllocError> {
-        let mut tokens = Vec::new(self.alloc);
-        tokens.extend_from_slice(first(self.tokens, count))?;
-        put_kinds(&mut tokens, extra)?;
-        let rest = first(self.tokens, to).get(from..).unwrap_or(&[]);
-        tokens.extend_from_slice(rest)?;
-        put_kinds(&mut tokens, last)?;
-        let trial = try_out(self.alloc, tokens.as_slice())?;
-        Ok(trial == Trial::Whole || (trial == Trial::Begins && to <= self.tokens.len()))
+        let (mut reader, start) = if count < self.count {
+            (Reader::new(self.alloc), 0)
+        } else {
+            (self.base.copy()?, self.count)
+        };
+        let before = first(self.tokens, count).get(start..).unwrap_or(&[]);
+        let after = first(self.tokens, to).get(from..).unwrap_or(&[]);
+        let is_read = read_all(&mut reader, before)?
+            && read_kinds(&mut reader, extra)?
+            && read_all(&mut reader, after)?
+            && read_kinds(&mut reader, last)?;
+        Ok(is_read && (to <= self.tokens.len() || reader.end()?))
     }
 
     /// Whether this symbol could be where one is refused.
@@ -307,6 +261,17 @@ impl<'a> Scene<'a> {
     pub fn means(&self, kind: Kind) -> Result<bool, AllocError> {
         let next = self.at.saturating_add(1);
         self.goes(self.at, &[kind], next, next.saturating_add(1))
+    }
+
+    /// Whether the symbol after the refused one is right without it.
+    pub fn is_needless(&self) -> Result<bool, AllocError> {
+        let at = if self.is_inserted(self.at) {
+            self.at.saturating_add(1)
+        } else {
+            self.at
+        };
+        let next = at.saturating_add(1);
+        Ok(next < self.tokens.len() && self.goes(self.at, &[], next, next.saturating_add(1))?)
     }
 
     /// Whether the symbol that is refused is right without the one at an index.
@@ -348,18 +313,20 @@ impl<'a> Scene<'a> {
 
     /// The sentence with the refused symbol after it.
     pub fn name_refused(&self, sentence: Sentence) -> Result<Sentence, AllocError> {
-        match self.tokens.get(self.at) {
+        self.name_at(self.at, sentence)
+    }
+
+    /// The sentence with a symbol after it; one that is inserted is named by the symbol after it.
+    pub fn name_at(&self, index: usize, sentence: Sentence) -> Result<Sentence, AllocError> {
+        match self.tokens.get(index) {
             None if self.dot.is_some() => sentence.say("the `.` that ends the section"),
             None => sentence.say("the end of the section"),
             Some(token) if token.place.is_some() => sentence.quote(token.text),
-            Some(token) if token.text.is_empty() => self.name_next(sentence),
-            Some(_) => sentence.say("the `GET` of ")?.line(self.line(self.at)),
+            Some(token) if token.text.is_empty() => {
+                sentence.quote(self.spelling(index.saturating_add(1)))
+            }
+            Some(_) => sentence.say("the `GET` of ")?.line(self.line(index)),
         }
-    }
-
-    /// The sentence with the symbol after an inserted one, which is refused.
-    fn name_next(&self, sentence: Sentence) -> Result<Sentence, AllocError> {
-        sentence.quote(self.spelling(self.at.saturating_add(1)))
     }
 
     /// These words at the refused symbol.
@@ -374,10 +341,7 @@ impl<'a> Scene<'a> {
 
     /// This sentence at a symbol.
     pub fn told(&self, index: usize, sentence: Sentence) -> Told {
-        Told {
-            at: self.spot(index),
-            sentence,
-        }
+        Told::at(self.spot(index), sentence)
     }
 }
 

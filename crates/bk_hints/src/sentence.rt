@@ -71,6 +71,8 @@ impl Sentence {
 pub struct Told {
     /// How many bytes of the text come before the place.
     pub at: Option<usize>,
+    /// The same of a second place, which the sentence names by its line.
+    pub also: Option<usize>,
     pub sentence: Sentence,
 }
 
@@ -79,7 +81,35 @@ impl Told {
     pub fn new(alloc: Global, at: Option<usize>, words: &str) -> Result<Told, AllocError> {
         Ok(Told {
             at,
+            also: None,
             sentence: Sentence::new(alloc).say(words)?,
+        })
+    }
+
+    /// This sentence at this place.
+    pub fn at(at: Option<usize>, sentence: Sentence) -> Told {
+        Told {
+            at,
+            also: None,
+            sentence,
+        }
+    }
+
+    /// The same with a second place.
+    pub fn and(self, also: Option<usize>) -> Told {
+        Told {
+            at: self.at,
+            also,
+            sentence: self.sentence,
+        }
+    }
+
+    /// The same with these words after the sentence.
+    pub fn say(self, words: &str) -> Result<Told, AllocError> {
+        Ok(Told {
+            at: self.at,
+            also: self.also,
+            sentence: self.sentence.say(words)?,
         })
     }
 }

@@ -13,7 +13,32 @@ struct Pair {
 }
 
 /// Pairs of which the second is refused.
-static PAIRS: [Pair; 17] = [
+static PAIRS: [Pair; 22] = [
+    Pair {
+        first: Kind::Plus,
+        second: Kind::Assign,
+        says: "`+:=` is no sign; write `X := X + E`",
+    },
+    Pair {
+        first: Kind::Minus,
+        second: Kind::Assign,
+        says: "`-:=` is no sign; write `X := X - E`",
+    },
+    Pair {
+        first: Kind::Star,
+        second: Kind::Assign,
+        says: "`*:=` is no sign; write `X := X * E`",
+    },
+    Pair {
+        first: Kind::Slash,
+        second: Kind::Assign,
+        says: "`/:=` is no sign; write `X := X / E`",
+    },
+    Pair {
+        first: Kind::Bang,
+        second: Kind::Assign,
+        says: "`!:=` is no sign; write `X := X!E`",
+    },
     Pair {
         first: Kind::Equal,
         second: Kind::Equal,
@@ -116,18 +141,57 @@ fn pair_at(scene: &Scene, index: usize) -> Option<&'static str> {
     None
 }
 
-/// Whether two signs that are one symbol in C come before the refused symbol, or at it.
-fn steps(scene: &Scene, kind: Kind) -> bool {
-    if scene.before(1) == Some(kind) && scene.before(2) == Some(kind) {
-        return scene.back(1).is_some_and(|index| scene.touches(index));
+/// The first two signs of this kind that touch each other in the command or definition of the refused symbol.
+fn steps(scene: &Scene, kind: Kind) -> Option<usize> {
+    for index in scene.statement()..scene.at {
+        let next = index.saturating_add(1);
+        if scene.kind(index) == Some(kind)
+            && scene.kind(next) == Some(kind)
+            && scene.touches(next)
+        {
+            return Some(index);
+        }
     }
-    false
+    None
 }
 
-/// These words at the first of the two symbols before the refused one.
-fn hint_step(scene: &Scene, words: &str) -> Result<Told, AllocError> {
-    let index = scene.at.saturating_sub(2);
-    Ok(scene.told(index, scene.sentence().say(words)?))
+/// What is reported of a sign of C that is two symbols before the refused one.
+fn hint_step(scene: &Scene, kind: Kind, words: &str) -> Result<Option<Told>, AllocError> {
+    match steps(scene, kind) {
+        Some(index) => Ok(Some(scene.told(index, scene.sentence().say(words)?))),
+        None => Ok(None),
+    }
+}
+
+/// What is reported of NOT where `~=` is meant, and of a number before a name.
+fn hint_apart(scene: &Scene) -> Result<Option<Told>, AllocError> {
+    if scene.refused() == Some(Kind::Not) && scene.behind() == Some(Kind::Equal) {
+        return Ok(Some(scene.here("`~=` (or `NE`) is unequal; `NOT =` is no sign")?));
+    }
+    hint_digits(scene)
+}
+
+/// What is reported of a number that a name follows at once.
+fn hint_digits(scene: &Scene) -> Result<Option<Told>, AllocError> {
+    let index = if scene.refused() == Some(Kind::Number) {
+        scene.at
+    } else {
+        scene.at.saturating_sub(1)
+    };
+    let next = index.saturating_add(1);
+    if scene.kind(index) != Some(Kind::Number)
+        || !matches!(scene.spelling(next), [first, ..] if first.is_ascii_alphabetic())
+        || !scene.touches(next)
+    {
+        return Ok(None);
+    }
+    let words = match (scene.spelling(index), scene.spelling(next)) {
+        (b"0", [b'x' | b'X', ..]) => {
+            "`#X` begins a hexadecimal number, as `#XFF`; `0x` is no sign"
+        }
+        _ => "a name begins with a letter, and a number has digits alone",
+    };
+    Ok(Some(scene.told(index, scene.sentence().say(words)?)))
 }
 
 /// What is reported of signs of other languages.
@@ -138,11 +202,11 @@ pub fn hint_signs(scene: &Scene) -> Result<Option<Told>, AllocError> {
     if let Some(says) = pair_at(scene, scene.at.saturating_add(1)) {
         return Ok(Some(scene.here(says)?));
     }
-    if steps(scene, Kind::Plus) {
-        return Ok(Some(hint_step(scene, "`++` is no sign; write `X := X + 1`")?));
+    if let Some(told) = hint_step(scene, Kind::Plus, "`++` is no sign; write `X := X + 1`")? {
+        return Ok(Some(told));
     }
-    if steps(scene, Kind::Minus) {
-        return Ok(Some(hint_step(scene, "`--` is no sign; write `X := X - 1`")?));
+    if let Some(told) = hint_step(scene, Kind::Minus, "`--` is no sign; write `X := X - 1`")? {
+        return Ok(Some(told));
     }
-    Ok(None)
+    hint_apart(scene)
 }

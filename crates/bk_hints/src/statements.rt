@@ -2,6 +2,7 @@
 
 use crate::brackets::OpenSections;
 use crate::commands::starts_operand;
+use crate::repair::begins_command;
 use crate::scene::Scene;
 use crate::sentence::Told;
 use bk_lex::Kind;
@@ -114,8 +115,19 @@ pub fn hint_items(scene: &Scene, opened: &OpenSections) -> Result<Option<Told>, 
     if matches!(
         scene.before(1),
         Some(Kind::Manifest | Kind::Static | Kind::Global)
-    ) {
-        return Ok(Some(scene.here("`$(` is missing: `MANIFEST $( N = E $)`")?));
+    ) && scene.behind() != Some(Kind::SectionOpen)
+    {
+        let word = scene.spelling(scene.at.saturating_sub(1));
+        let sentence = scene
+            .sentence()
+            .say("`$(` is missing: items go between brackets, as `")?
+            .spell(word)?;
+        let sentence = if scene.before(1) == Some(Kind::Global) {
+            sentence.say(" $( N:100 $)`")?
+        } else {
+            sentence.say(" $( N = 1 $)`")?
+        };
+        return Ok(Some(scene.told(scene.at, sentence)));
     }
     let Some(word) = list_word(scene, opened) else {
         return Ok(None);
@@ -125,11 +137,18 @@ pub fn hint_items(scene: &Scene, opened: &OpenSections) -> Result<Option<Told>, 
             "`VEC` goes only in a LET of a block; a STATIC has a constant for its value, and a vector's address is put there by `:=`"
         }
         Some(Kind::Comma) => "`;` goes between two items",
-        Some(Kind::Assign) => "an item has `=` before its value; `:=` assigns in a command",
+        Some(Kind::Assign) if scene.before(1) == Some(Kind::Name) =>
+            "an item has `=` before its value; `:=` assigns in a command",
         Some(Kind::SectionClose) if matches!(scene.before(1), Some(Kind::SectionOpen)) => {
             "at least one item goes between `$(` and `$)`"
         }
-        _ if scene.before(1) == Some(Kind::Name) && scene.takes(Kind::Colon)? => {
+        _
+            if scene.before(1) == Some(Kind::Name)
+                && !matches!(
+                    scene.behind(),
+                    Some(Kind::Colon | Kind::Equal | Kind::Assign)
+                )
+                && scene.takes(Kind::Colon)? => {
             return Ok(Some(hint_item(scene, word)?));
         }
         _ => return Ok(None),
@@ -168,7 +187,7 @@ pub fn hint_reserved(scene: &Scene) -> Result<Option<Told>, AllocError> {
         scene.before(1),
         Some(Kind::Let | Kind::And | Kind::For | Kind::Goto)
     );
-    if !is_sure && !names_thing(scene) {
+    if scene.behind() == Some(Kind::Name) || !is_sure && !names_thing(scene) {
         return Ok(None);
     }
     let sentence = scene
@@ -180,23 +199,24 @@ pub fn hint_reserved(scene: &Scene) -> Result<Option<Told>, AllocError> {
 
 /// Whether what is after the refused word goes on with a name.
 fn names_thing(scene: &Scene) -> bool {
-    matches!(
-        scene.behind(),
-        Some(
-            Kind::Equal
-                | Kind::Assign
-                | Kind::Comma
-                | Kind::Close
-                | Kind::Colon
-                | Kind::Semicolon
-                | Kind::Plus
-                | Kind::Star
-                | Kind::Slash
-                | Kind::Less
-                | Kind::Greater
-                | Kind::NotEqual
+    !scene.refused().is_some_and(begins_command)
+        && matches!(
+            scene.behind(),
+            Some(
+                Kind::Equal
+                    | Kind::Assign
+                    | Kind::Comma
+                    | Kind::Close
+                    | Kind::Colon
+                    | Kind::Semicolon
+                    | Kind::Plus
+                    | Kind::Star
+                    | Kind::Slash
+                    | Kind::Less
+                    | Kind::Greater
+                    | Kind::NotEqual
+            )
         )
-    )
 }
 
 /// What is reported of a definition that lacks its parentheses, its value or its body.
@@ -238,21 +258,49 @@ fn ends_command(scene: &Scene) -> bool {
     ) || scene.is_inserted(scene.at)
 }
 
+/// Whether a GOTO of the section names what a symbol does.
+fn is_label(scene: &Scene, index: usize) -> bool {
+    let name = scene.spelling(index);
+    for (i, token) in scene.tokens.iter().enumerate() {
+        if token.text.eq_ignore_ascii_case(name) && scene.before_at(i) == Some(Kind::Goto) {
+            return true;
+        }
+    }
+    false
+}
+
+/// What is reported of a name in the place of a command.
+pub fn hint_name(scene: &Scene) -> Result<Option<Told>, AllocError> {
+    let start = scene.statement();
+    let is_name = start.saturating_add(1) == scene.at && scene.kind(start) == Some(Kind::Name);
+    if !is_name || !ends_command(scene) || !scene.takes(Kind::Assign)? {
+        return Ok(None);
+    }
+    if !scene.is_inserted_end() && scene.is_needless()? {
+        return Ok(None);
+    }
+    let name = scene.spelling(start);
+    if is_label(scene, start) {
+        let sentence = scene
+            .sentence()
+            .say("`:` is missing after the label ")?
+            .quote(name)?;
+        return Ok(Some(scene.told(start, sentence)));
+    }
+    let sentence = scene
+        .sentence()
+        .say("a name alone is no command: `")?
+        .spell(name)?
+        .say("()` calls it")?;
+    Ok(Some(scene.told(start, sentence)))
+}
+
 /// What is reported of an expression in the place of a command, which is no call.
 pub fn hint_expression(scene: &Scene) -> Result<Option<Told>, AllocError> {
     if !ends_command(scene) || !scene.takes(Kind::Assign)? && !scene.takes(Kind::Plus)? {
         return Ok(None);
     }
     let start = scene.statement();
-    let is_name = start.saturating_add(1) == scene.at;
-    if is_name && scene.kind(start) == Some(Kind::Name) {
-        let sentence = scene
-            .sentence()
-            .say("a name alone is no command: `")?
-            .spell(scene.spelling(start))?
-            .say("()` calls it")?;
-        return Ok(Some(scene.told(start, sentence)));
-    }
     if starts_command_word(scene, start) {
         return Ok(None);
     }
@@ -305,10 +353,7 @@ pub fn hint_counts(scene: &Scene) -> Result<Option<Told>, AllocError> {
     let sentence = scene.sentence().say(
         "there are as many values as names or destinations; a `,` and a value are missing",
     )?;
-    Ok(Some(Told {
-        at: scene.gap(),
-        sentence,
-    }))
+    Ok(Some(Told::at(scene.gap(), sentence)))
 }
 
 /// What is reported of a name or an operand after another.

@@ -1,16 +1,20 @@
 //! What is reported of a symbol that is refused.
 
 use crate::brackets::{
-    OpenSections, hint_end, hint_extra, hint_glued, hint_late, hint_wrong_tag, open_sections,
+    OpenSections, hint_end, hint_extra, hint_glued, hint_late, hint_unclosed_before,
+    hint_wrong_tag, open_sections,
 };
-use crate::commands::{hint_choice, hint_else, hint_equal, hint_inserted, hint_misused, hint_test};
-use crate::due::{hint_due_here, hint_missing};
+use crate::changes::{hint_change, hint_closes};
+use crate::commands::{
+    hint_choice, hint_do, hint_else, hint_equal, hint_inserted, hint_misused, hint_test,
+};
+use crate::due::hint_due_here;
 use crate::foreign::hint_foreign;
 use crate::scene::Scene;
 use crate::sentence::Told;
 use crate::signs::hint_signs;
 use crate::statements::{
-    hint_arguments, hint_counts, hint_definition, hint_dot, hint_expression, hint_items,
+    hint_arguments, hint_counts, hint_definition, hint_dot, hint_expression, hint_items, hint_name,
     hint_outermost, hint_reserved,
 };
 use bk_base::SourceKind;
@@ -41,27 +45,36 @@ fn by_brackets(scene: &Scene, opened: &OpenSections) -> Result<Option<Told>, All
     first_of!(
         hint_end(scene, opened),
         hint_extra(scene, opened),
-        hint_late(scene, opened),
-        hint_outermost(scene, opened),
+        hint_unclosed_before(scene, opened),
         hint_items(scene, opened)
     )
 }
 
-/// What is reported by the declaration or the command that the symbol is in.
-fn by_statement(scene: &Scene) -> Result<Option<Told>, AllocError> {
+/// What is reported by the declaration or the command that the symbol is in, where people write it so.
+fn by_habit(scene: &Scene) -> Result<Option<Told>, AllocError> {
     first_of!(
         hint_reserved(scene),
         hint_definition(scene),
+        hint_inserted(scene),
+        hint_misused(scene),
+        hint_name(scene)
+    )
+}
+
+/// What is reported by the declaration or the command that the symbol is in, where no change of one symbol helps.
+fn by_statement(scene: &Scene, opened: &OpenSections) -> Result<Option<Told>, AllocError> {
+    first_of!(
+        hint_late(scene, opened),
+        hint_outermost(scene, opened),
+        hint_do(scene),
         hint_equal(scene),
         hint_else(scene),
         hint_test(scene),
-        hint_misused(scene),
         hint_choice(scene),
-        hint_inserted(scene),
         hint_counts(scene),
         hint_expression(scene),
-        hint_missing(scene),
-        hint_arguments(scene)
+        hint_arguments(scene),
+        hint_closes(scene)
     )
 }
 
@@ -71,7 +84,9 @@ fn hint_known(scene: &Scene) -> Result<Option<Told>, AllocError> {
     first_of!(
         by_spelling(scene),
         by_brackets(scene, &opened),
-        by_statement(scene)
+        by_habit(scene),
+        hint_change(scene, &opened),
+        by_statement(scene, &opened)
     )
 }
 
