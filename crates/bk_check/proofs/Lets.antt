@@ -51,13 +51,13 @@ one_more xs x ys ss is = ap (λ (zs : List f.Start). map start_in zs ++ ss) is �
     by (z ∷ zs) = ap (λ (rest : List Start). start_in z ∷ rest) (by zs)
 
 pub named_then : (p : Program) (is : Starts) (here : Environment) (names others : List (List ℕ)) (x : f.Start) (l l' : Let) (more : Vec f.Start Global) (w : World) →
-    l' ≡ l → names ≡ x.name.now ∷ others → more.items ≡ l'.starts.items ++ x ∷ [] →
+    l' ≡ l → names ≡ x.name.now.letters.items ∷ others → more.items ≡ l'.starts.items ++ x ∷ [] →
     starting_then p is here others (record l' { starts = more }) w ≡ with (with (starts (full p) is here w) (λ vs w. gives ((start_in x).value ∷ vs) w)) (λ vs w. started_then p l names vs w)
 named_then p is here names others x l l' more w same named is_more =
     with_each (starts (full p) is here w) _ _ (λ vs w.
     with_each (let_values (full p) (definitions_in l'.defs.now) (env_in l'.here) w) _ _ (λ ss w.
     ap (λ (zs : List Start). with (bind_variables zs (env_in l'.behind) w) (λ env w. declared_then p (declarations_in l'.decls.now) (commands_in l'.commands.now) env w))
     (one_more l'.starts.items x more.items (paired others vs ++ ss) is_more))
-    ∙ ap (λ (m : Let). started_then p m (x.name.now ∷ others) ((start_in x).value ∷ vs) w) same
+    ∙ ap (λ (m : Let). started_then p m (x.name.now.letters.items ∷ others) ((start_in x).value ∷ vs) w) same
     ∙ ap (λ (xs : List (List ℕ)). started_then p l xs ((start_in x).value ∷ vs) w) (sym named))
     ∙ sym (with_with (starts (full p) is here w) (λ vs w. gives ((start_in x).value ∷ vs) w) (λ vs w. started_then p l names vs w))

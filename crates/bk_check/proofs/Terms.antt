@@ -21,6 +21,7 @@ pub use Rattle.bk_objects.specs.Views.{cell_in, value_in}
 pub use Rattle.bk_objects.specs.declared.worth.Cell.{Cell}
 pub use Rattle.bk_objects.specs.declared.worth.Cell.TheVariants.{Holds}
 pub use Rattle.bk_objects.specs.declared.worth.Worth.{Worth}
+pub use Rattle.bk_objects.specs.declared.worth.Origin.TheVariants.{Argument}
 pub use Rattle.bk_objects.specs.declared.worth.Worth.TheVariants.{Unset}
 pub use Rattle.bk_tree.proofs.Lemmas.{Block_is, Constants_is, Let_is, Apply_is, Variables_is, Assign_is, Call_is, For_is}
 pub use Rattle.bk_tree.specs.Tree.{command_in, commands_in, declarations_in, block, Commands, Declaration, declaration, items_in, definitions_in, expression, starts_in, Command, Mention, Expression, Definition, Definitions, Starts, expressions_in, apply, mention, definition, variables, step_in, Expressions}

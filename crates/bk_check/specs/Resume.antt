@@ -165,7 +165,7 @@ lands p cs env x w = landing cs env (λ x w. (full p).scope cs (seeking (the_lab
 abbrev pub done_goes : Program → OnDone → Outcome Done → Outcome Given
 done_goes p (d.After cs env) u = tag done_tag (with u (λ _ w. in_order (full p) (commands_in cs.now) forwards (env_in env) w))
 done_goes p d.Body u = tag a_value (each_way (λ _ w. gives unset w) return_exit u)
-done_goes p d.Valof u = tag a_value (result_of u)
+done_goes p (d.Valof line) u = tag a_value (result_of u)
 done_goes p (d.Scope cs env) u = tag done_tag (each_way (λ _ w. done w) (lands p (commands_in cs.now) (env_in env)) u)
 done_goes p (d.Alone c env) u = tag done_tag (each_way (λ _ w. done w) (lands p (alone (command_in c.now)) (env_in env)) u)
 done_goes p d.Cases u = tag done_tag (ended_case u)
@@ -176,7 +176,7 @@ done_goes p (d.ForRound f) u = tag done_tag (again u (next_for p f))
 abbrev pub done_left : Program → OnDone → Exit → World → Outcome Given
 done_left p (d.After cs env) x w = leaves x w
 done_left p d.Body x w = tag a_value (return_exit x w)
-done_left p d.Valof x w = tag a_value (result_exit x w)
+done_left p (d.Valof line) x w = tag a_value (result_exit x w)
 done_left p (d.Scope cs env) x w = tag done_tag (lands p (commands_in cs.now) (env_in env) x w)
 done_left p (d.Alone c env) x w = tag done_tag (lands p (alone (command_in c.now)) (env_in env) x w)
 done_left p d.Cases x w = tag done_tag (case_exit x w)

@@ -27,7 +27,7 @@ mode_in None = q.forwards
 mode_in (Some s) = q.seeking (sought_in s)
 
 abbrev pub start_in : Start → k.Start
-start_in s = record { name = s.name.now; value = value_in s.value }
+start_in s = record { name = s.name.now.letters.items; value = value_in s.value }
 
 -- a program
 abbrev pub program_in : List Lasting → d.Program

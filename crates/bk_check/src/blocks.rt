@@ -220,8 +220,8 @@ fn bind_starts<'a>(
     let mut env = env;
     for start in starts {
         let object = store.made();
-        store.make(&[Cell::Holds(start.value)])?;
-        env = env.bind(alloc, start.name, Sense::Cell(object, 0))?;
+        store.make(&[Cell::Holds(start.value)], start.name.at)?;
+        env = env.bind(alloc, &start.name.letters, Sense::Cell(object, 0))?;
     }
     Ok(env)
 }
@@ -336,11 +336,11 @@ fn make_vector<'a>(
         (letters_in names.now) rest.entry.value (world m.old b))))) }
 {
     match last {
-        None => Ok(Next::Undefined(Subject::Expr(size), Reason::NoNumber(Worth::Unset))),
+        None => Ok(Next::Undefined(Subject::Expr(size), Reason::NoConstant)),
         Some(last) => {
             let object = m.store.made();
             let length = last as usize + 1;
-            m.store.make_unset(length)?;
+            m.store.make_unset(length, size.at())?;
             named(others, here, names, Worth::Address(object, 0), rest)
         }
     }
@@ -363,10 +363,7 @@ pub fn named<'a>(
         None => Ok(Next::Starts(inits, here, names, rest)),
         Some((first, others)) => {
             let mut rest = rest;
-            rest.starts.push(Start {
-                name: &first.letters,
-                value,
-            })?;
+            rest.starts.push(Start { name: first, value })?;
             Ok(Next::Starts(inits, here, others, rest))
         }
     }

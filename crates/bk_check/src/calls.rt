@@ -1,5 +1,6 @@
 //! Calls, of a procedure of the program and of a library routine.
 ghost use Rattle.std.specs.Prelude.{◌≡◌, IfOk, Some, map, slice_get, unwrap_or};
+ghost use Rattle.bk_objects.specs.declared.worth.Origin.TheVariants.{Argument};
 ghost use Rattle.bk_objects.specs.declared.worth.Worth.TheVariants.{Unset};
 ghost use Rattle.std.specs.Option.{option_map};
 ghost use Rattle.bk_meaning.specs.Environment.{Environment};
@@ -16,7 +17,7 @@ ghost use Rattle.bk_check.specs.Resume.{tag, a_value, Comes, resumed, outcome_ne
 use crate::frame::{Call, Continuation, Next, OnDone, Subject};
 use crate::machine::Evaluator;
 use bk_lasting::{Body, Env, Lasting, Procedure, Sense};
-use bk_objects::{Cell, Reason, Worth};
+use bk_objects::{Cell, Origin, Reason, Worth};
 use bk_tree::{Expr, Name, Position};
 use std::alloc::{AllocError, Global};
 
@@ -34,11 +35,11 @@ fn procedure<'a, 'p>(program: &'p [Lasting<'a>], number: u64) -> Option<&'p Proc
 
 /// An argument by its number, from 0; a missing one is unset.
 fn argument(values: &[Worth], i: usize) -> Worth
-    ensures { result ≡ unwrap_or (slice_get values.now i) Unset }
+    ensures { result ≡ unwrap_or (slice_get values.now i) (Unset Argument) }
 {
     match values.get(i) {
         Some(value) => *value,
-        None => Worth::Unset,
+        None => Worth::Unset(Origin::Argument),
     }
 }
 
@@ -87,6 +88,14 @@ fn body<'a>(m: &mut Evaluator<'a>, body: Body<'a>, env: Env<'a>) -> Result<Next<
     }
 }
 
+/// Where the first of formals is.
+fn formals_at(formals: &[Name]) -> Position {
+    match formals.first() {
+        Some(formal) => formal.at,
+        None => Position::first(),
+    }
+}
+
 /// A procedure that is called.
 #[inline(never)]
 fn enter<'a>(
@@ -102,7 +111,7 @@ fn enter<'a>(
     m.frames.push(Continuation::Closing(object))?;
     let env = bind_formals(m.alloc, object, procedure.formals, procedure.env.again()?)?;
     let cells = formal_cells(m.alloc, procedure.formals, &values)?;
-    m.store.make(&cells)?;
+    m.store.make(&cells, formals_at(procedure.formals))?;
     body(m, procedure.body, env)
 }
 
@@ -141,7 +150,7 @@ fn called<'a>(
         },
         Worth::Number(_) => Ok(no_procedure(at, expr, callee)),
         Worth::Address(_, _) => Ok(no_procedure(at, expr, callee)),
-        Worth::Unset => Ok(no_procedure(at, expr, callee)),
+        Worth::Unset(_) => Ok(no_procedure(at, expr, callee)),
     }
 }
 

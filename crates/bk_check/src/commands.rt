@@ -441,6 +441,6 @@ pub fn choose_case<'a>(
         Worth::Address(_, _) => Ok(Next::Undefined(Subject::Switch(expr), Reason::NoNumber(value))),
         Worth::Procedure(_) => Ok(Next::Undefined(Subject::Switch(expr), Reason::NoNumber(value))),
         Worth::Routine(_) => Ok(Next::Undefined(Subject::Switch(expr), Reason::NoNumber(value))),
-        Worth::Unset => Ok(Next::Undefined(Subject::Switch(expr), Reason::NoNumber(value))),
+        Worth::Unset(origin) => Ok(Next::Undefined(Subject::Switch(expr), Reason::Unset(origin))),
     }
 }

@@ -19,7 +19,7 @@ use crate::frame::{Continuation, For, Next, OnDone, Subject, Thing};
 use crate::machine::Evaluator;
 use bk_lasting::{Env, Sense};
 use bk_objects::{Cell, Computed, Location, Reason, Store, Worth, combine, put, read, truth_of};
-use bk_tree::{Command, Name, Operator};
+use bk_tree::{Command, Name, Operator, Position};
 use std::alloc::AllocError;
 
 /// What the test of a FOR gives.
@@ -128,7 +128,7 @@ pub fn begin_for<'a>(
         (env_in env.entry) w))))) }
 {
     match step {
-        None => Ok(Next::Undefined(Subject::Variable(name), Reason::NoNumber(start))),
+        None => Ok(Next::Undefined(Subject::Variable(name, 0, limit), Reason::NoConstant)),
         Some(step) => begin_by(m, name, env, start, limit, body, step),
     }
 }
@@ -150,7 +150,7 @@ fn begin_by<'a>(
 {
     let object = m.store.made();
     m.frames.push(Continuation::Closing(object))?;
-    make_one(&mut m.store, start)?;
+    make_one(&mut m.store, start, name.at)?;
     let inside = env.bind(m.alloc, &name.letters, Sense::Cell(object, 0))?;
     first_round(
         m,
@@ -166,10 +166,10 @@ fn begin_by<'a>(
 }
 
 /// An object of one cell.
-fn make_one(store: &mut Store, value: Worth) -> Result<(), AllocError>
+fn make_one(store: &mut Store, value: Worth, at: Position) -> Result<(), AllocError>
     ensures made { OnOk result (store.new ≡ made (holds (value_in value) ∷ []) store.old) }
 {
-    store.make(&[Cell::Holds(value)])
+    store.make(&[Cell::Holds(value)], at)
 }
 
 /// The test and the first round of a FOR.
@@ -186,8 +186,13 @@ fn first_round<'a>(m: &mut Evaluator<'a>, run: For<'a>) -> Result<Next<'a>, Allo
         } else {
             Ok(Next::Gives(Thing::Done))
         },
-        Tested::DivideByZero => Ok(Next::DivideByZero(Subject::Variable(run.name))),
-        Tested::Undefined(reason) => Ok(Next::Undefined(Subject::Variable(run.name), reason)),
+        Tested::DivideByZero => Ok(Next::DivideByZero(Subject::Variable(
+            run.name, run.object, run.limit,
+        ))),
+        Tested::Undefined(reason) => Ok(Next::Undefined(
+            Subject::Variable(run.name, run.object, run.limit),
+            reason,
+        )),
     }
 }
 
@@ -231,8 +236,13 @@ fn test_again<'a>(m: &mut Evaluator<'a>, run: For<'a>) -> Result<Next<'a>, Alloc
         } else {
             Ok(Next::Gives(Thing::Done))
         },
-        Tested::DivideByZero => Ok(Next::DivideByZero(Subject::Variable(run.name))),
-        Tested::Undefined(reason) => Ok(Next::Undefined(Subject::Variable(run.name), reason)),
+        Tested::DivideByZero => Ok(Next::DivideByZero(Subject::Variable(
+            run.name, run.object, run.limit,
+        ))),
+        Tested::Undefined(reason) => Ok(Next::Undefined(
+            Subject::Variable(run.name, run.object, run.limit),
+            reason,
+        )),
     }
 }
 
@@ -245,7 +255,12 @@ pub fn next_for<'a>(m: &mut Evaluator<'a>, run: For<'a>) -> Result<Next<'a>, All
 {
     match add_step(&mut m.store, run.object, run.step) {
         Stepped::Done => test_again(m, run),
-        Stepped::DivideByZero => Ok(Next::DivideByZero(Subject::Variable(run.name))),
-        Stepped::Undefined(reason) => Ok(Next::Undefined(Subject::Variable(run.name), reason)),
+        Stepped::DivideByZero => Ok(Next::DivideByZero(Subject::Variable(
+            run.name, run.object, run.limit,
+        ))),
+        Stepped::Undefined(reason) => Ok(Next::Undefined(
+            Subject::Variable(run.name, run.object, run.limit),
+            reason,
+        )),
     }
 }

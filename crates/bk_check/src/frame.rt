@@ -1,7 +1,7 @@
 //! What is still to be done.
 
 use bk_lasting::Env;
-use bk_objects::{Location, Reason, Routine, Worth};
+use bk_objects::{FormatPart, Location, Reason, Routine, Worth};
 use bk_tree::{Command, Decl, Def, Expr, Init, Name, Operator, Position, Prefix};
 
 /// What was given.
@@ -34,23 +34,44 @@ pub enum Sought<'a> {
     Default,
 }
 
-/// What an undefined act is done with.
+/// What an undefined act is done with, and the values that it has.
 #[derive(Clone, Copy)]
 pub enum Subject<'a> {
     /// The value or the place of an expression.
     Expr(&'a Expr),
+    /// A prefix before this value.
+    Prefixed(&'a Expr, Worth),
+    /// An operator between these values.
+    Operation(&'a Expr, Worth, Worth),
     /// The truth of an expression.
     Condition(&'a Expr),
     /// The value of the expression of a SWITCHON.
     Switch(&'a Expr),
-    /// The variable of a FOR.
-    Variable(&'a Name),
+    /// The variable of a FOR, the number of its object, and the limit.
+    Variable(&'a Name, u64, Worth),
     /// A call at this position, and what is called.
     Call(Position, &'a Expr),
-    /// A routine of the library, called at this position.
-    Library(Position, Routine),
+    /// A routine of the library, called at this position; the number of its argument, from 1; the directive that takes it, if one does.
+    Library(Position, Routine, usize, Option<FormatPart>),
     /// No part of the source.
     Nothing,
+}
+
+/// The values of the operands of an expression, as far as it has them.
+#[derive(Clone, Copy)]
+pub enum Operands {
+    None,
+    One(Worth),
+    Two(Worth, Worth),
+}
+
+/// An expression with its operands.
+pub fn subject_of<'a>(expr: &'a Expr, operands: Operands) -> Subject<'a> {
+    match operands {
+        Operands::None => Subject::Expr(expr),
+        Operands::One(x) => Subject::Prefixed(expr, x),
+        Operands::Two(x, y) => Subject::Operation(expr, x, y),
+    }
 }
 
 /// A call that is active.
@@ -140,8 +161,8 @@ pub enum OnDone<'a> {
     After(&'a [Command], Env<'a>),
     /// The body of a procedure with BE is done.
     Body,
-    /// The command of a VALOF is done.
-    Valof,
+    /// The command of a VALOF on this line is done.
+    Valof(u32),
     /// The commands of a scope.
     Scope(&'a [Command], Env<'a>),
     /// A scope with this one command.
@@ -182,7 +203,7 @@ pub struct For<'a> {
 /// A variable, and what it begins with.
 #[derive(Clone, Copy)]
 pub struct Start<'a> {
-    pub name: &'a [u8],
+    pub name: &'a Name,
     pub value: Worth,
 }
 

@@ -17,13 +17,13 @@ use crate::calls::call;
 use crate::commands::{assigned, choose_case, scope};
 use crate::fors::{begin_for, next_for};
 use crate::frame::{
-    Continuation, Exit, Next, OnDone, OnTarget, OnTruth, OnValue, Sought, Subject, Thing,
+    Continuation, Exit, Next, OnDone, OnTarget, OnTruth, OnValue, Operands, Sought, Subject, Thing,
 };
 use crate::loops::{further_round, next_round, round};
 use crate::machine::{Evaluator, came};
 use crate::seeking::{stands_in, stands_in_one};
 use bk_lasting::{Env, Lasting, count, count_command};
-use bk_objects::{Location, Reason, Worth, prefixed, put};
+use bk_objects::{Location, Origin, Reason, Worth, prefixed, put};
 use bk_tree::{Command, Expr};
 use std::alloc::AllocError;
 
@@ -39,8 +39,8 @@ fn with_value<'a>(
         (resumed (program_in program.now) m.old.frames.items (value_goes (program_in program.now) frame.entry (gives (value_in x) (world m.old b))))) }
 {
     match frame {
-        OnValue::Contents(expr) => Ok(m.fetched(expr, x)),
-        OnValue::Prefix(expr, prefix) => Ok(came(expr, prefixed(prefix, x))),
+        OnValue::Contents(expr) => Ok(m.fetched(expr, Operands::One(x), x)),
+        OnValue::Prefix(expr, prefix) => Ok(came(expr, Operands::One(x), prefixed(prefix, x))),
         OnValue::Left(expr, operator, b, env) => m.second(expr, operator, x, b, env),
         OnValue::Right(expr, operator, first) => Ok(m.combined(expr, operator, first, x)),
         OnValue::Judge(expr) => Ok(m.truth_given(expr, x)),
@@ -178,6 +178,33 @@ fn with_target<'a>(
     }
 }
 
+/// The line of the innermost call of a procedure, and the number of the procedure.
+fn innermost(m: &Evaluator) -> (u32, u32) {
+    for frame in m.frames.iter().rev() {
+        if let Continuation::Returned(call) = frame
+            && let Worth::Procedure(number) = call.callee
+        {
+            return (
+                call.at.line().number(),
+                u32::try_from(number).unwrap_or(u32::MAX),
+            );
+        }
+    }
+    (0, u32::MAX)
+}
+
+/// Where the value of a procedure comes from whose body is a command.
+fn of_body(m: &Evaluator) -> Origin {
+    let (line, number) = innermost(m);
+    Origin::Body(line, number)
+}
+
+/// Where the value of a VALOF on this line comes from that ended without RESULTIS.
+fn of_valof(m: &Evaluator, line: u32) -> Origin {
+    let (_, number) = innermost(m);
+    Origin::Valof(line, number)
+}
+
 /// What goes on after a command.
 #[inline(never)]
 fn with_done<'a>(m: &mut Evaluator<'a>, frame: OnDone<'a>) -> Result<Next<'a>, AllocError>
@@ -187,8 +214,8 @@ fn with_done<'a>(m: &mut Evaluator<'a>, frame: OnDone<'a>) -> Result<Next<'a>, A
 {
     match frame {
         OnDone::After(commands, env) => Ok(Next::InOrder(commands, None, env)),
-        OnDone::Body => Ok(Next::Gives(Thing::Value(Worth::Unset))),
-        OnDone::Valof => Ok(Next::Gives(Thing::Value(Worth::Unset))),
+        OnDone::Body => Ok(Next::Gives(Thing::Value(Worth::Unset(of_body(m))))),
+        OnDone::Valof(line) => Ok(Next::Gives(Thing::Value(Worth::Unset(of_valof(m, line))))),
         OnDone::Scope(_, _) => Ok(Next::Gives(Thing::Done)),
         OnDone::Alone(_, _) => Ok(Next::Gives(Thing::Done)),
         OnDone::Cases => Ok(Next::Gives(Thing::Done)),
@@ -211,14 +238,14 @@ fn with_exit<'a>(
     match frame {
         OnDone::After(_, _) => Ok(Next::Leaves(exit)),
         OnDone::Body => match exit {
-            Exit::Return => Ok(Next::Gives(Thing::Value(Worth::Unset))),
+            Exit::Return => Ok(Next::Gives(Thing::Value(Worth::Unset(of_body(m))))),
             Exit::Break => Ok(Next::Leaves(Exit::Break)),
             Exit::Loop => Ok(Next::Leaves(Exit::Loop)),
             Exit::EndCase => Ok(Next::Leaves(Exit::EndCase)),
             Exit::Goto(label) => Ok(Next::Leaves(Exit::Goto(label))),
             Exit::Result(x) => Ok(Next::Leaves(Exit::Result(x))),
         },
-        OnDone::Valof => match exit {
+        OnDone::Valof(_) => match exit {
             Exit::Result(x) => Ok(Next::Gives(Thing::Value(x))),
             Exit::Break => Ok(Next::Leaves(Exit::Break)),
             Exit::Loop => Ok(Next::Leaves(Exit::Loop)),

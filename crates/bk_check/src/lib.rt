@@ -13,6 +13,8 @@ mod seeking;
 mod steps;
 
 pub use calls::call;
-pub use frame::{Call, Continuation, Exit, Next, Subject, Thing};
+pub use frame::{
+    Call, Continuation, Exit, Next, OnDone, OnTarget, OnTruth, OnValue, Subject, Thing,
+};
 pub use machine::{Evaluator, acts_at};
 pub use steps::step;

@@ -20,12 +20,13 @@ ghost use Rattle.bk_check.specs.Resume.{tag, done_tag, a_value, a_truth, a_targe
 ghost use Rattle.bk_objects.specs.Views.{outcome_of};
 
 use crate::frame::{
-    Continuation, Next, OnDone, OnTarget, OnTruth, OnValue, Sought, Subject, Thing,
+    Continuation, Next, OnDone, OnTarget, OnTruth, OnValue, Operands, Sought, Subject, Thing,
+    subject_of,
 };
 use crate::seeking::stands_in;
 use bk_base::word;
 use bk_lasting::{Env, Sense, count, in_scope};
-use bk_objects::{Computed, Location, Reason, Store, Worth, combine, read, sum, truth_of};
+use bk_objects::{Computed, Location, Origin, Reason, Store, Worth, combine, read, sum, truth_of};
 use bk_tree::{Command, Expr, Operator, Position, Prefix};
 use std::alloc::{AllocError, Global};
 
@@ -42,14 +43,14 @@ pub struct Evaluator<'a> {
 }
 
 /// What an operation gave, as what comes next.
-pub fn came<'a>(expr: &'a Expr, came: Computed) -> Next<'a>
+pub fn came<'a>(expr: &'a Expr, operands: Operands, came: Computed) -> Next<'a>
     ensures { (p : Program) (m : Evaluator) (b : Bytes) → Comes p m.frames.items result (world m b)
         (resumed p m.frames.items (tag a_value (outcome_of came (world m b)))) }
 {
     match came {
         Computed::Value(worth) => Next::Gives(Thing::Value(worth)),
-        Computed::DivideByZero => Next::DivideByZero(Subject::Expr(expr)),
-        Computed::Undefined(reason) => Next::Undefined(Subject::Expr(expr), reason),
+        Computed::DivideByZero => Next::DivideByZero(subject_of(expr, operands)),
+        Computed::Undefined(reason) => Next::Undefined(subject_of(expr, operands), reason),
     }
 }
 
@@ -236,7 +237,9 @@ impl<'a> Evaluator<'a> {
             Expr::Truth { truth, .. } => Ok(Next::Gives(Thing::Value(Worth::Number(word::truth_of(
                 *truth,
             ))))),
-            Expr::Query { .. } => Ok(Next::Gives(Thing::Value(Worth::Unset))),
+            Expr::Query { at } => Ok(Next::Gives(Thing::Value(Worth::Unset(Origin::Query(
+                at.line().number(),
+            ))))),
             Expr::Text { .. } | Expr::Table { .. } => Ok(Next::Gives(Thing::Value(Worth::Address(
                 env.next, 0,
             )))),
@@ -277,16 +280,16 @@ impl<'a> Evaluator<'a> {
                 arguments: items,
                 ..
             } => self.apply(*sign, callee, items, env),
-            Expr::Valof { command, .. } => self.valof(command, env),
+            Expr::Valof { at, command } => self.valof(*at, command, env),
         }
     }
 
     /// What is at an address.
-    pub fn fetched(&self, expr: &'a Expr, at: Worth) -> Next<'a>
+    pub fn fetched(&self, expr: &'a Expr, operands: Operands, at: Worth) -> Next<'a>
         ensures { (p : Program) (b : Bytes) → Comes p self.now.frames.items result (world self.now b)
             (resumed p self.now.frames.items (tag a_value (Parts.fetch (value_in at) (world self.now b)))) }
     {
-        came(expr, read(&self.store, at))
+        came(expr, operands, read(&self.store, at))
     }
 
     /// An operator between two values.
@@ -295,7 +298,11 @@ impl<'a> Evaluator<'a> {
         ensures { (p : Program) (b : Bytes) → Comes p self.now.frames.items result (world self.now b)
             (resumed p self.now.frames.items (tag a_value (combination operator (value_in x) (value_in y) (world self.now b)))) }
     {
-        came(expr, combine(&self.store, operator, x, y))
+        came(
+            expr,
+            Operands::Two(x, y),
+            combine(&self.store, operator, x, y),
+        )
     }
 
     /// The truth of a value.
@@ -317,7 +324,7 @@ impl<'a> Evaluator<'a> {
     {
         match sum(&self.store, x, y) {
             Ok(at) => Next::Gives(Thing::Target(Location::Cell(at))),
-            Err(reason) => Next::Undefined(Subject::Expr(expr), reason),
+            Err(reason) => Next::Undefined(Subject::Operation(expr, x, y), reason),
         }
     }
 
@@ -328,7 +335,11 @@ impl<'a> Evaluator<'a> {
     {
         match sense {
             Some(Sense::Constant(word)) => Next::Gives(Thing::Value(Worth::Number(word))),
-            Some(Sense::Cell(object, offset)) => self.fetched(expr, Worth::Address(object, offset)),
+            Some(Sense::Cell(object, offset)) => self.fetched(
+                expr,
+                Operands::None,
+                Worth::Address(object, offset),
+            ),
             Some(Sense::Label) | Some(Sense::Foreign) | None => Next::Undefined(
                 Subject::Expr(expr),
                 Reason::NoPlace,
@@ -385,13 +396,19 @@ impl<'a> Evaluator<'a> {
 
     /// The command of a VALOF.
     #[inline(never)]
-    fn valof(&mut self, command: &'a Command, env: Env<'a>) -> Result<Next<'a>, AllocError>
+    fn valof(
+        &mut self,
+        at: Position,
+        command: &'a Command,
+        env: Env<'a>,
+    ) -> Result<Next<'a>, AllocError>
         ensures { IfOk result (λ next. (p : Program) (b : Bytes) →
             Comes p self.new.frames.items next (world self.new b)
             (resumed p self.old.frames.items (tag a_value (result_of
             (scope_of (full p) (alone (command_in command.now)) forwards (env_in env.entry) (world self.old b)))))) }
     {
-        self.frames.push(Continuation::Done(OnDone::Valof))?;
+        self.frames
+            .push(Continuation::Done(OnDone::Valof(at.line().number())))?;
         self.alone(command, None, env)
     }
 

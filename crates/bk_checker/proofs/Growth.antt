@@ -136,7 +136,7 @@ module _ (p : Program) where
   done_on : (k : OnDone) → Adds (λ w. done_goes p k (done w))
   done_on (d.After cs env) = tag_adds done_tag _ (ties_add _ _ (in_order_ties (full p) (full p) g (commands_in cs.now) forwards (env_in env)))
   done_on d.Body = tag_adds a_value _ (still unset)
-  done_on d.Valof = tag_adds a_value _ (still unset)
+  done_on (d.Valof line) = tag_adds a_value _ (still unset)
   done_on (d.Round c env) = tag_adds done_tag _ (ties_add _ _ (next_ties (command_in c.now) (env_in env)))
   done_on (d.ForRound k) = tag_adds done_tag _ (next_for_adds k)
   done_on x = tag_adds done_tag _ finished
@@ -150,7 +150,7 @@ module _ (p : Program) where
   left_on : (k : OnDone) (x : Exit) → Adds (λ w. done_left p k x w)
   left_on (d.After cs env) x = left x
   left_on d.Body x = tag_adds a_value _ (ties_add _ _ (return_ties (full p) (full p) g x))
-  left_on d.Valof x = tag_adds a_value _ (ties_add _ _ (result_ties (full p) (full p) g x))
+  left_on (d.Valof line) x = tag_adds a_value _ (ties_add _ _ (result_ties (full p) (full p) g x))
   left_on (d.Scope cs env) x = tag_adds done_tag _ (ties_add _ _ (landing_ties (full p) (full p) g (commands_in cs.now) (env_in env) _ _ (λ y. g.scope (commands_in cs.now) (seeking (the_label y)) (env_in env)) x))
   left_on (d.Alone c env) x = tag_adds done_tag _ (ties_add _ _ (landing_ties (full p) (full p) g (alone (command_in c.now)) (env_in env) _ _ (λ y. g.scope (alone (command_in c.now)) (seeking (the_label y)) (env_in env)) x))
   left_on d.Cases x = tag_adds done_tag _ (ties_add _ _ (case_exit_ties (full p) (full p) g x))

@@ -5,6 +5,7 @@ use Rattle.std.specs.Io.KnownBytes.{Consumes, Appends, Keeps}
 use Rattle.bk_meaning.specs.Memory.{Memory, read}
 use Rattle.std.specs.Global.{Global}
 use Rattle.bk_meaning.specs.Library.{takes_byte, library}
+use Rattle.bk_objects.specs.declared.worth.Origin.TheVariants as o
 use Rattle.bk_objects.specs.declared.worth.Routine.{Routine}
 use Rattle.bk_meaning.specs.Program.{Run, means, run_of, first_world, started, meaning}
 use Rattle.bk_meaning.specs.Turns.{shown, RunGoesOn}
@@ -235,7 +236,7 @@ module _ (p : Program) (m m' : Evaluator) (spot : ℕ) (r : Routine) (vs : Vec W
   }
 
   -- it writes a text
-  pub library_writes : (text : Vec ℕ Global) (old new : Devices) → e ≡ t.Writes text → Exchanged old new [] text.items → Moves p m (n.Library spot r vs) m' (n.Gives (g.Value w.Unset)) old new
+  pub library_writes : (text : Vec ℕ Global) (old new : Devices) → e ≡ t.Writes text → Exchanged old new [] text.items → Moves p m (n.Library spot r vs) m' (n.Gives (g.Value (w.Unset (o.Library r)))) old new
   library_writes text old new is exchanged = record {
     read = [];
     written = text.items;

@@ -83,6 +83,7 @@ fn no_start<O: ByteOut>(alloc: Global, out: &mut O) -> Result<Report, GivenUp>
     Ok(Report {
         verdict: Verdict::NoStart,
         at: Position::first(),
+        place: Vec::new(alloc),
         what: Vec::new(alloc),
         calls: Vec::new(alloc),
         remarks: Vec::new(alloc),

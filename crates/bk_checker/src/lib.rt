@@ -1,13 +1,26 @@
 //! The meaning of programs, run over devices: the verdict of a program, and what is reported to a person of it.
 #![tactic(auto)]
 
+mod acts;
+mod calls;
 mod checker;
 mod explain;
+mod made;
+mod mentions;
+mod misuse;
+mod names;
+mod operands;
+mod operations;
 mod remarks;
 mod report;
 mod run;
+mod source;
+mod spelling;
+mod values;
+mod words;
 
 pub use checker::check;
 pub use remarks::Remark;
 pub use report::{CheckFault, GivenUp, Report, Verdict};
 pub use run::{CELLS, FRAMES};
+pub use source::SourceTexts;

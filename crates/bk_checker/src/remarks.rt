@@ -1,10 +1,14 @@
 //! What is suspicious in a program that is accepted. No contract says anything of these texts, nor which things they are.
 
-use crate::explain::add;
+use crate::mentions::Names;
+use crate::spelling::add;
 use bk_base::word_text;
-use bk_tree::{Command, ConstItem, Decl, Def, Expr, Init, Position, Prefix, Section, Sort};
+use bk_tree::{
+    Command, ConstItem, Decl, Def, Expr, Init, Operator, Position, Prefix, Section, Sort,
+};
 use itoa::Buffer;
 use std::alloc::{AllocError, Global};
+use std::mem::replace;
 
 /// How many remarks there are at most.
 const REMARKS: usize = 10;
@@ -21,19 +25,29 @@ pub struct Remark {
     pub text: Vec<u8>,
 }
 
+/// The remarks so far.
+#[derive(Drop)]
+struct Found {
+    remarks: Vec<Remark>,
+    /// The names of the section.
+    names: Names,
+    /// Whether WRITEF is a procedure of the program itself, of which nothing is known.
+    own_writef: bool,
+}
+
 /// Adds a remark, if there is room for it.
 fn make_remark(
     alloc: Global,
-    found: &mut Vec<Remark>,
+    found: &mut Found,
     at: Position,
     pieces: &[&[u8]],
 ) -> Result<(), AllocError> {
-    if found.len() >= REMARKS {
+    if found.remarks.len() >= REMARKS {
         return Ok(());
     }
     let mut text = Vec::new(alloc);
     add(&mut text, pieces)?;
-    found.push(Remark { at, text })?;
+    found.remarks.push(Remark { at, text })?;
     Ok(())
 }
 
@@ -56,7 +70,7 @@ fn number(expr: &Expr) -> Option<i32> {
 /// A FOR whose command is never done.
 fn in_for(
     alloc: Global,
-    found: &mut Vec<Remark>,
+    found: &mut Found,
     at: Position,
     from: &Expr,
     to: &Expr,
@@ -132,7 +146,7 @@ fn plain_percent(format: &[u8]) -> Option<u8> {
 /// A call of WRITEF with a `%` that it writes as it is.
 fn in_format(
     alloc: Global,
-    found: &mut Vec<Remark>,
+    found: &mut Found,
     at: Position,
     callee: &Expr,
     arguments: &[Expr],
@@ -143,7 +157,7 @@ fn in_format(
     let [Expr::Text { bytes: format, .. }, ..] = arguments else {
         return Ok(());
     };
-    if name.as_slice() != b"WRITEF".as_slice() {
+    if found.own_writef || name.as_slice() != b"WRITEF".as_slice() {
         return Ok(());
     }
     match plain_percent(format) {
@@ -161,16 +175,95 @@ fn in_format(
     }
 }
 
+/// A `\` in a string that begins an escape in C.
+fn in_text(alloc: Global, found: &mut Found, at: Position, bytes: &[u8]) -> Result<(), AllocError> {
+    if bytes.windows(2).any(|pair| matches!(pair, b"\\n" | b"\\t")) {
+        return make_remark(
+            alloc,
+            found,
+            at,
+            &[b"`\\` begins no escape in a string: `*N` is the end of a line, and `*T` a tab"],
+        );
+    }
+    Ok(())
+}
+
+/// Whether an expression compares two others.
+fn compares(expr: &Expr) -> bool {
+    match expr {
+        Expr::Binary { operator, .. } => is_relation(*operator),
+        _ => false,
+    }
+}
+
+/// Whether an operator compares.
+fn is_relation(operator: Operator) -> bool {
+    matches!(
+        operator,
+        Operator::Equal
+            | Operator::Unequal
+            | Operator::Less
+            | Operator::Greater
+            | Operator::AtMost
+            | Operator::AtLeast
+    )
+}
+
+/// Whether an expression compares two numbers as they are written.
+fn compares_numbers(expr: &Expr) -> bool {
+    match expr {
+        Expr::Binary {
+            operator,
+            left,
+            right,
+            ..
+        } => is_relation(*operator) && number(left).is_some() && number(right).is_some(),
+        _ => false,
+    }
+}
+
+/// `&` or `|` whose operands are perhaps grouped otherwise than is meant.
+fn in_operands(alloc: Global, found: &mut Found, expr: &Expr) -> Result<(), AllocError> {
+    let Expr::Binary {
+        operator,
+        sign,
+        left,
+        right,
+        ..
+    } = expr
+    else {
+        return Ok(());
+    };
+    let operator = *operator;
+    let at = *sign;
+    if operator == Operator::Either && compares(left) && number(right).is_some() {
+        return make_remark(
+            alloc,
+            found,
+            at,
+            &[b"`X = A | B` groups as `(X = A) | B`; `X = A | X = B` compares with both"],
+        );
+    }
+    if operator == Operator::Both && compares_numbers(right) && !compares(left) {
+        return make_remark(
+            alloc,
+            found,
+            at,
+            &[b"`X & A = B` groups as `X & (A = B)`; `(X & A) = B` compares what `&` gives"],
+        );
+    }
+    Ok(())
+}
+
 /// What is suspicious in an expression.
 #[cycle(remarks)]
-fn in_expr(alloc: Global, found: &mut Vec<Remark>, expr: &Expr) -> Result<(), AllocError> {
+fn in_expr(alloc: Global, found: &mut Found, expr: &Expr) -> Result<(), AllocError> {
     match expr {
-        Expr::Name { .. }
-        | Expr::Number { .. }
-        | Expr::Text { .. }
-        | Expr::Truth { .. }
-        | Expr::Query { .. }
-        | Expr::Table { .. } => Ok(()),
+        Expr::Text { at, bytes } => in_text(alloc, found, *at, bytes),
+        Expr::Name { at, letters } => found.names.note(letters, *at, None),
+        Expr::Number { .. } | Expr::Truth { .. } | Expr::Query { .. } | Expr::Table { .. } => Ok(
+            (),
+        ),
         Expr::Parens { inside, .. } => in_expr(alloc, found, inside),
         Expr::Unary { operand, .. } => in_expr(alloc, found, operand),
         Expr::Binary {
@@ -178,6 +271,7 @@ fn in_expr(alloc: Global, found: &mut Vec<Remark>, expr: &Expr) -> Result<(), Al
             right: b,
             ..
         } => {
+            in_operands(alloc, found, expr)?;
             in_expr(alloc, found, a)?;
             in_expr(alloc, found, b)
         }
@@ -197,17 +291,32 @@ fn in_expr(alloc: Global, found: &mut Vec<Remark>, expr: &Expr) -> Result<(), Al
             arguments,
             ..
         } => {
-            in_format(alloc, found, *sign, callee, arguments)?;
-            in_expr(alloc, found, callee)?;
+            in_call(alloc, found, *sign, callee, arguments)?;
             in_exprs(alloc, found, arguments)
         }
         Expr::Valof { command, .. } => in_command(alloc, found, command),
     }
 }
 
+/// What is suspicious in a call.
+#[cycle(remarks)]
+fn in_call(
+    alloc: Global,
+    found: &mut Found,
+    at: Position,
+    callee: &Expr,
+    arguments: &[Expr],
+) -> Result<(), AllocError> {
+    in_format(alloc, found, at, callee, arguments)?;
+    match callee {
+        Expr::Name { at, letters } => found.names.note(letters, *at, Some(arguments.len())),
+        _ => in_expr(alloc, found, callee),
+    }
+}
+
 /// What is suspicious in some expressions.
 #[cycle(remarks)]
-fn in_exprs(alloc: Global, found: &mut Vec<Remark>, exprs: &[Expr]) -> Result<(), AllocError> {
+fn in_exprs(alloc: Global, found: &mut Found, exprs: &[Expr]) -> Result<(), AllocError> {
     for expr in exprs {
         in_expr(alloc, found, expr)?;
     }
@@ -216,7 +325,7 @@ fn in_exprs(alloc: Global, found: &mut Vec<Remark>, exprs: &[Expr]) -> Result<()
 
 /// What is suspicious in a command.
 #[cycle(remarks)]
-fn in_command(alloc: Global, found: &mut Vec<Remark>, command: &Command) -> Result<(), AllocError> {
+fn in_command(alloc: Global, found: &mut Found, command: &Command) -> Result<(), AllocError> {
     match command {
         Command::Empty | Command::Goto { .. } | Command::Simple { .. } => Ok(()),
         Command::Assign {
@@ -232,14 +341,15 @@ fn in_command(alloc: Global, found: &mut Vec<Remark>, command: &Command) -> Resu
             callee,
             arguments,
         } => {
-            in_format(alloc, found, *at, callee, arguments)?;
-            in_expr(alloc, found, callee)?;
+            in_call(alloc, found, *at, callee, arguments)?;
             in_exprs(alloc, found, arguments)
         }
-        Command::Label { body, .. }
-        | Command::Case { body, .. }
-        | Command::Default { body, .. }
-        | Command::Repeat { body, .. } => in_command(alloc, found, body),
+        Command::Label { at, letters, body } => {
+            found.names.declare(letters, *at, None)?;
+            in_command(alloc, found, body)
+        }
+        Command::Case { body, .. } | Command::Default { body, .. } | Command::Repeat { body, .. } =>
+            in_command(alloc, found, body),
         Command::If {
             condition: value,
             body,
@@ -266,6 +376,7 @@ fn in_command(alloc: Global, found: &mut Vec<Remark>, command: &Command) -> Resu
         }
         Command::For {
             at,
+            name,
             from,
             to,
             by,
@@ -273,6 +384,7 @@ fn in_command(alloc: Global, found: &mut Vec<Remark>, command: &Command) -> Resu
             ..
         } => {
             in_for(alloc, found, *at, from, to, by)?;
+            found.names.declare(&name.letters, name.at, None)?;
             in_expr(alloc, found, from)?;
             in_expr(alloc, found, to)?;
             in_command(alloc, found, body)
@@ -299,11 +411,7 @@ fn in_command(alloc: Global, found: &mut Vec<Remark>, command: &Command) -> Resu
 
 /// What is suspicious in some commands.
 #[cycle(remarks)]
-fn in_commands(
-    alloc: Global,
-    found: &mut Vec<Remark>,
-    commands: &[Command],
-) -> Result<(), AllocError> {
+fn in_commands(alloc: Global, found: &mut Found, commands: &[Command]) -> Result<(), AllocError> {
     for command in commands {
         in_command(alloc, found, command)?;
     }
@@ -312,11 +420,12 @@ fn in_commands(
 
 /// What is suspicious in declarations and in what they define.
 #[cycle(remarks)]
-fn in_decls(alloc: Global, found: &mut Vec<Remark>, decls: &[Decl]) -> Result<(), AllocError> {
+fn in_decls(alloc: Global, found: &mut Found, decls: &[Decl]) -> Result<(), AllocError> {
     twice(alloc, found, decls)?;
     for decl in decls {
-        if let Decl::Let { defs, .. } = decl {
-            in_defs(alloc, found, defs)?;
+        match decl {
+            Decl::Let { defs, .. } => in_defs(alloc, found, defs)?,
+            Decl::Constants { items, .. } => found.names.declare_items(items)?,
         }
     }
     Ok(())
@@ -324,7 +433,7 @@ fn in_decls(alloc: Global, found: &mut Vec<Remark>, decls: &[Decl]) -> Result<()
 
 /// What is suspicious in the definitions of a LET.
 #[cycle(remarks)]
-fn in_defs(alloc: Global, found: &mut Vec<Remark>, defs: &[Def]) -> Result<(), AllocError> {
+fn in_defs(alloc: Global, found: &mut Found, defs: &[Def]) -> Result<(), AllocError> {
     for def in defs {
         in_def(alloc, found, def)?;
     }
@@ -333,17 +442,38 @@ fn in_defs(alloc: Global, found: &mut Vec<Remark>, defs: &[Def]) -> Result<(), A
 
 /// What is suspicious in a definition.
 #[cycle(remarks)]
-fn in_def(alloc: Global, found: &mut Vec<Remark>, def: &Def) -> Result<(), AllocError> {
+fn in_def(alloc: Global, found: &mut Found, def: &Def) -> Result<(), AllocError> {
     match def {
-        Def::Routine { body, .. } => in_command(alloc, found, body),
-        Def::Function { body, .. } => in_expr(alloc, found, body),
-        Def::Variables { inits, .. } => in_inits(alloc, found, inits),
+        Def::Routine {
+            at,
+            letters,
+            formals,
+            body,
+        } => {
+            found.names.declare(letters, *at, Some(formals.len()))?;
+            found.names.declare_all(formals)?;
+            in_command(alloc, found, body)
+        }
+        Def::Function {
+            at,
+            letters,
+            formals,
+            body,
+        } => {
+            found.names.declare(letters, *at, Some(formals.len()))?;
+            found.names.declare_all(formals)?;
+            in_expr(alloc, found, body)
+        }
+        Def::Variables { names, inits, .. } => {
+            found.names.declare_all(names)?;
+            in_inits(alloc, found, inits)
+        }
     }
 }
 
 /// What is suspicious in what variables begin with.
 #[cycle(remarks)]
-fn in_inits(alloc: Global, found: &mut Vec<Remark>, inits: &[Init]) -> Result<(), AllocError> {
+fn in_inits(alloc: Global, found: &mut Found, inits: &[Init]) -> Result<(), AllocError> {
     for init in inits {
         if let Init::Value(value) = init {
             in_expr(alloc, found, value)?;
@@ -411,7 +541,7 @@ fn place_of_last(defs: &[&Def], name: &[u8]) -> Option<Position> {
 /// A remark on a procedure with the name of one on another line.
 fn remark_twice<'a>(
     alloc: Global,
-    found: &mut Vec<Remark>,
+    found: &mut Found,
     at: Position,
     name: &'a [u8],
     before: &'a [u8],
@@ -425,7 +555,7 @@ fn remark_twice<'a>(
 }
 
 /// Remarks on procedures of a block, or of a section, that have the name of one not far before them.
-fn twice(alloc: Global, found: &mut Vec<Remark>, decls: &[Decl]) -> Result<(), AllocError> {
+fn twice(alloc: Global, found: &mut Found, decls: &[Decl]) -> Result<(), AllocError> {
     let all = defs_of(alloc, decls)?;
     for (i, def) in all.iter().enumerate() {
         if let Some(defined) = procedure(def)
@@ -456,11 +586,11 @@ fn declares_start(decl: &Decl) -> bool {
     }
 }
 
-/// The position of the procedure START, if it is among these definitions.
-fn start_in(defs: &[Def]) -> Option<Position> {
+/// The position of the procedure of this name, if it is among these definitions.
+fn place_in(defs: &[Def], name: &[u8]) -> Option<Position> {
     for def in defs {
         if let Some(defined) = procedure(def)
-            && defined.name == b"START".as_slice()
+            && defined.name == name
         {
             return Some(defined.at);
         }
@@ -468,34 +598,140 @@ fn start_in(defs: &[Def]) -> Option<Position> {
     None
 }
 
-/// A remark on a procedure START that is no global.
-fn local_start(alloc: Global, found: &mut Vec<Remark>, decls: &[Decl]) -> Result<(), AllocError> {
+/// The position of a procedure among these declarations.
+fn defined_in(decls: &[Decl], name: &[u8]) -> Option<Position> {
     for decl in decls {
-        if declares_start(decl) {
-            return Ok(());
-        }
         if let Decl::Let { defs, .. } = decl
-            && let Some(at) = start_in(defs)
+            && let Some(at) = place_in(defs, name)
         {
-            return make_remark(
-                alloc,
-                found,
-                at,
-                &[
-                    b"`START` is no global here, so no run begins with it; `GET \"LIBHDR\"` before it makes it one",
-                ],
-            );
+            return Some(at);
         }
+    }
+    None
+}
+
+/// Whether a section has a procedure START that is a global.
+fn begins(section: &Section) -> bool {
+    section.decls().iter().any(declares_start) && defined_in(section.decls(), b"START").is_some()
+}
+
+/// A remark on a procedure START that is no global, or on MAIN where there is no START.
+fn no_start(alloc: Global, found: &mut Found, decls: &[Decl]) -> Result<(), AllocError> {
+    if let Some(at) = defined_in(decls, b"START") {
+        return make_remark(
+            alloc,
+            found,
+            at,
+            &[
+                b"`START` is no global here, so no run begins with it; `GET \"LIBHDR\"` before it makes it one",
+            ],
+        );
+    }
+    match defined_in(decls, b"MAIN") {
+        Some(at) => make_remark(
+            alloc,
+            found,
+            at,
+            &[b"a run begins with `START`, and not with `MAIN`"],
+        ),
+        None => Ok(()),
+    }
+}
+
+/// A remark on a procedure that is no global and that nothing in its section names.
+fn remark_unused<'a>(
+    alloc: Global,
+    found: &mut Found,
+    at: Position,
+    name: &'a [u8],
+) -> Result<(), AllocError> {
+    make_remark(
+        alloc,
+        found,
+        at,
+        &[b"nothing calls `", name, b"`, which is no global"],
+    )
+}
+
+/// A remark on a call with more arguments than the procedure has formals.
+fn remark_arguments<'a>(
+    alloc: Global,
+    found: &mut Found,
+    at: Position,
+    name: &'a [u8],
+    counts: (usize, usize),
+) -> Result<(), AllocError> {
+    let (arguments, formals) = counts;
+    let mut given = Buffer::new();
+    let mut taken = Buffer::new();
+    make_remark(
+        alloc,
+        found,
+        at,
+        &[
+            b"`",
+            name,
+            b"` is called with ",
+            given.format(arguments).as_bytes(),
+            b" arguments, and takes ",
+            taken.format(formals).as_bytes(),
+        ],
+    )
+}
+
+/// Remarks on the procedure that the declaration with this index is, where nothing calls it, or a call gives it too many arguments. One
+/// whose name means something else elsewhere in the section is not looked at, since a call may be of that.
+fn on_procedure(
+    alloc: Global,
+    found: &mut Found,
+    names: &Names,
+    index: usize,
+) -> Result<(), AllocError> {
+    let Some((at, formals)) = names.own_procedure(index) else {
+        return Ok(());
+    };
+    let name = names.name_of(index);
+    let mut is_used = false;
+    for i in 0..names.uses() {
+        if let Some((there, arguments)) = names.use_of(i, name) {
+            is_used = true;
+            if arguments > formals {
+                remark_arguments(alloc, found, there, name, (arguments, formals))?;
+            }
+        }
+    }
+    if is_used {
+        return Ok(());
+    }
+    remark_unused(alloc, found, at, name)
+}
+
+/// Remarks on the procedures of a section.
+fn on_procedures(alloc: Global, found: &mut Found, names: &Names) -> Result<(), AllocError> {
+    for i in 0..names.declarations() {
+        on_procedure(alloc, found, names, i)?;
     }
     Ok(())
 }
 
-/// What is suspicious in the sections of a program, in the order of the source: ten remarks at most.
+/// What is suspicious in the sections of a program, in the order of the source within each kind: ten remarks at most.
 pub fn remarks_on(alloc: Global, sections: &[Section]) -> Result<Vec<Remark>, AllocError> {
-    let mut found = Vec::new(alloc);
+    let own_writef = sections
+        .iter()
+        .any(|section| defined_in(section.decls(), b"WRITEF").is_some());
+    let mut found = Found {
+        remarks: Vec::new(alloc),
+        names: Names::new(alloc),
+        own_writef,
+    };
+    let has_start = sections.iter().any(begins);
     for section in sections {
-        local_start(alloc, &mut found, section.decls())?;
+        if !has_start {
+            no_start(alloc, &mut found, section.decls())?;
+        }
         in_decls(alloc, &mut found, section.decls())?;
+        let names = replace(&mut found.names, Names::new(alloc));
+        on_procedures(alloc, &mut found, &names)?;
     }
-    Ok(found)
+    Ok(found.remarks)
 }

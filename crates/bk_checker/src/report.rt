@@ -83,9 +83,12 @@ pub struct Report {
     pub verdict: Verdict,
     /// Where in the source the run stopped; its first line where it ended.
     pub at: Position,
+    /// The number of its line and its column, as `4:36`; empty where the text is not at hand.
+    pub place: Vec<u8>,
     /// What went wrong there, without the end of the line; nothing where the program ends with a status.
     pub what: Vec<u8>,
-    /// The calls that were active, a line each, innermost first: ten at most.
+    /// The line of the source with a caret, where the text is at hand; then the calls that were active, a line each, innermost first:
+    /// ten at most.
     pub calls: Vec<u8>,
     /// What is suspicious in the source, in its order: ten things at most.
     pub remarks: Vec<Remark>,

@@ -1,5 +1,5 @@
 //! Runs of the meaning over devices.
-ghost use Rattle.std.specs.Prelude.{◌≡◌, ℕ, true, IfOk, IfErr, OnOk, OnErr, List};
+ghost use Rattle.std.specs.Prelude.{◌≡◌, ℕ, true, false, IfOk, IfErr, OnOk, OnErr, List, []};
 ghost use Rattle.std.specs.Io.KnownBytes.{Keeps};
 ghost use Rattle.bk_base.specs.Devices.{Begins};
 ghost use Rattle.bk_meaning.specs.World.{World};
@@ -15,7 +15,7 @@ use crate::report::{CheckFault, Verdict};
 use bk_base::{ByteIn, ByteOut, put_all};
 use bk_check::{Evaluator, Next, Subject, Thing, step};
 use bk_lasting::{Lasting, constant};
-use bk_objects::{Effect, Routine, Worth, perform};
+use bk_objects::{Effect, Origin, Routine, Worth, perform};
 use bk_tree::{Init, Position};
 
 /// How many frames are at most on the stack of a check.
@@ -47,6 +47,7 @@ fn ask<I: ByteIn, O: ByteOut>(input: &mut I, out: &mut O) -> Result<u32, CheckFa
     ensures still { OnErr result (Keeps (I.left input.old) (I.left input.new) × (I.ended input.new ≡ I.ended input.old)
         × Keeps (O.taken out.old) (O.taken out.new)) }
     ensures passes { Begins (O.passed out.old) (O.passed out.new) }
+    ensures flushed_first { I.held input.old ≡ [] → I.ended input.old ≡ false → OnOk result (O.passed out.new ≡ O.taken out.new) }
     ensures sound { OnOk result ((I.faults input.new ≡ I.faults input.old) × (O.faults out.new ≡ O.faults out.old)) }
     ensures cause { IfErr result (λ fault. Blames fault (I.faults input.old) (I.faults input.new) (O.faults out.old) (O.faults out.new)) }
 {
@@ -87,10 +88,13 @@ fn library<'a, I: ByteIn, O: ByteOut>(
             if put_all(out, &text).is_err() {
                 return Err(CheckFault::Write);
             }
-            Ok(Next::Gives(Thing::Value(Worth::Unset)))
+            Ok(Next::Gives(Thing::Value(Worth::Unset(Origin::Library(routine)))))
         }
         Effect::Gives(x) => Ok(Next::Gives(Thing::Value(x))),
-        Effect::Undefined(reason) => Ok(Next::Undefined(Subject::Library(at, routine), reason)),
+        Effect::Undefined(misuse) => Ok(Next::Undefined(
+            Subject::Library(at, routine, misuse.argument, misuse.directive),
+            misuse.reason,
+        )),
     }
 }
 

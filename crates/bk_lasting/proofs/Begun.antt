@@ -6,6 +6,7 @@ use Rattle.bk_meaning.specs.Lasting as m
 use Rattle.bk_objects.specs.declared.worth.Cell.{Cell}
 use Rattle.bk_objects.specs.declared.worth.Cell.TheVariants.{Holds}
 use Rattle.bk_objects.specs.declared.worth.Worth.TheVariants.{Number, Unset}
+use Rattle.bk_objects.specs.declared.worth.Origin.TheVariants.{Never}
 use Rattle.bk_lasting.proofs.Bound.{one_further}
 
 -- the procedures that are left, once the first of them has set its global
@@ -53,10 +54,10 @@ resized cells n len count x is sum =
     ∙ ap (λ xs. map cell_in cells ++ xs) (copies count x)
 
 pub globals_unset : (cells : List Cell) (len : ℕ) → map cell_in cells ≡ library_cells → len ≡ length cells
-    → map cell_in (take 1000 cells ++ replicate (1000 - len) (Holds Unset)) ≡ library_cells ++ replicate 988 (holds unset)
+    → map cell_in (take 1000 cells ++ replicate (1000 - len) (Holds (Unset Never))) ≡ library_cells ++ replicate 988 (holds unset)
 globals_unset cells len library is =
     let twelve : length cells ≡ 12 = sym (length-map cells cell_in) ∙ ap length library in
-    resized cells 1000 len 988 (Holds Unset) is (omega arith) ∙ ap (λ xs. xs ++ replicate 988 (holds unset)) library
+    resized cells 1000 len 988 (Holds (Unset Never)) is (omega arith) ∙ ap (λ xs. xs ++ replicate 988 (holds unset)) library
 
 -- all elements of a vector are replaced
 pub written_whole : (new items : List Cell) (len : ℕ) → length new ≡ length items → len ≡ length items → take len (new ++ drop (length new) items) ≡ new

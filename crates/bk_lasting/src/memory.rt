@@ -8,14 +8,15 @@ ghost use Rattle.bk_lasting.specs.Views.{lasting_in};
 
 use crate::program::Lasting;
 use bk_base::limit::GLOBAL_NUMBER;
-use bk_objects::{Cell, Routine, Store, Worth};
+use bk_objects::{Cell, Origin, Routine, Store, Worth};
+use bk_tree::Position;
 use std::alloc::{AllocError, Global};
 
 /// How many cells the global vector has.
 const GLOBALS: usize = GLOBAL_NUMBER as usize + 1;
 
 /// A cell in which nothing was set.
-const UNSET: Cell = Cell::Holds(Worth::Unset);
+const UNSET: Cell = Cell::Holds(Worth::Unset(Origin::Never));
 
 /// The cell of a routine of the library.
 fn routine_cell(which: Routine) -> Cell
@@ -111,9 +112,9 @@ fn make_entry(store: &mut Store, global: Option<u32>) -> Result<(), AllocError>
     match global {
         None => {
             let cell = procedure_cell(store.made());
-            store.make(&[cell])
+            store.make(&[cell], Position::first())
         }
-        Some(_) => store.make(&[]),
+        Some(_) => store.make(&[], Position::first()),
     }
 }
 
@@ -127,8 +128,8 @@ fn make_object(
     ensures { OnOk result (store.new ≡ store.old ++ object_of (map lasting_in program.now) (length store.old) (lasting_in lasting.now) ∷ []) }
 {
     match lasting {
-        Lasting::Globals => store.make(&global_cells(alloc, program)?),
-        Lasting::Words(words) => store.make(&word_cells(alloc, words)?),
+        Lasting::Globals => store.make(&global_cells(alloc, program)?, Position::first()),
+        Lasting::Words(words) => store.make(&word_cells(alloc, words)?, Position::first()),
         Lasting::Code(procedure) => make_entry(store, procedure.global),
     }
 }

@@ -31,7 +31,7 @@ value_in (w.Number n) = v.number n
 value_in (w.Address o i) = v.address o i
 value_in (w.Procedure n) = v.procedure n
 value_in (w.Routine which) = v.routine (routine_in which)
-value_in w.Unset = v.unset
+value_in (w.Unset from) = v.unset
 
 abbrev pub cell_in : Cell → v.Cell
 cell_in (c.Holds x) = v.holds (value_in x)

@@ -9,29 +9,24 @@ ghost use Rattle.bk_meaning.specs.Parts as p;
 ghost use Rattle.bk_objects.specs.Views.{value_in, cell_in, place_in};
 
 use crate::computed::Reason;
-use crate::operators::no_cell;
 use crate::store::Store;
 use crate::worth::{Cell, Location, Worth};
 use bk_base::word;
 
-/// The byte at a place from 0 to 3.
-fn byte_in(cell: Cell, i: u32) -> Result<u8, Reason>
+/// The byte at a place from 0 to 3, if it is set.
+fn byte_in(cell: Cell, i: u32) -> Option<u8>
     requires { i < 4 }
-    ensures { result_ok result ≡ v.byte_in (cell_in cell) i }
+    ensures { result ≡ v.byte_in (cell_in cell) i }
 {
     match cell {
-        Cell::Holds(Worth::Number(n)) => Ok(word::byte(n, i)),
-        Cell::Holds(Worth::Unset) => Err(Reason::NotSet(Worth::Unset)),
-        Cell::Holds(worth) => Err(Reason::NoNumber(worth)),
-        Cell::Places(a, b, c, d) => {
-            let byte = match i {
-                0 => a,
-                1 => b,
-                2 => c,
-                _ => d,
-            };
-            byte.ok_or(Reason::NotSet(Worth::Unset))
-        }
+        Cell::Holds(Worth::Number(n)) => Some(word::byte(n, i)),
+        Cell::Holds(_) => None,
+        Cell::Places(a, b, c, d) => match i {
+            0 => a,
+            1 => b,
+            2 => c,
+            _ => d,
+        },
     }
 }
 
@@ -47,8 +42,8 @@ pub fn read_byte(store: &Store, at: Worth, i: Worth) -> Result<u8, Reason>
     };
     let offset = word::sum(offset, word::distance_of_byte(i));
     match store.cell(object, offset) {
-        Some(cell) => byte_in(cell, word::place_of_byte(i)),
-        None => Err(no_cell(store, object, offset)),
+        Some(cell) => byte_in(cell, word::place_of_byte(i)).ok_or(Reason::Byte(at, i)),
+        None => Err(Reason::Byte(at, i)),
     }
 }
 
@@ -99,7 +94,7 @@ fn with_byte(cell: Cell, i: u32, byte: u8) -> Option<Cell>
         Cell::Holds(Worth::Number(n)) => Some(Cell::Holds(Worth::Number(word::with_byte(
             n, i, byte,
         )))),
-        Cell::Holds(Worth::Unset) => Some(set_among(None, None, None, None, i, byte)),
+        Cell::Holds(Worth::Unset(_)) => Some(set_among(None, None, None, None, i, byte)),
         Cell::Holds(_) => None,
         Cell::Places(a, b, c, d) => Some(set_among(a, b, c, d, i, byte)),
     }
@@ -116,7 +111,7 @@ pub fn write(store: &mut Store, at: Worth, x: Worth) -> Result<(), Reason>
     if store.set(object, offset, Cell::Holds(x)) {
         Ok(())
     } else {
-        Err(no_cell(store, object, offset))
+        Err(Reason::Cell(at))
     }
 }
 
@@ -129,22 +124,22 @@ pub fn write_byte(store: &mut Store, at: Worth, i: Worth, x: Worth) -> Result<()
         return Err(Reason::NoNumber(i));
     };
     let Worth::Number(x) = x else {
-        return Err(Reason::NoNumber(x));
+        return Err(Reason::NoByte(x));
     };
     let Worth::Address(object, offset) = at else {
         return Err(Reason::NoAddress(at));
     };
     let offset = word::sum(offset, word::distance_of_byte(i));
     let Some(cell) = store.cell(object, offset) else {
-        return Err(no_cell(store, object, offset));
+        return Err(Reason::Byte(at, i));
     };
     let Some(cell) = with_byte(cell, word::place_of_byte(i), (x % 256) as u8) else {
-        return Err(Reason::PartlySet);
+        return Err(Reason::Byte(at, i));
     };
     if store.set(object, offset, cell) {
         Ok(())
     } else {
-        Err(no_cell(store, object, offset))
+        Err(Reason::Byte(at, i))
     }
 }
 

@@ -11,8 +11,9 @@ mod text;
 mod worth;
 
 pub use bytes::{put, read_byte, write, write_byte};
-pub use computed::{Computed, Reason};
+pub use computed::{Computed, Misuse, Reason};
+pub use format::Part as FormatPart;
 pub use library::{Effect, perform};
 pub use operators::{calculated, combine, prefixed, read, sum, truth_of};
 pub use store::Store;
-pub use worth::{Cell, Location, Routine, Worth};
+pub use worth::{Cell, Location, Origin, Routine, Worth};

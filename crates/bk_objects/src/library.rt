@@ -1,16 +1,16 @@
 //! What the routines of the library do.
 ghost use Rattle.std.specs.Prelude.{◌≡◌, IfOk, OnErr, map};
 ghost use Rattle.bk_meaning.specs.Values as v;
-ghost use Rattle.bk_meaning.specs.World.{World, remembering};
+ghost use Rattle.bk_meaning.specs.World.{World, remembering, undefined};
 ghost use Rattle.bk_meaning.specs.Library.{library};
 ghost use Rattle.bk_objects.specs.Views.{routine_in, value_in};
 ghost use Rattle.bk_objects.specs.Texts.{outcome_in};
 
 use crate::bytes::{read_byte, write_byte};
-use crate::computed::Reason;
+use crate::computed::{Misuse, Reason};
 use crate::store::Store;
 use crate::text::{add_aligned, add_digits, add_format, add_string};
-use crate::worth::{Routine, Worth};
+use crate::worth::{Origin, Routine, Worth};
 use std::alloc::{AllocError, Global};
 
 /// What a routine does.
@@ -25,7 +25,27 @@ pub enum Effect {
     /// It gives this value.
     Gives(Worth),
     /// It is undefined.
-    Undefined(Reason),
+    Undefined(Misuse),
+}
+
+/// An argument, by its number from 1, with which a call is undefined.
+fn misuse(argument: usize, reason: Reason) -> Effect
+    ensures { (w : World) → outcome_in result w ≡ undefined }
+{
+    Effect::Undefined(Misuse {
+        argument,
+        directive: None,
+        reason,
+    })
+}
+
+/// The number of the argument with which a routine for bytes is undefined, from 1.
+fn byte_argument(reason: Reason) -> usize {
+    match reason {
+        Reason::NoNumber(_) => 2,
+        Reason::NoByte(_) => 3,
+        _ => 1,
+    }
 }
 
 /// STOP ends the program with a status.
@@ -33,9 +53,9 @@ fn stop(arguments: &[Worth]) -> Effect
     ensures { (w : World) → outcome_in result w ≡ library v.stop (map value_in arguments.now) w }
 {
     match arguments {
-        [] => Effect::Undefined(Reason::Argument),
+        [] => misuse(1, Reason::Argument),
         [Worth::Number(status), ..] => Effect::Stops(*status),
-        [x, ..] => Effect::Undefined(Reason::NoNumber(*x)),
+        [x, ..] => misuse(1, Reason::NoNumber(*x)),
     }
 }
 
@@ -44,13 +64,13 @@ fn wrch(alloc: Global, arguments: &[Worth]) -> Result<Effect, AllocError>
     ensures { IfOk result (λ effect. (w : World) → outcome_in effect w ≡ library v.wrch (map value_in arguments.now) w) }
 {
     match arguments {
-        [] => Ok(Effect::Undefined(Reason::Argument)),
+        [] => Ok(misuse(1, Reason::Argument)),
         [Worth::Number(number), ..] => {
             let mut text = Vec::new(alloc);
             text.push((*number % 256) as u8)?;
             Ok(Effect::Writes(text))
         }
-        [x, ..] => Ok(Effect::Undefined(Reason::NoNumber(*x))),
+        [x, ..] => Ok(misuse(1, Reason::NoNumber(*x))),
     }
 }
 
@@ -59,12 +79,12 @@ fn writes(alloc: Global, store: &Store, arguments: &[Worth]) -> Result<Effect, A
     ensures { IfOk result (λ effect. (w : World) → w.memory ≡ store.now → outcome_in effect w ≡ library v.writes (map value_in arguments.now) w) }
 {
     let Some(at) = arguments.first() else {
-        return Ok(Effect::Undefined(Reason::Argument));
+        return Ok(misuse(1, Reason::Argument));
     };
     let mut text = Vec::new(alloc);
     match add_string(store, *at, &mut text)? {
         Ok(()) => Ok(Effect::Writes(text)),
-        Err(reason) => Ok(Effect::Undefined(reason)),
+        Err(reason) => Ok(misuse(1, reason)),
     }
 }
 
@@ -73,13 +93,13 @@ fn writen(alloc: Global, arguments: &[Worth]) -> Result<Effect, AllocError>
     ensures { IfOk result (λ effect. (w : World) → outcome_in effect w ≡ library v.writen (map value_in arguments.now) w) }
 {
     match arguments {
-        [] => Ok(Effect::Undefined(Reason::Argument)),
+        [] => Ok(misuse(1, Reason::Argument)),
         [Worth::Number(number), ..] => {
             let mut text = Vec::new(alloc);
             add_digits(*number, &mut text)?;
             Ok(Effect::Writes(text))
         }
-        [x, ..] => Ok(Effect::Undefined(Reason::NoNumber(*x))),
+        [x, ..] => Ok(misuse(1, Reason::NoNumber(*x))),
     }
 }
 
@@ -88,14 +108,14 @@ fn writed(alloc: Global, arguments: &[Worth]) -> Result<Effect, AllocError>
     ensures { IfOk result (λ effect. (w : World) → outcome_in effect w ≡ library v.writed (map value_in arguments.now) w) }
 {
     match arguments {
-        [] | [_] => Ok(Effect::Undefined(Reason::Argument)),
+        [] | [_] => Ok(misuse(arguments.len().saturating_add(1), Reason::Argument)),
         [Worth::Number(number), Worth::Number(width), ..] => {
             let mut text = Vec::new(alloc);
             add_aligned(*number, *width, &mut text)?;
             Ok(Effect::Writes(text))
         }
-        [Worth::Number(_), x, ..] => Ok(Effect::Undefined(Reason::NoNumber(*x))),
-        [x, _, ..] => Ok(Effect::Undefined(Reason::NoNumber(*x))),
+        [Worth::Number(_), x, ..] => Ok(misuse(2, Reason::NoNumber(*x))),
+        [x, _, ..] => Ok(misuse(1, Reason::NoNumber(*x))),
     }
 }
 
@@ -106,9 +126,9 @@ fn getbyte(store: &Store, arguments: &[Worth]) -> Effect
     match arguments {
         [at, i, ..] => match read_byte(store, *at, *i) {
             Ok(byte) => Effect::Gives(Worth::Number(u32::from(byte))),
-            Err(reason) => Effect::Undefined(reason),
+            Err(reason) => misuse(byte_argument(reason), reason),
         },
-        _ => Effect::Undefined(Reason::Argument),
+        _ => misuse(arguments.len().saturating_add(1), Reason::Argument),
     }
 }
 
@@ -118,10 +138,10 @@ fn putbyte(store: &mut Store, arguments: &[Worth]) -> Effect
 {
     match arguments {
         [at, i, byte, ..] => match write_byte(store, *at, *i, *byte) {
-            Ok(()) => Effect::Gives(Worth::Unset),
-            Err(reason) => Effect::Undefined(reason),
+            Ok(()) => Effect::Gives(Worth::Unset(Origin::Library(Routine::Putbyte))),
+            Err(reason) => misuse(byte_argument(reason), reason),
         },
-        _ => Effect::Undefined(Reason::Argument),
+        _ => misuse(arguments.len().saturating_add(1), Reason::Argument),
     }
 }
 
@@ -130,16 +150,16 @@ fn writef(alloc: Global, store: &Store, arguments: &[Worth]) -> Result<Effect, A
     ensures { IfOk result (λ effect. (w : World) → w.memory ≡ store.now → outcome_in effect w ≡ library v.writef (map value_in arguments.now) w) }
 {
     let Some((at, others)) = arguments.split_first() else {
-        return Ok(Effect::Undefined(Reason::Argument));
+        return Ok(misuse(1, Reason::Argument));
     };
     let mut format = Vec::new(alloc);
     if let Err(reason) = add_string(store, *at, &mut format)? {
-        return Ok(Effect::Undefined(reason));
+        return Ok(misuse(1, reason));
     }
     let mut text = Vec::new(alloc);
     match add_format(store, &format, others, &mut text)? {
         Ok(()) => Ok(Effect::Writes(text)),
-        Err(reason) => Ok(Effect::Undefined(reason)),
+        Err(misuse) => Ok(Effect::Undefined(misuse)),
     }
 }
 

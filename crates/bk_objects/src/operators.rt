@@ -58,18 +58,15 @@ pub fn calculated(operator: Operator, x: u32, y: u32) -> Option<u32>
 
 /// Why no operator for numbers has a value here.
 fn no_numbers(x: Worth, y: Worth) -> Reason {
-    match (x, y) {
-        (Worth::Unset, _) | (_, Worth::Unset) => Reason::NotSet(Worth::Unset),
-        (Worth::Number(_), _) => Reason::NoNumber(y),
-        _ => Reason::NoNumber(x),
+    if let Worth::Unset(origin) = x {
+        return Reason::Unset(origin);
     }
-}
-
-/// Why there is no cell at an address.
-pub fn no_cell(store: &Store, object: u64, offset: u32) -> Reason {
-    match store.size(object) {
-        None => Reason::Dead,
-        Some(size) => Reason::Outside(offset, size),
+    if let Worth::Unset(origin) = y {
+        return Reason::Unset(origin);
+    }
+    match x {
+        Worth::Number(_) => Reason::NoNumber(y),
+        _ => Reason::NoNumber(x),
     }
 }
 
@@ -81,9 +78,9 @@ pub fn read(store: &Store, at: Worth) -> Computed
         return Computed::Undefined(Reason::NoAddress(at));
     };
     match store.cell(object, offset) {
-        None => Computed::Undefined(no_cell(store, object, offset)),
-        Some(Cell::Places(_, _, _, _)) => Computed::Undefined(Reason::PartlySet),
-        Some(Cell::Holds(Worth::Unset)) => Computed::Undefined(Reason::NotSet(at)),
+        None => Computed::Undefined(Reason::Cell(at)),
+        Some(Cell::Places(_, _, _, _)) => Computed::Undefined(Reason::Cell(at)),
+        Some(Cell::Holds(Worth::Unset(_))) => Computed::Undefined(Reason::Cell(at)),
         Some(Cell::Holds(worth)) => Computed::Value(worth),
     }
 }
@@ -108,8 +105,10 @@ fn within(store: &Store, object: u64, offset: u32) -> Result<(), Reason>
     ensures { is_ok result ≡ o.within store.now object offset }
 {
     match store.size(object) {
-        None => Err(Reason::Dead),
-        Some(size) if offset as usize > size => Err(Reason::Outside(offset, size)),
+        None => Err(Reason::Beyond(Worth::Address(object, offset))),
+        Some(size) if offset as usize > size => {
+            Err(Reason::Beyond(Worth::Address(object, offset)))
+        }
         Some(_) => Ok(()),
     }
 }
@@ -121,7 +120,7 @@ pub fn truth_of(store: &Store, x: Worth) -> Result<bool, Reason>
     match x {
         Worth::Number(n) => Ok(n != 0),
         Worth::Procedure(_) | Worth::Routine(_) => Ok(true),
-        Worth::Unset => Err(Reason::NotSet(Worth::Unset)),
+        Worth::Unset(origin) => Err(Reason::Unset(origin)),
         Worth::Address(object, offset) => {
             within(store, object, offset)?;
             Ok(true)
@@ -135,7 +134,7 @@ fn living(store: &Store, object: u64, offset: u32) -> Result<Worth, Reason>
 {
     match store.size(object) {
         Some(_) => Ok(Worth::Address(object, offset)),
-        None => Err(Reason::Dead),
+        None => Err(Reason::Beyond(Worth::Address(object, offset))),
     }
 }
 
@@ -164,7 +163,7 @@ fn one(store: &Store, a: u64, b: u64) -> Result<(), Reason>
     }
     match store.size(a) {
         Some(_) => Ok(()),
-        None => Err(Reason::Dead),
+        None => Err(Reason::Beyond(Worth::Address(a, 0))),
     }
 }
 

@@ -1,5 +1,5 @@
 //! Memory.
-ghost use Rattle.std.specs.Prelude.{◌≡◌, ◌≢◌, ◌-◌, ◌<◌, ◌≤◌, Some, None, IfSome, IfNone, OnOk, OnErr, All, length, map, replicate, [], if◌then◌else◌};
+ghost use Rattle.std.specs.Prelude.{◌≡◌, ◌≢◌, ◌-◌, ◌<◌, ◌≤◌, Some, None, IfSome, IfNone, IfOk, OnOk, OnErr, All, length, map, replicate, [], if◌then◌else◌};
 ghost use Rattle.std.specs.Bool.{OnFalse};
 ghost use Rattle.std.specs.List.{HoldsAt, AllWithin};
 ghost use Rattle.std.specs.Option.{option_map};
@@ -8,18 +8,66 @@ ghost use Rattle.bk_meaning.specs.Memory as m;
 ghost use Rattle.bk_objects.specs.Views.{cell_in};
 ghost use Rattle.bk_objects.specs.Memories.{Grow, Within, found};
 
-use crate::worth::{Cell, Worth};
+use crate::worth::{Cell, Origin, Worth};
+use bk_tree::Position;
 use std::alloc::{AllocError, Global};
 use std::marker::Model;
+
+/// Of how many dead objects it is kept where they were made.
+const GRAVES: usize = 1024;
 
 /// An object that lives.
 #[derive(Clone, Copy)]
 struct Life {
     number: u64,
     /// Where its cells begin among all.
-    start: usize,
+    start: u32,
     /// How many cells it has.
-    len: usize,
+    len: u32,
+    /// What the source makes it by.
+    at: Position,
+}
+
+/// An object that is dead, and what the source made it by.
+#[derive(Clone, Copy)]
+struct Grave {
+    number: u64,
+    at: Position,
+}
+
+/// Keeps where the objects from a place on were made, in the place of others where there are many.
+fn bury(graves: &mut Vec<Grave>, lives: &[Life], from: usize) {
+    for life in lives.iter().skip(from) {
+        let grave = Grave {
+            number: life.number,
+            at: life.at,
+        };
+        if graves.len() < GRAVES {
+            // Where memory is refused, less is known of the dead.
+            let _kept = graves.push(grave);
+        } else if let Some(other) = graves.get_mut((life.number % GRAVES as u64) as usize) {
+            *other = grave;
+        }
+    }
+}
+
+/// The same number.
+fn whole(count: u32) -> usize
+    ensures { result ≡ count }
+{
+    count as usize
+}
+
+/// An object with so many cells, from this one on. Cells are refused from 2^32 on.
+fn placed(number: u64, start: usize, len: usize, at: Position) -> Result<Life, AllocError>
+    ensures { IfOk result (λ life. (life.number ≡ number) × (life.start ≡ start) × (life.len ≡ len)) }
+{
+    Ok(Life {
+        number,
+        start: u32::try_from(start).map_err(|_| AllocError)?,
+        len: u32::try_from(len).map_err(|_| AllocError)?,
+        at,
+    })
 }
 
 /// Where an object is among those that live.
@@ -43,8 +91,8 @@ fn cells_of<'a>(lives: &[Life], cells: &'a [Cell], object: u64) -> Option<&'a [C
     ensures { option_map (λ part. map cell_in part.now) result ≡ m.cells_of (Some (found cells.now lives.now object)) }
 {
     let life = lives[place(lives, object)?];
-    let (_, behind) = cells.split_at(life.start);
-    let (own, _) = behind.split_at(life.len);
+    let (_, behind) = cells.split_at(whole(life.start));
+    let (own, _) = behind.split_at(whole(life.len));
     Some(own)
 }
 
@@ -70,6 +118,8 @@ pub struct Store {
     cells: Vec<Cell>,
     /// How many objects were made.
     made: u64,
+    /// Some of the objects that are dead.
+    graves: Vec<Grave>,
 }
 
 impl Model for Store {
@@ -93,6 +143,7 @@ impl Store {
             lives: Vec::new(alloc),
             cells: Vec::new(alloc),
             made: 0,
+            graves: Vec::new(alloc),
         }
     }
 
@@ -119,39 +170,50 @@ impl Store {
         Some(cells_of(&self.lives, &self.cells, object)?.len())
     }
 
-    /// Makes an object of these cells. Memory may be refused, and so is an object after the number 2^64 - 2.
-    pub fn make(&mut self, cells: &[Cell]) -> Result<(), AllocError>
+    /// Makes an object of these cells, for this part of the source. Memory may be refused, and so is an object after the number
+    /// 2^64 - 2, and a cell after the first 2^32.
+    pub fn make(&mut self, cells: &[Cell], at: Position) -> Result<(), AllocError>
         ensures made { OnOk result (self.new ≡ m.made (map cell_in cells.now) self.old) }
         ensures unchanged { OnErr result (self.new ≡ self.old) }
     {
         let next = self.made.checked_add(1).ok_or(AllocError)?;
         let start = self.cells.len();
+        let life = placed(self.made, start, cells.len(), at)?;
         self.cells.extend_from_slice(cells)?;
-        let number = self.made;
-        let len = cells.len();
-        self.lives.push(Life { number, start, len })?;
+        self.lives.push(life)?;
         self.made = next;
         Ok(())
     }
 
-    /// Makes an object of so many cells that hold nothing set. Memory may be refused, and so is an object after the
-    /// number 2^64 - 2.
-    pub fn make_unset(&mut self, count: usize) -> Result<(), AllocError>
+    /// Makes an object of so many cells that hold nothing set. What `make` refuses is refused.
+    pub fn make_unset(&mut self, count: usize, at: Position) -> Result<(), AllocError>
         ensures made { OnOk result (self.new ≡ m.made (replicate count (holds unset)) self.old) }
         ensures unchanged { OnErr result (self.new ≡ self.old) }
     {
         let next = self.made.checked_add(1).ok_or(AllocError)?;
         let start = self.cells.len();
         let end = start.checked_add(count).ok_or(AllocError)?;
-        self.cells.resize(end, Cell::Holds(Worth::Unset))?;
-        let number = self.made;
-        self.lives.push(Life {
-            number,
-            start,
-            len: count,
-        })?;
+        let life = placed(self.made, start, count, at)?;
+        self.cells
+            .resize(end, Cell::Holds(Worth::Unset(Origin::Never)))?;
+        self.lives.push(life)?;
         self.made = next;
         Ok(())
+    }
+
+    /// What the source made an object by, if the object lives or this is kept of it.
+    pub fn made_at(&self, object: u64) -> Option<Position> {
+        for life in &self.lives {
+            if life.number == object {
+                return Some(life.at);
+            }
+        }
+        for grave in &self.graves {
+            if grave.number == object {
+                return Some(grave.at);
+            }
+        }
+        None
     }
 
     /// How many cells take memory. The meaning does not know this number.
@@ -165,7 +227,8 @@ impl Store {
     {
         let count = left(&self.lives, from);
         if count < self.lives.len() {
-            let start = self.lives[count].start;
+            let start = whole(self.lives[count].start);
+            bury(&mut self.graves, &self.lives, count);
             self.cells.truncate(start);
             self.lives.truncate(count);
         }
@@ -180,10 +243,11 @@ impl Store {
             return false;
         };
         let life = self.lives[place];
-        if offset as usize >= life.len {
+        if offset >= life.len {
             return false;
         }
-        self.cells[life.start + offset as usize] = cell;
+        let start = whole(life.start);
+        self.cells[start + offset as usize] = cell;
         true
     }
 }

@@ -8,7 +8,7 @@ ghost use Rattle.bk_objects.specs.Views.{value_in};
 ghost use Rattle.bk_objects.specs.Texts.{Adds, part_in};
 
 use crate::bytes::read_byte;
-use crate::computed::Reason;
+use crate::computed::{Misuse, Reason};
 use crate::format::{Part, further, part_at};
 use crate::store::Store;
 use crate::worth::Worth;
@@ -143,13 +143,13 @@ fn add_part<'a>(
     }
 }
 
-/// Adds what a format writes of arguments.
+/// Adds what a format, the first argument, writes of those after it.
 pub fn add_format(
     store: &Store,
     format: &[u8],
     arguments: &[Worth],
     text: &mut Vec<u8>,
-) -> Result<Result<(), Reason>, AllocError>
+) -> Result<Result<(), Misuse>, AllocError>
     ensures { IfOk result (Adds text.old.items text.new.items (written store.now (parts format.now) (map value_in arguments.now))) }
 {
     let mut rest = format;
@@ -158,7 +158,13 @@ pub fn add_format(
         let part = part_at(*byte, behind);
         match add_part(store, part, left, text)? {
             Ok(others) => left = others,
-            Err(reason) => return Ok(Err(reason)),
+            Err(reason) => {
+                return Ok(Err(Misuse {
+                    argument: arguments.len().saturating_sub(left.len()).saturating_add(2),
+                    directive: Some(part),
+                    reason,
+                }));
+            }
         }
         rest = &behind[further(part).min(behind.len())..];
     }

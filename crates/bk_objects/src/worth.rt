@@ -25,6 +25,23 @@ pub enum Routine {
     Writef,
 }
 
+/// Where a value that was never set comes from.
+#[derive(Clone, Copy, Debug, PartialEq, Eq)]
+pub enum Origin {
+    /// A word of a vector or a global to which nothing was assigned.
+    Never,
+    /// `?` on this line.
+    Query(u32),
+    /// A `VALOF` on this line, in the procedure with this number, which ended without `RESULTIS`.
+    Valof(u32, u32),
+    /// A call on this line of the procedure with this number, whose body is a command.
+    Body(u32, u32),
+    /// A call of a routine of the library that gives nothing.
+    Library(Routine),
+    /// An argument that is missing.
+    Argument,
+}
+
 /// A value: what an expression gives.
 #[derive(Clone, Copy, Debug)]
 pub enum Worth {
@@ -36,8 +53,8 @@ pub enum Worth {
     Procedure(u64),
     /// A routine of the library.
     Routine(Routine),
-    /// The value of `?`.
-    Unset,
+    /// The value of `?`, and of whatever else gives nothing.
+    Unset(Origin),
 }
 
 /// A cell: a word of memory.

@@ -1,4 +1,4 @@
-use Rattle.bk_check.proofs.Terms.{ℕ, ap, sym, List, ◌∷◌, ◌∙◌, Name, starts_in, Outcome, Done, env_in, letters_in, tag, done_tag, resumed}
+use Rattle.bk_check.proofs.Terms.{ap, List, Name, starts_in, Outcome, Done, env_in, letters_in, tag, done_tag, resumed}
 use Rattle.bk_check.proofs.Lets.{named_then}
 use Rattle.bk_check.proofs.blocks.named.Goals as goal
 
@@ -6,4 +6,4 @@ pub returns-in_ok-push-in-Some : goal.returns-in_ok-push-in-Some
 returns-in_ok-push-in-Some c = λ p fs w.
     ap (λ (u : Outcome Done). resumed p fs (tag done_tag u))
     (named_then p (starts_in c.args.inits.now) (env_in c.args.here) (letters_in c.args.names.now) (letters_in c.in-Some.others.now) _ c.args.rest.value c.deref_mut.result.now c.push.new.self w
-    c.deref_mut.ensures.value (ap (λ (xs : List Name). letters_in xs) c.in-Some.ensures.cases.0 ∙ ap (λ (l : List ℕ). l ∷ letters_in c.in-Some.others.now) (sym c.deref.ensures)) c.in_ok-push-in-Some.ensures.items)
+    c.deref_mut.ensures.value (ap (λ (xs : List Name). letters_in xs) c.in-Some.ensures.cases.0) c.in_ok-push-in-Some.ensures.items)

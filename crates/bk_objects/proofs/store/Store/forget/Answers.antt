@@ -8,7 +8,7 @@ invariant_of-self c =
     let lives = c.self.inside.lives in
     let lt : c.left-count.result < length lives.items = omega (arith, lives.ok.0) in
     let start : HoldsAt (λ (l : Life). l.start ≡ c.index.result.now.start) lives.items c.left-count.result = at_read lives.items (λ (l : Life). l.start ≡ c.index.result.now.start) _ _ lt c.index.ensures refl in
-    rw (c.truncate.ensures.items, c.truncate-then-count-len.ensures.items) (Laid-left _ _ _ _ _ c.self.invariant lt start)
+    rw (c.truncate.ensures.items, c.truncate-then-count-len.ensures.items, c.whole-start.ensures) (Laid-left _ _ _ _ _ c.self.invariant lt start)
 
 pub returns-then-count-len : goal.returns-then-count-len
 returns-then-count-len c =
@@ -16,7 +16,7 @@ returns-then-count-len c =
     let left = rw c.deref.ensures.value at c.left-count.ensures in
     let lt : c.left-count.result < length lives.items = omega (arith, lives.ok.0) in
     let start : HoldsAt (λ (l : Life). l.start ≡ c.index.result.now.start) lives.items c.left-count.result = at_read lives.items (λ (l : Life). l.start ≡ c.index.result.now.start) _ _ lt c.index.ensures refl in
-    rw (c.truncate.ensures.items, c.truncate-then-count-len.ensures.items, ← c.self.view_is) (memory_of-left _ _ _ _ _ _ c.self.invariant lt start left.dead left.living)
+    rw (c.truncate.ensures.items, c.truncate-then-count-len.ensures.items, c.whole-start.ensures, ← c.self.view_is) (memory_of-left _ _ _ _ _ _ c.self.invariant lt start left.dead left.living)
 
 pub returns-else-count-len : goal.returns-else-count-len
 returns-else-count-len c =

@@ -16,10 +16,12 @@ pub invariant_of-self-2 : goal.invariant_of-self-2
 invariant_of-self-2 c =
     let next : c.in_ok-next.next ≡ c.self.inside.made + 1 = grind (arith, common_steps) in
     let start : c.len-start.result ≡ length c.self.inside.cells.items = c.len-start.ensures ∙ c.self.inside.cells.ok.0 in
-    rw (c.in_ok-push.ensures.items, c.in_ok-extend_from_slice.ensures.items, length-append) (Laid-push 0 0 _ _ _ _ _ _ c.self.invariant (omega arith) (omega arith) (omega arith) (omega arith))
+    let life = c.in_ok-life.ensures in
+    rw (c.in_ok-push.ensures.items, c.in_ok-extend_from_slice.ensures.items, length-append) (Laid-push 0 0 _ _ _ _ _ _ c.self.invariant (omega (arith, life)) (omega (arith, life)) (omega (arith, life)) (omega (arith, life)))
 
 pub returns-clause-made : goal.returns-clause-made
 returns-clause-made c =
     let next : c.in_ok-next.next ≡ c.self.inside.made + 1 = grind (arith, common_steps) in
     let start : c.len-start.result ≡ length c.self.inside.cells.items = c.len-start.ensures ∙ c.self.inside.cells.ok.0 in
-    rw (c.in_ok-push.ensures.items, c.in_ok-extend_from_slice.ensures.items, ← c.self.view_is, next) (memory_of-made _ _ _ _ _ c.self.invariant refl start refl)
+    let life = c.in_ok-life.ensures in
+    rw (c.in_ok-push.ensures.items, c.in_ok-extend_from_slice.ensures.items, ← c.self.view_is, next) (memory_of-made _ _ _ _ _ c.self.invariant life.0 (life.1 ∙ start) life.2)

@@ -1,0 +1,309 @@
+//! Why an act is undefined, in the words of the source.
+
+use crate::misuse::say_library;
+use crate::operands::{Operand, bare, say_fault_of, say_no_value, say_operand, written};
+use crate::operations::{say_beyond, say_index, say_names, say_operation, say_subscript};
+use crate::spelling::{add_number, add_ordinal, add_word, prefix_symbol};
+use crate::values::Page;
+use crate::words::{say_byte, say_cell, say_partly};
+use bk_check::Subject;
+use bk_lasting::GLOBALS_OBJECT;
+use bk_objects::{Cell, Origin, Reason, Worth};
+use bk_tree::{Expr, Operator, Prefix};
+use std::alloc::AllocError;
+
+/// Adds why the value of a name is undefined.
+fn say_name(page: &mut Page, name: &[u8], reason: Reason) -> Result<(), AllocError> {
+    let Reason::Cell(Worth::Address(object, offset)) = reason else {
+        return page.say(&[name, b" is no variable"]);
+    };
+    match page.m.store.cell(object, offset) {
+        Some(Cell::Places(a, b, c, d)) => {
+            page.say(&[name, b" is set only in part: it is a word"])?;
+            say_partly(page, [a.is_some(), b.is_some(), c.is_some(), d.is_some()])
+        }
+        Some(Cell::Holds(Worth::Unset(origin))) => match origin {
+            Origin::Argument => say_argument(page, name, object, offset),
+            Origin::Never if object == GLOBALS_OBJECT => {
+                page.say(&[b"the global ", name, b", "])?;
+                add_word(&mut page.text, offset)?;
+                page.say(&[
+                    b", was never set: no section defines it, and nothing was assigned to it",
+                ])
+            }
+            Origin::Query(line) => {
+                page.say(&[name, b" was never set: it is the `?` of line "])?;
+                add_number(&mut page.text, line as usize)
+            }
+            _ => {
+                page.say(&[name, b" has no value: "])?;
+                page.say_origin(origin)
+            }
+        },
+        _ => page.say(&[name, b" is gone"]),
+    }
+}
+
+/// Adds that a formal has no argument.
+fn say_argument(page: &mut Page, name: &[u8], object: u64, offset: u32) -> Result<(), AllocError> {
+    if let Some(names) = page.names
+        && let Some((formals, arguments)) = names.formals
+        && formals == object
+    {
+        page.say(&[names.procedure.name, b" is called with "])?;
+        add_number(&mut page.text, arguments)?;
+        page.say(&[if arguments == 1 {
+            b" argument and reads its "
+        } else {
+            b" arguments and reads its "
+        }])?;
+        add_ordinal(&mut page.text, offset as usize + 1)?;
+        return page.say(&[b", ", name]);
+    }
+    page.say(&[name, b" has no value: its argument is missing"])
+}
+
+/// A part of a destination, if its value is known and an address in this object.
+fn known_in<'e>(page: &Page, expr: &'e Expr, object: u64) -> Option<Operand<'e>> {
+    let value = page.known(expr)?;
+    match value {
+        Worth::Address(o, _) if o == object => Some(written(expr, value)),
+        _ => None,
+    }
+}
+
+/// Adds why a destination is undefined.
+fn say_destination(
+    page: &mut Page,
+    expr: &Expr,
+    left: &Expr,
+    right: Option<&Expr>,
+    reason: Reason,
+) -> Result<(), AllocError> {
+    let symbol: &[u8] = if matches!(reason, Reason::Byte(_, _) | Reason::NoByte(_)) {
+        b"%"
+    } else {
+        b"!"
+    };
+    match reason {
+        Reason::Cell(Worth::Address(object, offset)) => {
+            let base = known_in(page, left, object);
+            say_cell(page, expr, base, object, offset)?;
+        }
+        Reason::Byte(at, number) => say_byte(page, expr, written(left, at), at, number)?,
+        Reason::NoAddress(x) => {
+            if !say_fault_of(page, written(left, x))? {
+                say_operand(page, written(left, x))?;
+                page.say(&[b", and `", symbol, b"` wants an address"])?;
+            }
+        }
+        Reason::NoNumber(x) => {
+            let index = written(right.unwrap_or(left), x);
+            if !say_fault_of(page, index)? {
+                say_operand(page, index)?;
+                page.say(&[b", and the number of a byte is wanted"])?;
+            }
+        }
+        Reason::NoByte(x) => {
+            page.say_expr(expr)?;
+            page.say(&[b" is set to the lowest byte of a number, and the value is "])?;
+            page.say_value(x)?;
+        }
+        _ => page.say(&[b"what has no place"])?,
+    }
+    match right {
+        Some(right) => match page.known(right) {
+            Some(value) => say_index(page, written(right, value)),
+            None => say_names(page, right),
+        },
+        None => Ok(()),
+    }
+}
+
+/// Adds why the value or the place of an expression is undefined.
+fn say_expr(page: &mut Page, expr: &Expr, reason: Reason) -> Result<(), AllocError> {
+    match bare(expr) {
+        Expr::Name { letters, .. } => say_name(page, letters, reason),
+        Expr::Unary {
+            prefix: Prefix::Contents,
+            operand,
+            ..
+        } => say_destination(page, expr, operand, None, reason),
+        Expr::Binary {
+            operator: Operator::Subscript | Operator::Byte,
+            left,
+            right,
+            ..
+        } => say_destination(page, expr, left, Some(right), reason),
+        _ => {
+            page.say_expr(expr)?;
+            match reason {
+                Reason::NoConstant => page.say(&[b" is no constant"]),
+                _ => page.say(&[b" has no place"]),
+            }
+        }
+    }
+}
+
+/// Adds why a prefix before this value is undefined.
+fn say_prefix(page: &mut Page, expr: &Expr, x: Worth, reason: Reason) -> Result<(), AllocError> {
+    let Expr::Unary {
+        prefix,
+        operand,
+        ..
+    } = bare(expr)
+    else {
+        return Ok(());
+    };
+    let base = written(operand, x);
+    if let Reason::Cell(Worth::Address(object, offset)) = reason {
+        return say_cell(page, expr, Some(base), object, offset);
+    }
+    if say_fault_of(page, base)? {
+        return Ok(());
+    }
+    say_operand(page, base)?;
+    let wanted: &[u8] = match prefix {
+        Prefix::Contents => b"` wants an address",
+        _ => b"` wants a number",
+    };
+    let symbol = prefix_symbol(*prefix).trim_ascii();
+    page.say(&[b", and `", symbol, wanted])
+}
+
+/// Adds why an operator is undefined.
+fn say_infix(
+    page: &mut Page,
+    expr: &Expr,
+    x: Worth,
+    y: Worth,
+    reason: Reason,
+) -> Result<(), AllocError> {
+    let Expr::Binary {
+        operator,
+        left,
+        right,
+        ..
+    } = bare(expr)
+    else {
+        return Ok(());
+    };
+    let a = written(left, x);
+    let b = written(right, y);
+    match operator {
+        Operator::Subscript | Operator::Byte => say_subscript(
+            page,
+            expr,
+            *operator,
+            (a, b),
+            reason,
+        ),
+        _ => say_operation(page, *operator, a, b),
+    }
+}
+
+/// Adds why a condition has no truth.
+fn say_condition(page: &mut Page, expr: &Expr, reason: Reason) -> Result<(), AllocError> {
+    match reason {
+        Reason::Unset(origin) => {
+            page.say(&[b"a condition: "])?;
+            say_no_value(page, written(expr, Worth::Unset(origin)), origin)
+        }
+        Reason::Beyond(x) => {
+            let operand = written(expr, x);
+            if say_fault_of(page, operand)? || say_beyond(page, operand)? {
+                return Ok(());
+            }
+            say_operand(page, operand)
+        }
+        _ => page.say_expr(expr),
+    }
+}
+
+/// Adds why SWITCHON has no number.
+fn say_switch(page: &mut Page, expr: &Expr, reason: Reason) -> Result<(), AllocError> {
+    let value = match reason {
+        Reason::Unset(origin) => Worth::Unset(origin),
+        Reason::NoNumber(x) => x,
+        _ => return page.say_expr(expr),
+    };
+    if say_fault_of(page, written(expr, value))? {
+        return Ok(());
+    }
+    say_operand(page, written(expr, value))?;
+    page.say(&[b", and `SWITCHON` wants a number"])
+}
+
+/// Adds why the test or the step of a FOR is undefined.
+fn say_for(
+    page: &mut Page,
+    name: &[u8],
+    object: u64,
+    limit: Worth,
+    reason: Reason,
+) -> Result<(), AllocError> {
+    match page.m.store.cell(object, 0) {
+        Some(Cell::Holds(x)) if !matches!(x, Worth::Unset(_)) => {
+            let variable = Operand {
+                expr: None,
+                words: name,
+                value: x,
+            };
+            let last = Operand {
+                expr: None,
+                words: b"the limit",
+                value: limit,
+            };
+            page.say(&[b"`FOR`: "])?;
+            say_operation(page, Operator::AtMost, variable, last)
+        }
+        _ => say_name(page, name, reason),
+    }
+}
+
+/// Adds that something is called that is no procedure.
+fn say_call(page: &mut Page, callee: &Expr, reason: Reason) -> Result<(), AllocError> {
+    let Reason::NoProcedure(x) = reason else {
+        return page.say_expr(callee);
+    };
+    if say_fault_of(page, written(callee, x))? {
+        return Ok(());
+    }
+    say_operand(page, written(callee, x))?;
+    page.say(&[b", and no procedure: it is called"])
+}
+
+/// Adds why an act is undefined.
+pub fn say_act(page: &mut Page, subject: &Subject, reason: Reason) -> Result<(), AllocError> {
+    match subject {
+        Subject::Expr(expr) => say_expr(page, expr, reason),
+        Subject::Prefixed(expr, x) => say_prefix(page, expr, *x, reason),
+        Subject::Operation(expr, x, y) => say_infix(page, expr, *x, *y, reason),
+        Subject::Condition(expr) => say_condition(page, expr, reason),
+        Subject::Switch(expr) => say_switch(page, expr, reason),
+        Subject::Variable(name, object, limit) => {
+            say_for(page, &name.letters, *object, *limit, reason)
+        }
+        Subject::Call(_, callee) => say_call(page, callee, reason),
+        Subject::Library(at, routine, argument, directive) => {
+            say_library(page, *at, *routine, *argument, *directive, reason)
+        }
+        Subject::Nothing => page.say(&[b"a part is left that nothing goes on after"]),
+    }
+}
+
+/// Adds the values with which a division by zero is done.
+pub fn say_division(page: &mut Page, subject: &Subject) -> Result<(), AllocError> {
+    page.say(&[b"division by zero"])?;
+    if let Subject::Operation(expr, _, y) = subject
+        && let Expr::Binary { right, .. } = bare(expr)
+        && !matches!(bare(right), Expr::Number { .. })
+    {
+        page.say(&[b": "])?;
+        page.say_is(right, *y)?;
+        if !matches!(bare(right), Expr::Name { .. }) {
+            return say_names(page, right);
+        }
+    }
+    Ok(())
+}

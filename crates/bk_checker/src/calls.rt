@@ -1,0 +1,121 @@
+//! The calls that are active.
+
+use crate::spelling::{add, add_number};
+use crate::values::callee_name;
+use bk_check::{Call, Continuation, Evaluator};
+use bk_lasting::Lasting;
+use bk_objects::Worth;
+use std::alloc::AllocError;
+
+/// How many lines list calls at most.
+const LINES: usize = 10;
+
+/// The name of what is called, the line of the call, and the name of the procedure that calls it.
+#[derive(Clone, Copy, PartialEq, Eq)]
+struct CallLine<'a> {
+    callee: &'a [u8],
+    line: u32,
+    caller: &'a [u8],
+}
+
+/// Adds a call, and how often it is there.
+fn add_call(text: &mut Vec<u8>, call: CallLine, times: usize) -> Result<(), AllocError> {
+    add(text, &[b"  in ", call.callee, b", called on line "])?;
+    add_number(text, call.line as usize)?;
+    add(text, &[b", from ", call.caller])?;
+    if times > 1 {
+        add(text, &[b", repeated "])?;
+        add_number(text, times)?;
+        add(text, &[b" times"])?;
+    }
+    add(text, &[b"\n"])
+}
+
+/// What is written of the calls, and the one that is to be written next.
+#[derive(Drop)]
+struct Listing<'a> {
+    last: Option<CallLine<'a>>,
+    times: usize,
+    lines: usize,
+    left_out: usize,
+}
+
+/// Takes a further call outwards.
+fn take<'a>(
+    text: &mut Vec<u8>,
+    listing: &mut Listing<'a>,
+    call: CallLine<'a>,
+) -> Result<(), AllocError> {
+    let last = listing.last;
+    if let Some(before) = last {
+        if before == call {
+            listing.times = listing.times.saturating_add(1);
+            return Ok(());
+        }
+        if listing.lines < LINES - 2 {
+            add_call(text, before, listing.times)?;
+            listing.lines = listing.lines.saturating_add(1);
+        } else {
+            listing.left_out = listing.left_out.saturating_add(listing.times);
+        }
+    }
+    listing.last = Some(call);
+    listing.times = 1;
+    Ok(())
+}
+
+/// Adds the outermost calls, and how many before them are left out.
+fn add_last(text: &mut Vec<u8>, listing: &Listing) -> Result<(), AllocError> {
+    if listing.left_out > 0 {
+        add(text, &[b"  and "])?;
+        add_number(text, listing.left_out)?;
+        add(
+            text,
+            &[if listing.left_out == 1 {
+                b" further call\n"
+            } else {
+                b" further calls\n"
+            }],
+        )?;
+    }
+    match listing.last {
+        Some(call) => add_call(text, call, listing.times),
+        None => Ok(()),
+    }
+}
+
+/// Adds the calls that are active, innermost first, so that START is at the end. Equal calls one after another have one line.
+pub fn add_calls<'a>(
+    text: &mut Vec<u8>,
+    m: &Evaluator<'a>,
+    program: &[Lasting<'a>],
+) -> Result<(), AllocError> {
+    let mut inner: Option<Call> = None;
+    let mut listing = Listing {
+        last: None,
+        times: 0,
+        lines: 0,
+        left_out: 0,
+    };
+    for frame in m.frames.iter().rev() {
+        if let Continuation::Returned(caller) = frame
+            && matches!(caller.callee, Worth::Procedure(_))
+        {
+            if let Some(call) = inner {
+                let line = CallLine {
+                    callee: callee_name(program, call.callee),
+                    line: call.at.line().number(),
+                    caller: callee_name(program, caller.callee),
+                };
+                take(text, &mut listing, line)?;
+            }
+            inner = Some(*caller);
+        }
+    }
+    match inner {
+        Some(call) if listing.last.is_none() => {
+            add(text, &[b"  in ", callee_name(program, call.callee), b"\n"])
+        }
+        _ => add_last(text, &listing),
+    }
+}

@@ -1,0 +1,164 @@
+//! The names that a section declares, and those that its expressions have.
+
+use bk_tree::{ConstItem, Name, Position};
+use std::alloc::{AllocError, Global};
+
+/// How many pairs of names are compared at most.
+const PAIRS: usize = 4_000_000;
+
+/// A name: how many bytes of the spellings are before it, and how many it has.
+#[derive(Clone, Copy)]
+struct Spelled {
+    start: usize,
+    count: usize,
+}
+
+/// A declaration of a name.
+#[derive(Clone, Copy)]
+struct Declared {
+    name: Spelled,
+    at: Position,
+    /// How many formals it has, if it is a procedure.
+    formals: Option<usize>,
+}
+
+/// A name in an expression.
+#[derive(Clone, Copy)]
+struct Used {
+    name: Spelled,
+    at: Position,
+    /// How many arguments it is called with; none where it is not called.
+    arguments: usize,
+}
+
+/// The names of a section.
+#[derive(Drop)]
+pub struct Names {
+    spellings: Vec<u8>,
+    declared: Vec<Declared>,
+    used: Vec<Used>,
+}
+
+impl Names {
+    /// None.
+    pub fn new(alloc: Global) -> Names {
+        Names {
+            spellings: Vec::new(alloc),
+            declared: Vec::new(alloc),
+            used: Vec::new(alloc),
+        }
+    }
+
+    /// Keeps a name.
+    fn keep(&mut self, name: &[u8]) -> Result<Spelled, AllocError> {
+        let start = self.spellings.len();
+        self.spellings.extend_from_slice(name)?;
+        Ok(Spelled {
+            start,
+            count: name.len(),
+        })
+    }
+
+    /// The bytes of a name.
+    fn bytes(&self, name: Spelled) -> &[u8] {
+        let end = name.start.saturating_add(name.count);
+        self.spellings.get(name.start..end).unwrap_or(&[])
+    }
+
+    /// Adds a declaration; of a procedure with so many formals.
+    pub fn declare(
+        &mut self,
+        name: &[u8],
+        at: Position,
+        formals: Option<usize>,
+    ) -> Result<(), AllocError> {
+        let name = self.keep(name)?;
+        self.declared.push(Declared { name, at, formals })?;
+        Ok(())
+    }
+
+    /// Adds declarations of variables.
+    pub fn declare_all(&mut self, names: &[Name]) -> Result<(), AllocError> {
+        for name in names {
+            self.declare(&name.letters, name.at, None)?;
+        }
+        Ok(())
+    }
+
+    /// Adds the declarations of a MANIFEST, STATIC or GLOBAL.
+    pub fn declare_items(&mut self, items: &[ConstItem]) -> Result<(), AllocError> {
+        for item in items {
+            let ConstItem::Item { at, letters, .. } = item;
+            self.declare(letters, *at, None)?;
+        }
+        Ok(())
+    }
+
+    /// Adds a name in an expression, and with how many arguments it is called, if it is.
+    pub fn note(
+        &mut self,
+        name: &[u8],
+        at: Position,
+        arguments: Option<usize>,
+    ) -> Result<(), AllocError> {
+        let name = self.keep(name)?;
+        let arguments = arguments.unwrap_or(0);
+        self.used.push(Used {
+            name,
+            at,
+            arguments,
+        })?;
+        Ok(())
+    }
+
+    /// How many declarations there are; none where there are too many names to compare each with each.
+    pub fn declarations(&self) -> usize {
+        let all = self.declared.len().saturating_add(self.used.len());
+        if self.declared.len().saturating_mul(all) > PAIRS {
+            0
+        } else {
+            self.declared.len()
+        }
+    }
+
+    /// How many names there are in expressions.
+    pub fn uses(&self) -> usize {
+        self.used.len()
+    }
+
+    /// Where the procedure is that the declaration with this index is, and how many formals it has, if no other declaration has its
+    /// name and it is not START.
+    pub fn own_procedure(&self, index: usize) -> Option<(Position, usize)> {
+        let declared = self.declared.get(index)?;
+        let formals = declared.formals?;
+        let name = self.bytes(declared.name);
+        let mut count: usize = 0;
+        for other in &self.declared {
+            if self.bytes(other.name) == name {
+                count = count.saturating_add(1);
+            }
+        }
+        if count != 1 || name == b"START".as_slice() {
+            return None;
+        }
+        Some((declared.at, formals))
+    }
+
+    /// The name of the declaration with this index.
+    pub fn name_of(&self, index: usize) -> &[u8] {
+        match self.declared.get(index) {
+            Some(declared) => self.bytes(declared.name),
+            None => &[],
+        }
+    }
+
+    /// Where the name with this index in the expressions is, and with how many arguments it is called, if it is this one.
+    pub fn use_of(&self, index: usize, name: &[u8]) -> Option<(Position, usize)> {
+        let used = self.used.get(index)?;
+        if self.bytes(used.name) == name {
+            Some((used.at, used.arguments))
+        } else {
+            None
+        }
+    }
+}

@@ -1,0 +1,149 @@
+//! What the names mean where an act is done, as far as the frames tell.
+
+use bk_check::{Call, Continuation, Evaluator, OnDone, OnTarget, OnTruth, OnValue};
+use bk_lasting::{Env, Lasting, Procedure, Sense};
+use bk_objects::Worth;
+
+/// What names mean in a call that is active.
+#[derive(Clone, Copy)]
+pub struct Names<'m, 'a> {
+    /// What they mean, other than the formals where `formals` has an object.
+    pub env: &'m Env<'a>,
+    /// The procedure that is called.
+    pub procedure: &'m Procedure<'a>,
+    /// The object of its formals, and the number of arguments.
+    pub formals: Option<(u64, usize)>,
+    /// Whether `env` has no formals.
+    pub is_outside: bool,
+}
+
+/// What goes on with a value has these names.
+fn env_of_value<'m, 'a>(frame: &'m OnValue<'a>) -> Option<&'m Env<'a>> {
+    match frame {
+        OnValue::Left(_, _, _, env)
+        | OnValue::Vector(_, _, env)
+        | OnValue::String(_, env)
+        | OnValue::Argument(_, _, _, _, _, env)
+        | OnValue::Assigned(_, _, _, env)
+        | OnValue::Switch(_, _, env)
+        | OnValue::ForStart(_, _, env, _, _)
+        | OnValue::ForLimit(_, env, _, _, _)
+        | OnValue::Starts(_, env, _, _) => Some(env),
+        _ => None,
+    }
+}
+
+/// What goes on with a truth has these names.
+fn env_of_truth<'m, 'a>(frame: &'m OnTruth<'a>) -> Option<&'m Env<'a>> {
+    match frame {
+        OnTruth::Choice(_, _, env)
+        | OnTruth::And(_, env)
+        | OnTruth::Or(_, env)
+        | OnTruth::When(_, _, env)
+        | OnTruth::Test(_, _, env)
+        | OnTruth::First(_, _, env)
+        | OnTruth::Further(_, _, env) => Some(env),
+        OnTruth::Not => None,
+    }
+}
+
+/// What goes on after a command has these names.
+fn env_of_done<'m, 'a>(frame: &'m OnDone<'a>) -> Option<&'m Env<'a>> {
+    match frame {
+        OnDone::After(_, env)
+        | OnDone::Scope(_, env)
+        | OnDone::Alone(_, env)
+        | OnDone::Round(_, env) => Some(env),
+        OnDone::ForRound(run) => Some(&run.env),
+        OnDone::Body | OnDone::Valof(_) | OnDone::Cases => None,
+    }
+}
+
+/// A frame has these names.
+fn env_of<'m, 'a>(frame: &'m Continuation<'a>) -> Option<&'m Env<'a>> {
+    match frame {
+        Continuation::Value(frame) => env_of_value(frame),
+        Continuation::Truth(frame) => env_of_truth(frame),
+        Continuation::Target(OnTarget::Put(_, _, _, env, _, _)) => Some(env),
+        Continuation::Target(OnTarget::Address(_)) => None,
+        Continuation::Done(frame) => env_of_done(frame),
+        Continuation::Returned(_) | Continuation::Closing(_) => None,
+    }
+}
+
+/// The procedure with this number.
+fn procedure_of<'m, 'a>(program: &'m [Lasting<'a>], number: u64) -> Option<&'m Procedure<'a>> {
+    match program.get(number as usize) {
+        Some(Lasting::Code(procedure)) => Some(procedure),
+        _ => None,
+    }
+}
+
+/// The innermost call of a procedure, with the number of its frame.
+fn innermost(frames: &[Continuation]) -> Option<(usize, Call, u64)> {
+    for (i, frame) in frames.iter().enumerate().rev() {
+        if let Continuation::Returned(call) = frame
+            && let Worth::Procedure(number) = call.callee
+        {
+            return Some((i, *call, number));
+        }
+    }
+    None
+}
+
+/// What names mean in the innermost call of a procedure.
+pub fn names_in<'m, 'a>(m: &'m Evaluator<'a>, program: &'m [Lasting<'a>]) -> Option<Names<'m, 'a>> {
+    let (at, call, number) = innermost(&m.frames)?;
+    let procedure = procedure_of(program, number)?;
+    let formals = match m.frames.get(at.saturating_add(1)) {
+        Some(Continuation::Closing(object)) => Some((*object, call.arguments)),
+        _ => None,
+    };
+    for frame in m.frames.iter().skip(at.saturating_add(1)).rev() {
+        if let Some(env) = env_of(frame) {
+            return Some(Names {
+                env,
+                procedure,
+                formals,
+                is_outside: false,
+            });
+        }
+    }
+    Some(Names {
+        env: &procedure.env,
+        procedure,
+        formals,
+        is_outside: true,
+    })
+}
+
+impl<'m, 'a> Names<'m, 'a> {
+    /// What a name means.
+    pub fn sense(&self, name: &[u8]) -> Option<Sense> {
+        if self.is_outside
+            && let Some((object, _)) = self.formals
+        {
+            for (i, formal) in self.procedure.formals.iter().enumerate() {
+                if formal.letters.as_slice() == name {
+                    return Some(Sense::Cell(object, u32::try_from(i).ok()?));
+                }
+            }
+        }
+        self.env.sense(name)
+    }
+
+    /// The name of a cell, if one is visible.
+    pub fn name_of(&self, object: u64, offset: u32) -> Option<&'a [u8]> {
+        let mut names = &self.env.names;
+        while let Some(node) = names {
+            if let Sense::Cell(o, i) = node.sense
+                && o == object
+                && i == offset
+            {
+                return Some(node.name);
+            }
+            names = &node.outer;
+        }
+        None
+    }
+}

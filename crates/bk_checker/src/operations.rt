@@ -1,0 +1,225 @@
+//! Why an operator has no value of its operands.
+
+use crate::operands::{Operand, bare, say_fault_of, say_operand};
+use crate::spelling::{add_word, operator_symbol};
+use crate::values::Page;
+use crate::words::{say_byte, say_cell, say_extent};
+use bk_objects::{Reason, Worth};
+use bk_tree::{Expr, Operator};
+use std::alloc::AllocError;
+
+/// The operand that is meant to be the address, and the other.
+fn base_first<'e>(a: Operand<'e>, b: Operand<'e>) -> (Operand<'e>, Operand<'e>) {
+    match (a.value, b.value) {
+        (Worth::Number(_), Worth::Address(_, _)) => (b, a),
+        (Worth::Number(_), Worth::Number(_)) => match (a.expr, b.expr) {
+            (Some(Expr::Number { .. }), Some(Expr::Name { .. })) => (b, a),
+            _ => (a, b),
+        },
+        _ => (a, b),
+    }
+}
+
+/// Adds why `!` or `%` has no use for these operands.
+fn say_no_base(
+    page: &mut Page,
+    symbol: &[u8],
+    base: Operand,
+    index: Operand,
+) -> Result<(), AllocError> {
+    if say_fault_of(page, base)? || say_fault_of(page, index)? {
+        return Ok(());
+    }
+    if matches!(base.value, Worth::Address(_, _)) {
+        say_operand(page, index)?;
+        return page.say(&[b", and `", symbol, b"` wants a number after the address"]);
+    }
+    say_operand(page, base)?;
+    page.say(&[b", and `", symbol, b"` wants an address"])
+}
+
+/// Adds why `!` or `%` between these operands is undefined.
+pub fn say_subscript(
+    page: &mut Page,
+    expr: &Expr,
+    operator: Operator,
+    operands: (Operand, Operand),
+    reason: Reason,
+) -> Result<(), AllocError> {
+    let (base, index) = match operator {
+        Operator::Byte => operands,
+        _ => base_first(operands.0, operands.1),
+    };
+    match reason {
+        Reason::Cell(Worth::Address(object, offset)) => {
+            say_cell(page, expr, Some(base), object, offset)?;
+        }
+        Reason::Byte(at, number) => say_byte(page, expr, base, at, number)?,
+        _ => say_no_base(page, operator_symbol(operator), base, index)?,
+    }
+    say_index(page, index)
+}
+
+/// Adds the values of the names in an index.
+pub fn say_index(page: &mut Page, index: Operand) -> Result<(), AllocError> {
+    let Some(expr) = index.expr else {
+        return Ok(());
+    };
+    if let Expr::Name { .. } = bare(expr) {
+        if matches!(index.value, Worth::Number(_)) {
+            page.say(&[b"; "])?;
+            return page.say_is(bare(expr), index.value);
+        }
+        return Ok(());
+    }
+    say_names(page, expr)
+}
+
+/// Adds the values of the names in an expression.
+#[cycle(names)]
+pub fn say_names(page: &mut Page, expr: &Expr) -> Result<(), AllocError> {
+    match expr {
+        Expr::Name { letters, .. } => match page.value_of(letters) {
+            Some(Worth::Number(number)) => {
+                page.say(&[b"; ", letters, b" is "])?;
+                add_word(&mut page.text, number)
+            }
+            _ => Ok(()),
+        },
+        Expr::Parens { inside, .. } => say_names(page, inside),
+        Expr::Unary { operand, .. } => say_names(page, operand),
+        Expr::Binary { left, right, .. } => {
+            say_names(page, left)?;
+            say_names(page, right)
+        }
+        _ => Ok(()),
+    }
+}
+
+/// Adds two operands that are compared or combined.
+fn say_both(page: &mut Page, a: Operand, b: Operand) -> Result<(), AllocError> {
+    say_operand(page, a)?;
+    page.say(&[b", and "])?;
+    say_operand(page, b)
+}
+
+/// Adds that an address is outside its object.
+pub fn say_beyond(page: &mut Page, operand: Operand) -> Result<bool, AllocError> {
+    let Worth::Address(object, offset) = operand.value else {
+        return Ok(false);
+    };
+    let size = page.m.store.size(object).unwrap_or(0);
+    if offset as usize <= size {
+        return Ok(false);
+    }
+    say_operand(page, operand)?;
+    page.say(&[b", which is outside "])?;
+    page.say_object(object)?;
+    say_extent(page, b"word", size)?;
+    Ok(true)
+}
+
+/// Whether an operator compares two values.
+fn compares(operator: Operator) -> bool {
+    matches!(
+        operator,
+        Operator::Equal
+            | Operator::Unequal
+            | Operator::Less
+            | Operator::Greater
+            | Operator::AtMost
+            | Operator::AtLeast
+    )
+}
+
+/// Adds why an operator has no value of operands of which each is set and in an object that lives.
+fn say_unfit(
+    page: &mut Page,
+    operator: Operator,
+    a: Operand,
+    b: Operand,
+) -> Result<(), AllocError> {
+    let symbol = operator_symbol(operator);
+    match (a.value, b.value) {
+        (Worth::Address(_, _), Worth::Address(_, _)) if compares(operator) => {
+            page.say(&[b"`", symbol, b"` of addresses in two objects: "])?;
+            say_both(page, a, b)
+        }
+        (Worth::Address(_, _), Worth::Address(_, _)) if matches!(operator, Operator::Subtract) => {
+            page.say(&[b"`-` of addresses in two objects: "])?;
+            say_both(page, a, b)
+        }
+        (Worth::Address(_, _), Worth::Address(_, _)) => {
+            page.say(&[b"`", symbol, b"` of two addresses: "])?;
+            say_both(page, a, b)
+        }
+        (Worth::Number(_), _) => {
+            say_operand(page, b)?;
+            say_wants(page, operator, a)
+        }
+        (_, Worth::Number(_)) => {
+            say_operand(page, a)?;
+            say_wants(page, operator, b)
+        }
+        _ => {
+            page.say(&[b"`", symbol, b"` wants numbers: "])?;
+            say_both(page, a, b)
+        }
+    }
+}
+
+/// Adds what an operator wants beside a number.
+fn say_wants(page: &mut Page, operator: Operator, number: Operand) -> Result<(), AllocError> {
+    let symbol = operator_symbol(operator);
+    match operator {
+        Operator::Equal | Operator::Unequal => {
+            page.say(&[b", and `", symbol, b"` compares it with 0 alone: "])?;
+            say_operand(page, number)
+        }
+        Operator::Add => page.say(&[b", and `+` wants numbers, or an address and a number"]),
+        Operator::Subtract => page.say(&[
+            b", and `-` wants numbers, or an address before a number",
+        ]),
+        _ => page.say(&[b", and `", symbol, b"` wants numbers"]),
+    }
+}
+
+/// Adds why an operator between these operands is undefined.
+pub fn say_operation(
+    page: &mut Page,
+    operator: Operator,
+    a: Operand,
+    b: Operand,
+) -> Result<(), AllocError> {
+    if say_fault_of(page, a)? || say_fault_of(page, b)? {
+        return Ok(());
+    }
+    if compares(operator)
+        && !matches!(operator, Operator::Equal | Operator::Unequal)
+        && is_one(a.value, b.value)
+        && (say_beyond(page, a)? || say_beyond(page, b)?)
+    {
+        return Ok(());
+    }
+    if matches!(operator, Operator::Equal | Operator::Unequal)
+        && !is_one(a.value, b.value)
+        && is_zero(a.value, b.value)
+        && (say_beyond(page, a)? || say_beyond(page, b)?)
+    {
+        return Ok(());
+    }
+    say_unfit(page, operator, a, b)
+}
+
+/// Whether two values are addresses in one object.
+fn is_one(x: Worth, y: Worth) -> bool {
+    match (x, y) {
+        (Worth::Address(a, _), Worth::Address(b, _)) => a == b,
+        _ => false,
+    }
+}
+
+/// Whether one of two values is 0.
+fn is_zero(x: Worth, y: Worth) -> bool {
+    matches!(x, Worth::Number(0)) || matches!(y, Worth::Number(0))
+}

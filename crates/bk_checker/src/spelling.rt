@@ -1,0 +1,229 @@
+//! Expressions, routines and numbers as they are written.
+
+use bk_base::word_text;
+use bk_objects::{FormatPart, Routine};
+use bk_tree::{Expr, Operator, Prefix};
+use itoa::Buffer;
+use std::alloc::AllocError;
+
+/// How many bytes of an expression or a string are written at most.
+const LONGEST: usize = 40;
+
+/// Adds pieces of text.
+pub fn add(text: &mut Vec<u8>, pieces: &[&[u8]]) -> Result<(), AllocError> {
+    for piece in pieces {
+        text.extend_from_slice(piece)?;
+    }
+    Ok(())
+}
+
+/// The name of a routine of the library.
+pub fn routine_name(routine: Routine) -> &'static [u8] {
+    match routine {
+        Routine::Stop => b"STOP",
+        Routine::Rdch => b"RDCH",
+        Routine::Wrch => b"WRCH",
+        Routine::Newline => b"NEWLINE",
+        Routine::Writes => b"WRITES",
+        Routine::Writen => b"WRITEN",
+        Routine::Writed => b"WRITED",
+        Routine::Getbyte => b"GETBYTE",
+        Routine::Putbyte => b"PUTBYTE",
+        Routine::Writef => b"WRITEF",
+    }
+}
+
+/// The symbol of an operator.
+pub fn operator_symbol(operator: Operator) -> &'static [u8] {
+    match operator {
+        Operator::Subscript => b"!",
+        Operator::Byte => b"%",
+        Operator::Times => b"*",
+        Operator::Over => b"/",
+        Operator::Rem => b"REM",
+        Operator::Add => b"+",
+        Operator::Subtract => b"-",
+        Operator::Equal => b"=",
+        Operator::Unequal => b"~=",
+        Operator::Less => b"<",
+        Operator::Greater => b">",
+        Operator::AtMost => b"<=",
+        Operator::AtLeast => b">=",
+        Operator::ShiftLeft => b"<<",
+        Operator::ShiftRight => b">>",
+        Operator::Both => b"&",
+        Operator::Either => b"|",
+        Operator::Same => b"EQV",
+        Operator::Differ => b"NEQV",
+    }
+}
+
+/// The symbol of a prefix.
+pub fn prefix_symbol(prefix: Prefix) -> &'static [u8] {
+    match prefix {
+        Prefix::Contents => b"!",
+        Prefix::Address => b"@",
+        Prefix::Plus => b"+",
+        Prefix::Minus => b"-",
+        Prefix::Not => b"NOT ",
+    }
+}
+
+/// Adds a number.
+pub fn add_number(text: &mut Vec<u8>, number: usize) -> Result<(), AllocError> {
+    let mut buffer = Buffer::new();
+    add(text, &[buffer.format(number).as_bytes()])
+}
+
+/// Adds a word as a signed number.
+pub fn add_word(text: &mut Vec<u8>, word: u32) -> Result<(), AllocError> {
+    let spelling = word_text(word.cast_signed());
+    add(text, &[spelling.as_bytes()])
+}
+
+/// How the place of a number in an order ends, as in 2nd.
+fn ordinal_ending(number: usize) -> &'static [u8] {
+    if number % 100 > 10 && number % 100 < 14 {
+        return b"th";
+    }
+    match number % 10 {
+        1 => b"st",
+        2 => b"nd",
+        3 => b"rd",
+        _ => b"th",
+    }
+}
+
+/// Adds the place of a number in an order, as 2nd.
+pub fn add_ordinal(text: &mut Vec<u8>, number: usize) -> Result<(), AllocError> {
+    add_number(text, number)?;
+    add(text, &[ordinal_ending(number)])
+}
+
+/// Adds a string between quotes: its beginning where it is long.
+pub fn add_string(text: &mut Vec<u8>, bytes: &[u8]) -> Result<(), AllocError> {
+    text.push(b'"')?;
+    for byte in bytes.iter().take(LONGEST) {
+        match *byte {
+            b'\n' => add(text, &[b"*N"])?,
+            b'\t' => add(text, &[b"*T"])?,
+            b'"' => add(text, &[b"*\""])?,
+            b'*' => add(text, &[b"**"])?,
+            0..=31 | 127..=255 => text.push(b'?')?,
+            _ => text.push(*byte)?,
+        }
+    }
+    if bytes.len() > LONGEST {
+        add(text, &[b".."])?;
+    }
+    text.push(b'"')?;
+    Ok(())
+}
+
+/// Adds a directive of a format.
+pub fn add_directive(text: &mut Vec<u8>, part: FormatPart) -> Result<(), AllocError> {
+    match part {
+        FormatPart::String => add(text, &[b"%S"]),
+        FormatPart::Number => add(text, &[b"%N"]),
+        FormatPart::Character => add(text, &[b"%C"]),
+        FormatPart::Column(width) => {
+            add(text, &[b"%I"])?;
+            add_number(text, usize::from(width))
+        }
+        FormatPart::Byte(_) | FormatPart::Percent => add(text, &[b"%%"]),
+    }
+}
+
+/// Adds an expression as it is written, but for blanks. What is long is cut.
+pub fn add_expr(text: &mut Vec<u8>, expr: &Expr) -> Result<(), AllocError> {
+    let start = text.len();
+    put_expr(text, expr)?;
+    if text.len().saturating_sub(start) > LONGEST {
+        text.truncate(start.saturating_add(LONGEST));
+        add(text, &[b".."])?;
+    }
+    Ok(())
+}
+
+/// Adds an expression.
+#[cycle(spelling)]
+fn put_expr(text: &mut Vec<u8>, expr: &Expr) -> Result<(), AllocError> {
+    match expr {
+        Expr::Name { letters, .. } => add(text, &[letters]),
+        Expr::Number { word, .. } => add_word(text, *word),
+        Expr::Text { bytes, .. } => add_string(text, bytes),
+        Expr::Truth { truth, .. } => if *truth {
+            add(text, &[b"TRUE"])
+        } else {
+            add(text, &[b"FALSE"])
+        },
+        Expr::Query { .. } => add(text, &[b"?"]),
+        Expr::Parens { inside, .. } => {
+            add(text, &[b"("])?;
+            put_expr(text, inside)?;
+            add(text, &[b")"])
+        }
+        Expr::Unary {
+            prefix,
+            operand,
+            ..
+        } => {
+            add(text, &[prefix_symbol(*prefix)])?;
+            put_expr(text, operand)
+        }
+        Expr::Binary {
+            operator,
+            left,
+            right,
+            ..
+        } => {
+            let blank: &[u8] = if matches!(operator, Operator::Subscript | Operator::Byte) {
+                b""
+            } else {
+                b" "
+            };
+            put_expr(text, left)?;
+            add(text, &[blank, operator_symbol(*operator), blank])?;
+            put_expr(text, right)
+        }
+        Expr::Choice {
+            condition,
+            yes,
+            no,
+            ..
+        } => {
+            put_expr(text, condition)?;
+            add(text, &[b" -> "])?;
+            put_expr(text, yes)?;
+            add(text, &[b", "])?;
+            put_expr(text, no)
+        }
+        Expr::Apply {
+            callee,
+            arguments,
+            ..
+        } => {
+            put_expr(text, callee)?;
+            add(text, &[b"("])?;
+            put_exprs(text, arguments)?;
+            add(text, &[b")"])
+        }
+        Expr::Valof { .. } => add(text, &[b"VALOF .."]),
+        Expr::Table { items, .. } => {
+            add(text, &[b"TABLE "])?;
+            put_exprs(text, items)
+        }
+    }
+}
+
+/// Adds expressions, with commas between them.
+#[cycle(spelling)]
+fn put_exprs(text: &mut Vec<u8>, exprs: &[Expr]) -> Result<(), AllocError> {
+    for (i, expr) in exprs.iter().enumerate() {
+        if i > 0 {
+            add(text, &[b", "])?;
+        }
+        put_expr(text, expr)?;
+    }
+    Ok(())
+}

@@ -1,0 +1,379 @@
+//! Values and objects, as a person knows them: by the names of the source.
+
+use crate::made::{Kind, Made, formals_at, made_at};
+use crate::names::{Names, names_in};
+use crate::spelling::{add, add_expr, add_number, add_string, add_word, routine_name};
+use bk_base::word;
+use bk_check::Evaluator;
+use bk_lasting::{GLOBALS_OBJECT, Lasting, Sense};
+use bk_objects::{Cell, Origin, Worth};
+use bk_tree::Expr;
+use std::alloc::AllocError;
+
+/// What is written, and what it is written of.
+#[derive(Drop)]
+pub struct Page<'m, 'a> {
+    pub text: Vec<u8>,
+    pub m: &'m Evaluator<'a>,
+    pub program: &'m [Lasting<'a>],
+    /// What names mean where the act is done, if that is known.
+    pub names: Option<Names<'m, 'a>>,
+}
+
+/// The name of the procedure with this number.
+fn procedure_name<'a>(program: &[Lasting<'a>], number: u64) -> &'a [u8] {
+    match program.get(number as usize) {
+        Some(Lasting::Code(procedure)) => procedure.name,
+        _ => b"?",
+    }
+}
+
+/// The name of what is called.
+pub fn callee_name<'a>(program: &[Lasting<'a>], callee: Worth) -> &'a [u8] {
+    match callee {
+        Worth::Procedure(number) => procedure_name(program, number),
+        Worth::Routine(routine) => routine_name(routine),
+        Worth::Number(_) | Worth::Address(_, _) | Worth::Unset(_) => b"?",
+    }
+}
+
+/// The byte at a place of words.
+fn byte_of(words: &[u32], place: u32) -> u8 {
+    match words.get(word::distance_of_byte(place) as usize) {
+        Some(w) => word::byte(*w, word::place_of_byte(place)),
+        None => 0,
+    }
+}
+
+/// Whether words are those of a string that can be printed.
+fn is_string(words: &[u32]) -> bool {
+    let length = u32::from(byte_of(words, 0));
+    if length == 0 || words.len() != (length / 4) as usize + 1 {
+        return false;
+    }
+    for i in 1..1024 {
+        let byte = byte_of(words, i);
+        let fits = if i <= length {
+            byte == b'\n' || byte >= 32 && byte != 127
+        } else {
+            byte == 0
+        };
+        if !fits {
+            return false;
+        }
+    }
+    true
+}
+
+/// What an object is.
+#[derive(Clone, Copy)]
+pub enum Object<'m, 'a> {
+    Made(Made<'a>),
+    Globals,
+    Static(&'a [u8]),
+    String(&'m [u32]),
+    Table,
+    Entry(&'a [u8]),
+    Unknown,
+}
+
+impl<'m, 'a> Page<'m, 'a> {
+    /// An empty page, where an act is done.
+    pub fn new(m: &'m Evaluator<'a>, program: &'m [Lasting<'a>]) -> Page<'m, 'a> {
+        Page {
+            text: Vec::new(m.alloc),
+            m,
+            program,
+            names: names_in(m, program),
+        }
+    }
+
+    /// Adds pieces of text.
+    pub fn say(&mut self, pieces: &[&[u8]]) -> Result<(), AllocError> {
+        add(&mut self.text, pieces)
+    }
+
+    /// Adds an expression.
+    pub fn say_expr(&mut self, expr: &Expr) -> Result<(), AllocError> {
+        add_expr(&mut self.text, expr)
+    }
+
+    /// What an object is.
+    pub fn object(&self, object: u64) -> Object<'m, 'a> {
+        match self.program.get(object as usize) {
+            Some(Lasting::Globals) => Object::Globals,
+            Some(Lasting::Code(procedure)) => Object::Entry(procedure.name),
+            Some(Lasting::Words(words)) => {
+                if let Some(names) = self.names
+                    && let Some(name) = names.name_of(object, 0)
+                {
+                    Object::Static(name)
+                } else if is_string(words) {
+                    Object::String(words)
+                } else {
+                    Object::Table
+                }
+            }
+            None => match self.m.store.made_at(object) {
+                Some(at) => match made_at(self.program, at) {
+                    Some(made) => Object::Made(made),
+                    None => Object::Unknown,
+                },
+                None => Object::Unknown,
+            },
+        }
+    }
+
+    /// Whether an object is dead.
+    pub fn is_dead(&self, object: u64) -> bool {
+        self.m.store.size(object).is_none()
+    }
+
+    /// Whether the procedure of this name is active.
+    fn is_here(&self, procedure: &[u8]) -> bool {
+        if let Some(names) = self.names {
+            names.procedure.name == procedure
+        } else {
+            false
+        }
+    }
+
+    /// Adds of which procedure an object is, where it is not the one that is active.
+    fn say_of(&mut self, procedure: &[u8], object: u64) -> Result<(), AllocError> {
+        if self.is_here(procedure) && !self.is_dead(object) {
+            return Ok(());
+        }
+        self.say(&[b" of ", procedure])
+    }
+
+    /// Adds what an object is called in `word 3 of ..`.
+    pub fn say_object(&mut self, object: u64) -> Result<(), AllocError> {
+        match self.object(object) {
+            Object::Made(made) => match made.kind {
+                Kind::Formals => self.say(&[b"the formals of ", made.name]),
+                Kind::Variable | Kind::Vector => {
+                    self.say(&[made.name])?;
+                    self.say_of(made.procedure, object)
+                }
+            },
+            Object::Globals => self.say(&[b"the global vector"]),
+            Object::Static(name) => self.say(&[name]),
+            Object::String(words) => {
+                self.say(&[b"the string "])?;
+                self.say_string(words)
+            }
+            Object::Table => self.say(&[b"a TABLE"]),
+            Object::Entry(name) => self.say(&[b"the word of the procedure ", name]),
+            Object::Unknown => self.say(&[b"a variable or vector"]),
+        }
+    }
+
+    /// Adds a string of these words.
+    fn say_string(&mut self, words: &[u32]) -> Result<(), AllocError> {
+        let mut bytes = Vec::new(self.m.alloc);
+        for i in 0..u32::from(byte_of(words, 0)) {
+            bytes.push(byte_of(words, i.saturating_add(1)))?;
+        }
+        add_string(&mut self.text, &bytes)
+    }
+
+    /// Adds that an object is gone.
+    pub fn say_gone(&mut self, object: u64) -> Result<(), AllocError> {
+        match self.object(object) {
+            Object::Made(made) => {
+                self.say_object(object)?;
+                self.say(&[b", made on line "])?;
+                add_number(&mut self.text, made.at.line().number() as usize)?;
+                self.say(&[b", is gone"])
+            }
+            _ => self.say(&[b"a variable or vector is gone"]),
+        }
+    }
+
+    /// Adds a distance in words.
+    fn say_offset(&mut self, offset: u32) -> Result<(), AllocError> {
+        let distance = offset.cast_signed();
+        if distance == 0 {
+            return Ok(());
+        }
+        self.say(&[if distance < 0 { b" - " } else { b" + " }])?;
+        add_word(&mut self.text, distance.unsigned_abs())
+    }
+
+    /// Adds the address of a formal, or of a word after them.
+    fn say_formal(&mut self, made: Made<'a>, offset: u32) -> Result<(), AllocError> {
+        let procedure = made.procedure;
+        let is_here = self.is_here(procedure);
+        let program = self.program;
+        if let Some(formals) = formals_at(program, made.at)
+            && let Some(formal) = formals.get(offset as usize)
+        {
+            self.say(&[b"@", &formal.letters])?;
+            return if is_here {
+                Ok(())
+            } else {
+                self.say(&[b" of ", procedure])
+            };
+        }
+        self.say(&[b"the address of word "])?;
+        add_word(&mut self.text, offset)?;
+        self.say(&[b" of the formals of ", made.name])
+    }
+
+    /// Adds an address.
+    fn say_address(&mut self, object: u64, offset: u32) -> Result<(), AllocError> {
+        match self.object(object) {
+            Object::Made(made) => match made.kind {
+                Kind::Formals => self.say_formal(made, offset),
+                Kind::Variable => {
+                    self.say(&[b"@"])?;
+                    self.say_object(object)?;
+                    self.say_offset(offset)
+                }
+                Kind::Vector => {
+                    self.say_object(object)?;
+                    self.say_offset(offset)
+                }
+            },
+            Object::Globals => match self.global(offset) {
+                Some(name) => self.say(&[b"@", name]),
+                None => {
+                    self.say(&[b"the address of global "])?;
+                    add_word(&mut self.text, offset)
+                }
+            },
+            Object::Static(name) => {
+                self.say(&[b"@", name])?;
+                self.say_offset(offset)
+            }
+            Object::Entry(name) => {
+                self.say(&[b"@", name])?;
+                self.say_offset(offset)
+            }
+            Object::String(_) | Object::Table => {
+                self.say_object(object)?;
+                self.say_offset(offset)
+            }
+            Object::Unknown => self.say(&[b"the address of a variable or vector"]),
+        }
+    }
+
+    /// The name of a global, if one is visible.
+    fn global(&self, number: u32) -> Option<&'a [u8]> {
+        match self.names {
+            Some(names) => names.name_of(GLOBALS_OBJECT, number),
+            None => None,
+        }
+    }
+
+    /// Adds a value.
+    pub fn say_value(&mut self, x: Worth) -> Result<(), AllocError> {
+        match x {
+            Worth::Number(number) => add_word(&mut self.text, number),
+            Worth::Address(object, offset) => self.say_address(object, offset),
+            Worth::Procedure(number) => {
+                let name = procedure_name(self.program, number);
+                self.say(&[b"the procedure ", name])
+            }
+            Worth::Routine(routine) => self.say(&[b"the routine ", routine_name(routine)]),
+            Worth::Unset(origin) => self.say_origin(origin),
+        }
+    }
+
+    /// Adds what a value is, where its name says it already.
+    fn say_kind(&mut self, x: Worth) -> Result<(), AllocError> {
+        match x {
+            Worth::Number(_) => self.say(&[b"a number"]),
+            Worth::Procedure(_) => self.say(&[b"a procedure"]),
+            Worth::Routine(_) => self.say(&[b"a routine of the library"]),
+            Worth::Unset(_) => self.say(&[b"not set"]),
+            Worth::Address(object, _) => match self.object(object) {
+                Object::Made(made) => match made.kind {
+                    Kind::Vector => self.say(&[b"the address of a vector"]),
+                    Kind::Variable => self.say(&[b"the address of a variable"]),
+                    Kind::Formals => self.say(&[b"the address of a formal"]),
+                },
+                Object::String(_) => self.say(&[b"a string"]),
+                Object::Table => self.say(&[b"the address of a TABLE"]),
+                _ => self.say(&[b"an address"]),
+            },
+        }
+    }
+
+    /// Adds an expression and its value, as in `P is V + 2`.
+    pub fn say_is(&mut self, expr: &Expr, x: Worth) -> Result<(), AllocError> {
+        let start = self.text.len();
+        self.say_expr(expr)?;
+        let name = self.text.len();
+        self.say(&[b" is "])?;
+        let value = self.text.len();
+        self.say_value(x)?;
+        if self.is_said_twice(start, name, value, x) {
+            self.text.truncate(value);
+            self.say_kind(x)?;
+        }
+        Ok(())
+    }
+
+    /// Whether the text of a value is that of its expression, or ends in it.
+    fn is_said_twice(&self, start: usize, name: usize, value: usize, x: Worth) -> bool {
+        let expr = self.text.get(start..name).unwrap_or(&[]);
+        let spelled = self.text.get(value..).unwrap_or(&[]);
+        match x {
+            Worth::Procedure(_) | Worth::Routine(_) => spelled.ends_with(expr),
+            Worth::Address(_, _) => spelled == expr
+                || spelled.ends_with(b"\"") && expr.ends_with(b"\""),
+            Worth::Number(_) | Worth::Unset(_) => spelled == expr,
+        }
+    }
+
+    /// Adds why there is no value.
+    pub fn say_origin(&mut self, origin: Origin) -> Result<(), AllocError> {
+        match origin {
+            Origin::Never => self.say(&[b"nothing was assigned to it"]),
+            Origin::Query(line) => {
+                self.say(&[b"it is the `?` of line "])?;
+                add_number(&mut self.text, line as usize)
+            }
+            Origin::Valof(line, number) => {
+                let name = procedure_name(self.program, u64::from(number));
+                self.say(&[b"the `VALOF` of line "])?;
+                add_number(&mut self.text, line as usize)?;
+                self.say(&[b", of ", name, b", ended without `RESULTIS`"])
+            }
+            Origin::Body(line, number) => {
+                let name = procedure_name(self.program, u64::from(number));
+                self.say(&[name, b", called on line "])?;
+                add_number(&mut self.text, line as usize)?;
+                self.say(&[b", is a routine, with `BE`, and gives none"])
+            }
+            Origin::Library(routine) => self.say(&[routine_name(routine), b" gives none"]),
+            Origin::Argument => self.say(&[b"its argument is missing"]),
+        }
+    }
+
+    /// The value of a name, if it has one and its place is known.
+    pub fn value_of(&self, name: &[u8]) -> Option<Worth> {
+        match self.names?.sense(name)? {
+            Sense::Constant(word) => Some(Worth::Number(word)),
+            Sense::Cell(object, offset) => match self.m.store.cell(object, offset)? {
+                Cell::Holds(worth) => Some(worth),
+                Cell::Places(_, _, _, _) => None,
+            },
+            Sense::Label | Sense::Foreign => None,
+        }
+    }
+
+    /// The value of an expression that is a name or a number.
+    pub fn known(&self, expr: &Expr) -> Option<Worth> {
+        match expr {
+            Expr::Name { letters, .. } => self.value_of(letters),
+            Expr::Number { word, .. } => Some(Worth::Number(*word)),
+            Expr::Parens { inside, .. } => match &**inside {
+                Expr::Name { letters, .. } => self.value_of(letters),
+                _ => None,
+            },
+            _ => None,
+        }
+    }
+}
