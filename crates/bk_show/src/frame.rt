@@ -98,6 +98,16 @@ impl<'s> Frame<'s> {
         found
     }
 
+    /// The words that have names, those of the outermost block first.
+    pub fn words(&self) -> &[NamedWord] {
+        self.words.as_slice()
+    }
+
+    /// How many arguments the procedure has.
+    pub fn formals(&self) -> u32 {
+        self.formals
+    }
+
     /// How many marks were passed.
     pub fn passed(&self) -> usize {
         self.passed

@@ -1,12 +1,10 @@
 //! The items of INTCODE of a section, each with what it does.
 
-use crate::frame::Frame;
+use crate::follow::{Follow, string_of};
 use crate::instruction::{Instruction, put_instruction, say_instruction};
 use crate::origin::Origin;
 use crate::spelling::put_string;
 use crate::text::Text;
-use bk_base::Line;
-use bk_base::limit::OCODE_LABEL;
 use bk_machine::{Function, Intcode, Item, Operand};
 use bk_ocode::Stmt;
 use bk_source_map::Mark;
@@ -19,48 +17,12 @@ const MEANING: usize = 24;
 #[derive(Drop)]
 struct Walk<'s> {
     text: Text,
-    origin: &'s Origin<'s>,
-    /// How many items there are up to the end of each statement.
-    ends: &'s [usize],
-    frame: Frame<'s>,
-    /// The statement that the next item is of; past the last of them, the strings follow.
-    stmt: usize,
-    /// The statement of the string whose bytes are next.
-    string: Option<usize>,
+    follow: Follow<'s>,
     /// Whether the line of bytes is not ended.
     in_bytes: bool,
 }
 
-/// The statement of the string that has this label, of so many statements.
-fn string_of(label: u32, stmts: usize) -> Option<usize> {
-    let behind = label.checked_sub(OCODE_LABEL)? as usize;
-    stmts.checked_sub(behind)
-}
-
 impl<'s> Walk<'s> {
-    /// The line of the next item: that of its statement.
-    fn line(&self) -> Option<Line> {
-        match self.string {
-            Some(stmt) => self.origin.line(stmt),
-            None => self.origin.line(self.stmt),
-        }
-    }
-
-    /// Goes to the statement of the item of this number.
-    fn reach(&mut self, item: usize) -> Result<(), AllocError> {
-        let stmts = self.origin.stmts();
-        for number in self.stmt..stmts.len() {
-            self.stmt = number;
-            self.frame.reach(number, &stmts[number])?;
-            if matches!(self.ends.get(number), Some(end) if item < *end) {
-                return Ok(());
-            }
-            self.frame.pass_stmt(&stmts[number]);
-            self.stmt = number.saturating_add(1);
-        }
-        Ok(())
-    }
-
     /// Ends a line of bytes.
     fn end_bytes(&mut self) -> Result<(), AllocError> {
         if self.in_bytes {
@@ -76,7 +38,7 @@ impl<'s> Walk<'s> {
             self.text.say(" ")?;
         } else {
             self.in_bytes = true;
-            let line = self.line();
+            let line = self.follow.line();
             self.text.begin_at(line)?;
         }
         self.text.say("C")?;
@@ -85,22 +47,23 @@ impl<'s> Walk<'s> {
 
     /// Adds what a label is for, after a comma.
     fn say_label(&mut self, label: u32) -> Result<(), AllocError> {
-        match string_of(label, self.origin.stmts().len()) {
-            Some(stmt) => match self.origin.stmts().get(stmt) {
+        let origin = self.follow.origin();
+        match string_of(label, origin.stmts().len()) {
+            Some(stmt) => match origin.stmts().get(stmt) {
                 Some(Stmt::Text { bytes }) => {
                     self.text.say(", ")?;
                     put_string(&mut self.text, bytes.as_bytes())
                 }
                 _ => Ok(()),
             },
-            None => self.origin.say_label(&mut self.text, label),
+            None => origin.say_label(&mut self.text, label),
         }
     }
 
     /// Adds the line of a label that is set.
     fn label(&mut self, label: u32) -> Result<(), AllocError> {
-        self.string = string_of(label, self.origin.stmts().len());
-        let line = self.line();
+        self.follow.set(label);
+        let line = self.follow.line();
         self.text.begin_at(line)?;
         self.text.natural(label)?;
         self.text.go_to(MEANING)?;
@@ -128,17 +91,18 @@ impl<'s> Walk<'s> {
 
     /// Adds the name of a word of the frame, after a comma.
     fn say_slot(&mut self, slot: u32) -> Result<(), AllocError> {
-        if self.frame.word(slot).is_none() {
+        let frame = self.follow.frame();
+        if frame.word(slot).is_none() {
             return Ok(());
         }
         self.text.say(", ")?;
-        let _named = self.frame.say_word(&mut self.text, self.origin, slot)?;
+        let _named = frame.say_word(&mut self.text, self.follow.origin(), slot)?;
         Ok(())
     }
 
     /// Adds the name of a global, after a comma.
     fn say_global(&mut self, number: u32) -> Result<(), AllocError> {
-        match self.origin.global_name(number) {
+        match self.follow.origin().global_name(number) {
             Some(name) => {
                 self.text.say(", ")?;
                 self.text.name(name)
@@ -149,7 +113,7 @@ impl<'s> Walk<'s> {
 
     /// Adds the line of an instruction.
     fn instruction(&mut self, instruction: Instruction) -> Result<(), AllocError> {
-        let line = self.line();
+        let line = self.follow.line();
         self.text.begin_at(line)?;
         put_instruction(&mut self.text, instruction)?;
         self.text.go_to(MEANING)?;
@@ -162,7 +126,7 @@ impl<'s> Walk<'s> {
 
     /// Adds the line of a word.
     fn word(&mut self, word: i32) -> Result<(), AllocError> {
-        let line = self.line();
+        let line = self.follow.line();
         self.text.begin_at(line)?;
         self.text.say("D")?;
         self.text.integer(word)?;
@@ -173,7 +137,7 @@ impl<'s> Walk<'s> {
 
     /// Adds the line of a word with a label.
     fn label_word(&mut self, label: u32) -> Result<(), AllocError> {
-        let line = self.line();
+        let line = self.follow.line();
         self.text.begin_at(line)?;
         self.text.say("DL")?;
         self.text.natural(label)?;
@@ -186,7 +150,7 @@ impl<'s> Walk<'s> {
 
     /// Adds the line of a global, which is that of the procedure that it holds.
     fn global(&mut self, number: u32, label: u32) -> Result<(), AllocError> {
-        let line = self.origin.line_of_label(label);
+        let line = self.follow.origin().line_of_label(label);
         self.text.begin_at(line)?;
         self.text.say("G")?;
         self.text.natural(number)?;
@@ -257,17 +221,13 @@ pub fn intcode_text<'s>(
 ) -> Result<Text, AllocError> {
     let mut walk = Walk {
         text: Text::new(alloc),
-        origin,
-        ends,
-        frame: Frame::new(alloc, marks),
-        stmt: 0,
-        string: None,
+        follow: Follow::of(alloc, origin, ends, marks),
         in_bytes: false,
     };
     walk.text.say("  line  item            what it does")?;
     walk.text.end()?;
     for (number, item) in segment.items().iter().enumerate() {
-        walk.reach(number)?;
+        walk.follow.reach(number)?;
         match item {
             Item::Byte(byte) => walk.byte(*byte)?,
             other => walk.item(*other)?,

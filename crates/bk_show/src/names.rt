@@ -4,6 +4,7 @@ use crate::frame::{Frame, NamedWord};
 use crate::origin::{Origin, put_at};
 use crate::spelling::sort_spelling;
 use crate::text::Text;
+use crate::used::Uses;
 use bk_scope::{Bound, Resolved};
 use bk_source_map::{Change, Mark};
 use bk_tree::{Command, ConstItem, Decl, Def, Expr, Init, Name, Position, Sort};
@@ -53,17 +54,20 @@ impl<'a> Slots<'a> {
 
 /// Names that are put. The meanings and the words are in the source's order.
 #[derive(Drop)]
-struct Walk<'h, 'n, 's> {
+struct Walk<'s> {
     text: Text,
     slots: &'s Slots<'s>,
     /// Which declarations with constants are of a header.
-    headers: &'h [bool],
-    meanings: &'n [Bound],
-    words: &'n [u32],
+    headers: &'s [bool],
+    meanings: &'s [Bound],
+    words: &'s [u32],
     /// How many of these were met.
     header: usize,
     meaning: usize,
     word: usize,
+    uses: Uses,
+    /// What a walk before this one found.
+    known: Option<&'s Uses>,
 }
 
 /// Adds what a name means.
@@ -108,7 +112,7 @@ fn put_word(text: &mut Text, word: NamedWord) -> Result<(), AllocError> {
     Ok(())
 }
 
-impl Walk<'_, '_, '_> {
+impl Walk<'_> {
     /// The next meaning.
     fn takes_meaning(&mut self) -> Option<Bound> {
         let bound = self.meanings.get(self.meaning).copied();
@@ -148,8 +152,41 @@ impl Walk<'_, '_, '_> {
         self.begin(at, name)?;
         if let Some(bound) = self.takes_meaning() {
             put_meaning(&mut self.text, bound)?;
+            self.uses.meet(self.slots.origin, name, bound)?;
         }
         self.text.end()
+    }
+
+    /// Adds that a declaration is never used, if that is known.
+    fn say_used(&mut self, number: usize) -> Result<(), AllocError> {
+        match self.known {
+            Some(known) if !known.is_used(number) => self.text.say(", never used"),
+            _ => Ok(()),
+        }
+    }
+
+    /// Adds the same of a static word, a procedure or a label.
+    fn say_met(&mut self, bound: Bound) -> Result<(), AllocError> {
+        match self.known {
+            Some(known) if !known.is_met(bound) => self.text.say(", never used"),
+            _ => Ok(()),
+        }
+    }
+
+    /// Adds a label where it is set.
+    fn label(&mut self, at: Position, name: &[u8]) -> Result<(), AllocError> {
+        self.begin(at, name)?;
+        if let Some(bound) = self.takes_meaning() {
+            put_meaning(&mut self.text, bound)?;
+            self.say_met(bound)?;
+        }
+        self.text.end()
+    }
+
+    /// A constant is used in another, which has no meanings of its own.
+    fn constant(&mut self, name: &[u8]) -> Result<(), AllocError> {
+        self.uses
+            .meet(self.slots.origin, name, Bound::Constant(None))
     }
 
     /// Adds a procedure and what its name means.
@@ -158,20 +195,40 @@ impl Walk<'_, '_, '_> {
         self.text.say(words)?;
         if let Some(bound) = self.takes_meaning() {
             put_meaning(&mut self.text, bound)?;
+            match bound {
+                Bound::Static(_) => self.say_met(bound)?,
+                _ => self.uses.meet(self.slots.origin, name, bound)?,
+            }
         }
         self.text.end()
     }
 
-    /// Adds a variable where it is declared.
-    fn variable(&mut self, name: &Name) -> Result<(), AllocError> {
+    /// Adds a variable where it is declared, and returns its number among the declarations.
+    fn declare(&mut self, name: &Name) -> Result<usize, AllocError> {
         self.begin(name.at, &name.letters)?;
-        let text = &mut self.text;
+        let mut slot = 0;
         match self.slots.word(name.at) {
-            Some(word) => put_word(text, word)?,
-            None => text.say("variable")?,
+            Some(word) => {
+                slot = word.slot;
+                put_word(&mut self.text, word)?;
+            }
+            None => self.text.say("variable")?,
         }
-        text.say(", declared here")?;
-        text.end()
+        self.text.say(", declared here")?;
+        self.uses.declare(name.at, Bound::Variable(0, slot))
+    }
+
+    /// Adds the line of a variable.
+    fn variable(&mut self, name: &Name) -> Result<(), AllocError> {
+        let number = self.declare(name)?;
+        self.say_used(number)?;
+        self.text.end()
+    }
+
+    /// Adds the line of the variable of a FOR, which its loop uses.
+    fn counter(&mut self, name: &Name) -> Result<(), AllocError> {
+        let _number = self.declare(name)?;
+        self.text.end()
     }
 
     /// Adds variables where they are declared.
@@ -193,11 +250,24 @@ impl Walk<'_, '_, '_> {
             Sort::Global => "global ",
         })?;
         text.integer(word)?;
-        text.end()?;
-        if sort == Sort::Static {
-            let _bound = self.takes_meaning();
-        }
-        Ok(())
+        self.say_item(at, sort)?;
+        self.text.end()
+    }
+
+    /// Brings an item into scope, and adds that it is never used, if that is known.
+    fn say_item(&mut self, at: Position, sort: Sort) -> Result<(), AllocError> {
+        let bound = match sort {
+            Sort::Manifest => Bound::Constant(None),
+            Sort::Global => Bound::Global(None),
+            Sort::Static => {
+                return match self.takes_meaning() {
+                    Some(bound) => self.say_met(bound),
+                    None => Ok(()),
+                };
+            }
+        };
+        let number = self.uses.declare(at, bound)?;
+        self.say_used(number)
     }
 
     /// Adds a declaration of a header.
@@ -216,7 +286,7 @@ impl Walk<'_, '_, '_> {
 
 /// Adds the names of an expression.
 #[cycle(nodes)]
-fn put_expr(walk: &mut Walk<'_, '_, '_>, expr: &Expr) -> Result<(), AllocError> {
+fn put_expr(walk: &mut Walk<'_>, expr: &Expr) -> Result<(), AllocError> {
     match expr {
         Expr::Name { at, letters } => walk.name(*at, letters),
         Expr::Number { .. } | Expr::Text { .. } | Expr::Truth { .. } | Expr::Query { .. } => Ok(()),
@@ -247,14 +317,36 @@ fn put_expr(walk: &mut Walk<'_, '_, '_>, expr: &Expr) -> Result<(), AllocError> 
         Expr::Valof { command, .. } => put_command(walk, command),
         Expr::Table { items, .. } => {
             walk.skips_words(items.len());
-            Ok(())
+            put_constants(walk, items)
         }
+    }
+}
+
+/// Notes the names in constants one after another.
+fn put_constants(walk: &mut Walk<'_>, exprs: &[Expr]) -> Result<(), AllocError> {
+    for expr in exprs {
+        put_constant(walk, expr)?;
+    }
+    Ok(())
+}
+
+/// Notes the names in a constant.
+fn put_constant(walk: &mut Walk<'_>, expr: &Expr) -> Result<(), AllocError> {
+    match expr {
+        Expr::Name { letters, .. } => walk.constant(letters),
+        Expr::Parens { inside, .. } => put_constant(walk, inside),
+        Expr::Unary { operand, .. } => put_constant(walk, operand),
+        Expr::Binary { left, right, .. } => {
+            put_constant(walk, left)?;
+            put_constant(walk, right)
+        }
+        _ => Ok(()),
     }
 }
 
 /// Adds the names of expressions one after another.
 #[cycle(nodes)]
-fn put_exprs(walk: &mut Walk<'_, '_, '_>, exprs: &[Expr]) -> Result<(), AllocError> {
+fn put_exprs(walk: &mut Walk<'_>, exprs: &[Expr]) -> Result<(), AllocError> {
     for expr in exprs {
         put_expr(walk, expr)?;
     }
@@ -263,7 +355,7 @@ fn put_exprs(walk: &mut Walk<'_, '_, '_>, exprs: &[Expr]) -> Result<(), AllocErr
 
 /// Adds the names of a command.
 #[cycle(nodes)]
-fn put_command(walk: &mut Walk<'_, '_, '_>, command: &Command) -> Result<(), AllocError> {
+fn put_command(walk: &mut Walk<'_>, command: &Command) -> Result<(), AllocError> {
     match command {
         Command::Empty | Command::Simple { .. } => Ok(()),
         Command::Assign {
@@ -287,11 +379,12 @@ fn put_command(walk: &mut Walk<'_, '_, '_>, command: &Command) -> Result<(), All
             ..
         } => walk.name(*at, letters),
         Command::Label { at, letters, body } => {
-            walk.name(*at, letters)?;
+            walk.label(*at, letters)?;
             put_command(walk, body)
         }
-        Command::Case { body, .. } => {
+        Command::Case { value, body, .. } => {
             walk.skips_words(1);
+            put_constant(walk, value)?;
             put_command(walk, body)
         }
         Command::Default { body, .. } | Command::Repeat { body, .. } => put_command(walk, body),
@@ -326,13 +419,17 @@ fn put_command(walk: &mut Walk<'_, '_, '_>, command: &Command) -> Result<(), All
             body,
             ..
         } => {
-            walk.variable(name)?;
+            let depth = walk.uses.depth();
+            walk.counter(name)?;
             put_expr(walk, from)?;
             put_expr(walk, to)?;
-            if by.is_some() {
+            if let Some(by) = by {
                 walk.skips_words(1);
+                put_constant(walk, by)?;
             }
-            put_command(walk, body)
+            put_command(walk, body)?;
+            walk.uses.leave(depth);
+            Ok(())
         }
         Command::SwitchOn {
             value: expr,
@@ -348,8 +445,11 @@ fn put_command(walk: &mut Walk<'_, '_, '_>, command: &Command) -> Result<(), All
             commands,
             ..
         } => {
+            let depth = walk.uses.depth();
             put_decls(walk, decls)?;
-            put_commands(walk, commands)
+            put_commands(walk, commands)?;
+            walk.uses.leave(depth);
+            Ok(())
         }
         Command::RepeatWhile {
             body,
@@ -364,7 +464,7 @@ fn put_command(walk: &mut Walk<'_, '_, '_>, command: &Command) -> Result<(), All
 
 /// Adds the names of commands one after another.
 #[cycle(nodes)]
-fn put_commands(walk: &mut Walk<'_, '_, '_>, commands: &[Command]) -> Result<(), AllocError> {
+fn put_commands(walk: &mut Walk<'_>, commands: &[Command]) -> Result<(), AllocError> {
     for command in commands {
         put_command(walk, command)?;
     }
@@ -373,7 +473,7 @@ fn put_commands(walk: &mut Walk<'_, '_, '_>, commands: &[Command]) -> Result<(),
 
 /// Adds the names of declarations one after another.
 #[cycle(nodes)]
-fn put_decls(walk: &mut Walk<'_, '_, '_>, decls: &[Decl]) -> Result<(), AllocError> {
+fn put_decls(walk: &mut Walk<'_>, decls: &[Decl]) -> Result<(), AllocError> {
     for decl in decls {
         put_decl(walk, decl)?;
     }
@@ -382,7 +482,7 @@ fn put_decls(walk: &mut Walk<'_, '_, '_>, decls: &[Decl]) -> Result<(), AllocErr
 
 /// Adds the names of a declaration. One of a header is a single line.
 #[cycle(nodes)]
-fn put_decl(walk: &mut Walk<'_, '_, '_>, decl: &Decl) -> Result<(), AllocError> {
+fn put_decl(walk: &mut Walk<'_>, decl: &Decl) -> Result<(), AllocError> {
     match decl {
         Decl::Constants { at, sort, items } => {
             if walk.takes_header() {
@@ -395,24 +495,21 @@ fn put_decl(walk: &mut Walk<'_, '_, '_>, decl: &Decl) -> Result<(), AllocError> 
 }
 
 /// Adds the items of a declaration.
-fn put_items(
-    walk: &mut Walk<'_, '_, '_>,
-    sort: Sort,
-    items: &[ConstItem],
-) -> Result<(), AllocError> {
+fn put_items(walk: &mut Walk<'_>, sort: Sort, items: &[ConstItem]) -> Result<(), AllocError> {
     for ConstItem::Item {
         at,
         letters: name,
-        ..
+        expr,
     } in items {
         walk.item(*at, name, sort)?;
+        put_constant(walk, expr)?;
     }
     Ok(())
 }
 
 /// Adds the names of definitions one after another.
 #[cycle(nodes)]
-fn put_defs(walk: &mut Walk<'_, '_, '_>, defs: &[Def]) -> Result<(), AllocError> {
+fn put_defs(walk: &mut Walk<'_>, defs: &[Def]) -> Result<(), AllocError> {
     for def in defs {
         put_def(walk, def)?;
     }
@@ -421,7 +518,7 @@ fn put_defs(walk: &mut Walk<'_, '_, '_>, defs: &[Def]) -> Result<(), AllocError>
 
 /// Adds the names of a definition.
 #[cycle(nodes)]
-fn put_def(walk: &mut Walk<'_, '_, '_>, def: &Def) -> Result<(), AllocError> {
+fn put_def(walk: &mut Walk<'_>, def: &Def) -> Result<(), AllocError> {
     match def {
         Def::Routine {
             at,
@@ -430,8 +527,11 @@ fn put_def(walk: &mut Walk<'_, '_, '_>, def: &Def) -> Result<(), AllocError> {
             body,
         } => {
             walk.procedure(*at, name, "routine, ")?;
+            let depth = walk.uses.depth();
             walk.variables(formals)?;
-            put_command(walk, body)
+            put_command(walk, body)?;
+            walk.uses.leave(depth);
+            Ok(())
         }
         Def::Function {
             at,
@@ -440,8 +540,11 @@ fn put_def(walk: &mut Walk<'_, '_, '_>, def: &Def) -> Result<(), AllocError> {
             body,
         } => {
             walk.procedure(*at, name, "function, ")?;
+            let depth = walk.uses.depth();
             walk.variables(formals)?;
-            put_expr(walk, body)
+            put_expr(walk, body)?;
+            walk.uses.leave(depth);
+            Ok(())
         }
         Def::Variables {
             names,
@@ -456,7 +559,7 @@ fn put_def(walk: &mut Walk<'_, '_, '_>, def: &Def) -> Result<(), AllocError> {
 
 /// Adds the names of what variables begin with.
 #[cycle(nodes)]
-fn put_starts(walk: &mut Walk<'_, '_, '_>, starts: &[Init]) -> Result<(), AllocError> {
+fn put_starts(walk: &mut Walk<'_>, starts: &[Init]) -> Result<(), AllocError> {
     for start in starts {
         put_start(walk, start)?;
     }
@@ -465,23 +568,25 @@ fn put_starts(walk: &mut Walk<'_, '_, '_>, starts: &[Init]) -> Result<(), AllocE
 
 /// Adds the names of what a variable begins with.
 #[cycle(nodes)]
-fn put_start(walk: &mut Walk<'_, '_, '_>, start: &Init) -> Result<(), AllocError> {
+fn put_start(walk: &mut Walk<'_>, start: &Init) -> Result<(), AllocError> {
     match start {
         Init::Value(expr) => put_expr(walk, expr),
-        Init::Vector { .. } => {
+        Init::Vector { size, .. } => {
             walk.skips_words(1);
-            Ok(())
+            put_constant(walk, size)
         }
     }
 }
 
-/// A line for each name that is used or declared. `headers` says which declarations with constants are of a header.
-pub fn names_text<'s>(
+/// A walk of the names of a section. `headers` says which declarations with constants are of a header, and `known` which declarations are
+/// used.
+fn walk_of<'s>(
     alloc: Global,
-    resolved: &Resolved<'_>,
-    headers: &[bool],
+    resolved: &'s Resolved<'s>,
+    headers: &'s [bool],
     slots: &'s Slots<'s>,
-) -> Result<Text, AllocError> {
+    known: Option<&'s Uses>,
+) -> Result<Walk<'s>, AllocError> {
     let mut walk = Walk {
         text: Text::new(alloc),
         slots,
@@ -491,10 +596,34 @@ pub fn names_text<'s>(
         header: 0,
         meaning: 0,
         word: 0,
+        uses: Uses::new(alloc),
+        known,
     };
     walk.text.say("  line  name            meaning")?;
     walk.text.end()?;
     put_decls(&mut walk, resolved.section().decls())?;
-    let Walk { text, .. } = walk;
+    Ok(walk)
+}
+
+/// Which declarations of a section are used.
+fn uses_of<'s>(
+    alloc: Global,
+    resolved: &'s Resolved<'s>,
+    headers: &'s [bool],
+    slots: &'s Slots<'s>,
+) -> Result<Uses, AllocError> {
+    let Walk { uses, .. } = walk_of(alloc, resolved, headers, slots, None)?;
+    Ok(uses)
+}
+
+/// A line for each name that is used or declared. `headers` says which declarations with constants are of a header.
+pub fn names_text<'s>(
+    alloc: Global,
+    resolved: &'s Resolved<'s>,
+    headers: &'s [bool],
+    slots: &'s Slots<'s>,
+) -> Result<Text, AllocError> {
+    let uses = uses_of(alloc, &*resolved, headers, &*slots)?;
+    let Walk { text, .. } = walk_of(alloc, resolved, headers, slots, Some(&uses))?;
     Ok(text)
 }

@@ -166,6 +166,14 @@ impl<'a> Origin<'a> {
         self.stmts
     }
 
+    /// The name that an ENTRY of this number gives its procedure; empty where the statement is no ENTRY.
+    pub fn entry_name(&self, number: usize) -> &'a [u8] {
+        match self.stmts.get(number) {
+            Some(Stmt::Entry { name, .. }) => name.as_bytes(),
+            _ => b"",
+        }
+    }
+
     /// The number of the token that begins at a position.
     pub fn token_at(&self, position: Position) -> Option<usize> {
         let bytes = position.bytes();
@@ -178,7 +186,7 @@ impl<'a> Origin<'a> {
     }
 
     /// The number of the token of a statement.
-    fn token_of(&self, number: usize) -> Option<usize> {
+    pub fn token_of(&self, number: usize) -> Option<usize> {
         self.token_at(*self.places.get(number)?)
     }
 
@@ -207,14 +215,42 @@ impl<'a> Origin<'a> {
         self.name_of_token(self.token_of(number)?)
     }
 
+    /// The token of a name of a global, if a statement has one for it.
+    pub fn global_token(&self, number: u32) -> Option<usize> {
+        self.globals.get(number as usize).copied()?
+    }
+
     /// The name of a global, if a statement has one for it.
     pub fn global_name(&self, number: u32) -> Option<&'a [u8]> {
-        let token = self.globals.get(number as usize).copied()??;
-        self.name_of_token(token)
+        self.name_of_token(self.global_token(number)?)
+    }
+
+    /// Whether a label is set at data.
+    pub fn is_data(&self, label: u32) -> bool {
+        match self.label_at(label) {
+            Some(at) => at.setter == Setter::Data,
+            None => false,
+        }
+    }
+
+    /// The globals that statements have names for: the token of each by its number.
+    pub fn globals(&self) -> &[Option<usize>] {
+        self.globals.as_slice()
+    }
+
+    /// The token of the name of the static word that a label is set at.
+    pub fn static_token(&self, label: u32) -> Option<usize> {
+        let at = self.label_at(label)?;
+        let _name = self.name_of_token(at.token)?;
+        if at.setter == Setter::Data {
+            Some(at.token)
+        } else {
+            None
+        }
     }
 
     /// The name that a token is.
-    fn name_of_token(&self, token: usize) -> Option<&'a [u8]> {
+    pub fn name_of_token(&self, token: usize) -> Option<&'a [u8]> {
         let token = self.tokens.get(token)?;
         if token.kind == Kind::Name {
             Some(token.text)

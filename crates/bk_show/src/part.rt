@@ -3,7 +3,7 @@
 /// Which part of a section is shown.
 #[derive(Clone, Copy, Debug, PartialEq, Eq)]
 pub enum Part {
-    /// Each of the others, one after another.
+    /// The tokens, the tree, the names, OCODE and INTCODE, one after another.
     All,
     /// The tokens, with what is inserted between them.
     Tokens,
@@ -15,9 +15,13 @@ pub enum Part {
     Ocode,
     /// The items of INTCODE.
     Intcode,
+    /// Where the words of the code come from in the source, and what their operands and the words of frames are called.
+    Map,
+    /// The tree in the language of Graphviz.
+    Dot,
 }
 
-/// Whether a part of this kind, which is not `All`, is shown where `asked` is asked for.
+/// Whether a part of this kind, which is one of those of `All`, is shown where `asked` is asked for.
 pub fn is_shown(part: Part, asked: Part) -> bool {
     asked == Part::All || asked == part
 }

@@ -1,18 +1,10 @@
 //! The procedures of a program in a store, by the addresses at which they begin.
 
 use crate::entries::Entries;
-use bk_machine::{Intcode, Item, Operand};
+use crate::placer::Placer;
+use bk_machine::{Intcode, Item};
 use bk_ocode::Ocode;
 use std::alloc::{AllocError, Global};
-
-/// The address of the first word of the first segment (docs/INTCODE.md, *The store before a run*).
-const FIRST_SEGMENT: u32 = 1034;
-
-/// The greatest number that the address field of an instruction holds.
-const LONGEST_FIELD: i32 = 0x01FF_FFFF;
-
-/// The bytes of a word.
-const WORD_BYTES: u32 = 4;
 
 /// The code from one address to that of the next procedure.
 #[derive(Drop)]
@@ -27,34 +19,7 @@ struct Procedure {
 #[derive(Drop)]
 pub struct Procedures {
     list: Vec<Procedure>,
-    /// The address after the items that were placed.
-    next: u32,
-    /// How many of those items are bytes that come one after another up to that address.
-    bytes: u32,
-}
-
-/// Whether a number does not fit the address field.
-fn is_long_number(number: i32) -> bool {
-    number < 0 || number > LONGEST_FIELD
-}
-
-/// Whether the address of an instruction takes a word of its own.
-fn is_long(operand: Operand) -> bool {
-    match operand {
-        Operand::Number(number) => is_long_number(number),
-        Operand::Local(number) => is_long_number(number),
-        Operand::Global(number) => is_long_number(number),
-        Operand::Label(_) => false,
-    }
-}
-
-/// How many words an item takes that is no byte.
-fn words_of(item: Item) -> u32 {
-    match item {
-        Item::Instruction { operand, .. } => 1 + u32::from(is_long(operand)),
-        Item::Word(_) | Item::LabelWord(_) => 1,
-        _ => 0,
-    }
+    placer: Placer,
 }
 
 impl Procedures {
@@ -62,8 +27,7 @@ impl Procedures {
     pub fn new(alloc: Global) -> Procedures {
         Procedures {
             list: Vec::new(alloc),
-            next: FIRST_SEGMENT,
-            bytes: 0,
+            placer: Placer::new(),
         }
     }
 
@@ -72,23 +36,10 @@ impl Procedures {
         let mut copy = Vec::new(alloc);
         copy.extend_from_slice(name)?;
         self.list.push(Procedure {
-            at: self.next,
+            at: self.placer.next(),
             name: copy,
         })?;
         Ok(())
-    }
-
-    /// Goes past the words of an item.
-    fn place(&mut self, item: Item) {
-        let words = if let Item::Byte(_) = item {
-            let is_first = self.bytes % WORD_BYTES == 0;
-            self.bytes = self.bytes.wrapping_add(1);
-            u32::from(is_first)
-        } else {
-            self.bytes = 0;
-            words_of(item)
-        };
-        self.next = self.next.saturating_add(words);
     }
 
     /// Adds the procedures of a segment, which is placed after the segments before it, with the names that the section has from which
@@ -108,15 +59,15 @@ impl Procedures {
                     self.begin(alloc, name)?;
                 }
             }
-            self.place(*item);
+            let _words = self.placer.pass(*item);
         }
-        self.bytes = 0;
+        self.placer.end();
         Ok(())
     }
 
     /// The address after the segments.
     pub fn end(&self) -> u32 {
-        self.next
+        self.placer.next()
     }
 
     /// The number of the procedure whose code holds this address, if its name is known.

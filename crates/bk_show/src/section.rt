@@ -3,21 +3,25 @@ ghost use Rattle.std.specs.Prelude.{◌≡◌, Err, OnOk};
 ghost use Rattle.bk_base.specs.Devices.{Begins};
 ghost use Rattle.bk_show.specs.declared.section.NotShown.TheVariants.{Device};
 
+use crate::dot::dot_text;
 use crate::header::header_declarations;
 use crate::intcode::intcode_text;
+use crate::map::map_text;
 use crate::names::{Slots, names_text};
 use crate::ocode::ocode_text;
 use crate::origin::Origin;
 use crate::part::{Part, is_shown};
 use crate::text::Text;
 use crate::tokens::tokens_text;
-use crate::tree::tree_text;
+use crate::tree::tree_of;
+use crate::words::Code;
 use bk_base::{ByteOut, Line, put_all};
 use bk_lex::Token;
 use bk_machine::Intcode;
 use bk_ocode::Ocode;
 use bk_scope::Resolved;
 use bk_source_map::Placing;
+use bk_tree::Section;
 use std::alloc::{AllocError, Global};
 
 /// What the phases of the compiler make of a section.
@@ -62,17 +66,35 @@ impl From<AllocError> for NotShown {
 }
 
 /// The line above a section.
-fn heading(alloc: Global, section: &Shown<'_>) -> Result<Text, AllocError> {
+fn heading(alloc: Global, number: u32, line: Line) -> Result<Text, AllocError> {
     let mut text = Text::new(alloc);
-    if section.number > 1 {
+    if number > 1 {
         text.end()?;
     }
     text.say("section ")?;
-    text.natural(section.number)?;
+    text.natural(number)?;
     text.say(", from line ")?;
-    text.natural(section.line.number())?;
+    text.natural(line.number())?;
     text.end()?;
     Ok(text)
+}
+
+/// Writes the line above a section; a graph has none.
+fn put_heading<O: ByteOut>(
+    alloc: Global,
+    number: u32,
+    line: Line,
+    asked: Part,
+    out: &mut O,
+) -> Result<(), NotShown>
+    ensures grows { Begins (O.taken out.old) (O.taken out.new) }
+    ensures passes { Begins (O.passed out.old) (O.passed out.new) }
+    ensures failed { result ≡ Err Device → O.faults out.new ≡ 1 }
+{
+    if asked == Part::Dot {
+        return Ok(());
+    }
+    put_text(&heading(alloc, number, line)?, out)
 }
 
 /// The line above a part.
@@ -111,6 +133,30 @@ fn put_part<O: ByteOut>(
     put_text(text, out)
 }
 
+/// Writes the tree, if it is asked for, as text or as a graph.
+fn put_tree<O: ByteOut>(
+    alloc: Global,
+    number: u32,
+    section: &Section,
+    headers: &[bool],
+    asked: Part,
+    out: &mut O,
+) -> Result<(), NotShown>
+    ensures grows { Begins (O.taken out.old) (O.taken out.new) }
+    ensures passes { Begins (O.passed out.old) (O.passed out.new) }
+    ensures failed { result ≡ Err Device → O.faults out.new ≡ 1 }
+{
+    if asked == Part::Dot {
+        let tree = tree_of(alloc, section, headers)?;
+        return put_text(&dot_text(alloc, number, &tree)?, out);
+    }
+    if is_shown(Part::Tree, asked) {
+        let tree = tree_of(alloc, section, headers)?;
+        return put_part(alloc, "tree", &tree.text, out);
+    }
+    Ok(())
+}
+
 /// Writes the tokens and the tree, those of them that are asked for.
 fn put_front<O: ByteOut>(
     alloc: Global,
@@ -126,11 +172,14 @@ fn put_front<O: ByteOut>(
     if is_shown(Part::Tokens, asked) {
         put_part(alloc, "tokens", &tokens_text(alloc, section.tokens)?, out)?;
     }
-    if is_shown(Part::Tree, asked) {
-        let text = tree_text(alloc, section.resolved.section(), headers)?;
-        put_part(alloc, "tree", &text, out)?;
-    }
-    Ok(())
+    put_tree(
+        alloc,
+        section.number,
+        section.resolved.section(),
+        headers,
+        asked,
+        out,
+    )
 }
 
 /// Writes OCODE and INTCODE, those of them that are asked for.
@@ -153,6 +202,29 @@ fn put_code<'s, O: ByteOut>(
     if is_shown(Part::Intcode, asked) {
         let text = intcode_text(alloc, section.segment, section.ends, origin, marks)?;
         put_part(alloc, "INTCODE", &text, out)?;
+    }
+    Ok(())
+}
+
+/// Writes the map, if it is asked for.
+fn put_map<'s, O: ByteOut>(
+    alloc: Global,
+    section: &'s Shown<'s>,
+    headers: &[bool],
+    origin: &'s Origin<'s>,
+    asked: Part,
+    out: &mut O,
+) -> Result<(), NotShown>
+    ensures grows { Begins (O.taken out.old) (O.taken out.new) }
+    ensures passes { Begins (O.passed out.old) (O.passed out.new) }
+    ensures failed { result ≡ Err Device → O.faults out.new ≡ 1 }
+{
+    if asked == Part::Map {
+        let marks = section.placing.marks.as_slice();
+        let tree = tree_of(alloc, section.resolved.section(), headers)?;
+        let code = Code::of(alloc, origin, section.segment, section.ends, marks)?;
+        let text = map_text(alloc, origin, &code, marks, &tree)?;
+        put_part(alloc, "map", &text, out)?;
     }
     Ok(())
 }
@@ -193,6 +265,7 @@ fn put_back<O: ByteOut>(
     let places = section.placing.places.as_slice();
     let origin = Origin::of(alloc, section.tokens, section.code, places)?;
     put_names(alloc, &*section, headers, &origin, asked, out)?;
+    put_map(alloc, &*section, headers, &origin, asked, out)?;
     put_code(alloc, &*section, &origin, asked, out)
 }
 
@@ -210,7 +283,47 @@ pub fn show<O: ByteOut>(
     ensures failed { result ≡ Err Device → O.faults out.new ≡ 1 }
 {
     let headers = header_declarations(alloc, section.tokens)?;
-    put_text(&heading(alloc, section)?, out)?;
+    put_heading(alloc, section.number, section.line, asked, out)?;
     put_front(alloc, section, headers.as_slice(), asked, out)?;
     put_back(alloc, section, headers.as_slice(), asked, out)
+}
+
+/// A section that is refused.
+#[derive(Clone, Copy)]
+pub struct RefusedSection<'a> {
+    /// The number of the section in its source, from 1.
+    pub number: u32,
+    /// Its first line.
+    pub line: Line,
+    /// Its tokens.
+    pub tokens: &'a [Token<'a>],
+}
+
+/// Writes what the phases of the compiler make of a section that a later one refuses: its tokens, and its tree if it has one, those of
+/// them that are asked for.
+pub fn show_refused<O: ByteOut>(
+    alloc: Global,
+    section: &RefusedSection<'_>,
+    tree: Option<&Section>,
+    asked: Part,
+    out: &mut O,
+) -> Result<(), NotShown>
+    // What was taken or passed on before stays.
+    ensures grows { Begins (O.taken out.old) (O.taken out.new) }
+    ensures passes { Begins (O.passed out.old) (O.passed out.new) }
+    ensures failed { result ≡ Err Device → O.faults out.new ≡ 1 }
+{
+    let headers = header_declarations(alloc, section.tokens)?;
+    let has_tree = tree.is_some() && (asked == Part::Dot || is_shown(Part::Tree, asked));
+    if !has_tree && !is_shown(Part::Tokens, asked) {
+        return Ok(());
+    }
+    put_heading(alloc, section.number, section.line, asked, out)?;
+    if is_shown(Part::Tokens, asked) {
+        put_part(alloc, "tokens", &tokens_text(alloc, section.tokens)?, out)?;
+    }
+    match tree {
+        Some(tree) => put_tree(alloc, section.number, tree, headers.as_slice(), asked, out),
+        None => Ok(()),
+    }
 }

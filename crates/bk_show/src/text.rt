@@ -40,6 +40,16 @@ impl Text {
         self.bytes.as_slice()
     }
 
+    /// How many bytes it has.
+    pub fn len(&self) -> usize {
+        self.bytes.len()
+    }
+
+    /// Its bytes from one number to before another.
+    pub fn part(&self, from: usize, to: usize) -> &[u8] {
+        self.bytes.as_slice().get(from..to).unwrap_or(&[])
+    }
+
     /// Adds these bytes.
     fn put(&mut self, part: &[u8]) -> Result<(), AllocError> {
         match self.bytes.extend_from_slice(part) {
@@ -71,6 +81,12 @@ impl Text {
 
     /// Adds a number from 0 on.
     pub fn natural(&mut self, number: u32) -> Result<(), AllocError> {
+        let mut buffer = Buffer::new();
+        self.put(buffer.format(number).as_bytes())
+    }
+
+    /// Adds how many there are of something, or which of them one is.
+    pub fn count(&mut self, number: usize) -> Result<(), AllocError> {
         let mut buffer = Buffer::new();
         self.put(buffer.format(number).as_bytes())
     }
@@ -136,6 +152,14 @@ impl Text {
             self.blanks(2)?;
         }
         Ok(())
+    }
+
+    /// Takes from the end of the line what is past a column.
+    pub fn fit(&mut self, columns: usize) {
+        let most = self.start.saturating_add(columns);
+        for _ in most..self.bytes.len() {
+            let _byte = self.bytes.pop();
+        }
     }
 
     /// Ends the line.

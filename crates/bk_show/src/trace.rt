@@ -74,7 +74,7 @@ fn operand_of(word: u32, next: Option<u32>) -> Option<Operand> {
 }
 
 /// The instruction of a word; none where both P and G are added.
-fn instruction_of(word: u32, next: Option<u32>) -> Option<Instruction> {
+pub fn instruction_of(word: u32, next: Option<u32>) -> Option<Instruction> {
     let operand = operand_of(word, next)?;
     Some(Instruction {
         function: function_of(word),

@@ -7,10 +7,32 @@ use crate::text::Text;
 use bk_tree::{Command, ConstItem, Decl, Def, Expr, Init, Name, Position, Section, Sort};
 use std::alloc::{AllocError, Global};
 
+/// A line of a tree.
+#[derive(Clone, Copy)]
+pub struct Node {
+    /// How many nodes it is below, up to one that is below none.
+    pub level: usize,
+    /// Its position; an empty command has none.
+    pub at: Option<Position>,
+    /// Where its words begin in the text, and where they end.
+    pub from: usize,
+    pub to: usize,
+}
+
+/// A tree as text, a line for each node.
+#[derive(Drop)]
+pub struct Tree {
+    /// The text, after one line that names the columns.
+    pub text: Text,
+    /// Its nodes, in the order of their lines.
+    pub nodes: Vec<Node>,
+}
+
 /// A tree that is put.
 #[derive(Drop)]
 struct Walk<'a> {
     text: Text,
+    nodes: Vec<Node>,
     /// Which declarations with constants are of a header, in the source's order.
     headers: &'a [bool],
     /// How many of these were met.
@@ -18,12 +40,37 @@ struct Walk<'a> {
 }
 
 impl Walk<'_> {
+    /// Begins the line of a node.
+    fn begin(&mut self, at: Option<Position>, level: usize) -> Result<(), AllocError> {
+        match at {
+            Some(at) => self.text.begin(at.line())?,
+            None => self.text.begin_without()?,
+        }
+        self.text.indent(level)?;
+        let from = self.text.len();
+        self.nodes.push(Node {
+            level,
+            at,
+            from,
+            to: from,
+        })?;
+        Ok(())
+    }
+
+    /// Ends the line of a node.
+    fn end(&mut self) -> Result<(), AllocError> {
+        let to = self.text.len();
+        if let Some(node) = self.nodes.last_mut() {
+            node.to = to;
+        }
+        self.text.end()
+    }
+
     /// Adds a node that words describe.
     fn node(&mut self, at: Position, level: usize, words: &str) -> Result<(), AllocError> {
-        self.text.begin(at.line())?;
-        self.text.indent(level)?;
+        self.begin(Some(at), level)?;
         self.text.say(words)?;
-        self.text.end()
+        self.end()
     }
 
     /// Adds a node that words and a name describe.
@@ -34,37 +81,33 @@ impl Walk<'_> {
         words: &str,
         name: &[u8],
     ) -> Result<(), AllocError> {
-        self.text.begin(at.line())?;
-        self.text.indent(level)?;
+        self.begin(Some(at), level)?;
         self.text.say(words)?;
         self.text.spell(name)?;
-        self.text.end()
+        self.end()
     }
 
     /// Adds a number.
     fn number(&mut self, at: Position, level: usize, word: u32) -> Result<(), AllocError> {
-        self.text.begin(at.line())?;
-        self.text.indent(level)?;
+        self.begin(Some(at), level)?;
         self.text.say("number ")?;
         self.text.integer(word.cast_signed())?;
-        self.text.end()
+        self.end()
     }
 
     /// Adds a string.
     fn string(&mut self, at: Position, level: usize, bytes: &[u8]) -> Result<(), AllocError> {
-        self.text.begin(at.line())?;
-        self.text.indent(level)?;
+        self.begin(Some(at), level)?;
         self.text.say("string ")?;
         put_string(&mut self.text, bytes)?;
-        self.text.end()
+        self.end()
     }
 
     /// Adds an empty command, which has no line.
     fn empty(&mut self, level: usize) -> Result<(), AllocError> {
-        self.text.begin_without()?;
-        self.text.indent(level)?;
+        self.begin(None, level)?;
         self.text.say("no command")?;
-        self.text.end()
+        self.end()
     }
 
     /// Adds names with commas between them.
@@ -87,23 +130,21 @@ impl Walk<'_> {
         name: &[u8],
         formals: &[Name],
     ) -> Result<(), AllocError> {
-        self.text.begin(at.line())?;
-        self.text.indent(level)?;
+        self.begin(Some(at), level)?;
         self.text.say(words)?;
         self.text.spell(name)?;
         self.text.say("(")?;
         self.names(formals)?;
         self.text.say(")")?;
-        self.text.end()
+        self.end()
     }
 
     /// Adds the head of variables.
     fn variables(&mut self, at: Position, level: usize, names: &[Name]) -> Result<(), AllocError> {
-        self.text.begin(at.line())?;
-        self.text.indent(level)?;
+        self.begin(Some(at), level)?;
         self.text.say("variables ")?;
         self.names(names)?;
-        self.text.end()
+        self.end()
     }
 
     /// Adds a declaration of a header.
@@ -114,13 +155,12 @@ impl Walk<'_> {
         sort: Sort,
         items: usize,
     ) -> Result<(), AllocError> {
-        self.text.begin(at.line())?;
-        self.text.indent(level)?;
+        self.begin(Some(at), level)?;
         self.text.say(sort_spelling(sort))?;
         self.text.say(" of the header, with ")?;
         self.text.natural((items % 0x1_0000_0000) as u32)?;
         self.text.say(" names")?;
-        self.text.end()
+        self.end()
     }
 
     /// Whether the next declaration with constants is of a header.
@@ -461,15 +501,16 @@ fn put_start(walk: &mut Walk<'_>, level: usize, start: &Init) -> Result<(), Allo
 }
 
 /// A line for each node. `headers` says which declarations with constants are of a header.
-pub fn tree_text(alloc: Global, section: &Section, headers: &[bool]) -> Result<Text, AllocError> {
+pub fn tree_of(alloc: Global, section: &Section, headers: &[bool]) -> Result<Tree, AllocError> {
     let mut walk = Walk {
         text: Text::new(alloc),
+        nodes: Vec::new(alloc),
         headers,
         met: 0,
     };
     walk.text.say("  line  node")?;
     walk.text.end()?;
     put_decls(&mut walk, 0, section.decls())?;
-    let Walk { text, .. } = walk;
-    Ok(text)
+    let Walk { text, nodes, .. } = walk;
+    Ok(Tree { text, nodes })
 }
