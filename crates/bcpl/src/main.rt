@@ -7,27 +7,84 @@ mod opened;
 use bk_base::{ByteOut, Reader512, Writer512};
 use bk_kit::{Files, LineFault, Order, order, refuse, serve_named};
 use by_lines::ByLines;
-use opened::{Opened, Source, open};
+use opened::{Named, Opened, Source, open};
 use std::fs::File;
 use std::io::{ErrorKind, IsTerminal};
 use std::process::ExitCode;
 use std::{env, io};
 
-/// The file of this name, if there is one and it could be opened.
-fn opened_at(rt: &HostRuntime, name: Option<&str>) -> Option<File> {
-    open(rt, name?).ok()
+/// A file that is named, or one that could not be opened, and why.
+fn opened_at(rt: &HostRuntime, name: Option<&str>) -> (Opened<File>, Option<ErrorKind>) {
+    let Some(name) = name else {
+        return (Opened::new(None), None);
+    };
+    match open(rt, name) {
+        Ok(file) => (Opened::new(Some(file)), None),
+        Err(error) => (Opened::new(None), Some(error.kind())),
+    }
+}
+
+/// FILE, where `-` is the standard input, and why it could not be opened.
+fn source_at(rt: &HostRuntime, name: Option<&str>) -> (Source, Option<ErrorKind>) {
+    match name {
+        Some(name) if name == "-" => (Source::Input(rt.stdin()), None),
+        _ => {
+            let (file, cause) = opened_at(rt, name);
+            (Source::File(file), cause)
+        }
+    }
 }
 
 /// Does what is ordered, with these streams for output and lines, and answers the status.
 fn done<O: ByteOut, E: ByteOut>(rt: &HostRuntime, order: &Order, out: &mut O, err: &mut E) -> u8 {
-    let file = Opened::new(opened_at(rt, order.file()));
-    let ocode = Opened::new(opened_at(rt, order.ocode()));
+    let (file, cause) = source_at(rt, order.file());
+    let (ocode, _) = opened_at(rt, order.ocode());
     let mut files = Files {
-        file: Reader512::new(file),
+        file: Reader512::new(Named::new(file)),
         ocode: Reader512::new(Source::File(ocode)),
     };
     let mut input = Reader512::new(Source::Input(rt.stdin()));
-    serve_named(rt.alloc(), order, &mut files, &mut input, out, err)
+    let status = serve_named(rt.alloc(), order, &mut files, &mut input, out, err);
+    report_cause(order, cause, err);
+    status
+}
+
+/// What is below the line of a command line without words.
+const USAGE: &str = "\
+Usage: bcpl [COMMAND]
+  bcpl check FILE  does what the BCPL source in FILE means, and tells what goes wrong
+  bcpl run FILE    runs it
+  bcpl help        shows all commands
+";
+
+/// Writes a text on the error stream and passes it on. A failure of that stream changes nothing.
+fn report<E: ByteOut>(text: &[u8], err: &mut E) {
+    for byte in text {
+        if err.put(*byte).is_err() {
+            return;
+        }
+    }
+    let _passed = err.flush();
+}
+
+/// Why a file could not be opened, as a line ends that begins with its name.
+fn cause_text(cause: ErrorKind) -> &'static str {
+    match cause {
+        ErrorKind::NotFound => ": no such file\n",
+        ErrorKind::PermissionDenied => ": permission denied\n",
+        _ => ": this can't be opened\n",
+    }
+}
+
+/// Writes why FILE could not be opened, where it is to be checked.
+fn report_cause<E: ByteOut>(order: &Order, cause: Option<ErrorKind>, err: &mut E) {
+    let Some(cause) = cause else {
+        return;
+    };
+    if let Order::Check(_, name) = order {
+        report(name.as_bytes(), err);
+        report(cause_text(cause).as_bytes(), err);
+    }
 }
 
 /// What is reported where the words of the command line can't be had: memory was refused, or one of them is not UTF-8.
@@ -53,7 +110,11 @@ fn main(rt: HostRuntime) -> ExitCode {
             if let LineFault::Help(help) = &fault {
                 let _printed = help.print(&rt);
             }
-            return ExitCode::from(refuse(&fault, &mut err));
+            let status = refuse(&fault, &mut err);
+            if words.len() <= 1 {
+                report(USAGE.as_bytes(), &mut err);
+            }
+            return ExitCode::from(status);
         }
     };
     let stdout = rt.stdout();

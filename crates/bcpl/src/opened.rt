@@ -59,3 +59,24 @@ impl Read for Source {
         }
     }
 }
+
+/// FILE, which is the standard input where its name is `-`. It has a type of its own, so that the code that reads OCODE is not shared with
+/// the code that reads INTCODE from FILE.
+#[derive(Drop)]
+pub struct Named {
+    source: Source,
+}
+
+impl Named {
+    /// FILE from this source.
+    pub fn new(source: Source) -> Named {
+        Named { source }
+    }
+}
+
+impl Read for Named {
+    #[inline(never)]
+    fn read(&mut self, buf: &mut [u8]) -> io::Result<usize> {
+        self.source.read(buf)
+    }
+}

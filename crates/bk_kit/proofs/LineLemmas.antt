@@ -7,7 +7,7 @@ use Rattle.clap.specs.declared.parser.matches.SubCommand.{SubCommand}
 use Rattle.bk_kit.specs.declared.command_line.LineFault.{LineFault}
 use Rattle.bk_kit.specs.declared.command_line.LineFault.TheVariants.{Help, Bad, Memory}
 use Rattle.bk_kit.specs.declared.orders.Order.{Order}
-use Rattle.bk_kit.specs.declared.orders.Order.TheVariants.{Compile, Generate, Run, Check, Show, ShowInput, Interpret, Trace, Sizes}
+use Rattle.bk_kit.specs.declared.orders.Order.TheVariants.{Compile, Generate, Run, TraceSource, Check, Show, ShowInput, Interpret, Trace, Sizes}
 use Rattle.bk_kit.specs.CommandLine.{ReadsNumber, ReadsLimits, AreLimits, truth_text, kit_command, IsOrder, RefusesValues, IsHelp, IsFaultOf, Refuses}
 
 -- what `get_one` gives is the number that its text spells
@@ -99,6 +99,7 @@ asked_by : (rows : List Row) → IsOrder (Some (codes "interpret", rows)) → As
 asked_by rows (Compile, limits, reads) = let e : 9 ≡ 7 = ap (λ (t : Text). length t) reads in absurd (omega (arith, e))
 asked_by rows (Generate, limits, reads) = let e : 9 ≡ 8 = ap (λ (t : Text). length t) reads in absurd (omega (arith, e))
 asked_by rows (Run bounds file, limits, reads) = let e : 9 ≡ 3 = ap (λ (t : Text). length t) reads.0 in absurd (omega (arith, e))
+asked_by rows (TraceSource bounds extent file, limits, reads) = let e : 9 ≡ 3 = ap (λ (t : Text). length t) reads.0 in absurd (omega (arith, e))
 asked_by rows (Check turns file, limits, reads) = let e : 9 ≡ 5 = ap (λ (t : Text). length t) reads.0 in absurd (omega (arith, e))
 asked_by rows (Show part file, limits, reads) = let e : 9 ≡ 4 = ap (λ (t : Text). length t) reads.0 in absurd (omega (arith, e))
 asked_by rows (ShowInput part, limits, reads) = let e : 9 ≡ 4 = ap (λ (t : Text). length t) reads.0 in absurd (omega (arith, e))
@@ -174,6 +175,24 @@ module _ (rows : List Row) where
         let not_trace = one_truth (one_of (codes "trace") rows) a.trace false (a.asks_trace not_sizes) untraced in
         let e : Some name.now ≡ None = same ∙ a.named not_sizes not_trace in
         cc
+
+-- An order that the values of `run` give says whether steps are written.
+steps_asked_by : (rows : List Row) → IsOrder (Some (codes "run", rows)) → (b : Bool) × (one_of (codes "trace") rows ≡ Some (truth_text b))
+steps_asked_by rows (Compile, limits, reads) = let e : 3 ≡ 7 = ap (λ (t : Text). length t) reads in absurd (omega (arith, e))
+steps_asked_by rows (Generate, limits, reads) = let e : 3 ≡ 8 = ap (λ (t : Text). length t) reads in absurd (omega (arith, e))
+steps_asked_by rows (Run bounds file, limits, reads) = (false, reads.1)
+steps_asked_by rows (TraceSource bounds extent file, limits, reads) = (true, reads.1)
+steps_asked_by rows (Check turns file, limits, reads) = let e : 3 ≡ 5 = ap (λ (t : Text). length t) reads.0 in absurd (omega (arith, e))
+steps_asked_by rows (Show part file, limits, reads) = let e : 3 ≡ 4 = ap (λ (t : Text). length t) reads.0 in absurd (omega (arith, e))
+steps_asked_by rows (ShowInput part, limits, reads) = let e : 3 ≡ 4 = ap (λ (t : Text). length t) reads.0 in absurd (omega (arith, e))
+steps_asked_by rows (Interpret bounds file, limits, reads) = let e : 3 ≡ 9 = ap (λ (t : Text). length t) reads.0 in absurd (omega (arith, e))
+steps_asked_by rows (Trace bounds file ocode, limits, reads) = let e : 3 ≡ 9 = ap (λ (t : Text). length t) reads.0 in absurd (omega (arith, e))
+steps_asked_by rows (Sizes words file, limits, reads) = let e : 3 ≡ 9 = ap (λ (t : Text). length t) reads.0 in absurd (omega (arith, e))
+
+-- the values of `run` where nothing says whether steps are written
+pub run_trace_refused : (rows : List Row) (asked : Option Bool) → asked ≡ None → ((b : Bool) → one_of (codes "trace") rows ≡ Some (truth_text b) → IsSome asked)
+    → RefusesValues (Some (codes "run", rows)) Bad
+run_trace_refused rows asked none given order = let a = steps_asked_by rows order in no_answer asked none (given a.0 a.1)
 
 -- the kit's command is one whose faults clap tells
 pub faults_told : (app : App) (A : App → Type 0) → app ≡ kit_command → (is_simple_and_free app ≡ true → A app) → A kit_command

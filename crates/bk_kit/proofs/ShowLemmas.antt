@@ -199,7 +199,7 @@ module _ {O : Type 0} (taken passed : O → Option (List ℕ)) (faults : O → �
   same_grows : (old new : O) → new ≡ old → Grows old new
   same_grows old new same = subst (λ (o : O). Grows old o) (sym same) (Begins-refl (taken old), Begins-refl (passed old))
 
-  both_grow : (old mid new : O) → Grows old mid → Grows mid new → Grows old new
+  pub both_grow : (old mid new : O) → Grows old mid → Grows mid new → Grows old new
   both_grow old mid new first second =
       (Begins-trans (taken old) (taken mid) (taken new) first.0 second.0, Begins-trans (passed old) (passed mid) (passed new) first.1 second.1)
 
@@ -239,6 +239,19 @@ module _ {O : Type 0} (taken passed : O → Option (List ℕ)) (faults : O → �
         by_answer (Err Memory) has stops = has
 
 -- ---- the last flush
+
+-- what an answer says does not depend on the failures of the output, unless that failed
+pub shows_still : (answer : Result (Unit {0}) KitFault) (old new : Option (List ℕ)) (ended : Bool) (reads writes writes' : ℕ) → (answer ≡ Err Write → writes' ≡ writes)
+    → Shows answer old new ended reads writes → Shows answer old new ended reads writes'
+shows_still (Ok done) old new ended reads writes writes' same shows = shows
+shows_still (Err Write) old new ended reads writes writes' same shows = same refl ∙ shows
+shows_still (Err (Source fault)) old new ended reads writes writes' same shows = shows
+shows_still (Err (Ocode number fault)) old new ended reads writes writes' same shows = shows
+shows_still (Err (Intcode number fault)) old new ended reads writes writes' same shows = shows
+shows_still (Err TooSmall) old new ended reads writes writes' same shows = shows
+shows_still (Err NoStart) old new ended reads writes writes' same shows = shows
+shows_still (Err Read) old new ended reads writes writes' same shows = shows
+shows_still (Err Memory) old new ended reads writes writes' same shows = shows
 
 -- less is said of what was read
 reads_less : (failed : Bool) (old new : Option (List ℕ)) → ReadsSource failed old new → ReadsSource false old new

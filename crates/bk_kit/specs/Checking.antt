@@ -1,12 +1,14 @@
 -- What checking a source comes to: the verdict of its meaning, or a fault of its text, or why there is no verdict.
-use Rattle.std.specs.Prelude.{◌≡◌, ℕ, nat_lt, ⊤, Bool, false, List, [], ◌∷◌, Option, None, Some, Result, Ok, Err, codes, if◌then◌else◌}
+use Rattle.std.specs.Prelude.{◌≡◌, ℕ, nat_lt, ⊤, Bool, false, List, [], ◌∷◌, ◌++◌, ◌==◌, map, Option, None, Some, Result, Ok, Err, Vec, vec_len, codes, decimal, if◌then◌else◌}
+use Rattle.std.specs.Global.{Global}
+use Rattle.bk_tree.specs.Position.{line_in}
 use Rattle.bk_tree.specs.Tree.{Declarations}
 use Rattle.bk_checker.specs.declared.report.Verdict.{Verdict}
 use Rattle.bk_checker.specs.declared.report.Verdict.TheVariants as v
 use Rattle.bk_checker.specs.declared.report.CheckFault.{CheckFault}
 use Rattle.bk_checker.specs.declared.report.CheckFault.TheVariants as x
-use Rattle.bk_checker.specs.declared.report.Report.{Report}
 use Rattle.bk_checker.specs.declared.remarks.Remark.{Remark}
+use Rattle.bk_checker.specs.declared.report.Report.{Report}
 use Rattle.bk_checker.specs.Checks.{Devices, Checks, ChecksPart, Blames, Flushed}
 use Rattle.bk_kit.specs.declared.kit_fault.KitFault.{KitFault}
 use Rattle.bk_kit.specs.declared.checker.Refusal.{Refusal}
@@ -18,7 +20,7 @@ use Rattle.bk_kit.specs.ReadingSource.{EachSource}
 use Rattle.bk_kit.specs.RunningSource.{NotAssembled}
 use Rattle.bk_kit.specs.SourceSections.{HasTrees}
 use Rattle.bk_kit.specs.Statuses.{fault_status}
-use Rattle.bk_kit.specs.Telling.{Output, ReportsLine}
+use Rattle.bk_kit.specs.Telling.{Output, ReportsLine, Tells}
 
 -- the source could not be read
 abbrev pub fails_reading : {T : Type 0} → Result T Refusal → Bool
@@ -79,28 +81,55 @@ check_status (Ok report) = verdict_status report.verdict
 check_status (Err (n.Text refusal)) = fault_status refusal.fault
 check_status (Err (n.Run stop)) = check_fault_status stop.fault
 
--- some text was reported, of which no contract says more
-abbrev pub ReportsText : Output → Output → Type 0
-ReportsText old new = (text : List ℕ) × ReportsLine text old new
+-- ---- the texts of a report, each after the name of FILE
 
--- What is suspicious in the source is reported after the rest, in a text each; where nothing is, nothing is reported.
-abbrev pub ReportsRemarks : List Remark → Output → Output → Type 0
-ReportsRemarks [] old new = new ≡ old
-ReportsRemarks (r ∷ rs) old new = (mid : Output) × ReportsText old mid × ReportsRemarks rs mid new
+-- Where something is, what kind of thing it is, what it is, and further lines.
+abbrev pub placed_text : List ℕ → List ℕ → List ℕ → List ℕ → List ℕ → List ℕ
+placed_text file place kind what further = file ++ codes ":" ++ place ++ codes ": " ++ kind ++ what ++ 10 ∷ further
 
--- The program's own end is reported by its status alone. What went wrong is reported in a text; of a fault of the source the line is reported
--- first that each call reports it.
-abbrev pub ReportsVerdict : Verdict → Output → Output → Type 0
-ReportsVerdict (v.Status word) old new = new ≡ old
-ReportsVerdict v.NoStart old new = ReportsLine (line_of (codes "no START")) old new
-ReportsVerdict v.DivideByZero old new = ReportsText old new
-ReportsVerdict v.Undefined old new = ReportsText old new
-ReportsVerdict v.Turns old new = ReportsText old new
+-- The line and the column are given where the text of the source is at hand, and the line alone where it is not.
+abbrev pub place_or_line : Vec ℕ Global → ℕ → List ℕ
+place_or_line place line = if vec_len place == 0 then decimal line else place.items
 
-abbrev pub ReportsCheck : Result Report NotChecked → Output → Output → Type 0
-ReportsCheck (Ok report) old new = (mid : Output) × ReportsVerdict report.verdict old mid × ReportsRemarks report.remarks.items mid new
-ReportsCheck (Err (n.Text refusal)) old new = (mid : Output) × ReportsLine (line_of (fault_text refusal.fault)) old mid × ReportsText mid new
-ReportsCheck (Err (n.Run stop)) old new = (mid : Output) × ReportsLine (line_of (check_fault_text stop.fault)) old mid × ReportsText mid new
+-- where the run stopped, why, and the calls that were active
+abbrev pub stop_text : List ℕ → List ℕ → Report → List ℕ
+stop_text file kind report = placed_text file (place_or_line report.place (line_in report.at)) kind report.what.items report.calls.items
+
+-- what is suspicious, on its line
+abbrev pub remark_text : List ℕ → Remark → List ℕ
+remark_text file remark = placed_text file (decimal (line_in remark.at)) (codes "suspicious: ") remark.text.items []
+
+-- a fault of the source: its place and what is meant
+abbrev pub hint_text : List ℕ → Vec ℕ Global → List ℕ
+hint_text file hint = file ++ hint.items
+
+-- The program's own end is reported by its status alone.
+abbrev pub verdict_text : Verdict → List ℕ → Report → Option (List ℕ)
+verdict_text (v.Status word) file report = None
+verdict_text v.NoStart file report = Some (line_of (codes "no START"))
+verdict_text v.DivideByZero file report = Some (stop_text file [] report)
+verdict_text v.Undefined file report = Some (stop_text file (codes "undefined: ") report)
+verdict_text v.Turns file report = Some (stop_text file [] report)
+
+-- the calls that were active where the limits of a check were reached
+abbrev pub calls_text : Option (Vec ℕ Global) → List ℕ
+calls_text None = []
+calls_text (Some calls) = calls.items
+
+-- These texts are reported one after another, and nothing else.
+abbrev pub ReportsEach : List (List ℕ) → Output → Output → Type 0
+ReportsEach [] old new = new ≡ old
+ReportsEach (text ∷ texts) old new = (mid : Output) × ReportsLine text old mid × ReportsEach texts mid new
+
+-- THE REPORT of a check, given the name of FILE. Of a fault of the source the line that each call reports comes first. What is suspicious in
+-- the source comes last.
+abbrev pub ReportsCheck : List ℕ → Result Report NotChecked → Output → Output → Type 0
+ReportsCheck file (Ok report) old new =
+    (mid : Output) × Tells (verdict_text report.verdict file report) old mid × ReportsEach (map (remark_text file) report.remarks.items) mid new
+ReportsCheck file (Err (n.Text refusal)) old new =
+    (mid : Output) × ReportsLine (line_of (fault_text refusal.fault)) old mid × ReportsEach (map (hint_text file) refusal.hints.items) mid new
+ReportsCheck file (Err (n.Run stop)) old new =
+    (mid : Output) × ReportsLine (line_of (check_fault_text stop.fault)) old mid × ReportsLine (calls_text stop.calls) mid new
 
 -- neither input nor output is touched where the source is refused
 abbrev pub Untouched : {I O : Type 0} → NotChecked → I → I → O → O → Type 0

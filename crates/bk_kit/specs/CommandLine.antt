@@ -12,8 +12,9 @@ use Rattle.bk_base.specs.declared.limit.TheConstants.{STEPS_MOST, STORE_LEAST, S
 use Rattle.bk_kit.specs.declared.command_line.LineFault.{LineFault}
 use Rattle.bk_kit.specs.declared.command_line.LineFault.TheVariants.{Help, Bad, Memory}
 use Rattle.bk_kit.specs.declared.orders.Order.{Order}
-use Rattle.bk_kit.specs.declared.orders.Order.TheVariants.{Compile, Generate, Run, Check, Show, ShowInput, Interpret, Trace, Sizes}
+use Rattle.bk_kit.specs.declared.orders.Order.TheVariants.{Compile, Generate, Run, TraceSource, Check, Show, ShowInput, Interpret, Trace, Sizes}
 use Rattle.bk_show.specs.declared.part.Part.{Part}
+use Rattle.bk_show.specs.declared.steps.Extent.{Extent}
 use Rattle.bk_show.specs.declared.part.Part.TheVariants as part
 
 -- `-s WORDS`, from 4096 to 4194304, 262144 unless it is given
@@ -51,6 +52,28 @@ sizes_rule = record (new_rule (codes "sizes")) { long = Some (codes "sizes"); ac
 abbrev pub trace_rule : Rule
 trace_rule = record (new_rule (codes "trace")) { long = Some (codes "trace"); action = Some SetTrue }
 
+-- `--from N`, from 1 to 10 ^ 12, 1 unless it is given
+abbrev pub from_rule : Rule
+from_rule = record (new_rule (codes "from")) {
+  long = Some (codes "from");
+  value_names = 1;
+  parser = Some (vp.Unsigned 1 1000000000000);
+  defaults = codes "1" ∷ [];
+}
+
+-- `--to N`, from 1 to 10 ^ 12, which it is unless it is given
+abbrev pub to_rule : Rule
+to_rule = record (new_rule (codes "to")) {
+  long = Some (codes "to");
+  value_names = 1;
+  parser = Some (vp.Unsigned 1 1000000000000);
+  defaults = codes "1000000000000" ∷ [];
+}
+
+-- `--only NAME`
+abbrev pub only_name_rule : Rule
+only_name_rule = record (new_rule (codes "only")) { long = Some (codes "only"); value_names = 1 }
+
 -- `--ocode OCODE`
 abbrev pub ocode_rule : Rule
 ocode_rule = record (new_rule (codes "ocode")) { long = Some (codes "ocode"); value_names = 1 }
@@ -70,9 +93,11 @@ compile_command = new_app (codes "compile")
 abbrev pub generate_command : App
 generate_command = new_app (codes "generate")
 
--- `run [-s WORDS] [-t STEPS] FILE`
+-- `run [-s WORDS] [-t STEPS] [--trace] [--from N] [--to N] [--only NAME] FILE`
 abbrev pub run_command : App
-run_command = with_rule (with_rule (with_rule (new_app (codes "run")) store_rule) steps_rule) file_rule
+run_command =
+    with_rule (with_rule (with_rule (with_rule (with_rule (with_rule (with_rule (new_app (codes "run")) store_rule) steps_rule) trace_rule) from_rule) to_rule) only_name_rule)
+    file_rule
 
 -- `check [-t TURNS] FILE`
 abbrev pub check_command : App
@@ -102,6 +127,7 @@ abbrev pub file_name : Order → Option (List ℕ)
 file_name Compile = None
 file_name Generate = None
 file_name (Run limits name) = Some (string_bytes name)
+file_name (TraceSource limits extent name) = Some (string_bytes name)
 file_name (Check turns name) = Some (string_bytes name)
 file_name (Show part name) = Some (string_bytes name)
 file_name (ShowInput part) = None
@@ -127,6 +153,8 @@ part_text part.Tree = codes "tree"
 part_text part.Names = codes "names"
 part_text part.Ocode = codes "ocode"
 part_text part.Intcode = codes "intcode"
+part_text part.Map = codes "map"
+part_text part.Dot = codes "dot"
 
 -- the number that a text spells in decimal digits
 abbrev pub ReadsNumber : Option Text → ℕ → Type 0
@@ -141,13 +169,23 @@ ReadsLimits rows limits = ReadsNumber (one_of (codes "words") rows) limits.words
 abbrev pub ReadsWords : List Row → ℕ → Type 0
 ReadsWords rows words = (steps : ℕ) × (1 ≤ steps) × (steps ≤ STEPS_MOST) × ReadsLimits rows (record { steps = steps; words = words })
 
+-- the steps that are written
+abbrev pub ReadsExtent : List Row → Extent → Type 0
+ReadsExtent rows extent =
+    ReadsNumber (one_of (codes "from") rows) extent.from × ReadsNumber (one_of (codes "to") rows) extent.to
+    × (first_of (codes "only") rows ≡ option_map string_bytes extent.only)
+
 -- An order is read from the subcommand that the words name, and the values that they give it.
 abbrev pub Reads : Option (Text × List Row) → Order → Type 0
 Reads None order = ⊥
 Reads (Some found) Compile = found.0 ≡ codes "compile"
 Reads (Some found) Generate = found.0 ≡ codes "generate"
 Reads (Some found) (Run limits file) =
-    (found.0 ≡ codes "run") × ReadsLimits found.1 limits × (first_of (codes "file") found.1 ≡ Some (string_bytes file))
+    (found.0 ≡ codes "run") × (one_of (codes "trace") found.1 ≡ Some (truth_text false)) × ReadsLimits found.1 limits
+    × (first_of (codes "file") found.1 ≡ Some (string_bytes file))
+Reads (Some found) (TraceSource limits extent file) =
+    (found.0 ≡ codes "run") × (one_of (codes "trace") found.1 ≡ Some (truth_text true)) × ReadsLimits found.1 limits
+    × (first_of (codes "file") found.1 ≡ Some (string_bytes file)) × ReadsExtent found.1 extent
 Reads (Some found) (Check turns file) =
     (found.0 ≡ codes "check") × ReadsNumber (one_of (codes "turns") found.1) turns × (first_of (codes "file") found.1 ≡ Some (string_bytes file))
 Reads (Some found) (Show part file) =
@@ -174,6 +212,8 @@ abbrev pub HasLimits : Order → Type 0
 HasLimits Compile = ⊤
 HasLimits Generate = ⊤
 HasLimits (Run limits file) = AreLimits limits
+HasLimits (TraceSource limits extent file) =
+    AreLimits limits × (1 ≤ extent.from) × (extent.from ≤ STEPS_MOST) × (1 ≤ extent.to) × (extent.to ≤ STEPS_MOST)
 HasLimits (Check turns file) = (1 ≤ turns) × (turns ≤ STEPS_MOST)
 HasLimits (Show part file) = ⊤
 HasLimits (ShowInput part) = ⊤

@@ -1,10 +1,11 @@
 -- What serving an order comes to: what it asks for, the exit status, and the line on the error stream.
-use Rattle.std.specs.Prelude.{◌≡◌, ℕ, ⊤, List, Option, None, Some, Bool, Result, if◌then◌else◌}
+use Rattle.std.specs.Prelude.{◌≡◌, ◌≢◌, ℕ, ⊤, List, Option, None, Some, Bool, Result, Ok, string_bytes, if◌then◌else◌}
 use Rattle.bk_base.specs.Devices.{Begins}
 use Rattle.bk_base.specs.declared.run_end.End.{End}
+use Rattle.bk_base.specs.declared.run_end.End.TheVariants.{WriteFault}
 use Rattle.bk_kit.specs.declared.kit_fault.KitFault.{KitFault}
 use Rattle.bk_kit.specs.declared.orders.Order.{Order}
-use Rattle.bk_kit.specs.declared.orders.Order.TheVariants.{Compile, Generate, Run, Check, Show, ShowInput, Interpret, Trace, Sizes}
+use Rattle.bk_kit.specs.declared.orders.Order.TheVariants.{Compile, Generate, Run, TraceSource, Check, Show, ShowInput, Interpret, Trace, Sizes}
 use Rattle.bk_kit.specs.Interpreting.{Streams, Interpreted, is_read}
 use Rattle.bk_kit.specs.Headline.{Headline}
 use Rattle.bk_kit.specs.Compiling.{Compiles}
@@ -42,10 +43,15 @@ Serves Holds (Run limits name) status file before after err_before err_after =
     × KeepsLimits Holds answer limits.steps limits.words file.old file.new file.ended before after
     × ReadsSource (is_read answer) file.old file.new × Fails answer file.faults
     × (status ≡ run_status answer) × Tells (run_line answer) err_before err_after
+Serves Holds (TraceSource limits extent name) status file before after err_before err_after =
+    (answer : Result End KitFault) × (answer ≢ Ok WriteFault → Headline meanings answer limits.steps limits.words file.old file.new file.ended before after)
+    × (answer ≢ Ok WriteFault → KeepsLimits Holds answer limits.steps limits.words file.old file.new file.ended before after)
+    × Begins before.passed after.passed × ReadsSource (is_read answer) file.old file.new × Fails answer file.faults
+    × (status ≡ run_status answer) × ReportsTrace (run_line answer) err_before err_after
 Serves Holds (Check turns name) status file before after err_before err_after =
     (answer : Result Report NotChecked) × ChecksSource answer turns file.old file.new file.ended before after × Begins before.passed after.passed
     × ReadsSource (fails_check answer) file.old file.new × (file.faults ≡ (if fails_check answer then 1 else 0))
-    × (status ≡ check_status answer) × ReportsCheck answer err_before err_after
+    × (status ≡ check_status answer) × ReportsCheck (string_bytes name) answer err_before err_after
 Serves Holds (Show part name) status file before after err_before err_after =
     (answer : Result (Unit {0}) KitFault) × ShowsSource answer file.old file.new file.ended file.faults (output_of before) (output_of after)
     × (status ≡ done_status answer) × Tells (done_line answer) err_before err_after

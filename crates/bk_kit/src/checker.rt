@@ -11,8 +11,8 @@ use crate::kit_fault::KitFault;
 use crate::reading::read_source_section;
 use crate::section::{SectionCode, compile_section};
 use bk_base::{ByteIn, ByteOut, Line};
-use bk_checker::{GivenUp, Report, check};
-use bk_hints::hint;
+use bk_checker::{GivenUp, Report, SourceTexts, check};
+use bk_hints::hints;
 use bk_tree::Section;
 use std::alloc::{AllocError, Global};
 
@@ -21,8 +21,9 @@ use std::alloc::{AllocError, Global};
 pub struct Refusal {
     /// The fault.
     pub fault: KitFault,
-    /// Lines of text, each with its end: the line of the source, the place, and what is meant; nothing where there is none.
-    pub hint: Vec<u8>,
+    /// What is reported of it and of further faults of its section. Each is lines of text, with their ends, that come after the name of
+    /// FILE: the place and what is wrong, the line of the source with a caret, and what is meant.
+    pub hints: Vec<Vec<u8>>,
 }
 
 /// Why a check of a source gives no verdict.
@@ -34,13 +35,13 @@ pub enum NotChecked {
     Run(GivenUp),
 }
 
-/// A fault without a hint.
+/// A fault without hints.
 fn no_hint(alloc: Global, fault: KitFault) -> Refusal
     ensures { result.fault ≡ fault }
 {
     Refusal {
         fault,
-        hint: Vec::new(alloc),
+        hints: Vec::new(alloc),
     }
 }
 
@@ -48,20 +49,27 @@ fn no_hint(alloc: Global, fault: KitFault) -> Refusal
 fn refused(alloc: Global, text: &[u8], line: Line, fault: KitFault) -> Refusal
     ensures { result.fault ≡ fault }
 {
-    let lines = match &fault {
-        KitFault::Source(told) => hint(alloc, text, line, told),
+    let hints = match &fault {
+        KitFault::Source(told) => hints(alloc, text, line, told),
         _ => Ok(Vec::new(alloc)),
     };
-    match lines {
-        Ok(hint) => Refusal { fault, hint },
+    match hints {
+        Ok(hints) => Refusal { fault, hints },
         Err(_) => no_hint(alloc, fault),
     }
 }
 
-/// Adds the tree of a section, if it has one.
-fn push_tree(section: Option<SectionCode>, trees: &mut Vec<Section>) -> Result<(), AllocError>
+/// Adds the tree of a section, if it has one, and its text, whose first line has the number `line`.
+fn push_tree(
+    section: Option<SectionCode>,
+    trees: &mut Vec<Section>,
+    line: Line,
+    text: &[u8],
+    texts: &mut SourceTexts,
+) -> Result<(), AllocError>
     ensures { OnOk result (map declarations_of trees.new.items ≡ map declarations_of trees.old.items ++ trees_in section) }
 {
+    texts.push(line, text)?;
     match section {
         Some(section) => {
             trees.push(section.tree)?;
@@ -71,8 +79,12 @@ fn push_tree(section: Option<SectionCode>, trees: &mut Vec<Section>) -> Result<(
     }
 }
 
-/// The trees of all sections of a source that have symbols.
-fn read_trees<C: ByteIn>(alloc: Global, source: &mut C) -> Result<Vec<Section>, Refusal>
+/// The trees of all sections of a source that have symbols, and the texts of these.
+fn read_trees<C: ByteIn>(
+    alloc: Global,
+    source: &mut C,
+    texts: &mut SourceTexts,
+) -> Result<Vec<Section>, Refusal>
     ensures trees { IfOk result (λ list. HasTheseTrees (map declarations_of list.items) (C.left source.old) (C.left source.new) (C.ended source.new)) }
     ensures refused { IfErr result (λ refusal. NotAssembled refusal.fault (C.left source.old) (C.left source.new) (C.ended source.new)) }
     ensures delivered { ReadsSource (fails_reading result) (C.left source.old) (C.left source.new) }
@@ -91,7 +103,7 @@ fn read_trees<C: ByteIn>(alloc: Global, source: &mut C) -> Result<Vec<Section>, 
             Err(fault) => return Err(refused(alloc, lexer.bytes(), line, fault)),
         };
         let next = section.next;
-        let Ok(()) = push_tree(section.code, &mut trees) else {
+        let Ok(()) = push_tree(section.code, &mut trees, line, lexer.bytes(), texts) else {
             return Err(no_hint(alloc, KitFault::Memory));
         };
         match next {
@@ -117,12 +129,13 @@ pub fn check_source<C: ByteIn, I: ByteIn, O: ByteOut>(
     ensures delivered { ReadsSource (fails_check result) (C.left source.old) (C.left source.new) }
     ensures read_fails { C.faults source.new ≡ (if fails_check result then 1 else 0) }
 {
-    let trees = match read_trees(alloc, source) {
+    let mut texts = SourceTexts::new(alloc);
+    let trees = match read_trees(alloc, source, &mut texts) {
         Ok(trees) => trees,
         Err(refusal) => return Err(NotChecked::Text(refusal)),
     };
     match check(alloc, trees.as_slice(), turns, input, out) {
-        Ok(report) => Ok(report),
+        Ok(report) => Ok(texts.shown(report)),
         Err(stop) => Err(NotChecked::Run(stop)),
     }
 }

@@ -5,18 +5,18 @@ ghost use Rattle.bk_base.specs.Bounds.{Bounds};
 ghost use Rattle.clap.specs.Values.{kind_of};
 ghost use Rattle.clap.specs.Words.{Text, app_of, rule_of, rows_of, found_of, first_of, one_of, subcommand_of};
 ghost use Rattle.clap.specs.declared.builder.Command.TheViews.{out-Command as fields_of};
-ghost use Rattle.bk_kit.specs.CommandLine.{store_rule, steps_rule, turns_rule, sizes_rule, trace_rule, ocode_rule, only_rule, file_rule, compile_command, generate_command, run_command, check_command, show_command, interpret_command, kit_command, truth_text, part_text, ReadsNumber, ReadsLimits, Reads, AreLimits, RefusesValues, IsFaultOf, Refuses};
+ghost use Rattle.bk_kit.specs.CommandLine.{store_rule, steps_rule, turns_rule, sizes_rule, trace_rule, from_rule, to_rule, only_name_rule, ocode_rule, only_rule, file_rule, compile_command, generate_command, run_command, check_command, show_command, interpret_command, kit_command, truth_text, part_text, ReadsNumber, ReadsLimits, Reads, AreLimits, RefusesValues, IsFaultOf, Refuses};
 
 use crate::orders::Order;
 use bk_base::Limits;
-use bk_show::Part;
+use bk_show::{Extent, Part};
 use clap::error::ErrorKind;
 use clap::{Arg, ArgAction, ArgMatches, Command, value_parser};
 use std::alloc::{AllocError, Global};
 use std::convert::AsStr;
 
-/// The version that `--version` reports.
-const VERSION: &str = "1.0";
+/// The version that `--version` reports. `boot/bind` writes the digest of the tree in the place of the zeros.
+const VERSION: &str = "1.1 (tree 0000000000000000)";
 
 /// What is below the help on all.
 const KIT_NOTES: &str = "\
@@ -24,7 +24,7 @@ Examples:
   bcpl check examples/queens.b
   bcpl run examples/queens.b
   bcpl show examples/six.b
-  bcpl compile < queens.b > queens.ocode
+  bcpl compile < examples/queens.b > queens.ocode
   bcpl generate < queens.ocode > queens.int
   bcpl interpret queens.int
 
@@ -53,7 +53,7 @@ A section is written once it is accepted. The first one that is refused ends the
 text; a line on the error stream says why.
 
 Example:
-  bcpl compile < queens.b > queens.ocode";
+  bcpl compile < examples/queens.b > queens.ocode";
 
 /// What is below the help on `generate`.
 const GENERATE_NOTES: &str = "\
@@ -65,10 +65,15 @@ Example:
 
 /// What is below the help on `run`.
 const RUN_NOTES: &str = "\
-Nothing is run of a source that is refused.
+Nothing is run of a source that is refused: `bcpl check FILE` shows the place, and
+says what is meant. FILE may be - for the input.
+With --trace each step has a line on the error stream, with its line of the source, A after it and names; calls and
+returns have lines of their own. --from, --to and --only choose among the steps.
 
 Examples:
   bcpl run examples/queens.b
+  bcpl run --trace examples/six.b
+  bcpl run --trace --only FACTORIAL --to 200 examples/factorial.b
   echo '2 * (3 + 4)' | bcpl run -s 8192 -t 100000 examples/calculator.b";
 
 /// What is below the help on `check`.
@@ -77,7 +82,8 @@ Input and output are those of the program; all else is told on the error stream.
 The check ends with the status of `run`, or with 113 where the program does what
 is undefined: it uses a variable that was never set, a word outside its vector,
 an argument that is missing, or the like. What is suspicious in the text is told
-after the run. A check takes much longer than a run.
+after the run. A check takes much longer than a run. Of a source that is refused
+it shows the place, and says what is meant. FILE may be - for the input.
 
 Examples:
   bcpl check examples/queens.b
@@ -85,13 +91,15 @@ Examples:
 
 /// What is below the help on `show`.
 const SHOW_NOTES: &str = "\
-PART is all, tokens, tree, names, ocode or intcode. A section is shown once it is
-accepted. The first one that is refused ends the text; a line on the error stream
-says why. FILE may be - for the input.
+PART is all, tokens, tree, names, ocode or intcode; or map, for a program to read,
+which says where the code comes from; or dot, the tree for Graphviz. The first
+section that is refused ends the text, with the parts before the fault; a line on
+the error stream says why. FILE may be - for the input.
 
 Examples:
   bcpl show examples/six.b
-  bcpl show --only tree examples/queens.b";
+  bcpl show --only tree examples/queens.b
+  bcpl show --only dot examples/six.b | dot -Tsvg > six.svg";
 
 /// What is below the help on `interpret`.
 const INTERPRET_NOTES: &str = "\
@@ -188,6 +196,43 @@ fn trace_flag<'a>(alloc: Global) -> Arg<'a>
         .action(ArgAction::SetTrue)
 }
 
+/// `--from N`
+fn from_option<'a>(alloc: Global) -> Arg<'a>
+    ensures rule { rule_of result ≡ from_rule }
+    ensures local { result.global ≡ false }
+{
+    Arg::new(alloc, "from")
+        .long("from")
+        .value_name("N")
+        .help("The first step that --trace writes")
+        .value_parser(value_parser!(u64).range(1..=1_000_000_000_000))
+        .default_value("1")
+}
+
+/// `--to N`
+fn to_option<'a>(alloc: Global) -> Arg<'a>
+    ensures rule { rule_of result ≡ to_rule }
+    ensures local { result.global ≡ false }
+{
+    Arg::new(alloc, "to")
+        .long("to")
+        .value_name("N")
+        .help("The last step that --trace writes")
+        .value_parser(value_parser!(u64).range(1..=1_000_000_000_000))
+        .default_value("1000000000000")
+}
+
+/// `--only NAME`
+fn only_name_option<'a>(alloc: Global) -> Arg<'a>
+    ensures rule { rule_of result ≡ only_name_rule }
+    ensures local { result.global ≡ false }
+{
+    Arg::new(alloc, "only")
+        .long("only")
+        .value_name("NAME")
+        .help("The procedure whose steps --trace writes")
+}
+
 /// `--ocode OCODE`
 fn ocode_option<'a>(alloc: Global) -> Arg<'a>
     ensures rule { rule_of result ≡ ocode_rule }
@@ -249,6 +294,10 @@ fn run_subcommand<'a>(alloc: Global) -> Result<Command<'a>, AllocError>
         Command::new(alloc, "run")
             .arg(store_option(alloc))?
             .arg(steps_option(alloc))?
+            .arg(trace_flag(alloc))?
+            .arg(from_option(alloc))?
+            .arg(to_option(alloc))?
+            .arg(only_name_option(alloc))?
             .arg(file_argument(alloc, "The BCPL source"))?
             .after_help(RUN_NOTES)
             .about("Runs the BCPL source in FILE. Input and output are those of the program."),
@@ -367,6 +416,8 @@ fn part_named(name: &str) -> Option<Part>
         "names" => Some(Part::Names),
         "ocode" => Some(Part::Ocode),
         "intcode" => Some(Part::Intcode),
+        "map" => Some(Part::Map),
+        "dot" => Some(Part::Dot),
         _ => None,
     }
 }
@@ -396,6 +447,29 @@ fn trace_asked(matches: &ArgMatches<'_>) -> Option<bool>
     matches.get_one::<bool>("trace")
 }
 
+/// The number of the first step that is written.
+fn from_of(matches: &ArgMatches<'_>) -> Option<u64>
+    ensures reads { IfSome result (λ number. ReadsNumber (one_of (codes "from") (rows_of (found_of matches.now))) number) }
+    ensures given { (number : ℕ) → number ≤ STEPS_MOST → ReadsNumber (one_of (codes "from") (rows_of (found_of matches.now))) number → IsSome result }
+{
+    matches.get_one::<u64>("from")
+}
+
+/// The number of the last.
+fn to_of(matches: &ArgMatches<'_>) -> Option<u64>
+    ensures reads { IfSome result (λ number. ReadsNumber (one_of (codes "to") (rows_of (found_of matches.now))) number) }
+    ensures given { (number : ℕ) → number ≤ STEPS_MOST → ReadsNumber (one_of (codes "to") (rows_of (found_of matches.now))) number → IsSome result }
+{
+    matches.get_one::<u64>("to")
+}
+
+/// The name of the procedure whose steps are written.
+fn only_name_of<'a>(matches: &ArgMatches<'a>) -> Option<&'a str>
+    ensures { option_map (λ name. name.now) result ≡ first_of (codes "only") (rows_of (found_of matches.now)) }
+{
+    matches.get_str("only")
+}
+
 /// The name of the file of OCODE.
 fn ocode_of<'a>(matches: &ArgMatches<'a>) -> Option<&'a str>
     ensures { option_map (λ name. name.now) result ≡ first_of (codes "ocode") (rows_of (found_of matches.now)) }
@@ -420,7 +494,17 @@ fn run_order(alloc: Global, matches: &ArgMatches<'_>) -> Result<Order, LineFault
 {
     let limits = limits_of(matches).ok_or(LineFault::Bad)?;
     let file = file_of(matches).ok_or(LineFault::Bad)?;
-    Ok(Order::Run(limits, String::from_str(alloc, file)?))
+    let trace = trace_asked(matches).ok_or(LineFault::Bad)?;
+    let file = String::from_str(alloc, file)?;
+    if !trace {
+        return Ok(Order::Run(limits, file));
+    }
+    let extent = Extent {
+        from: from_of(matches).ok_or(LineFault::Bad)?,
+        to: to_of(matches).ok_or(LineFault::Bad)?,
+        only: owned(alloc, only_name_of(matches))?,
+    };
+    Ok(Order::TraceSource(limits, extent, file))
 }
 
 /// What the values of `check` ask for.

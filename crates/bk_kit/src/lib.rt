@@ -17,6 +17,7 @@ mod section;
 mod service;
 mod showing;
 mod source;
+mod source_trace;
 mod status;
 mod tracing;
 
@@ -32,5 +33,6 @@ pub use runner::{interpret, sizes};
 pub use service::{refuse, serve, serve_named};
 pub use showing::{show_sections, show_source};
 pub use source::run_source;
+pub use source_trace::trace_source;
 pub use status::{status_of_end, status_of_fault};
 pub use tracing::{trace, trace_named};

@@ -1,6 +1,6 @@
 //! What a command line asks for.
 use bk_base::Limits;
-use bk_show::Part;
+use bk_show::{Extent, Part};
 
 /// What a command line asks for, with the name of FILE where there is one.
 #[derive(Debug, Drop, PartialEq, Eq)]
@@ -11,6 +11,8 @@ pub enum Order {
     Generate,
     /// `bcpl run`: run the BCPL source in FILE.
     Run(Limits, String),
+    /// `bcpl run --trace`: the same, with lines on the error stream for those of its steps that are asked for.
+    TraceSource(Limits, Extent, String),
     /// `bcpl check`: do what the BCPL source in FILE means, in so many turns, and report what goes wrong.
     Check(u64, String),
     /// `bcpl show`: write what the phases of the compiler make of the BCPL source in FILE.
@@ -39,6 +41,7 @@ impl Order {
         match self {
             Order::Compile | Order::Generate | Order::ShowInput(_) => None,
             Order::Run(_, file)
+            | Order::TraceSource(_, _, file)
             | Order::Check(_, file)
             | Order::Show(_, file)
             | Order::Interpret(_, file)

@@ -1,6 +1,7 @@
 //! Serving an order.
 ghost use Rattle.std.specs.Prelude.{◌≡◌};
 ghost use Rattle.bk_machine.specs.Runs.{HeldBy};
+ghost use Rattle.bk_kit.specs.declared.orders.Order.TheVariants.{TraceSource, Check};
 ghost use Rattle.bk_kit.specs.Serving.{Serves, ServesNamed, LeavesFile, LeavesNames, LeavesInput};
 ghost use Rattle.bk_kit.specs.Statuses.{refusal_status, refusal_line};
 ghost use Rattle.bk_kit.specs.Telling.{Tells, output};
@@ -15,10 +16,51 @@ use crate::orders::{Files, Order};
 use crate::runner::{interpret, sizes};
 use crate::showing::show_source;
 use crate::source::run_source;
+use crate::source_trace::trace_source;
 use crate::status::{report_check, report_done, report_run, report_text};
 use crate::tracing::{trace, trace_named};
-use bk_base::{ByteIn, ByteOut};
+use bk_base::{ByteIn, ByteOut, Limits};
+use bk_show::Extent;
 use std::alloc::Global;
+
+/// Runs FILE with lines for its steps, and reports how it ends. `name` is the name of FILE.
+fn serve_trace<F: ByteIn, I: ByteIn, O: ByteOut, E: ByteOut>(
+    alloc: Global,
+    limits: Limits,
+    extent: &Extent,
+    name: &String,
+    file: &mut F,
+    input: &mut I,
+    out: &mut O,
+    err: &mut E,
+) -> u8
+    ensures { Serves (HeldBy I.held) (TraceSource limits extent.now name.now) result
+        (file_read F.ByteIn file.old file.new)
+        (streams I.ByteIn O.ByteOut input.old out.old) (streams I.ByteIn O.ByteOut input.new out.new)
+        (output E.ByteOut err.old) (output E.ByteOut err.new) }
+{
+    let answer = trace_source(alloc, file, limits, extent, input, out, err);
+    report_run(&answer, err)
+}
+
+/// Checks FILE, and reports what goes wrong. `name` is the name of FILE.
+fn serve_check<F: ByteIn, I: ByteIn, O: ByteOut, E: ByteOut>(
+    alloc: Global,
+    turns: u64,
+    name: &String,
+    file: &mut F,
+    input: &mut I,
+    out: &mut O,
+    err: &mut E,
+) -> u8
+    ensures { Serves (HeldBy I.held) (Check turns name.now) result
+        (file_read F.ByteIn file.old file.new)
+        (streams I.ByteIn O.ByteOut input.old out.old) (streams I.ByteIn O.ByteOut input.new out.new)
+        (output E.ByteOut err.old) (output E.ByteOut err.new) }
+{
+    let answer = check_source(alloc, file, turns, input, out);
+    report_check(&answer, name.as_str(), err)
+}
 
 /// Does what an order asks for, and answers the exit status. `file` gives the bytes of FILE if the order has one. A trace writes no
 /// names of procedures: `serve_named` does.
@@ -47,10 +89,10 @@ pub fn serve<F: ByteIn, I: ByteIn, O: ByteOut, E: ByteOut>(
             let answer = run_source(alloc, file, *limits, input, out);
             report_run(&answer, err)
         }
-        Order::Check(turns, name) => {
-            let answer = check_source(alloc, file, *turns, input, out);
-            report_check(&answer, name.as_str(), err)
+        Order::TraceSource(limits, extent, name) => {
+            serve_trace(alloc, *limits, extent, name, file, input, out, err)
         }
+        Order::Check(turns, name) => serve_check(alloc, *turns, name, file, input, out, err),
         Order::Show(part, _) => {
             let answer = show_source(alloc, file, *part, out);
             report_done(&answer, err)

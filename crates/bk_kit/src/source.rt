@@ -1,6 +1,8 @@
 //! Running a source.
 ghost use Rattle.std.specs.Prelude.{◌≡◌, ◌≤◌, IfOk, IfErr, OnOk, OnErr, map, if◌then◌else◌};
 ghost use Rattle.bk_base.specs.declared.limit.TheConstants.{STORE_LEAST, STORE_MOST};
+ghost use Rattle.bk_gen.specs.StandsFor.{StandsFor};
+ghost use Rattle.bk_ocode.specs.SectionStmts.{stmts_of};
 ghost use Rattle.bk_machine.specs.Runs.{HeldBy};
 ghost use Rattle.bk_machine.specs.SegmentItems.{items_of};
 ghost use Rattle.bk_kit.specs.Interpreting.{is_read, streams};
@@ -15,20 +17,50 @@ use crate::reading::read_source_section;
 use crate::section::{SectionCode, compile_section};
 use bk_base::{ByteIn, ByteOut, End, Limits, Line};
 use bk_gen::generate;
+use bk_lex::Lexer;
 use bk_machine::{Intcode, Machine};
 use std::alloc::{AllocError, Global};
 
+/// A way to generate the segments of the sections of a source, one after another.
+pub(crate) trait SegmentMaker {
+    /// The segment of a section, which a lexer took. It fails only where memory is refused.
+    fn segment(
+        &mut self,
+        alloc: Global,
+        lexer: &Lexer,
+        section: &SectionCode,
+    ) -> Result<Intcode, AllocError>
+        ensures stands { IfOk result (λ segment. StandsFor (items_of segment) (stmts_of section.now.code)) };
+}
+
+/// Segments as `generate` makes them.
+#[derive(Clone, Copy)]
+struct Plain;
+
+impl SegmentMaker for Plain {
+    fn segment(
+        &mut self,
+        alloc: Global,
+        _lexer: &Lexer,
+        section: &SectionCode,
+    ) -> Result<Intcode, AllocError> {
+        generate(alloc, &section.code)
+    }
+}
+
 /// Generates the segment of a section's code, if it has any, after those of the sections before.
-fn push_segment(
+fn push_segment<M: SegmentMaker>(
     alloc: Global,
+    lexer: &Lexer,
     section: &Option<SectionCode>,
+    maker: &mut M,
     segments: &mut Vec<Intcode>,
 ) -> Result<(), AllocError>
     ensures generated { OnOk result (Generated (map items_of segments.old.items) (map items_of segments.new.items) (codes_in section.now)) }
 {
     match section {
         Some(section) => {
-            let segment = generate(alloc, &section.code)?;
+            let segment = maker.segment(alloc, lexer, section)?;
             segments.push(segment)?;
             Ok(())
         }
@@ -38,7 +70,11 @@ fn push_segment(
 
 /// The segments of all sections of a source that have symbols. The text, the tree and the code of one section are held, and
 /// dropped before the next is read.
-fn assemble<C: ByteIn>(alloc: Global, source: &mut C) -> Result<Vec<Intcode>, KitFault>
+fn assemble<C: ByteIn, M: SegmentMaker>(
+    alloc: Global,
+    source: &mut C,
+    maker: &mut M,
+) -> Result<Vec<Intcode>, KitFault>
     ensures assembled { IfOk result (λ list. Assembled (map items_of list.items) (C.left source.old) (C.left source.new) (C.ended source.new)) }
     ensures refused { IfErr result (λ fault. NotAssembled fault (C.left source.old) (C.left source.new) (C.ended source.new)) }
     ensures delivered { ReadsSource (is_read result) (C.left source.old) (C.left source.new) }
@@ -50,7 +86,7 @@ fn assemble<C: ByteIn>(alloc: Global, source: &mut C) -> Result<Vec<Intcode>, Ki
     loop {
         let lexer = read_source_section(alloc, source, &mut taken, line)?;
         let section = compile_section(alloc, &lexer)?;
-        let Ok(()) = push_segment(alloc, &section.code, &mut segments) else {
+        let Ok(()) = push_segment(alloc, &lexer, &section.code, maker, &mut segments) else {
             return Err(KitFault::Memory);
         };
         match section.next {
@@ -61,7 +97,12 @@ fn assemble<C: ByteIn>(alloc: Global, source: &mut C) -> Result<Vec<Intcode>, Ki
 }
 
 /// Reads a source, and loads its segments into a store of so many words.
-fn load_source<C: ByteIn>(alloc: Global, source: &mut C, words: u32) -> Result<Machine, KitFault>
+pub(crate) fn load_source<C: ByteIn, M: SegmentMaker>(
+    alloc: Global,
+    source: &mut C,
+    words: u32,
+    maker: &mut M,
+) -> Result<Machine, KitFault>
     requires least { STORE_LEAST ≤ words }
     requires most { words ≤ STORE_MOST }
     ensures loaded { IfOk result (λ machine. LoadsSource machine words (C.left source.old) (C.left source.new) (C.ended source.new)) }
@@ -71,7 +112,7 @@ fn load_source<C: ByteIn>(alloc: Global, source: &mut C, words: u32) -> Result<M
     ensures failures { C.faults source.new ≡ (if is_read result then 1 else 0) }
 {
     sources_run();
-    let segments = assemble(alloc, source)?;
+    let segments = assemble(alloc, source, maker)?;
     Ok(Machine::load(alloc, segments.as_slice(), words)?)
 }
 
@@ -100,6 +141,6 @@ pub fn run_source<C: ByteIn, I: ByteIn, O: ByteOut>(
     ensures read_fails { C.faults source.new ≡ (if is_read result then 1 else 0) }
 {
     sources_run();
-    let mut machine = load_source(alloc, source, limits.words())?;
+    let mut machine = load_source(alloc, source, limits.words(), &mut Plain)?;
     Ok(machine.run(limits.steps(), input, out))
 }

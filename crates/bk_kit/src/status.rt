@@ -1,10 +1,10 @@
 //! Exit statuses, and the lines that report them.
-ghost use Rattle.std.specs.Prelude.{◌≡◌};
+ghost use Rattle.std.specs.Prelude.{◌≡◌, map, decimal};
 ghost use Rattle.bk_kit.specs.FaultLine.{fault_text, line_of};
 ghost use Rattle.bk_kit.specs.Statuses.{stop_status, end_status, end_line, fault_status, run_status, run_line, done_status, done_line};
 ghost use Rattle.bk_kit.specs.Telling.{ReportsLine, Tells, output};
 ghost use Rattle.bk_kit.specs.Pieces.{joined};
-ghost use Rattle.bk_kit.specs.Checking.{verdict_status, check_fault_status, check_fault_text, check_status, ReportsText, ReportsRemarks, ReportsVerdict, ReportsCheck};
+ghost use Rattle.bk_kit.specs.Checking.{verdict_status, check_fault_status, check_fault_text, check_status, placed_text, stop_text, remark_text, hint_text, verdict_text, calls_text, ReportsEach, ReportsCheck};
 
 use crate::checker::NotChecked;
 use crate::kit_fault::{KitFault, put_text};
@@ -150,7 +150,7 @@ fn report_parts<'a, E: ByteOut>(
     calls: &'a [u8],
     err: &mut E,
 )
-    ensures { ReportsText (output E.ByteOut err.old) (output E.ByteOut err.new) }
+    ensures { ReportsLine (placed_text file.now line.now kind.now what.now calls.now) (output E.ByteOut err.old) (output E.ByteOut err.new) }
 {
     report_pieces(&[file, b":", line, b": ", kind, what, b"\n", calls], err)
 }
@@ -164,7 +164,7 @@ fn report_at<E: ByteOut>(
     file: &str,
     err: &mut E,
 )
-    ensures { ReportsText (output E.ByteOut err.old) (output E.ByteOut err.new) }
+    ensures { ReportsLine (placed_text file.now (decimal line) kind.now what.now further.now) (output E.ByteOut err.old) (output E.ByteOut err.new) }
 {
     let mut number = Buffer::new();
     report_parts(
@@ -179,21 +179,31 @@ fn report_at<E: ByteOut>(
 
 /// Writes what went wrong in a check.
 fn report_stop<E: ByteOut>(report: &Report, kind: &str, file: &str, err: &mut E)
-    ensures { ReportsText (output E.ByteOut err.old) (output E.ByteOut err.new) }
+    ensures { ReportsLine (stop_text file.now kind.now report.now) (output E.ByteOut err.old) (output E.ByteOut err.new) }
 {
-    report_at(
-        report.at.line(),
-        kind,
+    if report.place.is_empty() {
+        return report_at(
+            report.at.line(),
+            kind,
+            &report.what,
+            &report.calls,
+            file,
+            err,
+        );
+    }
+    report_parts(
+        file.as_bytes(),
+        &report.place,
+        kind.as_bytes(),
         &report.what,
         &report.calls,
-        file,
         err,
     )
 }
 
 /// Writes what is suspicious in the source, a line for each thing.
 fn report_remarks<E: ByteOut>(remarks: &[Remark], file: &str, err: &mut E)
-    ensures { ReportsRemarks remarks.now (output E.ByteOut err.old) (output E.ByteOut err.new) }
+    ensures { ReportsEach (map (remark_text file.now) remarks.now) (output E.ByteOut err.old) (output E.ByteOut err.new) }
 {
     match remarks.split_first() {
         None => {}
@@ -219,7 +229,7 @@ fn status_of_verdict(verdict: Verdict) -> u8
 
 /// Writes what is reported of a verdict on the error stream.
 fn report_verdict<E: ByteOut>(report: &Report, file: &str, err: &mut E)
-    ensures { ReportsVerdict report.now.verdict (output E.ByteOut err.old) (output E.ByteOut err.new) }
+    ensures { Tells (verdict_text report.now.verdict file.now report.now) (output E.ByteOut err.old) (output E.ByteOut err.new) }
 {
     match report.verdict {
         Verdict::Status(_) => {}
@@ -243,17 +253,32 @@ fn report_check_fault<E: ByteOut>(fault: CheckFault, err: &mut E) -> u8
 }
 
 /// The lines of the calls that were active where a check was given up; none where they are not known.
-fn calls_of(stop: &GivenUp) -> &[u8] {
+fn calls_of(stop: &GivenUp) -> &[u8]
+    ensures { result.now ≡ calls_text stop.now.calls }
+{
     match &stop.calls {
         Some(calls) => calls.as_slice(),
         None => &[],
     }
 }
 
+/// Writes where a source is refused and what is meant, after the name of FILE, of each fault that is reported.
+fn report_hints<E: ByteOut>(hints: &[Vec<u8>], file: &str, err: &mut E)
+    ensures { ReportsEach (map (hint_text file.now) hints.now) (output E.ByteOut err.old) (output E.ByteOut err.new) }
+{
+    match hints.split_first() {
+        None => {}
+        Some((first, rest)) => {
+            report_pieces(&[file.as_bytes(), first], err);
+            report_hints(rest, file, err)
+        }
+    }
+}
+
 /// Writes what is reported of the answer of a check on the error stream, and answers the status. `file` is the name of FILE.
 pub fn report_check<E: ByteOut>(answer: &Result<Report, NotChecked>, file: &str, err: &mut E) -> u8
     ensures status { result ≡ check_status answer.now }
-    ensures told { ReportsCheck answer.now (output E.ByteOut err.old) (output E.ByteOut err.new) }
+    ensures told { ReportsCheck file.now answer.now (output E.ByteOut err.old) (output E.ByteOut err.new) }
 {
     match answer {
         Ok(report) => {
@@ -263,7 +288,7 @@ pub fn report_check<E: ByteOut>(answer: &Result<Report, NotChecked>, file: &str,
         }
         Err(NotChecked::Text(refusal)) => {
             let status = report_fault(&refusal.fault, err);
-            report_pieces(&[refusal.hint.as_slice()], err);
+            report_hints(&refusal.hints, file, err);
             status
         }
         Err(NotChecked::Run(stop)) => {

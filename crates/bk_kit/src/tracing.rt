@@ -13,7 +13,9 @@ use crate::orders::Files;
 use crate::procedures::{procedures_of, read_sections};
 use bk_base::{ByteIn, ByteOut, End, Limits};
 use bk_machine::Machine;
-use bk_show::{Procedures, Step, put_heading, put_other, put_procedure, put_step};
+use bk_show::{
+    Procedures, SourceTrace, Step, put_heading, put_other, put_procedure, put_source_step, put_step,
+};
 use std::alloc::Global;
 
 /// How a run is traced: its limits, and the procedures whose names are written, if they are known.
@@ -25,10 +27,18 @@ struct Tracing<'p> {
 
 /// What was traced so far: how many steps, and the procedure whose steps came last.
 #[derive(Drop)]
-struct Progress<'p> {
-    steps: u64,
+pub(crate) struct Progress<'p> {
     procedures: Option<&'p Procedures>,
     current: Option<usize>,
+}
+
+/// How the steps of a run are written.
+#[derive(Drop)]
+pub(crate) enum Telling<'p> {
+    /// A line for each, under the name of its procedure where that is known.
+    Code(Progress<'p>),
+    /// With the lines and the names of the source.
+    Source(SourceTrace<'p>),
 }
 
 /// Writes the line above the steps on the error stream, and passes it on. A failure of that stream, or refused memory, changes nothing.
@@ -82,6 +92,48 @@ fn report_procedure<E: ByteOut>(alloc: Global, progress: &mut Progress, at: u32,
     }
 }
 
+/// Writes the line of a step in the same way, under the name of its procedure if that was not written last.
+fn report_code<E: ByteOut>(alloc: Global, progress: &mut Progress, step: &Step, err: &mut E)
+    ensures grows { Begins (E.taken err.old) (E.taken err.new) }
+    ensures passes { Begins (E.passed err.old) (E.passed err.new) }
+{
+    report_procedure(alloc, progress, step.at, err);
+    report_step(alloc, step, err);
+}
+
+/// Writes the lines of a step of a source in the same way.
+fn report_source<E: ByteOut>(
+    alloc: Global,
+    trace: &mut SourceTrace<'_>,
+    step: &Step,
+    machine: &Machine,
+    err: &mut E,
+)
+    ensures grows { Begins (E.taken err.old) (E.taken err.new) }
+    ensures passes { Begins (E.passed err.old) (E.passed err.new) }
+{
+    if put_source_step(alloc, trace, step, machine, err).is_ok() {
+        let _passed = err.flush();
+    }
+}
+
+/// Writes the lines of a step, as its run is written.
+fn report<E: ByteOut>(
+    alloc: Global,
+    telling: &mut Telling<'_>,
+    step: &Step,
+    machine: &Machine,
+    err: &mut E,
+)
+    ensures grows { Begins (E.taken err.old) (E.taken err.new) }
+    ensures passes { Begins (E.passed err.old) (E.passed err.new) }
+{
+    match telling {
+        Telling::Code(progress) => report_code(alloc, progress, step, err),
+        Telling::Source(trace) => report_source(alloc, trace, step, machine, err),
+    }
+}
+
 /// The step of this number, before it is done.
 fn next_step(machine: &Machine, number: u64) -> Step {
     let at = machine.registers().c;
@@ -98,7 +150,8 @@ fn next_step(machine: &Machine, number: u64) -> Step {
 fn run_step<I: ByteIn, O: ByteOut, E: ByteOut>(
     alloc: Global,
     machine: &mut Machine,
-    progress: &mut Progress,
+    number: u64,
+    telling: &mut Telling<'_>,
     input: &mut I,
     out: &mut O,
     err: &mut E,
@@ -113,27 +166,27 @@ fn run_step<I: ByteIn, O: ByteOut, E: ByteOut>(
     ensures paused { result ≡ StepLimit → end_of machine.new ≡ None }
     ensures told { Begins (E.taken err.old) (E.taken err.new) × Begins (E.passed err.old) (E.passed err.new) }
 {
-    let mut step = next_step(machine, progress.steps);
+    let mut step = next_step(machine, number);
     let end = machine.run(1, input, out);
     if end == End::StepLimit {
         step.after = Some(machine.registers());
     }
-    report_procedure(alloc, progress, step.at, err);
-    report_step(alloc, &step, err);
+    report(alloc, telling, &step, machine, err);
     end
 }
 
 /// Up to so many steps, at least one, each with its line.
-fn run_steps<I: ByteIn, O: ByteOut, E: ByteOut>(
+pub(crate) fn run_steps<I: ByteIn, O: ByteOut, E: ByteOut>(
     alloc: Global,
     machine: &mut Machine,
-    tracing: &Tracing,
+    limits: Limits,
+    telling: &mut Telling<'_>,
     input: &mut I,
     out: &mut O,
     err: &mut E,
 ) -> End
     requires fresh { end_of machine.old ≡ None }
-    ensures ran { result ≢ WriteFault → Ran (HeldBy I.held) result tracing.now.limits.steps
+    ensures ran { result ≢ WriteFault → Ran (HeldBy I.held) result limits.steps
         (store_of machine.old) (registers_of machine.old) (store_of machine.new) (registers_of machine.new)
         (devices I.ByteIn O.ByteOut input.old out.old) (devices I.ByteIn O.ByteOut input.new out.new) }
     ensures flushed { result ≢ WriteFault → O.passed out.new ≡ O.taken out.new }
@@ -141,14 +194,8 @@ fn run_steps<I: ByteIn, O: ByteOut, E: ByteOut>(
     ensures cause { Blames result (I.faults input.old) (I.faults input.new) (O.faults out.new) }
     ensures told { Begins (E.taken err.old) (E.taken err.new) × Begins (E.passed err.old) (E.passed err.new) }
 {
-    let mut progress = Progress {
-        steps: 0,
-        procedures: tracing.procedures,
-        current: None,
-    };
-    for i in 0..tracing.limits.steps() {
-        progress.steps = i + 1;
-        let end = run_step(alloc, machine, &mut progress, input, out, err);
+    for i in 0..limits.steps() {
+        let end = run_step(alloc, machine, i + 1, telling, input, out, err);
         if end != End::StepLimit {
             return end;
         }
@@ -189,12 +236,20 @@ fn trace_with<C: ByteIn, I: ByteIn, O: ByteOut, E: ByteOut>(
     ensures told { Begins (E.taken err.old) (E.taken err.new) × Begins (E.passed err.old) (E.passed err.new) }
 {
     let mut machine = load_code(alloc, code, tracing.limits.words())?;
-    let known = Tracing {
-        limits: tracing.limits,
+    let mut telling = Telling::Code(Progress {
         procedures: known_procedures(alloc, tracing.procedures, machine.sizes().image, err),
-    };
+        current: None,
+    });
     report_heading(alloc, err);
-    Ok(run_steps(alloc, &mut machine, &known, input, out, err))
+    Ok(run_steps(
+        alloc,
+        &mut machine,
+        tracing.limits,
+        &mut telling,
+        input,
+        out,
+        err,
+    ))
 }
 
 /// Reads all segments of a text of INTCODE, loads them and runs them as `interpret` does, with a line on the error stream for each

@@ -14,7 +14,7 @@ const HI: &[u8] = b"1 LL2 SP4 LIG6 K2 X4 2 C3 C72 C73 C33 G1L1 Z";
 
 #[test]
 fn command_lines_refused(rt: HostRuntime) -> Result<(), Fail> {
-    let rows: [&[&str]; 25] = [
+    let rows: [&[&str]; 28] = [
         &["bcpl"],
         &["bcpl", "run"],
         &["bcpl", "run", "f", "g"],
@@ -36,7 +36,10 @@ fn command_lines_refused(rt: HostRuntime) -> Result<(), Fail> {
         &["bcpl", "generate", "-s", "5000"],
         &["bcpl", "Interpret", "f"],
         &["bcpl", "-s", "5000", "interpret", "f"],
-        &["bcpl", "run", "--trace", "f"],
+        &["bcpl", "check", "--trace", "f"],
+        &["bcpl", "run", "--trace", "--from", "0", "f"],
+        &["bcpl", "run", "--trace", "--to", "1000000000001", "f"],
+        &["bcpl", "interpret", "--from", "2", "f"],
         &["bcpl", "show"],
         &["bcpl", "show", "--only", "x", "f"],
         &["bcpl", "show", "--only", "tree", "--only", "tree", "f"],
@@ -77,6 +80,40 @@ fn steps_are_traced(rt: HostRuntime) -> Result<(), Fail> {
     check(&rt, rt.alloc(), &words, SIX, b"", 0, sizes, b"")
 }
 
+const SIX_SOURCE: &[u8] = b"GET \"LIBHDR\"
+LET START() BE WRITEN(6 * 7)
+";
+
+/// The lines of the steps of that source from step 6 on, worked out by hand from docs/TOUR.md.
+const SOURCE_STEPS: &[u8] = b"    step  line  word                 A  what it does
+                  in START
+       6     2  SP4                 42  P!4 := A
+       7     2  LIG7              1026  B := A; A := G!7, WRITEN
+       8     2  K2                1026  calls A with a frame at P + 2
+                  -> WRITEN(42)
+                  <- WRITEN, A = 1026
+      11     2  X4                1026  C := P!1; P := P!0
+                <- START, A = 1026
+the end: status 0
+";
+
+#[test]
+fn sources_are_traced(rt: HostRuntime) -> Result<(), Fail> {
+    let words = [
+        "bcpl", "run", "--trace", "--from", "6", "--only", "start", "f",
+    ];
+    check(
+        &rt,
+        rt.alloc(),
+        &words,
+        SIX_SOURCE,
+        b"",
+        0,
+        b"42",
+        SOURCE_STEPS,
+    )
+}
+
 #[test]
 fn the_input_is_shown(rt: HostRuntime) -> Result<(), Fail> {
     let words = ["bcpl", "show", "--only", "names", "-"];
@@ -85,7 +122,7 @@ section 1, from line 1
 
 names
   line  name            meaning
-     1  A               function, static word
+     1  A               function, static word, never used
 ";
     check(&rt, rt.alloc(), &words, b"", b"LET A() = 1", 0, names, b"")
 }

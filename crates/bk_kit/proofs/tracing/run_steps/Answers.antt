@@ -4,9 +4,9 @@ use Rattle.bk_kit.proofs.tracing.run_steps.Goals as goal
 
 pub returns-then-ne-clause-ran : goal.returns-then-ne-clause-ran
 returns-then-ne-clause-ran g c = λ sound.
-    let count : c.args.tracing.now.limits.steps ≡ (c.loop-i.i + 1) + (c.args.tracing.now.limits.steps - (c.loop-i.i + 1)) = omega (arith, c.steps-i-end.ensures.value) in
+    let count : c.args.limits.steps ≡ (c.loop-i.i + 1) + (c.args.limits.steps - (c.loop-i.i + 1)) = omega (arith, c.steps-i-end.ensures.value) in
     let ends : c.run_step-end.result ≢ StepLimit = search rules in
-    rw count (ran_more (HeldBy g.I.ByteIn.held) c.loop-i.i (c.args.tracing.now.limits.steps - (c.loop-i.i + 1)) _ _ _ _ _ _ _ _ _ c.loop-i.invariant.paused c.run_step-end.ensures.passes c.run_step-end.result ends sound c.run_step-end.ensures.ran)
+    rw count (ran_more (HeldBy g.I.ByteIn.held) c.loop-i.i (c.args.limits.steps - (c.loop-i.i + 1)) _ _ _ _ _ _ _ _ _ c.loop-i.invariant.paused c.run_step-end.ensures.passes c.run_step-end.result ends sound c.run_step-end.ensures.ran)
 
 pub returns-then-ne-clause-passes : goal.returns-then-ne-clause-passes
 returns-then-ne-clause-passes g c = Begins-trans _ _ _ c.loop-i.invariant.passes c.run_step-end.ensures.passes

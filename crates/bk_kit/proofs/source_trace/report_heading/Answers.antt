@@ -1,0 +1,5 @@
+use Rattle.bk_base.specs.DeviceLaws.{Begins-trans}
+use Rattle.bk_kit.proofs.source_trace.report_heading.Goals as goal
+
+pub returns-then-is_ok-clause-passes : goal.returns-then-is_ok-clause-passes
+returns-then-is_ok-clause-passes g c = Begins-trans _ _ _ c.put_source_heading.ensures.passes c.flush-passed.ensures.passes

@@ -1,0 +1,5 @@
+use Rattle.bk_base.specs.DeviceLaws.{Begins-trans}
+use Rattle.bk_kit.proofs.tracing.report_source.Goals as goal
+
+pub returns-then-is_ok-clause-passes : goal.returns-then-is_ok-clause-passes
+returns-then-is_ok-clause-passes g c = Begins-trans _ _ _ c.put_source_step.ensures.passes c.flush-passed.ensures.passes
