@@ -8,14 +8,15 @@ _bcpl() {
         return
     fi
     case $before in
-        -s|-t) return ;;
-        --only) mapfile -t COMPREPLY < <(compgen -W 'all tokens tree names ocode intcode' -- "$word"); return ;;
+        -s|-t|--from|--to) return ;;
+        --only) [ "${COMP_WORDS[1]}" = show ] || return
+            mapfile -t COMPREPLY < <(compgen -W 'all tokens tree names ocode intcode map dot' -- "$word"); return ;;
         --ocode) compopt -o filenames; mapfile -t COMPREPLY < <(compgen -f -X '!*.ocode' -- "$word"; compgen -d -- "$word"); return ;;
     esac
     case ${COMP_WORDS[1]} in
         help) mapfile -t COMPREPLY < <(compgen -W "$subcommands" -- "$word"); return ;;
         compile|generate) mapfile -t COMPREPLY < <(compgen -W '-h --help' -- "$word"); return ;;
-        run) options='-s -t -h --help' ending=b ;;
+        run) options='-s -t --trace --from --to --only -h --help' ending=b ;;
         check) options='-t -h --help' ending=b ;;
         show) options='--only -h --help' ending=b ;;
         interpret) options='-s -t --sizes --trace --ocode -h --help' ending=int ;;

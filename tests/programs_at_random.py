@@ -1,4 +1,4 @@
-"""Programs at random for bench/meaning: valid BCPL with all forms of the language, mixed. Most end soon and do nothing undefined:
+"""Programs at random for tests/check-agrees-with-run: valid BCPL with all forms of the language, mixed. Most end soon and do nothing undefined:
 each name keeps one kind of value, indexes stay within their vectors, and each loop counts down a variable of its own."""
 import re
 

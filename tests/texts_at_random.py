@@ -1,4 +1,4 @@
-"""Texts at random for bench/hostile: words of each text, and statements that fit together more or less."""
+"""Texts at random for tests/random-texts: words of each text, and statements that fit together more or less."""
 
 KEYWORDS = b"AND BE BREAK BY CASE DEFAULT DO ELSE ENDCASE EQV FALSE FINISH FOR GET GLOBAL GOTO IF INTO LET LOOP MANIFEST NEQV NOT OR REM REPEAT REPEATUNTIL REPEATWHILE RESULTIS RETURN STATIC SWITCHON TABLE TEST TRUE UNLESS UNTIL VALOF VEC WHILE".split()
 SIGNS = b"$( $) ( ) + - * / ! % @ = ~= < > <= >= << >> & | -> , ; : := ? .".split()
