@@ -1,6 +1,8 @@
-"""What the tests of the exercises share: parts with points, and processes. Each folder N-NAME has a file test.py with a function
-`parts(files, kit)`, which gives the parts of what was handed in; `files` are paths, `kit` the path of the program `bcpl`."""
+"""What the grader and the tests of the exercises share: the exercises, parts with points, and processes. Each folder N-NAME has a file
+test.py with a function `parts(files, kit)`, which gives the parts of what was handed in; `files` are paths, `kit` the path of the program
+`bcpl`."""
 import functools
+import importlib.util
 import os
 import subprocess
 import sys
@@ -10,6 +12,30 @@ from pathlib import Path
 
 HERE = Path(__file__).resolve().parent
 SECONDS = 10  # that a process may take
+
+
+def folders():
+    return {int(path.name.split("-")[0]): path for path in sorted(HERE.glob("[0-9]-*"))}
+
+
+def kit():
+    """The program of the variable BCPL, or of this tree."""
+    if os.environ.get("BCPL"):
+        return os.environ["BCPL"]
+    ran = subprocess.run([str(HERE.parent / "bcpl"), "--which"], capture_output=True, text=True)
+    if ran.returncode != 0:
+        sys.exit("grade: there is no program bcpl; name one by --kit\n" + ran.stderr.strip())
+    return ran.stdout.strip()
+
+
+def graded(number, files, program):
+    """What exercise `number` gives for files, as a record."""
+    spec = importlib.util.spec_from_file_location("test", folders()[number] / "test.py")
+    test = importlib.util.module_from_spec(spec)
+    spec.loader.exec_module(test)
+    parts = test.parts(files, program)
+    return {"exercise": number, "name": folders()[number].name, "points": sum(part.points for part in parts), "of": sum(part.of for part in parts),
+            "parts": [{"name": part.name, "points": part.points, "of": part.of, "failed": part.failed} for part in parts]}
 
 
 class Part:
@@ -30,8 +56,9 @@ class Ran:
         """A sentence on a process that did not end well, or None."""
         if self.status == 0:
             return None
-        lines = self.errors.decode("utf-8", "replace").strip().splitlines()
-        return "ended with status %s%s" % (self.status, ": " + lines[-1][:100] if lines else "")
+        lines = self.errors.decode("utf-8", "replace").strip().split("\n")
+        line = [line for line in lines if not line.startswith(" ")][-1]  # (those with blanks before them say more of the one before)
+        return "ended with status %s%s" % (self.status, ": " + line[:100] if line else "")
 
 
 def run(command, given=b""):

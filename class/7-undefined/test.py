@@ -9,7 +9,7 @@ OUTPUTS = {"a": b"45", "b": b"1 4 9 16 25 ", "c": b"-1 0 1 ", "d": b"3 0", "e": 
 
 
 def answers(path):
-    rows = [line.lower().split() for line in Path(path).read_text().splitlines()]
+    rows = [re.sub("[:,]", " ", line.lower()).split() for line in Path(path).read_text().splitlines()]
     return {row[0]: (row[1:] + ["", ""])[:2] for row in rows if row}
 
 

@@ -1,4 +1,5 @@
 """Exercise 8: the answers are judged by the bodies and the clauses, as functions of Python over small numbers."""
+import re
 from itertools import product
 from pathlib import Path
 
@@ -25,7 +26,7 @@ def meets(letter, clauses):
 
 
 def parts(files, kit):
-    rows = [line.replace(":", " ").split() for line in Path(files[0]).read_text().splitlines()]
+    rows = [re.sub("[:,]", " ", line).split() for line in Path(files[0]).read_text().splitlines()]
     said = {word.upper() for row in rows if row[:1] == ["meets"] for word in row[1:]}
     clauses = {word for row in rows if row[:1] == ["clauses"] for word in row[1:] if word in CLAUSES}
     shown = {row[1].upper(): tuple(int(word) for word in row[2:] if word.isdigit()) for row in rows if row[:1] == ["wrong"] and len(row) == 5}
