@@ -5,6 +5,7 @@ import os from "node:os";
 import path from "node:path";
 
 const pause = (time) => new Promise((done) => setTimeout(done, time));
+const PATIENCE = Number(process.env.PATIENCE) || 1; // how many times longer all may take, on a machine that does much else
 
 // Opens a page, at first 1280 by 800.
 export async function open(program, url) {
@@ -32,9 +33,11 @@ export async function open(program, url) {
     socket.onerror = fail;
   });
   const asked = new Map(), errors = [];
+  let loaded = () => {};
   let number = 0;
   socket.onmessage = ({ data }) => {
     const told = JSON.parse(data);
+    if (told.method === "Page.loadEventFired") loaded();
     if (told.method === "Runtime.exceptionThrown") errors.push(told.params.exceptionDetails.exception?.description || told.params.exceptionDetails.text);
     const then = asked.get(told.id);
     asked.delete(told.id);
@@ -51,13 +54,20 @@ export async function open(program, url) {
     asked.set(number, { done, fail });
     socket.send(JSON.stringify({ id: number, method, params }));
   });
+  // Does what loads a page, and waits for that.
+  const loading = async (method, params) => {
+    const there = new Promise((done) => { loaded = done; });
+    await send(method, params);
+    await Promise.race([there, pause(30000 * PATIENCE)]);
+  };
   const browser = {
     errors,
     send,
+    // Opens a page from nothing. (A page that is asked for before another one is there may never come.)
     async go(to) {
-      await send("Page.navigate", { url: "about:blank" });
-      await send("Page.navigate", { url: to });
+      for (const url of ["about:blank", to]) await loading("Page.navigate", { url });
     },
+    reload: () => loading("Page.reload", {}),
     // The value of an expression in the page.
     async value(expression) {
       const told = await send("Runtime.evaluate", { expression, awaitPromise: true, returnByValue: true });
@@ -66,8 +76,9 @@ export async function open(program, url) {
     },
     // Waits until an expression is true, and gives its value.
     async until(expression, seconds = 20) {
-      for (const end = Date.now() + 1000 * seconds; Date.now() < end; await pause(25)) {
-        const value = await browser.value(expression).catch(() => null);
+      for (const end = Date.now() + 1000 * seconds * PATIENCE; Date.now() < end; await pause(25)) {
+        // (what was asked of a page that is left may have no answer)
+        const value = await Promise.race([browser.value(expression).catch(() => null), pause(2000 * PATIENCE)]);
         if (value) return value;
       }
       throw new Error(`not within ${seconds} s: ${expression}`);
@@ -75,7 +86,7 @@ export async function open(program, url) {
     size: (width, height, mobile = false) => send("Emulation.setDeviceMetricsOverride", { width, height, deviceScaleFactor: 1, mobile }),
     scheme: (value) => send("Emulation.setEmulatedMedia", { features: [{ name: "prefers-color-scheme", value }] }),
     async key(name, modifiers = 0) {
-      const codes = { Enter: 13, ArrowRight: 39, ArrowLeft: 37, Home: 36, End: 35, Tab: 9 };
+      const codes = { Enter: 13, ArrowRight: 39, ArrowLeft: 37, Home: 36, End: 35, Tab: 9, ArrowUp: 38, ArrowDown: 40 };
       const event = { key: name, code: name, windowsVirtualKeyCode: codes[name], modifiers };
       await send("Input.dispatchKeyEvent", { type: "rawKeyDown", ...event });
       await send("Input.dispatchKeyEvent", { type: "keyUp", ...event });

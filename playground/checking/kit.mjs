@@ -14,17 +14,27 @@ export function scriptOf(page, id) {
   return found[1];
 }
 
-export async function kitOf(page) {
+// Functions of the page's workers, by their names, and the kit of its module.
+export async function workerOf(page, ...names) {
   const module = await WebAssembly.compile(gunzipSync(Buffer.from(scriptOf(page, "packed").trim(), "base64")));
-  const makeKit = new Function(`${scriptOf(page, "worker").split("// What the workers of the page do")[0].replace(/"use strict";\s*$/, "")}\nreturn makeKit;`)();
-  return makeKit(module);
+  const found = new Function("onmessage", `${scriptOf(page, "worker")}\nreturn { ${["makeKit", ...names].join()} };`)();
+  return { kit: await found.makeKit(module), ...found };
+}
+
+export const kitOf = async (page) => (await workerOf(page)).kit;
+
+// A list that the page has, by its name.
+export function listOf(page, name) {
+  return JSON.parse(new RegExp(`^const ${name} = (.*);$`, "m").exec(page)[1]);
 }
 
 // Runs the native program.
 export function native(program, words, input = "") {
   const ran = spawnSync(program, words, { input, maxBuffer: 1 << 28 });
   if (ran.error && ran.error.code !== "EPIPE") throw ran.error;   // (a program need not read its input)
-  return { status: ran.status, output: ran.stdout, lines: ran.stderr };
+  // (without words the program alone adds how it is used)
+  const lines = words.length ? ran.stderr : ran.stderr.subarray(0, ran.stderr.indexOf("\n") + 1);
+  return { status: ran.status, output: ran.stdout, lines };
 }
 
 // The programs of examples/, each with its inputs.

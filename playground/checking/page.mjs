@@ -4,6 +4,7 @@ import os from "node:os";
 import path from "node:path";
 import { pathToFileURL } from "node:url";
 import { open } from "./browser.mjs";
+import { handedIn } from "./grade.mjs";
 import { examples, native, TREE } from "./kit.mjs";
 
 const PARTS = { Tokens: "tokens", Tree: "tree", Names: "names", OCODE: "ocode", INTCODE: "intcode" };
@@ -80,7 +81,7 @@ export async function use(file, program, chromium, picture, count) {
     // ---- faults
     await choose("Run");
     await write(FAULT);
-    const wanted = native(program, ["check", "-t", "1", at("program.b", FAULT)]).lines.toString().trimEnd();
+    const wanted = native(program, ["check", "-t", "1", at("program.b", FAULT)]).lines.toString().replaceAll(`${folder}/`, "").trimEnd();
     count.is("a fault's message is that of check", (await shown("message")) === wanted, await shown("message"));
     const wrong = () => value('[...document.querySelectorAll("#numbers .wrong")].map((it) => it.textContent).join()');
     count.is("its line is marked", (await wrong()) === "5", await wrong());
@@ -189,8 +190,158 @@ export async function use(file, program, chromium, picture, count) {
     count.is("the first step", (await shown("where")).startsWith("After 0 steps") && (await register("C")) === "1" && (await shown("sofar")) === "", await shown("where"));
     await go("10");
     await agrees(10);
-    const p = await value('document.querySelectorAll("#frame tr")[0].cells[1].textContent');
+    const p = await value('document.querySelectorAll("#frame tbody tr")[0].cells[1].textContent');
     count.is("the frame is at P", p === (await register("P")), p);
+
+    // ---- steps in the names of the source
+    const where = (id, name) => value(`(() => { const row = [...document.querySelectorAll("#${id} tbody tr")].find((it) => it.dataset.name === ${text(name)}); return row ? row.cells[2].textContent : null; })()`);
+    const walk = async (kind) => {
+      await value(`document.querySelector('[data-walk="${kind}"]').click()`);
+      await ready(60);
+    };
+    const lineNow = async () => Number(/at line (\d+)/.exec(await shown("where"))?.[1]);
+    const program2 = async (name) => {
+      await value(`{ const box = document.getElementById("program"); box.value = ${text(name)}; box.dispatchEvent(new Event("change")); }`);
+      await ready();
+      await choose("Step");
+    };
+    const LOCALS = { sieve: { 12: ["V"] }, primes: { 9: ["SIEVE", "I"], 12: ["SIEVE", "I", "K"] }, machine: { 9: ["CODE", "STACK", "PC", "SP", "OPERATION"] } };
+    for (const [name, lines] of Object.entries(LOCALS)) {
+      await program2(name);
+      for (const [line, names] of Object.entries(lines)) {
+        await value(`breakpoints.clear(); toggleBreakpoint(${line})`);
+        await walk("breakpoint");
+        count.is(`${name} stops at the mark on line ${line}`, (await lineNow()) === Number(line), await shown("where"));
+        for (const local of names) count.is(`${local} of ${name} has its name at line ${line}`, (await where("variables", local)) !== null);
+      }
+    }
+    // the vector, the string and the table of a program, with the steps that set their words
+    const cellsOf = (id, name) => value(`(() => { const row = [...document.querySelectorAll("#${id} tbody tr")].find((it) => it.dataset.name === ${text(name)}); return row ? [...row.cells].map((it) => it.textContent) : null; })()`);
+    const boxesOf = (name) => value(`(() => { const row = [...document.querySelectorAll("#variables tbody tr")].find((it) => it.dataset.name === ${text(name)}); return [...row.nextSibling.querySelectorAll("span")].map((it) => [it.textContent, it.title, it.className]); })()`);
+    await write('GET "LIBHDR"\nSTATIC $( COUNT = 3 $)\nGLOBAL $( TOTAL : 100 $)\nLET F(P, N) BE\n$( TOTAL := P!1\n   COUNT := N\n$)\nLET START() BE\n$( LET V, S = VEC 20, "two words"\n   FOR I = 0 TO 20 DO V!I := 100 + I\n   F(V, 7)\n   WRITES(S)\n$)\n');
+    await choose("Step");
+    await value("breakpoints.clear(); toggleBreakpoint(6)");
+    await walk("breakpoint");
+    count.is("the words of a frame's vector are drawn in the caller's frame alone", (await where("variables", "V")) === null && (await where("variables", "N")) === "7", await shown("variables"));
+    count.is("an argument that is a vector says so", (await cellsOf("variables", "P"))?.[3] === "the vector V of START", await cellsOf("variables", "P"));
+    count.is("the chain of calls has the arguments", /^F.*line 6.*N = 7.*START.*line 11/.test(await shown("calls").then((it) => it.replace(/^.*?arguments/, ""))), await shown("calls"));
+    count.is("a global has its value", (await where("fixed", "TOTAL")) === "101", await shown("fixed"));
+    count.is("a static word has its value", (await where("fixed", "COUNT")) === "3", await shown("fixed"));
+    await value("breakpoints.clear()");
+    await walk("out");
+    const boxes = await boxesOf("V");
+    count.is("a vector is drawn, with each word", boxes.length === 21 && boxes.every(([word], i) => word === String(100 + i)), boxes);
+    count.is("a string is drawn", (await cellsOf("variables", "S"))[3] === '"two words"', await cellsOf("variables", "S"));
+    count.is("the frame has the words of the vector by name", (await shown("frame")).includes("V!20") && (await shown("frame")).includes("P of the caller"), await shown("frame"));
+    // the step that set a word: the word has another value before it, and the row is marked after it
+    const stepOf = (told) => Number(/step ([\d,]+)/.exec(told)?.[1].replaceAll(",", ""));
+    const set = stepOf((await cellsOf("fixed", "COUNT"))[5]);
+    await value(`at = ${set - 1}; refreshStep()`);
+    await settle(set - 1);
+    const earlier = await where("fixed", "COUNT");
+    await go("1");
+    await settle(set);
+    const marked = await value('[...document.querySelectorAll("#fixed tr.changed")].map((it) => it.dataset.name).join()');
+    count.is("the step that set a word is told and marked", earlier === "3" && (await where("fixed", "COUNT")) === "7" && marked === "COUNT", [set, earlier, marked]);
+    const item = stepOf(boxes[20][1]);
+    await value(`at = ${item}; refreshStep()`);
+    await settle(item);
+    const lit20 = (await boxesOf("V")).filter(([, , kind]) => kind === "set").map(([word]) => word);
+    count.is("so is that of a word of a vector", lit20.join() === "120", lit20);
+    await write(ENDLESS);
+    await until("standing && standing.end === null && !document.body.dataset.busy", 60);
+    count.is("where the view ends is told", (await shown("where")).includes("of more than 10,000,000, which is as far as this view goes"), await shown("where"));
+    const heads = await value('[...document.querySelectorAll("th")].filter((it) => it.scope !== "col").length');
+    count.is("each head of a table has its scope", heads === 0, heads);
+
+    await program2("factorial");
+    await value("breakpoints.clear(); go('first')");
+    await walk("line");
+    await walk("line");
+    count.is("a step by line goes into a call", (await shown("calls")).includes("FACTORIAL"), await shown("calls"));
+    const inner = await value("standing.calls.length");
+    await walk("out");
+    count.is("a step out goes to the caller", (await value("standing.calls.length")) < inner, await shown("calls"));
+    await value("go('first')");
+    await walk("line");
+    await walk("over");
+    count.is("a step over a call stays in its procedure", !(await shown("calls")).includes("FACTORIAL"), await shown("calls"));
+    await value('{ const box = document.getElementById("slider"); box.value = 60; box.dispatchEvent(new Event("input")); }');
+    await settle(60);
+    count.is("the slider goes to a step", (await shown("where")).startsWith("After 60 steps"), await shown("where"));
+    await choose("OCODE");
+    await value('document.querySelector("#view .row-of:nth-child(20)").click()');
+    const lit = () => value('document.querySelectorAll("#view .lit, #view .near").length');
+    count.is("a row that is chosen lights up, with its line", (await lit()) > 0 && (await value('document.querySelectorAll("#layer .here").length')) === 1);
+    for (const other of ["INTCODE", "Tree", "Names"]) {
+      await choose(other);
+      count.is(`its rows light up in ${other}`, (await lit()) > 0);
+    }
+
+    await choose("OCODE");
+    await value('document.getElementById("view").focus()');
+    await browser.key("ArrowDown");
+    const moved = await value("linkage.at");
+    await browser.key("ArrowDown");
+    count.is("the arrow keys choose the next row", (await value("linkage.at")) > moved && (await lit()) > 0, [moved]);
+    await value('{ const box = document.getElementById("source"); box.focus(); box.setSelectionRange(startOf(4), startOf(4)); box.dispatchEvent(new Event("keyup")); }');
+    const lines = await value('[...document.querySelectorAll("#view .near, #view .lit")].map((it) => Number(it.textContent.slice(0, 6)))');
+    count.is("the line of the cursor lights its rows up", lines.length > 0 && lines.every((line) => line === 4), lines);
+
+    // ---- a fault of a run has its line
+    await write('GET "LIBHDR"\nLET START() BE\n$( LET A = 0\n   WRITEN(1 / A)\n$)\n');
+    await choose("Run");
+    await click("run");
+    await ended();
+    await until('!document.getElementById("message").hidden', 10);
+    count.is("a fault of a run has its line, and leads to check", (await shown("message")).startsWith("line 4: division by zero, in START") && (await shown("message")).includes("Check says more"), await shown("message"));
+
+    // ---- memory
+    const DEEP = 'GET "LIBHDR"\nLET F(N) = F(N + 1) + 1\nLET START() BE WRITEN(F(0))\n';
+    const FAR = 'GET "LIBHDR"\nLET F(N) = N = 0 -> 0, 1 + F(N - 1)\nLET START() BE WRITEN(F(500000))\n';
+    const alive = async (what, wanted) => {
+      const line = wanted.lines.toString().split("\n")[0];
+      count.is(`${what} ends as in the program`, (await shown("status")).startsWith(`status ${wanted.status}`) && (!line || `${await shown("status")} ${await shown("message")}`.includes(line)), [await shown("status"), await shown("message"), line]);
+      await write('GET "LIBHDR"\nLET START() BE WRITES("Alive*N")\n');
+      await click("run");
+      await ended();
+      count.is(`after ${what} another program runs`, (await shown("view")) === "Alive\n", await shown("view"));
+    };
+    for (const [what, source] of [["recursion without end", DEEP], ["F(500000)", FAR]]) {
+      for (const how of ["check", "run"]) {
+        await write(source);
+        await click(how);
+        await ended(120);
+        await alive(`${how} of ${what}`, native(program, [how, at("deep.b", source)]));
+      }
+    }
+    // ---- other languages
+    await write("1 L6 X4 G1L1 Q16 Z\n");
+    await value('{ const box = document.getElementById("language"); box.value = "INTCODE"; box.dispatchEvent(new Event("change")); }');
+    await click("run");
+    await ended();
+    count.is("INTCODE runs", (await shown("status")).startsWith("status 0"), await shown("status"));
+    await value('{ const box = document.getElementById("source"); box.value = ' + text(native(program, ["compile"], fs.readFileSync(path.join(TREE, "examples/hello.b"))).output.toString()) + '; box.dispatchEvent(new Event("input")); }');
+    await value('{ const box = document.getElementById("language"); box.value = "OCODE"; box.dispatchEvent(new Event("change")); }');
+    await click("run");
+    await ended();
+    count.is("OCODE runs", (await shown("view")) === fs.readFileSync(path.join(TREE, "examples/hello.out"), "utf8"), await shown("view"));
+    const speak = (name) => value(`{ const box = document.getElementById("language"); box.value = "${name}"; box.dispatchEvent(new Event("change")); }`);
+    await write("ENTRY L1 1 65 // a comment\nSAVE 2\nFOO 3\n");
+    count.is("a fault of OCODE has its line", (await shown("message")).startsWith("section 1, statement 3:") && (await wrong()) === "3", await shown("message"));
+    await speak("INTCODE");
+    await write("1 L6\nX4 Q16\nZ\n2 L6 FOO\n");
+    count.is("a fault of INTCODE has its line", /^segment 2, item \d/.test(await shown("message")) && (await wrong()) === "4", await shown("message"));
+    await browser.go(url);
+    await ready(30);
+    count.is("a draft keeps its language", (await value('document.getElementById("language").value')) === "INTCODE", await value('document.getElementById("language").value'));
+    await speak("BCPL");
+    await choose("Help");
+    count.is("the help has forms with examples", (await value('document.querySelectorAll("#help section pre").length')) > 15);
+    for (const [name, , example] of await value("FORMS")) {
+      const ran = native(program, ["run", at("form.b", example)]);
+      count.is(`the example of the form ${name} runs`, ran.status < 100, ran.lines.toString());
+    }
 
     // ---- the keyboard
     await choose("Run");
@@ -200,7 +351,7 @@ export async function use(file, program, chromium, picture, count) {
     count.is("the right arrow goes to the next tab", (await value("document.activeElement.id")) === "tab-Tokens" && (await value('document.getElementById("tab-Tokens").getAttribute("aria-selected")')) === "true");
     await browser.key("End");
     await ready();
-    count.is("End goes to the last", (await value("document.activeElement.id")) === "tab-Step");
+    count.is("End goes to the last", (await value("document.activeElement.id")) === "tab-Help");
     await browser.key("Home");
     await ready();
     await write("");
@@ -235,7 +386,7 @@ export async function use(file, program, chromium, picture, count) {
     await ready(30);
     count.is("a long source is there after a reload", (await written()) === long, (await written()).slice(0, 80));
     await value('{ const box = document.getElementById("source"); box.value = "// just typed"; box.dispatchEvent(new Event("input")); }');
-    await browser.send("Page.reload");
+    await browser.reload();
     await ready(30);
     count.is("what was just typed is there after a reload", (await written()) === "// just typed", (await written()).slice(0, 80));
     await value('{ const box = document.getElementById("program"); box.value = "queens"; box.dispatchEvent(new Event("change")); }');
@@ -246,6 +397,20 @@ export async function use(file, program, chromium, picture, count) {
     await value('{ const box = document.getElementById("drafts"); box.value = [...box.options].find((it) => it.text.includes("LET START()")).value; box.dispatchEvent(new Event("change")); }');
     await ready();
     count.is("a draft can be taken up", (await written()) === long, (await written()).slice(0, 80));
+    await value('(() => { const files = new DataTransfer(); files.items.add(new File(["L6 X4 Z"], "opened.int")); const box = document.getElementById("file"); box.files = files.files; box.dispatchEvent(new Event("change")); })()');
+    await until('document.getElementById("source").value === "L6 X4 Z"', 10);
+    count.is("a file can be opened, in its language", (await value('document.getElementById("language").value')) === "INTCODE");
+    await click("undo");
+    await ready();
+    count.is("and undone", (await written()) === long, (await written()).slice(0, 80));
+    const saved = await value('(() => { let kept = ""; const click = HTMLAnchorElement.prototype.click; HTMLAnchorElement.prototype.click = function () { kept = this.download + " " + this.href.slice(0, 5); }; saveFile(); HTMLAnchorElement.prototype.click = click; return kept; })()');
+    count.is("a program can be saved", saved === "program.b blob:", saved);
+    const leaves = () => value('(() => { const event = new Event("beforeunload", { cancelable: true }); dispatchEvent(event); return !event.defaultPrevented; })()');
+    await value('window.kept = Storage.prototype.setItem; Storage.prototype.setItem = () => { throw new Error("full"); }; void 0');
+    await write("// kept nowhere");
+    count.is("the page asks before it is left where it keeps no draft", !(await leaves()));
+    await value("Storage.prototype.setItem = window.kept; void 0");
+    count.is("and else it does not", await leaves());
     await browser.go(`${url}#source=@@@`);
     await ready(30);
     count.is("a damaged link says so", (await shown("notice")).startsWith("The link is damaged"), await shown("notice"));
@@ -255,6 +420,37 @@ export async function use(file, program, chromium, picture, count) {
     await ended();
     count.is("steps may have commas", (await shown("status")).startsWith("status 106: step limit"), await shown("status"));
     await value('document.getElementById("steps").value = "1000000000"');
+
+    // ---- exercises
+    for (const exercise of (await value("EXERCISES")).filter((each) => each.files)) {
+      await browser.go(`${url}#tab=Exercises&exercise=${exercise.number}`);
+      await ready(30);
+      count.is(`a link opens exercise ${exercise.number}`, (await shown("exercise-name")).startsWith(`Exercise ${exercise.number}: `), await shown("exercise-name"));
+      const paste = async (files) => {
+        for (const [name, words] of Object.entries(files)) await value(`{ const box = document.getElementById("answer-${name}"); box.value = ${text(words)}; box.dispatchEvent(new Event("input")); }`);
+        await click("grade");
+        await until("!document.body.dataset.busy", 60);
+        return shown("graded");
+      };
+      const of = exercise.parts.reduce((sum, [, points]) => sum + points, 0);
+      const [solution, , mutant] = handedIn(exercise);
+      const full = await paste(solution.files);
+      count.is(`the solution of exercise ${exercise.number} gets all points`, full === `${of} of ${of} points: all of them`, full);
+      const fewer = await paste(mutant.files);
+      count.is(`a mutant of it gets fewer, with what failed`, Number(fewer.split(" ")[0]) < of && (await value('document.querySelectorAll("#points .failures div").length')) > 0, fewer);
+      await browser.reload();
+      await ready(30);
+      const [name] = Object.keys(mutant.files);
+      count.is("what was pasted is there after a reload", (await value(`document.getElementById("answer-${name}").value`)) === mutant.files[name]);
+      await click("restart");
+      count.is("the starter files come back", (await value(`document.getElementById("answer-${name}").value`)) === exercise.files[name]);
+    }
+    await value('{ const box = document.getElementById("exercise"); box.value = "1"; box.dispatchEvent(new Event("change")); }');
+    await value('document.querySelector("#answers button").click()');
+    await ready();
+    count.is("an answer goes to the editor in its language", (await value('document.getElementById("language").value')) === "OCODE" && (await written()).startsWith("// the entry of SIZE"), await written());
+    await value('{ const box = document.getElementById("exercise"); box.value = "3"; box.dispatchEvent(new Event("change")); }');
+    count.is("an exercise that is a program says how it is graded", (await shown("exercise-about")).includes("class/grade 3") && (await value('document.getElementById("grade").disabled')));
 
     // ---- looks
     await browser.go(`${url}#program=factorial&tab=Step&step=40`);
@@ -269,7 +465,7 @@ export async function use(file, program, chromium, picture, count) {
     if (picture) await browser.picture(picture.replace(/(\.png)?$/, "-dark.png"));
     await browser.scheme("light");
     await browser.size(360, 740, true);
-    for (const tab of ["Run", ...Object.keys(PARTS), "Step"]) {
+    for (const tab of ["Run", ...Object.keys(PARTS), "Step", "Exercises", "Help"]) {
       await choose(tab);
       const wide = await value("document.documentElement.scrollWidth");
       count.is(`${tab} at a width of 360`, wide <= 360, wide);

@@ -72,5 +72,6 @@ async function makeKit(module) {
     },
 
     held: () => Number(exported.page_held()),
+    memory: () => memory().byteLength,
   };
 }

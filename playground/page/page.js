@@ -10,13 +10,16 @@ const TABS = [
   { name: "OCODE", part: "ocode" },
   { name: "INTCODE", part: "intcode" },
   { name: "Step" },
+  { name: "Exercises" },
+  { name: "Help" },
 ];
-const REFUSED = 101, STEP_LIMIT = 106, GOES_ON = 106, UNDEFINED = 113;
+const APART = ["Exercises", "Help"]; // the tabs that show nothing of the program
+const REFUSED = 101, REFUSALS = [101, 102, 103]; // the statuses of a text that is refused: BCPL, OCODE and INTCODE
 const LINE = 20, TOP = 8;          // the height of a line, and the editor's padding
+const HAS_LINE = [104, 105, 107]; // the statuses of faults that a line of the source has
+const FOUND_WITHIN = 1500;         // ms: the line of a fault is looked for after runs that took less
 const SHOWN = 200000;              // the characters that are shown unless all are asked for
-const MOST_STEPS = 10000000;       // how far the step view goes
-const STEPPED_WORDS = 65536;       // the most words of its store
-const AROUND_STEPS = 1000000;      // up to which step it shows the steps about the current one
+const MOST_KEPT = 1 << 29;         // the bytes that a worker's module may keep; its memory never shrinks
 
 // ---- workers
 
@@ -55,8 +58,8 @@ class Desk {
     const { then } = this.current;
     this.current = null;
     const later = this.waiting;
-    if (data.failed) {
-      this.stop();                 // (a module that failed is not used again)
+    if (data.failed || data.memory > MOST_KEPT) {
+      this.stop();                 // (a module that failed, or has grown, is not used again)
       this.waiting = later;
     }
     if (later) this.begin();
@@ -79,7 +82,7 @@ async function unpacked() {
 
 // ---- the editor
 
-const editor = { text: "", lines: [""], wrong: 0 };
+const editor = { text: "", lines: [""], wrong: 0, here: 0 };
 
 function readLines() {
   editor.text = $("source").value;
@@ -95,18 +98,20 @@ function draw() {
   const last = Math.min(editor.lines.length, Math.ceil((scrollTop + clientHeight) / LINE) + 2);
   const numbers = [], rows = [];
   for (let i = first; i < last; i++) {
-    const wrong = i + 1 === editor.wrong ? " wrong" : "";
+    const line = i + 1;
+    const wrong = `${line === editor.wrong ? " wrong" : ""}${line === editor.here ? " here" : ""}`;
     const number = document.createElement("div");
-    number.className = wrong;
+    number.className = wrong + (breakpoints.has(line) ? " stop" : "");
+    number.dataset.line = line;
     number.style.top = `${TOP + i * LINE - scrollTop}px`;
-    number.textContent = i + 1;
+    number.textContent = line;
     numbers.push(number);
     const row = document.createElement("div");
     row.className = wrong;
     row.style.top = `${TOP + i * LINE}px`;
-    const line = editor.lines[i];
-    if (line.length > 2000) row.textContent = line;
-    else row.append(...partsOf(line).map(drawn));
+    const text = editor.lines[i];
+    if (text.length > 2000 || language() !== "BCPL") row.textContent = text;
+    else row.append(...partsOf(text).map(drawn));
     rows.push(row);
   }
   $("numbers").replaceChildren(...numbers);
@@ -141,21 +146,21 @@ function goTo(line) {
   draw();
 }
 
-// Shows the lines that the kit wrote about the source, and marks the line that they name: a fault of the text as `line 5:`, one of a run of
-// `check` as `program.b:5:`, which is shown in the same way.
+// Shows the lines that the kit wrote about the text, and marks the line that they name: a fault of a source as `line 5:`, one of a run of
+// `check` as `program.b:5:`, which is shown in the same way, one of OCODE as `section 1, statement 5:`.
 function tellFault(told) {
   const text = told.replace(/^program\.b:(\d+):/, "line $1:");
   const message = $("message");
   editor.wrong = 0;
   message.hidden = !text;
   message.replaceChildren();
-  const found = /^line (\d+)/.exec(text);
+  const found = placeOfFault(text);
   if (found) {
-    editor.wrong = Number(found[1]);
+    editor.wrong = found.line;
     const button = document.createElement("button");
-    button.textContent = found[0];
-    button.onclick = () => goTo(editor.wrong);
-    message.append(button, text.slice(found[0].length).trimEnd());
+    button.textContent = found.words;
+    button.onclick = () => goTo(found.line);
+    message.append(button, text.slice(found.words.length).trimEnd());
   } else message.textContent = text.trimEnd();
   draw();
 }
@@ -191,7 +196,9 @@ function choose(next) {
   }
   $("panel").setAttribute("aria-labelledby", `tab-${tab.name}`);
   $("stepping").hidden = tab.name !== "Step";
-  $("listing").hidden = tab.name === "Step";
+  $("help").hidden = tab.name !== "Help";
+  $("exercises").hidden = tab.name !== "Exercises";
+  $("listing").hidden = !$("stepping").hidden || APART.includes(tab.name);
   refresh();
   keepAddress();
 }
@@ -205,7 +212,9 @@ function say(text, wrong = false) {
 let whole = "";
 function show(text) {
   whole = text;
-  $("view").textContent = text.length > SHOWN ? text.slice(0, SHOWN) : text;
+  const shown = text.length > SHOWN ? text.slice(0, SHOWN) : text;
+  if (tab.part) showRows(shown);
+  else $("view").textContent = shown;
   $("more").hidden = text.length <= SHOWN;
   $("more").textContent = `Show all ${text.length.toLocaleString("en")} characters`;
 }
@@ -224,24 +233,30 @@ function refresh() {
   const asked = tab;
   const done = () => { delete document.body.dataset.busy; };
   if (tab.part) {
-    listings.ask({ task: "serve", words: ["show", "--only", tab.part, "-"], file: "", input: source() }, ({ answer, failed }) => {
+    listings.ask({ task: "listing", part: tab.part, source: source(), language: language() }, ({ answer: listed, failed }) => {
       if (failed) return done(say(failed, true));
+      const { answer, map } = listed;
+      linkage.map = map;
       if (asked === tab) {
         show(utf8.decode(answer.output));
-        say(answer.status ? `status ${answer.status}` : "", true);
+        say(answer.status ? `status ${answer.status}` : answer.none ?? "", true);
       }
       explain(answer, done);
     });
   } else if (tab.name === "Step") refreshStep(done);
+  else if (APART.includes(tab.name)) done();
   else {
     showRun();
-    listings.ask({ task: "serve", words: ["compile"], file: "", input: source() }, ({ answer, failed }) => (failed ? done(say(failed, true)) : explain(answer, done)));
+    listings.ask({ task: "code", source: source(), language: language() }, ({ answer, failed }) => (failed ? done(say(failed, true)) : explain(answer, done)));
   }
 }
 
+// What is typed: BCPL, OCODE or INTCODE.
+const language = () => $("language").value;
+
 // Of a source that is refused, shows the whole message: `check` has the line with a mark, and what was expected.
 function explain(answer, done) {
-  if (answer.status !== REFUSED) {
+  if (answer.status !== REFUSED || language() !== "BCPL") {
     tellFault(answer.status ? utf8.decode(answer.lines) : "");
     return done();
   }
@@ -256,11 +271,7 @@ function explain(answer, done) {
 // A number as it is typed, with commas, blanks or underlines between its digits or not.
 const typed = (id) => $(id).value.replace(/[\s,_']/g, "");
 
-function limits() {
-  return ["-s", typed("words"), "-t", typed("steps")];
-}
-
-function begin(words, kind) {
+function begin(task, kind) {
   if (running) stop(true);
   const began = performance.now();
   running = { kind, began, source: source(), input: $("input").value };
@@ -275,18 +286,38 @@ function begin(words, kind) {
     }
   };
   setTimeout(tick, 1000);
-  runner.ask({ task: "serve", words, file: running.source, input: running.input }, ({ answer, time, failed }) => {
+  runner.ask({ ...task, input: running.input }, ({ answer, time, failed }) => {
     const from = running;
     running = null;
     $("stop").disabled = true;
     ran = failed ? { failed } : { ...answer, time, kind: from.kind };
     showRun();
-    if (ran.lines && (ran.status === REFUSED || ran.kind === "checking")) tellFault(utf8.decode(ran.lines).trim());
+    if (ran.lines && (REFUSALS.includes(ran.status) || ran.kind === "checking")) tellFault(utf8.decode(ran.lines).trim());
+    else if (HAS_LINE.includes(ran.status) && ran.time < FOUND_WITHIN) findFault(utf8.decode(ran.lines).trim());
   });
 }
 
-const run = () => begin(["run", ...limits(), "program.b"], "running");
-const check = () => begin(["check", "-t", typed("steps"), "program.b"], "checking");
+// A run that failed: its line, and the way to `check`, which says more.
+function findFault(words) {
+  const task = { task: "fault", source: source(), language: language(), input: $("input").value, words: Number(typed("words")), most: Number(typed("steps")) };
+  runner.ask(task, ({ answer, failed }) => {
+    if (failed || running || !answer.line) return;
+    tellFault(`line ${answer.line}: ${words}${answer.name ? `, in ${answer.name}` : ""}`);
+    const more = document.createElement("button");
+    more.textContent = "Check says more";
+    more.onclick = check;
+    $("message").append("  ", more);
+  });
+}
+
+function run() {
+  begin({ task: "run", source: source(), language: language(), words: typed("words"), steps: typed("steps") }, "running");
+}
+
+function check() {
+  if (language() === "BCPL") begin({ task: "serve", words: ["check", "-t", typed("steps"), "program.b"], file: source() }, "checking");
+  else say(`Check does what BCPL means; this is ${language()}.`, true);
+}
 
 // Ends the run, and shows what it wrote in its first steps: a run is the same each time.
 function stop(silent = false) {
@@ -299,8 +330,9 @@ function stop(silent = false) {
   ran = { stopped: true, kind: was.kind };
   showRun();
   const steps = String(Math.min(MOST_STEPS, Number(typed("steps")) || MOST_STEPS));
-  const words = was.kind === "running" ? ["run", "-s", typed("words"), "-t", steps, "program.b"] : ["check", "-t", String(Math.ceil(steps / 100)), "program.b"];
-  runner.ask({ task: "serve", words, file: was.source, input: was.input }, ({ answer, failed }) => {
+  const task = was.kind === "running" ? { task: "run", source: was.source, language: language(), words: typed("words"), steps }
+    : { task: "serve", words: ["check", "-t", String(Math.ceil(steps / 100)), "program.b"], file: was.source };
+  runner.ask({ ...task, input: was.input }, ({ answer, failed }) => {
     if (running || failed) return;
     ran = { ...answer, stopped: true, kind: was.kind, steps };
     showRun();
@@ -328,105 +360,6 @@ function showRun() {
   say(`status ${ran.status}${reason} (${ran.time.toFixed(ran.time < 10 ? 1 : 0)} ms)`, ran.status > 100);
 }
 
-// ---- steps
-
-let at = 0, standing = null;
-
-function steppedWords() {
-  const words = Number(typed("words")) || STEPPED_WORDS;
-  return Math.max(4096, Math.min(words, STEPPED_WORDS));
-}
-
-function refreshStep(done = () => {}) {
-  const asked = Number(typed("steps")) || MOST_STEPS;
-  const task = { task: "state", source: source(), input: $("input").value, at, words: steppedWords(), most: Math.min(asked, MOST_STEPS), around: AROUND_STEPS };
-  listings.ask(task, ({ answer, failed }) => {
-    if (failed || answer.refused) {
-      standing = null;
-      showStep(failed || `status ${answer.refused.status}`);
-      return failed ? done() : explain(answer.refused, done);
-    }
-    standing = answer;
-    at = answer.at;
-    showStep();
-    tellFault("");
-    done();
-  });
-}
-
-function cellsOf(cells) {
-  const row = document.createElement("tr");
-  for (const [text, kind] of cells) {
-    const cell = document.createElement("td");
-    cell.textContent = text;
-    if (kind) cell.className = kind;
-    row.append(cell);
-  }
-  return row;
-}
-
-// A word of the store, with its bytes where they are a text.
-function bytesText(word) {
-  const bytes = [0, 8, 16, 24].map((shift) => (word >>> shift) & 255);
-  return bytes.every((b) => b === 0 || (b >= 32 && b < 127)) && bytes.some((b) => b >= 32) ? `'${bytes.filter((b) => b).map((b) => String.fromCharCode(b)).join("")}'` : "";
-}
-const hex = (word) => `#X${(word >>> 0).toString(16).toUpperCase().padStart(8, "0")}`;
-
-function showStep(fault = "") {
-  const where = $("where");
-  where.replaceChildren();
-  for (const id of ["lines", "registers", "frame", "frames"]) $(id).tBodies[0].replaceChildren();
-  $("sofar").textContent = "";
-  $("tab-Step").dataset.at = fault ? "" : at;
-  if (fault) {
-    where.textContent = fault;
-    return;
-  }
-  const s = standing, bold = document.createElement("b");
-  bold.textContent = s.at === s.end ? `The run ended at step ${s.at} with status ${s.status}` : `After ${s.at.toLocaleString("en")} steps`;
-  where.append(bold, s.end === null ? ` of more than ${s.last.toLocaleString("en")}` : s.at === s.end ? "" : ` of ${s.end.toLocaleString("en")}`);
-  $("at").value = s.at;
-
-  for (const { steps, text } of s.lines) {
-    const field = (from, to) => text.slice(from, to).trim();
-    const row = cellsOf([
-      [field(0, 8), "count"], [field(8, 17), "count"], [field(19, 33)], [field(77)],
-      [field(33, 45), "count"], [field(45, 57), "count"], [field(57, 66), "count"], [field(66, 75), "count"],
-    ]);
-    row.className = steps === s.at ? "now" : steps > s.at ? "later" : "";
-    row.dataset.line = text;
-    $("lines").tBodies[0].append(row);
-  }
-  const register = (name, word, note, changed) => {
-    const row = cellsOf([[name], [word, "count"], [note, "note"]]);
-    if (changed) row.className = "changed";
-    $("registers").tBodies[0].append(row);
-  };
-  register("A", s.a, hex(s.a), s.changed.a);
-  register("B", s.b, hex(s.b), s.changed.b);
-  register("P", s.p, "the frame", s.changed.p);
-  register("C", s.c, "the next word", s.changed.c);
-  register("G", 16, "the globals", false);
-
-  s.frame.forEach((word, i) => {
-    const note = i === 0 ? "P of the caller" : i === 1 ? "where it returns to" : bytesText(word);
-    const row = cellsOf([[`P!${i}`], [s.p + i, "note count"], [word, "count"], [note, "note"]]);
-    if (s.changed.words && s.changed.words.includes(i)) row.className = "changed";
-    $("frame").tBodies[0].append(row);
-  });
-  s.frames.forEach(({ at: place, returns }, i) => {
-    $("frames").tBodies[0].append(cellsOf([[place, "count"], [i === s.frames.length - 1 ? "" : `returns to ${returns}`, "note"]]));
-  });
-  $("sofar").textContent = utf8.decode(s.output);
-}
-
-function go(where) {
-  if (where === "first") at = 0;
-  else if (where === "last") at = MOST_STEPS;
-  else at = Math.max(0, at + Number(where));
-  refreshStep();
-}
-
 // ---- drafts: each source that was typed is kept in this browser, with its time
 
 const DRAFTS = "bcpl-drafts";      // the key of the drafts
@@ -436,7 +369,7 @@ const DRAFT_PAUSE = 400;           // ms from the last key until a draft is kept
 let draft = null;                  // the time of the draft that is being typed
 let unkept = false;                // whether something that was typed is in no draft
 
-// The drafts, the latest first: { time, text, input }.
+// The drafts, the latest first: { time, text, input, language }.
 function drafts() {
   try {
     const kept = JSON.parse(localStorage.getItem(DRAFTS) || "[]");
@@ -460,9 +393,8 @@ function keepDrafts(list) {
 const isExample = (text) => EXAMPLES.some((each) => each.source === text);
 
 // Keeps what is in the editor as the draft that is being typed. An example as it is needs none.
-function keepDraft() {
+function keepDraft(text = $("source").value) {
   clearTimeout(drafting);
-  const text = $("source").value;
   if (!unkept) return;
   if (isExample(text) || !text.trim()) {
     unkept = false;
@@ -470,22 +402,32 @@ function keepDraft() {
   }
   draft ??= Date.now();
   const others = drafts().filter((each) => each.time !== draft && each.text !== text);
-  unkept = !keepDrafts([{ time: draft, text, input: $("input").value }, ...others]);
+  unkept = !keepDrafts([{ time: draft, text, input: $("input").value, language: language() }, ...others]);
   fillDrafts();
+}
+
+// Whether a text took the place of another one, which then is a draft of its own: they share less than half of it at both ends.
+function isOther(before, after) {
+  const least = Math.min(before.length, after.length);
+  let front = 0, back = 0;
+  while (front < least && before[front] === after[front]) front += 1;
+  while (back < least - front && before[before.length - 1 - back] === after[after.length - 1 - back]) back += 1;
+  return before.length > 40 && front + back < before.length / 2;
 }
 
 let drafting = 0;
 function draftSoon() {
   unkept = true;
   clearTimeout(drafting);
-  drafting = setTimeout(keepDraft, DRAFT_PAUSE);
+  drafting = setTimeout(() => keepDraft(), DRAFT_PAUSE);
 }
 
 // The drafts by their times and first lines.
 function fillDrafts() {
   const list = drafts();
   const named = ({ time, text }) => {
-    const line = text.split("\n").find((each) => each.trim() && !/^\s*GET\b/i.test(each)) || "";
+    const lines = text.split("\n").filter((each) => each.trim());
+    const line = lines.find((each) => !/^\s*(GET\b|\/\/)/i.test(each)) || lines[0] || "";
     return `${new Date(time).toLocaleString()}  ${line.trim().slice(0, 40)}`;
   };
   $("drafts").replaceChildren(new Option(list.length ? `Drafts (${list.length})` : "No drafts", ""), ...list.map((each) => new Option(named(each), String(each.time))));
@@ -495,20 +437,25 @@ function chooseDraft() {
   const found = drafts().find((each) => String(each.time) === $("drafts").value);
   $("drafts").value = "";
   if (!found) return;
-  replaceProgram(found.text, found.input || "");
+  replaceProgram(found.text, found.input || "", found.language);
   draft = found.time;
 }
 
 // What the editor had before an example, a draft or a file took its place.
 let replaced = [];
 
-// Puts another program into the editor; the one before can be brought back.
-function replaceProgram(text, input) {
+// Keeps what is in the editor as a draft, and for Undo.
+function remember() {
   keepDraft();
-  replaced.push({ text: $("source").value, input: $("input").value, draft });
+  replaced.push({ text: $("source").value, input: $("input").value, draft, language: language() });
   draft = null;
   $("undo").disabled = false;
-  setProgram(text, input);
+}
+
+// Puts another program into the editor; the one before can be brought back.
+function replaceProgram(text, input, of = "BCPL") {
+  remember();
+  setProgram(text, input, of);
   at = 0;
   refresh();
   keepAddress();
@@ -519,7 +466,7 @@ function undo() {
   $("undo").disabled = !replaced.length;
   if (!before) return;
   keepDraft();
-  setProgram(before.text, before.input);
+  setProgram(before.text, before.input, before.language);
   draft = before.draft;
   at = 0;
   refresh();
@@ -528,11 +475,13 @@ function undo() {
 
 // ---- files
 
+const ENDINGS = { BCPL: "b", OCODE: "ocode", INTCODE: "int" };
+
 function saveFile() {
   const name = $("program").value || "program";
   const link = document.createElement("a");
   link.href = URL.createObjectURL(new Blob([$("source").value], { type: "text/plain" }));
-  link.download = `${name}.b`;
+  link.download = `${name}.${ENDINGS[language()]}`;
   link.click();
   setTimeout(() => URL.revokeObjectURL(link.href), 10000);
 }
@@ -540,7 +489,9 @@ function saveFile() {
 async function openFile() {
   const [file] = $("file").files;
   $("file").value = "";
-  if (file) replaceProgram(await file.text(), "");
+  if (!file) return;
+  const of = Object.keys(ENDINGS).find((each) => file.name.toLowerCase().endsWith(`.${ENDINGS[each]}`));
+  replaceProgram(await file.text(), "", of);
 }
 
 // ---- the address: a lesson can link to a program
@@ -560,7 +511,9 @@ async function address() {
   else words.set("source", toText(await piped(new TextEncoder().encode(source()), new CompressionStream("deflate-raw"))));
   if ($("input").value !== (example ? example.input : "")) words.set("input", $("input").value);
   if (tab !== TABS[0]) words.set("tab", tab.name);
+  if (language() !== "BCPL") words.set("language", language());
   if (tab.name === "Step" && at) words.set("step", at);
+  if (tab.name === "Exercises") words.set("exercise", exercise.number);
   return `#${words}`;
 }
 
@@ -595,10 +548,11 @@ async function fromAddress() {
   const [last] = location.hash ? [] : drafts();
   const example = named || (text === null && !last ? EXAMPLES[0] : null);
   if (last && text === null && !named) {
-    setProgram(last.text, last.input || "");
+    setProgram(last.text, last.input || "", last.language);
     draft = last.time;
-  } else setProgram(text ?? example.source, words.get("input") ?? (example ? example.input : ""));
+  } else setProgram(text ?? example.source, words.get("input") ?? (example ? example.input : ""), words.get("language"));
   at = Number(words.get("step")) || 0;
+  if (words.has("exercise")) showExercise(Number(words.get("exercise")));
   choose(TABS.find((each) => each.name === words.get("tab")) || TABS[0]);
   notice(damaged);
 }
@@ -624,9 +578,12 @@ function fillPrograms() {
   };
 }
 
-function setProgram(text, input) {
+function setProgram(text, input, of = "BCPL") {
   stop(true);
   ran = null;
+  breakpoints.clear();
+  linkage.chosen = null;
+  $("language").value = ["OCODE", "INTCODE"].includes(of) ? of : "BCPL";
   $("source").value = text;
   $("source").scrollTop = 0;
   $("input").value = input;
@@ -654,6 +611,10 @@ function soon(then) {
 function listen() {
   $("source").oninput = () => {
     notice("");
+    if (isOther(editor.text, $("source").value)) {
+      keepDraft(editor.text);
+      draft = null;
+    }
     draftSoon();
     forgetAddress();
     edited();
@@ -674,7 +635,8 @@ function listen() {
   $("check").onclick = check;
   $("stop").onclick = () => stop();
   $("more").onclick = () => {
-    $("view").textContent = whole;
+    if (tab.part) showRows(whole);
+    else $("view").textContent = whole;
     $("more").hidden = true;
   };
   $("link").onclick = async () => {
@@ -687,18 +649,22 @@ function listen() {
     }
     setTimeout(() => { $("link").textContent = "Copy link"; }, 1600);
   };
-  for (const button of document.querySelectorAll("[data-go]")) button.onclick = () => go(button.dataset.go);
-  $("at").onchange = () => {
-    at = Number(typed("at")) || 0;
-    refreshStep();
-  };
-  $("stepping").onkeydown = (event) => {
-    if (event.target.tagName === "INPUT" || !["ArrowLeft", "ArrowRight"].includes(event.key)) return;
-    event.preventDefault();
-    go(event.key === "ArrowLeft" ? -1 : 1);
+  listenToSteps();
+  listenToRows();
+  $("language").onchange = () => {
+    draftSoon();
+    draw();
+    ran = null;
+    at = 0;
+    refresh();
+    keepAddress();
   };
   for (const id of ["steps", "words"]) $(id).onchange = () => { if (tab.name === "Step") refreshStep(); };
   document.addEventListener("keydown", (event) => {
+    if (event.key === "F9") {
+      event.preventDefault();
+      toggleBreakpoint(lineOfCursor());
+    }
     if (event.key === "Enter" && (event.ctrlKey || event.metaKey)) {
       event.preventDefault();
       run();
@@ -710,8 +676,7 @@ function listen() {
   $("open").onclick = () => $("file").click();
   $("file").onchange = openFile;
   addEventListener("hashchange", () => {
-    keepDraft();
-    draft = null;
+    remember();
     fromAddress();
   });
   // what was typed last is kept as the page is left; where the browser keeps no drafts, it asks first
@@ -725,6 +690,8 @@ function listen() {
 async function start() {
   fillPrograms();
   buildTabs();
+  buildHelp();
+  buildExercises();
   let module;
   try {
     module = await unpacked();
