@@ -1,5 +1,7 @@
-# make install and make uninstall, with PREFIX and DESTDIR: see ./install. ./bcpl runs the program, and rt builds and proves it.
+# make install and make uninstall, with PREFIX and DESTDIR: see ./install. make dist and make deb, with TO: see tools/dist.
+# ./bcpl runs the program, and rt builds and proves it.
 PREFIX = /usr/local
+TO = out
 
 all:
 	@echo './bcpl runs the program, ./bcpl --build builds it; make install PREFIX=DIR installs it'
@@ -10,4 +12,10 @@ install:
 uninstall:
 	DESTDIR='$(DESTDIR)' ./install --prefix '$(PREFIX)' --uninstall
 
-.PHONY: all install uninstall
+dist:
+	tools/dist --to '$(TO)' source program
+
+deb:
+	tools/dist --to '$(TO)' deb
+
+.PHONY: all install uninstall dist deb
