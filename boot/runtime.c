@@ -9,7 +9,7 @@ typedef unsigned four __attribute__((aligned(1), may_alias));
 typedef unsigned long eight __attribute__((aligned(1), may_alias));
 typedef long long sixteen __attribute__((vector_size(16), aligned(1), may_alias));
 
-enum { READ = 0, WRITE = 1, OPEN = 2, CLOSE = 3, MMAP = 9, MUNMAP = 11, SIGACTION = 13, IOCTL = 16, MREMAP = 25, FCNTL = 72, EXIT_GROUP = 231 };
+enum { READ = 0, WRITE = 1, OPEN = 2, CLOSE = 3, MMAP = 9, MUNMAP = 11, SIGACTION = 13, IOCTL = 16, MREMAP = 25, FCNTL = 72, EXIT_GROUP = 231, STATX = 332 };
 enum { OUT_OF_MEMORY = 12, INVALID = 22 };
 
 // ---- system calls
@@ -44,6 +44,13 @@ long write(int file, const void *from, size count) { return checked(WRITE, file,
 long __write(int file, const void *from, size count) { return write(file, from, count); }
 
 int open(const char *path, int flags, unsigned mode) { return (int)checked(OPEN, (long)path, flags, mode); }
+
+int statx(int folder, const char *path, int flags, unsigned wanted, void *found) {
+    long result = call(STATX, folder, (long)path, flags, wanted, (long)found, 0);
+    if (result >= 0) return 0;
+    error = (int)-result;
+    return -1;
+}
 
 int close(int file) { return (int)checked(CLOSE, file, 0, 0); }
 
@@ -95,6 +102,9 @@ const struct leaf *__x86_get_cpuid_feature_leaf(unsigned number) {
 
 // ---- bytes
 
+// From so many bytes on the processor's own copying and filling is used.
+#define LONG ((size)1 << 16)
+
 static void forwards(byte *to, const byte *from, size count) {
     __asm__ volatile("rep movsb" : "+D"(to), "+S"(from), "+c"(count) : : "memory");
 }
@@ -134,7 +144,7 @@ void *memmove(void *target, const void *source, size count) {
     }
     if ((size)(to - from) >= count) {
         // the target does not begin within the source
-        if (count >= 1024 && (size)(from - to) >= count) {
+        if (count >= LONG && (size)(from - to) >= count) {
             forwards(to, from, count);
             return target;
         }
@@ -193,13 +203,19 @@ void *memset(void *target, int value, size count) {
         }
         return target;
     }
-    if (count >= 1024) {
+    if (count >= LONG) {
         byte *at = to;
         __asm__ volatile("rep stosb" : "+D"(at), "+c"(count) : "a"(value) : "memory");
         return target;
     }
     sixteen words = {(long long)word, (long long)word};
     byte *end = to + count - 16;
+    for (; (size)(end - to) > 64; to += 64) {
+        *(sixteen *)to = words;
+        *(sixteen *)(to + 16) = words;
+        *(sixteen *)(to + 32) = words;
+        *(sixteen *)(to + 48) = words;
+    }
     for (; to < end; to += 16) *(sixteen *)to = words;
     *(sixteen *)end = words;
     return target;
@@ -313,6 +329,17 @@ void *realloc(void *given, size bytes) {
 
 // ---- the start
 
+char **environ;
+
+char *getenv(const char *name) {
+    for (char **at = environ; at && *at; at++) {
+        size same = 0;
+        while (name[same] && (*at)[same] == name[same]) same++;
+        if (!name[same] && (*at)[same] == '=') return *at + same + 1;
+    }
+    return 0;
+}
+
 typedef void starter(int count, char **words, char **settings);
 
 // the program's table of functions that run before `main`: boot/bind says where it lies
@@ -323,6 +350,7 @@ void __cxa_finalize(void *of) { (void)of; }
 // The program's own first instructions call this, with its `main`.
 int __libc_start_main(int (*main)(int, char **, char **), int count, char **words) {
     char **settings = words + count + 1;
+    environ = settings;
     for (starter **at = program_starters; at < program_starters_end; at++) (*at)(count, words, settings);
     int status = main(count, words, settings);
     for (;;) call(EXIT_GROUP, status, 0, 0, 0, 0, 0);

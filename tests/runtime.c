@@ -25,21 +25,23 @@ static void is(const char *what, int good) {
     if (!good) printf("%s: FAILED\n", what);
 }
 
-static unsigned char begun[12000], wanted[12000], got[12000];
+// (of which the first `used` bytes are looked at)
+static unsigned char begun[200000], wanted[200000], got[200000];
+static size_t used = 12000;
 
 // a copy of `count` bytes from one place of an array to another, by one byte at a time through a third array
 static int moves(void *(*move)(void *, const void *, size_t), size_t from, size_t to, size_t count) {
-    memcpy(wanted, begun, sizeof begun);
+    memcpy(wanted, begun, used);
     for (size_t at = 0; at < count; at++) wanted[to + at] = begun[from + at];
-    memcpy(got, begun, sizeof begun);
-    return move(got + to, got + from, count) == got + to && memcmp(got, wanted, sizeof got) == 0;
+    memcpy(got, begun, used);
+    return move(got + to, got + from, count) == got + to && memcmp(got, wanted, used) == 0;
 }
 
 static int sets(size_t to, int value, size_t count) {
-    memcpy(wanted, begun, sizeof begun);
+    memcpy(wanted, begun, used);
     for (size_t at = 0; at < count; at++) wanted[to + at] = (unsigned char)value;
-    memcpy(got, begun, sizeof begun);
-    return kit_memset(got + to, value, count) == got + to && memcmp(got, wanted, sizeof got) == 0;
+    memcpy(got, begun, used);
+    return kit_memset(got + to, value, count) == got + to && memcmp(got, wanted, used) == 0;
 }
 
 static uint64_t seed = 1;
@@ -88,6 +90,16 @@ int main(void) {
             good &= moves(kit_memmove, 2000, 2000 + shift, count) && moves(kit_memmove, 2000 + shift, 2000, count);
         }
         copied &= moves(kit_memcpy, 3, 7000, count) && moves(kit_memcpy, 7000, 5, count);
+        set &= sets(9, 300, count) && sets(16, -1, count);
+    }
+    static const size_t longest[] = {65535, 65536, 65537, 90001};
+    used = sizeof begun;
+    for (size_t which = 0; which < sizeof longest / sizeof *longest; which++) {
+        size_t count = longest[which];
+        for (size_t shift = 0; shift < 99000; shift += shift < 20 ? 1 : 7777) {
+            good &= moves(kit_memmove, 3, 3 + shift, count) && moves(kit_memmove, 3 + shift, 3, count);
+        }
+        copied &= moves(kit_memcpy, 3, 100001, count) && moves(kit_memcpy, 100001, 5, count);
         set &= sets(9, 300, count) && sets(16, -1, count);
     }
     is("memmove", good);
