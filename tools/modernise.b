@@ -379,7 +379,7 @@ $( LET C, D = BYTE(Q), BYTE(Q + 1)
          IF D = '\' DO $( FOUND := Q + 2; RESULTIS AMPERSAND $)
          RESULTIS SLASH
       CASE '\':
-         IF D = '/' DO $( FOUND := Q + 2; RESULTIS BAR $)
+         IF D = '/' DO $( FOUND := Q + 2; RESULTIS BAR $) // and on
       CASE '~':
          IF D = '=' DO $( FOUND := Q + 2; RESULTIS RELATION $)
          RESULTIS TILDE
@@ -1298,7 +1298,7 @@ $( LET I, ARROWS = J, 0
             TEST ARROWS > 0 DO ARROWS := ARROWS - 1 OR IF ATCOMMA RESULTIS I - 1
             ENDCASE
          CASE S.VALOF:
-            UNLESS K(I + 1) = OPEN DO UNSURE := TRUE
+            UNLESS K(I + 1) = OPEN DO UNSURE := TRUE // and on
          CASE NAME: CASE S.VEC: CASE S.TABLE: ENDCASE
          CASE RIGHT: CASE CLOSE: CASE SEMICOLON: CASE ASSIGN: CASE COLON: CASE SEQUENCE: CASE S.IFSO: CASE S.IFNOT: RESULTIS I - 1
          DEFAULT: IF S.LET <= KIND < S.TRUE RESULTIS I - 1
@@ -1379,7 +1379,7 @@ $( CASE S.OF: CASE DOUBLECOLON: FIELD(I); ENDCASE
       IF ALTO & (K(I + 1) = SHIFTLEFT | K(I + 1) = SHIFTRIGHT) DO MARK(I, "a field of a structure: write a shift and a mask")
       ENDCASE
    CASE STRING:
-      DIRECTIVESOF(I)
+      DIRECTIVESOF(I) // and on
    CASE CHARACTER:
       QUOTED(I)
       ENDCASE
@@ -2178,7 +2178,7 @@ $( LET V = T(I)
       CASE NUMBER: WRITENUMBER(I); ENDCASE
       CASE STRING: CASE CHARACTER: WRITEQUOTED(I); ENDCASE
       CASE OPEN: CASE CLOSE: WRITEBRACKET(I); ENDCASE
-      CASE DOT: IF ISINNAME(BYTE(Q - 1)) DO WRCH('*S')
+      CASE DOT: IF ISINNAME(BYTE(Q - 1)) DO WRCH('*S') // and on
       DEFAULT: WRITEBYTES(Q, R)
    $)
 $)

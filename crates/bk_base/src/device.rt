@@ -53,7 +53,7 @@ pub trait ByteIn {
     // what is held comes first of what is left
     ghost held_left: { (s : Self) (all : List ℕ) → left s ≡ Some all → Begins (Some (held s)) (Some all) };
 
-    ghost nothing_behind: { (s : Self) → IsTrue (ended s) → NothingLeft (left s) × (held s ≡ []) };
+    ghost nothing_after: { (s : Self) → IsTrue (ended s) → NothingLeft (left s) × (held s ≡ []) };
 
     ghost failed_empty: { (s : Self) → faults s ≡ 1 → (held s ≡ []) × (ended s ≡ false) };
 }

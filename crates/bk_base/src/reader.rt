@@ -89,7 +89,7 @@ impl<R: Read> ByteIn for Reader512<R> {
     ghost use Rattle.std.specs.Prelude.{drop, take, if◌then◌else◌};
     ghost use Rattle.std.specs.Io.KnownBytes.{prepend_known};
     ghost use Rattle.bk_base.specs.DeviceLaws.{Begins-prepend_known};
-    ghost use Rattle.bk_base.specs.BufferLaws.{faults-le_one, nothing_behind_end, nothing_held_at_failure};
+    ghost use Rattle.bk_base.specs.BufferLaws.{faults-le_one, nothing_after_end, nothing_held_at_failure};
 
     ghost left = { λ s. prepend_known (drop s.from (take s.to s.buffer)) (R.remaining s.device) };
 
@@ -126,7 +126,7 @@ impl<R: Read> ByteIn for Reader512<R> {
 
     ghost held_left = { λ s all is. Begins-prepend_known _ _ all is };
 
-    ghost nothing_behind = { λ s told. nothing_behind_end s.ended s.failed s.from s.to s.buffer _ s.drained s.at_end told };
+    ghost nothing_after = { λ s reported. nothing_after_end s.ended s.failed s.from s.to s.buffer _ s.drained s.at_end reported };
 
     ghost failed_empty = { λ s is. nothing_held_at_failure s.ended s.failed s.from s.to s.buffer s.drained s.one_end is };
 }

@@ -56,7 +56,7 @@ pub named_then : (p : Program) (is : Starts) (here : Environment) (names others 
 named_then p is here names others x l l' more w same named is_more =
     with_each (starts (full p) is here w) _ _ (λ vs w.
     with_each (let_values (full p) (definitions_in l'.defs.now) (env_in l'.here) w) _ _ (λ ss w.
-    ap (λ (zs : List Start). with (bind_variables zs (env_in l'.behind) w) (λ env w. declared_then p (declarations_in l'.decls.now) (commands_in l'.commands.now) env w))
+    ap (λ (zs : List Start). with (bind_variables zs (env_in l'.following) w) (λ env w. declared_then p (declarations_in l'.decls.now) (commands_in l'.commands.now) env w))
     (one_more l'.starts.items x more.items (paired others vs ++ ss) is_more))
     ∙ ap (λ (m : Let). started_then p m (x.name.now.letters.items ∷ others) ((start_in x).value ∷ vs) w) same
     ∙ ap (λ (xs : List (List ℕ)). started_then p l xs ((start_in x).value ∷ vs) w) (sym named))

@@ -1,5 +1,5 @@
 -- Outcomes, one after another.
-use Rattle.bk_check.proofs.Terms.{◌≡◌, ℕ, zero, suc, refl, World, Outcome, gives, leaves, ends, undefined, going, with, Done, done, turn, turn_of}
+use Rattle.bk_check.proofs.Terms.{◌≡◌, ℕ, zero, suc, refl, World, Outcome, gives, leaves, with, Done, done, turn, turn_of}
 
 pub with_with : {A B C : Type 0} (u : Outcome A) (f : A → World → Outcome B) (g : B → World → Outcome C) → with (with u f) g ≡ with u (λ a w. with (f a w) g)
 with_with (gives a w) f g = refl

@@ -1,5 +1,5 @@
 -- Frames, resumed: where one was pushed, it goes on with what is asked for.
-use Rattle.bk_check.proofs.Terms.{◌≡◌, ℕ, ◌+◌, Bool, List, [], ◌∷◌, ◌++◌, Option, Some, None, IfSome, Result, Ok, Err, IfOk, refl, ap, sym, ◌∙◌, arith, Expression, Environment, objects, past, Value, World, Outcome, gives, leaves, ends, undefined, going, Done, closing, Program, Target, Next, OnValue, Continuation, Bytes, Given, a_value, a_truth, a_target, done_tag, tag, value_goes, truth_goes, target_goes, done_goes, returned, resume, resumed, Comes, OnValue as v, OnTruth, OnTruth as o, OnTarget, OnTarget as a, OnDone, OnDone as d, Continuation as f}
+use Rattle.bk_check.proofs.Terms.{◌≡◌, ℕ, ◌+◌, Bool, List, [], ◌∷◌, ◌++◌, Option, Some, None, IfSome, Result, Ok, Err, IfOk, refl, ap, sym, ◌∙◌, arith, Expression, Environment, objects, past, Value, World, Outcome, gives, leaves, Done, closing, Program, Target, Next, OnValue, Continuation, Bytes, Given, a_value, a_truth, a_target, done_tag, tag, value_goes, truth_goes, target_goes, done_goes, returned, resume, resumed, Comes, OnValue as v, OnTruth, OnTruth as o, OnTarget, OnTarget as a, OnDone, OnDone as d, Continuation as f}
 use Rattle.bk_check.specs.declared.frame.Call.{Call}
 
 pub resumed-push : (p : Program) (fs : List Continuation) (f : Continuation) (u : Outcome Given) → resumed p (fs ++ f ∷ []) u ≡ resumed p fs (resume p f u)

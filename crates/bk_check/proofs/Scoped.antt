@@ -1,5 +1,5 @@
 -- Scopes and blocks, by what is pushed for them.
-use Rattle.bk_check.proofs.Terms.{◌≡◌, ℕ, ◌<◌, Bool, true, false, ◌||◌, List, [], ◌∷◌, length, sym, ap, ◌∙◌, arith, Decl, Command, Commands, block, declarations_in, World, goto, leaves, each_way, either, done, closing, Environment, labelled, Sought, the_label, Mode, seeking, stands_in, stands_in_one, in_order, scope_of, alone, act_of, Program, full, lands, declared_then, full_scope}
+use Rattle.bk_check.proofs.Terms.{◌≡◌, ℕ, ◌<◌, Bool, true, false, ◌||◌, List, [], ◌∷◌, length, sym, ap, ◌∙◌, arith, Decl, Command, Commands, block, declarations_in, World, goto, leaves, each_way, either, done, closing, Environment, labelled, Sought, the_label, Mode, seeking, has_place, one_has_place, in_order, scope_of, alone, act_of, Program, full, lands, declared_then, full_scope}
 
 pub scope_is : (p : Program) (cs : Commands) (mode : Mode) (env outer inner : Environment) (w : World) → outer ≡ env → inner ≡ labelled cs env →
     each_way (λ _ w. done w) (lands p cs outer) (in_order (full p) cs mode inner w) ≡ scope_of (full p) cs mode env w
@@ -13,12 +13,12 @@ block_is p l [] cs mode env w n lt is = absurd (omega (arith, lt))
 block_is p l (d ∷ ds) cs mode env w n lt is = ap (λ k. closing k (declared_then p (declarations_in (d ∷ ds)) cs env w)) is
 
 -- a GOTO that comes to a scope
-pub land_here : (p : Program) (cs : Commands) (env : Environment) (x : List ℕ) (w : World) → stands_in_one (the_label x) env cs ≡ true → scope_of (full p) cs (seeking (the_label x)) env w ≡ lands p cs env (goto x) w
+pub land_here : (p : Program) (cs : Commands) (env : Environment) (x : List ℕ) (w : World) → one_has_place (the_label x) env cs ≡ true → scope_of (full p) cs (seeking (the_label x)) env w ≡ lands p cs env (goto x) w
 land_here p cs env x w is = sym (ap (λ b. either b (λ w. (full p).scope cs (seeking (the_label x)) env w) (λ w. leaves (goto x) w) w) is ∙ full_scope p cs (seeking (the_label x)) env w)
 
-pub land_past : (p : Program) (cs : Commands) (env : Environment) (x : List ℕ) (w : World) → stands_in_one (the_label x) env cs ≡ false → leaves (goto x) w ≡ lands p cs env (goto x) w
+pub land_past : (p : Program) (cs : Commands) (env : Environment) (x : List ℕ) (w : World) → one_has_place (the_label x) env cs ≡ false → leaves (goto x) w ≡ lands p cs env (goto x) w
 land_past p cs env x w is = sym (ap (λ b. either b (λ w. (full p).scope cs (seeking (the_label x)) env w) (λ w. leaves (goto x) w) w) is)
 
-pub stands_alone : (s : Sought) (env : Environment) (c : Command) (b : Bool) → stands_in s env c ≡ b → stands_in_one s env (alone c) ≡ b
+pub stands_alone : (s : Sought) (env : Environment) (c : Command) (b : Bool) → has_place s env c ≡ b → one_has_place s env (alone c) ≡ b
 stands_alone s env c true is = ap (λ x. x || false) is
 stands_alone s env c false is = ap (λ x. x || false) is

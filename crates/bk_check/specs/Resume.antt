@@ -70,8 +70,8 @@ exit_in (x.Result v) = result (value_in v)
 exit_in x.Return = return
 
 -- the arguments that are left after these, then the procedure
-abbrev pub applied_behind : Program → List Value → Expressions → Environment → Expression → Environment → World → Outcome Value
-applied_behind p before es here f env w = with (values (full p) es here w) (λ vs w. with ((full p).value f env w) (λ g w. call p (full p) g (before ++ vs) w))
+abbrev pub applied_after : Program → List Value → Expressions → Environment → Expression → Environment → World → Outcome Value
+applied_after p before es here f env w = with (values (full p) es here w) (λ vs w. with ((full p).value f env w) (λ g w. call p (full p) g (before ++ vs) w))
 
 -- a value, at the first of these destinations; and the assignments after it
 abbrev pub assigned_to : Meanings → Value → Expressions → Environment → Expressions → Environment → World → Outcome Done
@@ -103,7 +103,7 @@ declared_then p ds cs env w = with (declare_all (full p) ds env w) (λ env w. sc
 
 -- A LET: its variables, the definitions that are left, and the values of some names in front of those.
 abbrev pub bound_then : Program → Let → List b.Start → World → Outcome Done
-bound_then p l ss w = with (bind_variables (map start_in l.starts.items ++ ss) (env_in l.behind) w) (λ env w. declared_then p (declarations_in l.decls.now) (commands_in l.commands.now) env w)
+bound_then p l ss w = with (bind_variables (map start_in l.starts.items ++ ss) (env_in l.following) w) (λ env w. declared_then p (declarations_in l.decls.now) (commands_in l.commands.now) env w)
 
 abbrev pub defined_then : Program → Let → World → Outcome Done
 defined_then p l w = with (let_values (full p) (definitions_in l.defs.now) (env_in l.here) w) (λ ss w. bound_then p l ss w)

@@ -99,13 +99,13 @@ fn declare_let<'a>(
 {
     let here = within_let(m.alloc, defs, env)?;
     let count = count_defs(defs)?;
-    let behind = here.again()?.behind(count)?;
+    let following = here.again()?.following(count)?;
     let starts = Vec::new(m.alloc);
     let rest = Let {
         starts,
         defs,
         here,
-        behind,
+        following,
         decls: rest,
         commands,
     };
@@ -121,12 +121,12 @@ pub fn define<'a>(m: &mut Evaluator<'a>, rest: Box<Let<'a>>) -> Result<Next<'a>,
 {
     match rest.defs.split_first() {
         None => begin_scope(m, rest),
-        Some((first, others)) => define_behind(m, first, others, rest),
+        Some((first, others)) => define_after(m, first, others, rest),
     }
 }
 
 /// The first of the definitions, with those after it.
-fn define_behind<'a>(
+fn define_after<'a>(
     m: &mut Evaluator<'a>,
     first: &'a Def,
     others: &'a [Def],
@@ -149,8 +149,8 @@ fn begin_scope<'a>(m: &mut Evaluator<'a>, rest: Box<Let<'a>>) -> Result<Next<'a>
         Comes p m.new.frames.items next (world m.new b)
         (resumed p m.old.frames.items (tag done_tag (bound_then p rest.entry.value [] (world m.old b))))) }
 {
-    let behind = rest.behind.again()?;
-    let inside = bind_starts(m.alloc, &mut m.store, &rest.starts, behind)?;
+    let following = rest.following.again()?;
+    let inside = bind_starts(m.alloc, &mut m.store, &rest.starts, following)?;
     Ok(Next::Declare(rest.decls, rest.commands, inside))
 }
 
@@ -167,7 +167,7 @@ fn define_one<'a>(
         (world m.old b)) (λ ss w. bound_then p rest.entry.value ss w))))) }
 {
     let count = count_def(first)?;
-    let there = rest.here.again()?.behind(count)?;
+    let there = rest.here.again()?.following(count)?;
     match first {
         Def::Routine { .. } => Ok(pass(there, rest)),
         Def::Function { .. } => Ok(pass(there, rest)),
@@ -292,8 +292,8 @@ fn start_value<'a>(
         (env_in here.entry) (letters_in names.now) rest.entry.value (world m.old b))))) }
 {
     let count = count(value)?;
-    let behind = here.again()?.behind(count)?;
-    m.first_value(OnValue::Starts(others, behind, names, rest), value, here)
+    let following = here.again()?.following(count)?;
+    m.first_value(OnValue::Starts(others, following, names, rest), value, here)
 }
 
 /// A VEC, which takes a turn: its object is made.

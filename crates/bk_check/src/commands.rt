@@ -21,7 +21,7 @@ ghost use Rattle.bk_check.specs.Resume.{tag, done_tag, Comes, resumed, begun_loo
 use crate::frame::{Continuation, Exit, Next, OnDone, OnTruth, OnValue, Sought, Subject, Thing};
 use crate::loops::round;
 use crate::machine::Evaluator;
-use crate::seeking::{at_case, at_default, at_label, stands_in};
+use crate::seeking::{at_case, at_default, at_label, has_place};
 use bk_lasting::{Env, constant, count, count_command, count_each, labelled};
 use bk_objects::{Reason, Worth};
 use bk_tree::{Command, Decl, Expr, Name, Position, Simple};
@@ -159,8 +159,8 @@ fn assign<'a>(
         (resumed p m.old.frames.items (tag done_tag (c.assigned (full p) (expressions_in dests.now) (env_in env.entry)
         (expressions_in values.now) (past_each (expressions_in dests.now) (env_in env.entry)) (world m.old b))))) }
 {
-    let behind = env.again()?.behind(count_each(dests)?)?;
-    assigned(m, dests, env, values, behind)
+    let following = env.again()?.following(count_each(dests)?)?;
+    assigned(m, dests, env, values, following)
 }
 
 /// A command that is a call.
@@ -198,10 +198,10 @@ fn for_command<'a>(
         (t.for_loop l (mention name.now) (expression first.now) (expression last.now) (step_in by.now) (command_in body.now)) mode
         (env_in env.entry) (world m.old bytes))))) }
 {
-    let behind = env.again()?.behind(count(first)?)?;
+    let following = env.again()?.following(count(first)?)?;
     let step = step_of(&env, by);
     m.first_value(
-        OnValue::ForStart(name, last, behind, body, step),
+        OnValue::ForStart(name, last, following, body, step),
         first,
         env,
     )
@@ -221,10 +221,10 @@ fn switch<'a>(
         (resumed p m.old.frames.items (tag done_tag (c.act_of p (full p) (t.switch l (expression value.now) (command_in inside.now))
         (mode_in mode.entry) (env_in env.entry) (world m.old bytes))))) }
 {
-    let behind = env.again()?.behind(count(value)?)?;
+    let following = env.again()?.following(count(value)?)?;
     match mode {
-        None => m.first_value(OnValue::Switch(value, inside, behind), value, env),
-        Some(sought) => m.first_act(OnDone::Cases, inside, Some(sought), behind),
+        None => m.first_value(OnValue::Switch(value, inside, following), value, env),
+        Some(sought) => m.first_act(OnDone::Cases, inside, Some(sought), following),
     }
 }
 
@@ -244,10 +244,10 @@ fn when<'a>(
         (t.when l truth (expression condition.now) (command_in inside.now)) (mode_in mode.entry) (env_in env.entry)
         (world m.old bytes))))) }
 {
-    let behind = env.again()?.behind(count(condition)?)?;
+    let following = env.again()?.following(count(condition)?)?;
     match mode {
-        None => m.first_truth(OnTruth::When(truth, inside, behind), condition, env),
-        Some(sought) => Ok(Next::Act(inside, Some(sought), behind)),
+        None => m.first_truth(OnTruth::When(truth, inside, following), condition, env),
+        Some(sought) => Ok(Next::Act(inside, Some(sought), following)),
     }
 }
 
@@ -304,14 +304,14 @@ fn test<'a>(
         (t.test l (expression condition.now) (command_in a.now) (command_in b.now)) (mode_in mode.entry) (env_in env.entry)
         (world m.old bytes))))) }
 {
-    let behind = env.again()?.behind(count(condition)?)?;
+    let following = env.again()?.following(count(condition)?)?;
     match mode {
-        None => m.first_truth(OnTruth::Test(a, b, behind), condition, env),
+        None => m.first_truth(OnTruth::Test(a, b, following), condition, env),
         Some(sought) => {
-            if stands_in(sought, &env, a) {
-                Ok(Next::Act(a, Some(sought), behind))
+            if has_place(sought, &env, a) {
+                Ok(Next::Act(a, Some(sought), following))
             } else {
-                let further = behind.behind(count_command(a)?)?;
+                let further = following.following(count_command(a)?)?;
                 Ok(Next::Act(b, Some(sought), further))
             }
         }
@@ -337,8 +337,8 @@ pub fn assigned<'a>(
         Some(_) => match values.split_first() {
             None => Ok(Next::Gives(Thing::Done)),
             Some((first, rest)) => {
-                let behind = env.again()?.behind(count(first)?)?;
-                m.first_value(OnValue::Assigned(dests, there, rest, behind), first, env)
+                let following = env.again()?.following(count(first)?)?;
+                m.first_value(OnValue::Assigned(dests, there, rest, following), first, env)
             }
         },
     }
@@ -359,14 +359,14 @@ pub fn in_order<'a>(
     match commands.split_first() {
         None => Ok(Next::Gives(Thing::Done)),
         Some((first, rest)) => {
-            let behind = env.again()?.behind(count_command(first)?)?;
+            let following = env.again()?.following(count_command(first)?)?;
             match mode {
-                None => m.first_act(OnDone::After(rest, behind), first, None, env),
+                None => m.first_act(OnDone::After(rest, following), first, None, env),
                 Some(sought) => {
-                    if stands_in(sought, &env, first) {
-                        m.first_act(OnDone::After(rest, behind), first, Some(sought), env)
+                    if has_place(sought, &env, first) {
+                        m.first_act(OnDone::After(rest, following), first, Some(sought), env)
                     } else {
-                        Ok(Next::InOrder(rest, Some(sought), behind))
+                        Ok(Next::InOrder(rest, Some(sought), following))
                     }
                 }
             }
@@ -430,9 +430,9 @@ pub fn choose_case<'a>(
 {
     match value {
         Worth::Number(n) => {
-            if stands_in(Sought::Case(n), &env, command) {
+            if has_place(Sought::Case(n), &env, command) {
                 m.first_act(OnDone::Cases, command, Some(Sought::Case(n)), env)
-            } else if stands_in(Sought::Default, &env, command) {
+            } else if has_place(Sought::Default, &env, command) {
                 m.first_act(OnDone::Cases, command, Some(Sought::Default), env)
             } else {
                 Ok(Next::Gives(Thing::Done))

@@ -11,7 +11,7 @@ ghost use Rattle.bk_meaning.specs.Full.{full};
 ghost use Rattle.bk_objects.specs.Views.{value_in};
 ghost use Rattle.bk_lasting.specs.Views.{env_in};
 ghost use Rattle.bk_check.specs.Worlds.{Bytes, world};
-ghost use Rattle.bk_check.specs.Resume.{tag, done_tag, Comes, resumed, next_for as behind_for, further_for};
+ghost use Rattle.bk_check.specs.Resume.{tag, done_tag, Comes, resumed, next_for as after_for, further_for};
 ghost use Rattle.bk_objects.specs.Views.{outcome_of};
 ghost use Rattle.bk_check.specs.Fors.{tested as tested_by, stepped as stepped_by, truth_then, limit_then};
 
@@ -251,7 +251,7 @@ fn test_again<'a>(m: &mut Evaluator<'a>, run: For<'a>) -> Result<Next<'a>, Alloc
 pub fn next_for<'a>(m: &mut Evaluator<'a>, run: For<'a>) -> Result<Next<'a>, AllocError>
     ensures { IfOk result (λ next. (p : Program) (b : Bytes) →
         Comes p m.new.frames.items next (world m.new b)
-        (resumed p m.old.frames.items (tag done_tag (behind_for p run.entry (world m.old b))))) }
+        (resumed p m.old.frames.items (tag done_tag (after_for p run.entry (world m.old b))))) }
 {
     match add_step(&mut m.store, run.object, run.step) {
         Stepped::Done => test_again(m, run),

@@ -216,7 +216,7 @@ pub struct Let<'a> {
     pub defs: &'a [Def],
     pub here: Env<'a>,
     /// What names mean after the LET, but for its variables.
-    pub behind: Env<'a>,
+    pub following: Env<'a>,
     /// The declarations and the commands after it.
     pub decls: &'a [Decl],
     pub commands: &'a [Command],

@@ -21,7 +21,7 @@ use crate::frame::{
 };
 use crate::loops::{further_round, next_round, round};
 use crate::machine::{Evaluator, came};
-use crate::seeking::{stands_in, stands_in_one};
+use crate::seeking::{has_place, one_has_place};
 use bk_lasting::{Env, Lasting, count, count_command};
 use bk_objects::{Location, Origin, Reason, Worth, prefixed, put};
 use bk_tree::{Command, Expr};
@@ -60,8 +60,12 @@ fn with_value<'a>(
         OnValue::Assigned(dests, there, values, env) => put_first(m, x, dests, there, values, env),
         OnValue::Switch(expr, command, env) => choose_case(m, expr, x, command, env),
         OnValue::ForStart(name, limit, env, body, step) => {
-            let behind = env.again()?.behind(count(limit)?)?;
-            m.first_value(OnValue::ForLimit(name, behind, x, body, step), limit, env)
+            let following = env.again()?.following(count(limit)?)?;
+            m.first_value(
+                OnValue::ForLimit(name, following, x, body, step),
+                limit,
+                env,
+            )
         }
         OnValue::ForLimit(name, env, start, body, step) => {
             begin_for(m, name, env, start, x, body, step)
@@ -87,9 +91,9 @@ fn put_first<'a>(
 {
     match dests.split_first() {
         Some((first, rest)) => {
-            let behind = there.again()?.behind(count(first)?)?;
+            let following = there.again()?.following(count(first)?)?;
             m.first_target(
-                OnTarget::Put(first, x, rest, behind, values, env),
+                OnTarget::Put(first, x, rest, following, values, env),
                 first,
                 there,
             )
@@ -114,8 +118,8 @@ fn with_truth<'a>(
             if x {
                 Ok(Next::Value(a, env))
             } else {
-                let behind = env.behind(count(a)?)?;
-                Ok(Next::Value(b, behind))
+                let following = env.following(count(a)?)?;
+                Ok(Next::Value(b, following))
             }
         }
         OnTruth::Not => Ok(Next::Gives(Thing::Truth(!x))),
@@ -138,8 +142,8 @@ fn with_truth<'a>(
             if x {
                 Ok(Next::Act(a, None, env))
             } else {
-                let behind = env.behind(count_command(a)?)?;
-                Ok(Next::Act(b, None, behind))
+                let following = env.following(count_command(a)?)?;
+                Ok(Next::Act(b, None, following))
             }
         }
         OnTruth::First(truth, command, env) => if truth == x {
@@ -307,7 +311,7 @@ fn lands<'a>(
         Comes p m.new.frames.items next (world m.new b)
         (resumed p m.old.frames.items (tag done_tag (landing_in p (commands_in commands.now) (env_in env.entry) (goto label.now) (world m.old b))))) }
 {
-    if stands_in_one(Sought::Label(label), &env, commands) {
+    if one_has_place(Sought::Label(label), &env, commands) {
         scope(m, commands, Some(Sought::Label(label)), env)
     } else {
         Ok(Next::Leaves(Exit::Goto(label)))
@@ -325,7 +329,7 @@ fn lands_alone<'a>(
         Comes p m.new.frames.items next (world m.new b)
         (resumed p m.old.frames.items (tag done_tag (landing_in p (alone (command_in command.now)) (env_in env.entry) (goto label.now) (world m.old b))))) }
 {
-    if stands_in(Sought::Label(label), &env, command) {
+    if has_place(Sought::Label(label), &env, command) {
         m.alone(command, Some(Sought::Label(label)), env)
     } else {
         Ok(Next::Leaves(Exit::Goto(label)))

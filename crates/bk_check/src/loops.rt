@@ -10,7 +10,7 @@ ghost use Rattle.bk_meaning.specs.Full.{full};
 ghost use Rattle.bk_check.specs.Views.{mode_in};
 ghost use Rattle.bk_lasting.specs.Views.{env_in};
 ghost use Rattle.bk_check.specs.Worlds.{Bytes, world};
-ghost use Rattle.bk_check.specs.Resume.{tag, done_tag, Comes, resumed, next_round as behind_round};
+ghost use Rattle.bk_check.specs.Resume.{tag, done_tag, Comes, resumed, next_round as after_round};
 
 use crate::frame::{Next, OnDone, OnTruth, Sought, Thing};
 use crate::machine::Evaluator;
@@ -68,10 +68,10 @@ fn while_round<'a>(
         Comes p m.new.frames.items next (world m.new b)
         (resumed p m.old.frames.items (tag done_tag (again ((full p).act (command_in inside.now) (mode_in mode.entry)
         (past (expression condition.now) (env_in env.entry)) (world m.old b))
-        (behind_round p (command_in command.now) (env_in env.entry)))))) }
+        (after_round p (command_in command.now) (env_in env.entry)))))) }
 {
-    let behind = env.again()?.behind(count(condition)?)?;
-    m.first_act(OnDone::Round(command, env), inside, mode, behind)
+    let following = env.again()?.following(count(condition)?)?;
+    m.first_act(OnDone::Round(command, env), inside, mode, following)
 }
 
 /// A round of another loop.
@@ -85,7 +85,7 @@ fn repeat_round<'a>(
     ensures { IfOk result (λ next. (p : Program) (b : Bytes) →
         Comes p m.new.frames.items next (world m.new b)
         (resumed p m.old.frames.items (tag done_tag (again ((full p).act (command_in inside.now) (mode_in mode.entry) (env_in env.entry)
-        (world m.old b)) (behind_round p (command_in command.now) (env_in env.entry)))))) }
+        (world m.old b)) (after_round p (command_in command.now) (env_in env.entry)))))) }
 {
     let outside = env.again()?;
     m.first_act(OnDone::Round(command, outside), inside, mode, env)
@@ -141,8 +141,8 @@ fn next_repeat_while<'a>(
         (past_command (command_in inside.now) (env_in env.entry))
         (λ w. turn w (λ w. (full p).rounds (command_in command.now) forwards (env_in env.entry) w)) (world m.old b))))) }
 {
-    let behind = env.again()?.behind(count_command(inside)?)?;
-    m.first_truth(OnTruth::Further(truth, command, env), condition, behind)
+    let following = env.again()?.following(count_command(inside)?)?;
+    m.first_truth(OnTruth::Further(truth, command, env), condition, following)
 }
 
 /// The rounds of a loop after one.
@@ -154,7 +154,7 @@ pub fn next_round<'a>(
 ) -> Result<Next<'a>, AllocError>
     ensures { IfOk result (λ next. (p : Program) (b : Bytes) →
         Comes p m.new.frames.items next (world m.new b)
-        (resumed p m.old.frames.items (tag done_tag (behind_round p (command_in command.now) (env_in env.entry) (world m.old b))))) }
+        (resumed p m.old.frames.items (tag done_tag (after_round p (command_in command.now) (env_in env.entry) (world m.old b))))) }
 {
     match command {
         Command::While {

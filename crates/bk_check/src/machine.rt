@@ -16,14 +16,14 @@ ghost use Rattle.bk_check.specs.Views.{mode_in};
 ghost use Rattle.bk_objects.specs.Views.{value_in};
 ghost use Rattle.bk_lasting.specs.Views.{env_in, sense_in};
 ghost use Rattle.bk_check.specs.Worlds.{Bytes, world};
-ghost use Rattle.bk_check.specs.Resume.{tag, done_tag, a_value, a_truth, a_target, Comes, resumed, value_goes, truth_goes, target_goes, done_goes, list_value, applied_behind};
+ghost use Rattle.bk_check.specs.Resume.{tag, done_tag, a_value, a_truth, a_target, Comes, resumed, value_goes, truth_goes, target_goes, done_goes, list_value, applied_after};
 ghost use Rattle.bk_objects.specs.Views.{outcome_of};
 
 use crate::frame::{
     Continuation, Next, OnDone, OnTarget, OnTruth, OnValue, Operands, Sought, Subject, Thing,
     subject_of,
 };
-use crate::seeking::stands_in;
+use crate::seeking::has_place;
 use bk_base::word;
 use bk_lasting::{Env, Sense, count, in_scope};
 use bk_objects::{Computed, Location, Origin, Reason, Store, Worth, combine, read, sum, truth_of};
@@ -134,8 +134,8 @@ impl<'a> Evaluator<'a> {
             (resumed p self.old.frames.items (tag a_value (with ((full p).value (expression a.now) (env_in env.entry) (world self.old bytes))
             (λ x w. with ((full p).value (expression b.now) (past (expression a.now) (env_in env.entry)) w) (combination operator x)))))) }
     {
-        let behind = env.again()?.behind(count(a)?)?;
-        self.first_value(OnValue::Left(expr, operator, b, behind), a, env)
+        let following = env.again()?.following(count(a)?)?;
+        self.first_value(OnValue::Left(expr, operator, b, following), a, env)
     }
 
     /// The second operand of an operator, and what it gives.
@@ -271,8 +271,8 @@ impl<'a> Evaluator<'a> {
                 no: b,
                 ..
             } => {
-                let behind = env.again()?.behind(count(c)?)?;
-                self.first_truth(OnTruth::Choice(a, b, behind), c, env)
+                let following = env.again()?.following(count(c)?)?;
+                self.first_truth(OnTruth::Choice(a, b, following), c, env)
             }
             Expr::Apply {
                 sign,
@@ -361,7 +361,7 @@ impl<'a> Evaluator<'a> {
             (resumed p self.old.frames.items (tag a_value (applied p (full p) (expression callee.now) (expressions_in items.now)
             (env_in env.entry) (world self.old b))))) }
     {
-        let here = env.again()?.behind(count(callee)?)?;
+        let here = env.again()?.following(count(callee)?)?;
         self.arguments(at, items, here, Vec::new(self.alloc), callee, env)
     }
 
@@ -378,14 +378,14 @@ impl<'a> Evaluator<'a> {
     ) -> Result<Next<'a>, AllocError>
         ensures { IfOk result (λ next. (p : Program) (b : Bytes) →
             Comes p self.new.frames.items next (world self.new b)
-            (resumed p self.old.frames.items (tag a_value (applied_behind p (list_value before.items) (expressions_in items.now)
+            (resumed p self.old.frames.items (tag a_value (applied_after p (list_value before.items) (expressions_in items.now)
             (env_in here.entry) (expression callee.now) (env_in env.entry) (world self.old b))))) }
     {
         match items.split_first() {
             Some((first, rest)) => {
-                let behind = here.again()?.behind(count(first)?)?;
+                let following = here.again()?.following(count(first)?)?;
                 self.first_value(
-                    OnValue::Argument(at, rest, behind, before, callee, env),
+                    OnValue::Argument(at, rest, following, before, callee, env),
                     first,
                     here,
                 )
@@ -509,12 +509,12 @@ impl<'a> Evaluator<'a> {
                 ..
             } => match operator {
                 Operator::Both => {
-                    let behind = env.again()?.behind(count(a)?)?;
-                    self.first_truth(OnTruth::And(b, behind), a, env)
+                    let following = env.again()?.following(count(a)?)?;
+                    self.first_truth(OnTruth::And(b, following), a, env)
                 }
                 Operator::Either => {
-                    let behind = env.again()?.behind(count(a)?)?;
-                    self.first_truth(OnTruth::Or(b, behind), a, env)
+                    let following = env.again()?.following(count(a)?)?;
+                    self.first_truth(OnTruth::Or(b, following), a, env)
                 }
                 _ => self.judged(expr, env),
             },
@@ -547,8 +547,8 @@ impl<'a> Evaluator<'a> {
                 right: b,
                 ..
             } => {
-                let behind = env.again()?.behind(count(a)?)?;
-                self.first_value(OnValue::Vector(expr, b, behind), a, env)
+                let following = env.again()?.following(count(a)?)?;
+                self.first_value(OnValue::Vector(expr, b, following), a, env)
             }
             Expr::Binary {
                 operator: Operator::Byte,
@@ -556,8 +556,8 @@ impl<'a> Evaluator<'a> {
                 right: b,
                 ..
             } => {
-                let behind = env.again()?.behind(count(a)?)?;
-                self.first_value(OnValue::String(b, behind), a, env)
+                let following = env.again()?.following(count(a)?)?;
+                self.first_value(OnValue::String(b, following), a, env)
             }
             _ => Ok(Next::Undefined(Subject::Expr(expr), Reason::NoPlace)),
         }
@@ -573,7 +573,7 @@ fn from_place<'a>(command: &'a Command, mode: Option<Sought<'a>>, env: Env<'a>) 
     match mode {
         None => Next::Act(command, None, env),
         Some(sought) => {
-            if stands_in(sought, &env, command) {
+            if has_place(sought, &env, command) {
                 Next::Act(command, mode, env)
             } else {
                 Next::Gives(Thing::Done)

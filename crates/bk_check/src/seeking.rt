@@ -48,29 +48,29 @@ fn is_default(sought: Sought) -> bool
 
 /// Whether the place is in a command, where seeking comes to it.
 #[cycle(seeking)]
-pub fn stands_in(sought: Sought, env: &Env, command: &Command) -> bool
-    ensures { result ≡ q.stands_in (sought_in sought.entry) (env_in env.now) (command_in command.now) }
+pub fn has_place(sought: Sought, env: &Env, command: &Command) -> bool
+    ensures { result ≡ q.has_place (sought_in sought.entry) (env_in env.now) (command_in command.now) }
 {
     match command {
         Command::Label {
             letters: name,
             body: c,
             ..
-        } => is_label(sought, name) || stands_in(sought, env, c),
+        } => is_label(sought, name) || has_place(sought, env, c),
         Command::Case {
             value: e,
             body: c,
             ..
-        } => is_case(sought, constant(env, e)) || stands_in(sought, env, c),
-        Command::Default { body: c, .. } => is_default(sought) || stands_in(sought, env, c),
-        Command::If { body: c, .. } => stands_in(sought, env, c),
-        Command::While { body: c, .. } => stands_in(sought, env, c),
-        Command::Repeat { body: c, .. } => stands_in(sought, env, c),
-        Command::RepeatWhile { body: c, .. } => stands_in(sought, env, c),
-        Command::Test { yes: a, no: b, .. } => stands_in(sought, env, a)
-            || stands_in(sought, env, b),
+        } => is_case(sought, constant(env, e)) || has_place(sought, env, c),
+        Command::Default { body: c, .. } => is_default(sought) || has_place(sought, env, c),
+        Command::If { body: c, .. } => has_place(sought, env, c),
+        Command::While { body: c, .. } => has_place(sought, env, c),
+        Command::Repeat { body: c, .. } => has_place(sought, env, c),
+        Command::RepeatWhile { body: c, .. } => has_place(sought, env, c),
+        Command::Test { yes: a, no: b, .. } => has_place(sought, env, a)
+            || has_place(sought, env, b),
         Command::SwitchOn { body: c, .. } => match sought {
-            Sought::Label(_) => stands_in(sought, env, c),
+            Sought::Label(_) => has_place(sought, env, c),
             Sought::Case(_) => false,
             Sought::Default => false,
         },
@@ -78,7 +78,7 @@ pub fn stands_in(sought: Sought, env: &Env, command: &Command) -> bool
             decls: ds,
             commands: cs,
             ..
-        } => ds.is_empty() && stands_in_one(sought, env, cs),
+        } => ds.is_empty() && one_has_place(sought, env, cs),
         Command::Empty => false,
         Command::Assign { .. } => false,
         Command::Call { .. } => false,
@@ -91,11 +91,11 @@ pub fn stands_in(sought: Sought, env: &Env, command: &Command) -> bool
 
 /// Whether it is in one of these commands.
 #[cycle(seeking)]
-pub fn stands_in_one(sought: Sought, env: &Env, commands: &[Command]) -> bool
-    ensures { result ≡ q.stands_in_one (sought_in sought.entry) (env_in env.now) (commands_in commands.now) }
+pub fn one_has_place(sought: Sought, env: &Env, commands: &[Command]) -> bool
+    ensures { result ≡ q.one_has_place (sought_in sought.entry) (env_in env.now) (commands_in commands.now) }
 {
     for c in commands {
-        if stands_in(sought, env, c) {
+        if has_place(sought, env, c) {
             return true;
         }
     }

@@ -54,14 +54,7 @@ leb_up : (a b c : ℕ) → b ≤ c → leb a b ≡ true → leb a c ≡ true
 leb_up a b c p q = grind (arith, nat_tests)
 
 pub within_by : (r s : Budget) → category_number r.category ≡ category_number s.category → next_number r.next ≡ next_number s.next → r.depth ≤ s.depth → r.nodes ≤ s.nodes → Within r s
-within_by r s p q d n x c e m h =
-    let P : Lookahead → Type 0 = λ z. is_next (next_of z) c ≡ true in
-    let Q : Category → Type 0 = λ z. serves z x ≡ true in
-    let rest = second (is_next (next_of r.next) c) _ h in
-    let fit = second (serves r.category x) _ rest in
-    both (subst P (next_is r.next s.next q) (first (is_next (next_of r.next) c) _ h))
-    (both (subst Q (category_is r.category s.category p) (first (serves r.category x) _ rest))
-    (both (leb_up e r.depth s.depth d (first (leb e r.depth) _ fit)) (leb_up m r.nodes s.nodes n (second (leb e r.depth) _ fit))))
+within_by r s p q d n x c e m h = grind (arith, second, both, leb_up, (next_is r.next s.next q), (first (is_next (next_of r.next) c) _ h), (category_is r.category s.category p))
 
 pub covered_at : (rs : List Budget) (i : ℕ) (r z : Budget) → i < length rs → Within r z → z ≡ get_or rs i z → IsCovered r rs
 covered_at [] i r z lt h is x c d n k = absurd (omega (arith, lt))
@@ -115,10 +108,7 @@ added_none rs r h x c d n = already (covered rs x c d n) (holds r x c d n) (h x 
 
 -- one room less, after others
 pub dropped_behind : (r z : Budget) (old now new : List Budget) (i : ℕ) → AreBeside r old now → i < length now → Within z r → z ≡ get_or now i z → new ≡ remove now i → AreBeside r old new
-dropped_behind r z old now new i h lt k is e x c d n =
-    let P : List Budget → Type 0 = λ y. AreBeside r now y in
-    let f : AreBeside r now new = subst P (sym e) (dropped now i r z lt k is) in
-    h x c d n ∙ f x c d n
+dropped_behind r z old now new i h lt k is e x c d n = grind (arith, dropped)
 
 -- it lies within one of those that are or_left
 pub held_already : (rs ss : List Budget) (r z : Budget) (i : ℕ) → AreBeside r rs ss → i < length ss → Within r z → z ≡ get_or ss i z → (x : Category) (c : w.Lookahead) (d n : ℕ) → covered ss x c d n ≡ (covered rs x c d n || holds r x c d n)
@@ -204,11 +194,7 @@ by_completion_push b y (s ∷ rs) r x c d n = ap (λ z. by_budget b y s x c d n 
 
 pub by_completion_more : (b : Bool) (y : Completion) (rs : List Budget) (i : ℕ) (r : Budget) → i < length rs → r ≡ get_or rs i r → (old new now : List Budget) → AreAdded (by_completion b y (take i rs)) old now
     → ((x : Category) (c : w.Lookahead) (d n : ℕ) → covered new x c d n ≡ (covered now x c d n || by_budget b y r x c d n)) → AreAdded (by_completion b y (take (i + 1) rs)) old new
-by_completion_more b y rs i r lt is old new now h k x c d n =
-    k x c d n
-    ∙ ap (λ z. z || by_budget b y r x c d n) (h x c d n)
-    ∙ or_assoc (covered old x c d n) (by_completion b y (take i rs) x c d n) (by_budget b y r x c d n)
-    ∙ ap (λ z. covered old x c d n || z) (sym (by_completion_push b y (take i rs) r x c d n) ∙ ap (λ z. by_completion b y z x c d n) (ap (λ z. take i rs ++ z ∷ []) is ∙ sym (take_more rs i r lt)))
+by_completion_more b y rs i r lt is old new now h k x c d n = grind (arith, or_assoc, (covered old x c d n), (by_completion_push b y (take i rs) r x c d n), (take_more rs i r lt))
 
 pub left_none : (a b z : Bool) → a ≡ false → a ≡ b → z ≡ z || b
 left_none a b true p q = refl

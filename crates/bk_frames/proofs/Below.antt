@@ -36,12 +36,7 @@ cross : (x y z u v : Bool) → v ≡ z || u → (x || y) || v ≡ (x || z) || (y
 cross x y z u v e = ap (λ s. (x || y) || s) e ∙ or_cross x y z u
 
 some_or : (f g : Lookahead → Bool) → some_next (λ k. f k || g k) ≡ some_next f || some_next g
-some_or f g =
-    cross (f Closing) (g Closing) _ _ _
-    (cross (f Assigning) (g Assigning) _ _ _
-    (cross (f Listing) (g Listing) _ _ _
-    (cross (f Going) (g Going) _ _ _
-    (or_cross (f Repeating) (g Repeating) (f Operating) (g Operating)))))
+some_or f g = grind (arith, cross, or_cross)
 
 pick : (x1 x2 x3 x4 x5 x6 y1 y2 y3 y4 y5 y6 : Bool) → x1 ≡ y1 → x2 ≡ y2 → x3 ≡ y3 → x4 ≡ y4 → x5 ≡ y5 → x6 ≡ y6 → x1 || (x2 || (x3 || (x4 || (x5 || x6)))) ≡ y1 || (y2 || (y3 || (y4 || (y5 || y6))))
 pick x1 x2 x3 x4 x5 x6 y1 y2 y3 y4 y5 y6 e1 e2 e3 e4 e5 e6 = cc
@@ -92,10 +87,7 @@ summed false e n k = refl
 there : (q : Bool) (y : Completion) (r : Budget) (k : Option Following) (x : Category) (c : w.Lookahead) (d n : ℕ)
     → serves y.category x && led_following k (λ e i. holds r y.onto (next_of r.next) e (counted q i)) (max y.floor (d + y.rise)) (n + y.nodes) c ≡ leads q y r k x c d (counted q n)
 there q y r None x c d n = and_none (serves y.category x)
-there q y r (Some k) x c d n =
-    let e1 = next_in (next_of r.next) in
-    let e2 = summed q k.more n y.nodes in
-    cc
+there q y r (Some k) x c d n = grind (arith, next_in, summed)
 
 one_budget : (q : Bool) (y : Completion) (r : Budget) (x : Category) (c : w.Lookahead) (d n : ℕ)
     → serves y.category x && led_by y.link (λ j e i. holds r y.onto j e (counted q i)) (max y.floor (d + y.rise)) (n + y.nodes) c ≡ by_budget q y r x c d (counted q n)

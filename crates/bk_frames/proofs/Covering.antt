@@ -1,9 +1,9 @@
 -- A step of the machine leads to nothing that could not be completed before it.
-use Rattle.bk_frames.proofs.Terms.{◌≡◌, ◌≤◌, ℕ, ◌+◌, max, Bool, true, false, cond, ◌==◌, length, Option, Some, None, refl, sym, subst, inl, inr, List, [], ◌∷◌, ◌++◌, length-append, Result, Ok, arith, eq_is, each_depth, each_nodes, commands_depth, commands_nodes, declarations_depth, declarations_nodes, definitions_depth, definitions_nodes, items_depth, items_nodes, starts_depth, starts_nodes, Kind, Operator, Both, nat_lt, Prefix, Sort, Guard, Form, depth, depth_of_each, depth_of_command, depth_of_commands, depth_of_declaration, depth_of_declarations, depth_of_items, depth_of_definition, depth_of_definitions, depth_of_starts, nodes, nodes_of_each, nodes_of_command, nodes_of_commands, nodes_of_declaration, nodes_of_declarations, nodes_of_items, nodes_of_definition, nodes_of_definitions, nodes_of_starts, inner, behind, is_relation, infix_of, prefix_of, sort_of, begins_command, repeats, assigns, is_and, is_comma, goes, last, at_expression, at_expressions, at_names, at_command, size, start_count, each_then, commands_then, declarations_then, items_then, definitions_then, starts_then, form_of, owed, falls, behind_ok, inner_ok, pushes, repeated, size_then, count_then, no_comma, Kind as k, Operator as ops, Guard as g}
+use Rattle.bk_frames.proofs.Terms.{◌≡◌, ◌≤◌, ℕ, ◌+◌, max, Bool, true, false, cond, ◌==◌, length, Option, Some, None, refl, sym, subst, inl, inr, List, [], ◌∷◌, ◌++◌, length-append, Result, Ok, arith, eq_is, each_depth, each_nodes, commands_depth, commands_nodes, declarations_depth, declarations_nodes, definitions_depth, definitions_nodes, items_depth, items_nodes, starts_depth, starts_nodes, Kind, Operator, Both, nat_lt, Prefix, Sort, Guard, Form, depth, depth_of_each, depth_of_command, depth_of_commands, depth_of_declaration, depth_of_declarations, depth_of_items, depth_of_definition, depth_of_definitions, depth_of_starts, nodes, nodes_of_each, nodes_of_command, nodes_of_commands, nodes_of_declaration, nodes_of_declarations, nodes_of_items, nodes_of_definition, nodes_of_definitions, nodes_of_starts, inner, following, is_relation, infix_of, prefix_of, sort_of, begins_command, repeats, assigns, is_and, is_comma, goes, last, at_expression, at_expressions, at_names, at_command, size, start_count, each_then, commands_then, declarations_then, items_then, definitions_then, starts_then, form_of, owed, falls, behind_ok, inner_ok, pushes, repeated, size_then, count_then, no_comma, Kind as k, Operator as ops, Guard as g}
 use Rattle.bk_lex.specs.Symbol.{Symbol}
 use Rattle.bk_frames.specs.declared.size.Form.TheVariants.{Label, Call, Callable, Other}
 use Rattle.bk_tree.specs.Tree.{Mention, Expression, Expressions, Command, Commands, Declaration, Declarations, Items, Definition, Starts, name, parens, unary, binary, choice, apply, valof, table, none, more, empty, assign, label, default, test, for_loop, result, block, repeat_while, no_commands, also, constants, definitions, no_declarations, declare, no_items, item, routine, function, variables, no_definitions, define, no_starts, value, vector, call, goto}
-use Rattle.bk_grammar.specs.Machine.{Stack, in_section, in_block, in_let, at_name, at_formals, at_formal, at_formal_end, at_head, at_variable, at_variable_end, at_starts, at_opening, at_items, at_sign, at_goto, at_for, at_forward, at_default, in_parens, in_unary, in_binary, in_chain, in_then, in_else, in_args, in_table, in_start, in_dests, in_values, in_guard, in_test, in_result, in_while, in_from, in_to, in_by, in_item, in_function, in_value, in_vector, in_valof, in_label, in_guarded, in_default, in_do, in_or, in_for, in_routine, State, want, have, begin, maybe, did, due, linked, infixed, push, is_close, is_colon, is_do, is_or, is_to, is_equal, is_semicolon, opens, closes, is_vec, is_let, is_open, is_sign_of, named, guarded, behind_sign, no_args, bars, take_operand, take_command, sorted, take_declaration, take_in_section, in_head, take_in_block, declared, declared_by, defined_by, again, dests, labelled, is_call, call_of, in_constants, to_or_do, give, finish, without, inside, in_names, in_formals, headed, take_item, take_due, step, prefixed, counted, whole, run, stepped_by, going}
+use Rattle.bk_grammar.specs.Machine.{Stack, in_section, in_block, in_let, at_name, at_formals, at_formal, at_formal_end, at_head, at_variable, at_variable_end, at_starts, at_opening, at_items, at_sign, at_goto, at_for, at_forward, at_default, in_parens, in_unary, in_binary, in_chain, in_then, in_else, in_args, in_table, in_start, in_dests, in_values, in_guard, in_test, in_result, in_while, in_from, in_to, in_by, in_item, in_function, in_value, in_vector, in_valof, in_label, in_guarded, in_default, in_do, in_or, in_for, in_routine, State, want, have, begin, maybe, did, due, linked, infixed, push, is_close, is_colon, is_do, is_or, is_to, is_equal, is_semicolon, opens, closes, is_vec, is_let, is_open, is_sign_of, named, guarded, after_sign, no_args, bars, take_operand, take_command, sorted, take_declaration, take_in_section, in_head, take_in_block, declared, declared_by, defined_by, again, dests, labelled, is_call, call_of, in_constants, to_or_do, give, finish, without, inside, in_names, in_formals, headed, take_item, take_due, step, prefixed, counted, whole, run, stepped_by, going}
 use Rattle.bk_frames.specs.Completing as nx
 use Rattle.bk_frames.specs.Completing.{Lookahead, Any, AtClosing, AtListing, AtArgument, AtAssignment, Unlisted, AtPart, If, Closed, Missing, Started, Answered, Whole, Guarded, Taken, Gives, Does, Operates, Defines, Declares, Wants, Misses, Lists, Due, Completes}
 use Rattle.bk_frames.proofs.Turns.{guarded_depth, guarded_nodes}
@@ -209,15 +209,10 @@ sorted_leads P w None st l other h = h
 sorted_leads P w (Some s) st l other h = λ j. declares_fall P w st 0 2 0 2 (omega arith) (omega arith) j
 
 declaration_leads : (P : ℕ → ℕ → Type 0) → Down P → (t : Kind) (st : Stack) (l : ℕ) (other : Option State) → Leads P (Declares P st 0 0) other → Leads P (Declares P st 0 0) (take_declaration st l t other)
-declaration_leads P w t st l other h =
-    leads_if P (Declares P st 0 0) (is_let t) (Some (due (in_let l no_definitions st))) (sorted st l (sort_of t) other)
-    (λ e j. declares_fall P w st 0 (max 0 2) 0 (0 + 2) (omega arith) (omega arith) j)
-    (λ e. sorted_leads P w (sort_of t) st l other h)
+declaration_leads P w t st l other h = grind (arith, leads_if, due, declares_fall, sorted_leads)
 
 section_leads : (P : ℕ → ℕ → Type 0) → Down P → (t : Kind) (ds : Declarations) (l : ℕ) → Leads P (Declares P (in_section ds) 0 0) (take_in_section ds l t)
-section_leads P w t ds l =
-    leads_if P (Declares P (in_section ds) 0 0) (is_semicolon t) (Some (due (in_section ds))) (take_declaration (in_section ds) l t None) (λ e h. h)
-    (λ e. declaration_leads P w t (in_section ds) l None tt)
+section_leads P w t ds l = grind (arith, leads_if, in_section, due, declaration_leads)
 
 block_leads : (P : ℕ → ℕ → Type 0) → Down P → (t : Kind) (b : ℕ) (free : Bool) (ds : Declarations) (cs : Commands) (st : Stack) (l : ℕ) (x : List ℕ) → Leads P (Declares P (in_block b free ds cs st) 0 0) (take_in_block b free ds cs st l x t)
 block_leads P w t b free ds cs st l x =
@@ -235,13 +230,7 @@ block_leads P w t b free ds cs st l x =
     (λ c. leads_if P X (in_head cs) (take_declaration here l t rest) rest (λ d. declaration_leads P w t here l rest command) (λ d. command)))
 
 declared_by_leads : (P : ℕ → ℕ → Type 0) → Down P → (t : Kind) (st : Stack) (d : Declaration) (l : ℕ) (x : List ℕ) → Leads P (Declares P st (depth_of_declaration d) (nodes_of_declaration d)) (declared_by st d l x t)
-declared_by_leads P w t (in_section ds) d l x =
-    let es = declarations_then ds (declare d no_declarations) in
-    let a = declarations_depth ds d in
-    let b = declarations_nodes ds d in
-    leads_by P (Declares P (in_section es) 0 0) (Declares P (in_section ds) (depth_of_declaration d) (nodes_of_declaration d)) (take_in_section es l t)
-    (λ h. w (max (depth_of_declarations ds) (depth_of_declaration d)) (max (depth_of_declarations es) 0) (nodes_of_declarations ds + nodes_of_declaration d) (nodes_of_declarations es + 0) (omega (arith, a)) (omega (arith, b)) h)
-    (section_leads P w t es l)
+declared_by_leads P w t (in_section ds) d l x = grind (arith, declarations_depth, declarations_nodes, leads_by, in_section, section_leads)
 declared_by_leads P w t (in_block b free ds cs st) d l x =
     let es = declarations_then ds (declare d no_declarations) in
     let p = declarations_depth ds d in
@@ -252,16 +241,8 @@ declared_by_leads P w t (in_block b free ds cs st) d l x =
 declared_by_leads P w t _ d l x = tt
 
 declared_leads : (P : ℕ → ℕ → Type 0) → Down P → (st : Stack) (d : Declaration) → Leads P (Declares P st (depth_of_declaration d) (nodes_of_declaration d)) (declared st d)
-declared_leads P w (in_section ds) d =
-    let es = declarations_then ds (declare d no_declarations) in
-    let a = declarations_depth ds d in
-    let b = declarations_nodes ds d in
-    λ h. w (max (depth_of_declarations ds) (depth_of_declaration d)) (max (depth_of_declarations es) 0) (nodes_of_declarations ds + nodes_of_declaration d) (nodes_of_declarations es + 0) (omega (arith, a)) (omega (arith, b)) h
-declared_leads P w (in_block b free ds cs st) d =
-    let es = declarations_then ds (declare d no_declarations) in
-    let p = declarations_depth ds d in
-    let q = declarations_nodes ds d in
-    λ h. any_falls (Does P st) (does_falls P w st) (max (depth_of_declarations ds) (max (depth_of_commands cs) (depth_of_declaration d)) + 1) (max (depth_of_declarations es) (max (depth_of_commands cs) 0) + 1) (nodes_of_declarations ds + (nodes_of_commands cs + nodes_of_declaration d) + 1) (nodes_of_declarations es + (nodes_of_commands cs + 0) + 1) (omega (arith, p)) (omega (arith, q)) h
+declared_leads P w (in_section ds) d = grind (arith, declarations_depth, declarations_nodes)
+declared_leads P w (in_block b free ds cs st) d = grind (arith, declarations_depth, declarations_nodes, any_falls)
 declared_leads P w _ d = tt
 
 defined_leads : (P : ℕ → ℕ → Type 0) → Down P → (t : Kind) (st : Stack) (d : Definition) (l : ℕ) (x : List ℕ) → Leads P (Defines P st (depth_of_definition d) (nodes_of_definition d)) (defined_by st d l x t)
@@ -336,9 +317,7 @@ each_guard P X g.Case y = (tt, tt, tt)
 each_guard P X _ y = (tt, tt, tt)
 
 each_defined : (P : ℕ → ℕ → Type 0) (X : Type 0) (st : Stack) (d : Definition) (l : ℕ) (x : List ℕ) → Each P X (defined_by st d l x)
-each_defined P X st d l x =
-    let none : (t : Kind) → Plain t → Leads P X (defined_by st d l x t) = λ t p. leads_none P X (defined_by st d l x t) (defined_none st d l x t p) in
-    (none k.Repeat (refl, refl, refl, refl, refl), none k.RepeatWhile (refl, refl, refl, refl, refl), none k.RepeatUntil (refl, refl, refl, refl, refl))
+each_defined P X st d l x = grind (arith, leads_none, defined_none)
 
 finish_repeat : (P : ℕ → ℕ → Type 0) → Down P → (st : Stack) (c : Command) (l : ℕ) (x : List ℕ) → Each P (Any (Does P st (depth_of_command c + 1) (nodes_of_command c + 1))) (finish st c l x)
 finish_repeat P w st c l x =
@@ -362,7 +341,7 @@ give_repeat P w (in_values xs ys st) e l x =
     each_counted P (size xs == size ys + 1) (Closed (Does P st) (max (depth_of_each xs) (max (depth_of_each ys) (depth e)) + 1) (nodes_of_each xs + (nodes_of_each ys + nodes e) + 1)) (AtListing (Any (Closed (Does P st) (max (depth_of_each xs) (max (depth_of_each ys) (max (depth e) 1)) + 1) (nodes_of_each xs + (nodes_of_each ys + nodes e) + owed (size xs) (size ys) + 1)))) nx.repeating
     (finish st (assign (at_expressions xs) xs zs) l x) (want (in_values xs zs st))
     (each_by P (Any (Does P st (max (depth_of_each xs) (depth_of_each (each_then ys (more e none))) + 1 + 1) (nodes_of_each xs + nodes_of_each (each_then ys (more e none)) + 1 + 1))) (Any (Does P st (max (depth_of_each xs) (max (depth_of_each ys) (depth e)) + 1 + 1) (nodes_of_each xs + (nodes_of_each ys + nodes e) + 1 + 1))) (finish st (assign (at_expressions xs) xs zs) l x) (any_falls (Does P st) (does_falls P w st) (max (depth_of_each xs) (max (depth_of_each ys) (depth e)) + 1 + 1) (max (depth_of_each xs) (depth_of_each (each_then ys (more e none))) + 1 + 1) (nodes_of_each xs + (nodes_of_each ys + nodes e) + 1 + 1) (nodes_of_each xs + nodes_of_each (each_then ys (more e none)) + 1 + 1) (omega (arith, a)) (omega (arith, b))) (finish_repeat P w st (assign (at_expressions xs) xs zs) l x))
-give_repeat P w (in_guard gd m st) e l x = each_guard P (AtClosing (Guarded gd (Does P st) (depth e) (nodes e)) nx.repeating) gd (behind_sign gd (in_guarded gd m e st))
+give_repeat P w (in_guard gd m st) e l x = each_guard P (AtClosing (Guarded gd (Does P st) (depth e) (nodes e)) nx.repeating) gd (after_sign gd (in_guarded gd m e st))
 give_repeat P w (in_result m st) e l x = finish_repeat P w st (result m e) l x
 give_repeat P w (in_while b a st) e l x = finish_repeat P w st (repeat_while (at_command a) b a e) l x
 give_repeat P w (in_function y fs st) e l x = each_defined P (AtClosing (Defines P st (depth e + 1) (nodes e + 1)) nx.repeating) st (function y.at y.letters fs e) l x
@@ -452,10 +431,7 @@ two_guard P X g.Case y = (tt, tt)
 two_guard P X _ y = (tt, tt)
 
 two_defined : (P : ℕ → ℕ → Type 0) (F : Lookahead → Type 0) (st : Stack) (d : Definition) (l : ℕ) (x : List ℕ) → Two P F (defined_by st d l x)
-two_defined P F st d l x = (
-  leads_none P (F nx.assigning) (defined_by st d l x k.Assign) (defined_none st d l x k.Assign (refl, refl, refl, refl, refl)),
-  leads_none P (F nx.listing) (defined_by st d l x k.Comma) (defined_none st d l x k.Comma (refl, refl, refl, refl, refl)),
-)
+two_defined P F st d l x = grind (arith, leads_none, defined_none)
 
 mutual
   give_two : (P : ℕ → ℕ → Type 0) → Down P → (st : Stack) (e : Expression) (l : ℕ) (x : List ℕ) → Two P (Gives P st (form_of e) (depth e) (nodes e)) (give st e l x)
@@ -486,7 +462,7 @@ mutual
       (finish st (assign (at_expressions xs) xs zs) l x) (want (in_values xs zs st))
       (two_by P (Does P st (max (depth_of_each xs) (depth_of_each (each_then ys (more e none))) + 1) (nodes_of_each xs + nodes_of_each (each_then ys (more e none)) + 1)) (Does P st (max (depth_of_each xs) (max (depth_of_each ys) (depth e)) + 1) (nodes_of_each xs + (nodes_of_each ys + nodes e) + 1)) (finish st (assign (at_expressions xs) xs zs) l x) (does_falls P w st (max (depth_of_each xs) (max (depth_of_each ys) (depth e)) + 1) (max (depth_of_each xs) (depth_of_each (each_then ys (more e none))) + 1) (nodes_of_each xs + (nodes_of_each ys + nodes e) + 1) (nodes_of_each xs + nodes_of_each (each_then ys (more e none)) + 1) (omega (arith, a)) (omega (arith, b))) (finish_two P w st (assign (at_expressions xs) xs zs) l x))
       (λ h. values_more P w xs ys st e h)
-  give_two P w (in_guard gd m st) e l x = two_guard P (Guarded gd (Does P st) (depth e) (nodes e)) gd (behind_sign gd (in_guarded gd m e st))
+  give_two P w (in_guard gd m st) e l x = two_guard P (Guarded gd (Does P st) (depth e) (nodes e)) gd (after_sign gd (in_guarded gd m e st))
   give_two P w (in_result m st) e l x = finish_two P w st (result m e) l x
   give_two P w (in_while b a st) e l x = finish_two P w st (repeat_while (at_command a) b a e) l x
   give_two P w (in_function y fs st) e l x = two_defined P (AtClosing (Defines P st (depth e + 1) (nodes e + 1))) st (function y.at y.letters fs e) l x
@@ -576,16 +552,14 @@ goes_tight ops.Byte t o h = absurd (let z = none_goes t o in cc)
 goes_tight _ t o h = refl
 
 push_binary : (P : ℕ → ℕ → Type 0) → Down P → (t : Kind) → is_open t ≡ false → (q : Operator) (s : ℕ) (a : Expression) (st : Stack) (e : Expression) (l : ℕ) → goes (inner q) t ≡ true → Leads P (Operates P (in_binary q s a st) (Gives P (in_binary q s a st)) (depth e) (nodes e)) (push (in_binary q s a st) e t l)
-push_binary P w t o q s a st e l h =
-    let Q : Bool → Type 0 = λ z. Leads P (Taken z (Any (Gives P st Other (max (depth a) (depth e + 1) + 1) (nodes a + (nodes e + 2) + 1))) (Operates P st (Gives P st) (max (depth a) (depth e) + 1) (nodes a + nodes e + 1))) (push (in_binary q s a st) e t l) in
-    subst Q (sym (goes_tight q t o h)) (push_leads P w t o (in_binary q s a st) e l)
+push_binary P w t o q s a st e l h = grind (arith, (depth a), (depth e + 1), (depth e), (goes_tight q t o h), (push_leads P w t o (in_binary q s a st) e l))
 
 pass_binary : (P : ℕ → ℕ → Type 0) → Down P → (b : Bool) (a : Expression) (st : Stack) (d n : ℕ) → Operates P st (Gives P st) (max (depth a) d + 1) (nodes a + n + 1) → Taken b (Any (Gives P st Other (max (depth a) (d + 1) + 1) (nodes a + (n + 2) + 1))) (Operates P st (Gives P st) (max (depth a) d + 1) (nodes a + n + 1))
 pass_binary P w true a st d n h = any_falls (Gives P st Other) (gives_falls P w st Other) (max (depth a) (d + 1) + 1) (max (depth a) d + 1 + 1) (nodes a + (n + 2) + 1) (nodes a + n + 1 + 2) (omega arith) (omega arith) (operates_any P w st (max (depth a) d + 1) (nodes a + n + 1) h)
 pass_binary P w false a st d n h = h
 
 operator_leads : (P : ℕ → ℕ → Type 0) → Down P → (t : Kind) → goes 12 t ≡ true → is_open t ≡ false → (st : Stack) (e : Expression) (l : ℕ) (x : List ℕ) → Leads P (Operates P st (Gives P st) (depth e) (nodes e)) (give st e l x t)
-operator_leads P w t g o (in_unary m p st) e l x = leads_if P (Any (Gives P st Other (depth e + 1 + 1) (nodes e + 2 + 1))) (goes (behind p) t) (push (in_unary m p st) e t l) (give st (unary m p e) l x t) (λ j. push_leads P w t o (in_unary m p st) e l)
+operator_leads P w t g o (in_unary m p st) e l x = leads_if P (Any (Gives P st Other (depth e + 1 + 1) (nodes e + 2 + 1))) (goes (following p) t) (push (in_unary m p st) e t l) (give st (unary m p e) l x t) (λ j. push_leads P w t o (in_unary m p st) e l)
     (λ j. leads_by P (Operates P st (Gives P st) (depth e + 1) (nodes e + 1)) (Any (Gives P st Other (depth e + 1 + 1) (nodes e + 2 + 1))) (give st (unary m p e) l x t) (λ h. any_falls (Gives P st Other) (gives_falls P w st Other) (depth e + 1 + 1) (depth e + 1 + 1) (nodes e + 2 + 1) (nodes e + 1 + 2) (omega arith) (omega arith) (operates_any P w st (depth e + 1) (nodes e + 1) h)) (operator_leads P w t g o st (unary m p e) l x))
 operator_leads P w t g o (in_binary q s a st) e l x = let whole_of : Expression = binary (at_expression a) q s a e in leads_if P (Operates P (in_binary q s a st) (Gives P (in_binary q s a st)) (depth e) (nodes e)) (goes (inner q) t) (push (in_binary q s a st) e t l) (give st whole_of l x t) (λ j. push_binary P w t o q s a st e l j)
     (λ j. leads_by P (Operates P st (Gives P st) (max (depth a) (depth e) + 1) (nodes a + nodes e + 1)) (Operates P (in_binary q s a st) (Gives P (in_binary q s a st)) (depth e) (nodes e)) (give st whole_of l x t) (pass_binary P w (nat_lt 1 (inner q)) a st (depth e) (nodes e)) (operator_leads P w t g o st whole_of l x))
@@ -637,7 +611,7 @@ start_leads P st (apply m s f es) l x t h = h (call m f es)
 start_leads P st (name m y) l x t h = leads_if P (Started (Does P st) Label 1 1 nx.closing) (is_colon t) (Some (maybe (in_label m y st))) None (λ e j. j) (λ e. tt)
 start_leads P st e l x t h = leads_if P (Started (Does P st) (form_of e) (depth e) (nodes e) nx.closing) (is_colon t) None None (λ a. tt) (λ a. tt)
 
-guard_leads : (P : ℕ → ℕ → Type 0) → Down P → (gd : Guard) (m : ℕ) (e : Expression) (st : Stack) → Completes P (behind_sign gd (in_guarded gd m e st)) → Guarded gd (Does P st) (depth e) (nodes e)
+guard_leads : (P : ℕ → ℕ → Type 0) → Down P → (gd : Guard) (m : ℕ) (e : Expression) (st : Stack) → Completes P (after_sign gd (in_guarded gd m e st)) → Guarded gd (Does P st) (depth e) (nodes e)
 guard_leads P w g.Case m e st (inl h) = inl h
 guard_leads P w g.Case m e st (inr h) = inr (any_falls (Does P st) (does_falls P w st) (max (depth e) 1 + 1) (max (depth e) 1 + 1) (nodes e + 2) (nodes e + 1 + 1) (omega arith) (omega arith) h)
 guard_leads P w _ m e st h = any_falls (Does P st) (does_falls P w st) (max (depth e) 1 + 1) (max (depth e) 1 + 1) (nodes e + 2) (nodes e + 1 + 1) (omega arith) (omega arith) h
@@ -659,7 +633,7 @@ constants_leads P w _ m s js st = tt
 mutual
   give_close : (P : ℕ → ℕ → Type 0) → Down P → (t : Kind) → goes 12 t ≡ false → repeats t ≡ false → assigns t ≡ false → (st : Stack) (e : Expression) (l : ℕ) (x : List ℕ) → Leads P (Gives P st (form_of e) (depth e) (nodes e) nx.closing) (give st e l x t)
   give_close P w t g r a (in_parens m st) e l x = rw g (leads_if P (Whole (Gives P st) Callable (depth e + 1) (nodes e + 1)) (is_close t) (Some (have st (parens m e))) None (λ j h. h) (λ j. tt))
-  give_close P w t g r a (in_unary m p st) e l x = let low = falls (behind p) 12 t (behind_ok p).1 g in rw low (give_close P w t g r a st (unary m p e) l x)
+  give_close P w t g r a (in_unary m p st) e l x = let low = falls (following p) 12 t (behind_ok p).1 g in rw low (give_close P w t g r a st (unary m p e) l x)
   give_close P w t g r a (in_binary q s y st) e l x = let low = falls (inner q) 12 t (inner_ok q).1 g in rw low (give_close P w t g r a st (binary (at_expression y) q s y e) l x)
   give_close P w t g r a (in_chain q s y b st) e l x = let low = falls 5 12 t (omega arith) g in rw low (give_close P w t g r a st (binary (at_expression y) Both s y (binary (at_expression b) q s b e)) l x)
   give_close P w t g r a (in_then s y st) e l x = let c = no_comma t a in rw (g, c) tt
@@ -691,7 +665,7 @@ mutual
       (leads_by P (Does P st (max (depth_of_each xs) (depth_of_each zs) + 1) (nodes_of_each xs + nodes_of_each zs + 1) nx.closing) (Does P st (max (depth_of_each xs) (max (depth_of_each ys) (depth e)) + 1) (nodes_of_each xs + (nodes_of_each ys + nodes e) + 1) nx.closing) (finish st (assign (at_expressions xs) xs zs) l x t)
       (does_falls P w st (max (depth_of_each xs) (max (depth_of_each ys) (depth e)) + 1) (max (depth_of_each xs) (depth_of_each zs) + 1) (nodes_of_each xs + (nodes_of_each ys + nodes e) + 1) (nodes_of_each xs + nodes_of_each zs + 1) (omega (arith, p)) (omega (arith, q)) nx.closing) (finish_close P w t g r a st (assign (at_expressions xs) xs zs) l x))
       (λ j. absurd (let d = c in cc)))
-  give_close P w t g r a (in_guard gd m st) e l x = rw g (leads_if P (Guarded gd (Does P st) (depth e) (nodes e)) (is_sign_of gd t) (Some (behind_sign gd (in_guarded gd m e st))) None (λ j. guard_leads P w gd m e st) (λ j. tt))
+  give_close P w t g r a (in_guard gd m st) e l x = rw g (leads_if P (Guarded gd (Does P st) (depth e) (nodes e)) (is_sign_of gd t) (Some (after_sign gd (in_guarded gd m e st))) None (λ j. guard_leads P w gd m e st) (λ j. tt))
   give_close P w t g r a (in_test m st) e l x = rw g (leads_if P (Any (Does P st (max (depth e) 1 + 1) (nodes e + 3))) (is_do t) (Some (begin (in_do m e st))) None
       (λ j h. any_falls (Does P st) (does_falls P w st) (max (depth e) 1 + 1) (max (depth e) (max 1 1) + 1) (nodes e + 3) (nodes e + 1 + 2) (omega arith) (omega arith) (from_closing h)) (λ j. tt))
   give_close P w t g r a (in_result m st) e l x = rw g (finish_close P w t g r a st (result m e) l x)
@@ -788,9 +762,7 @@ due_leads : (P : ℕ → ℕ → Type 0) → Down P → (t : Kind) (st : Stack) 
 due_leads P w t (in_section ds) l x = section_leads P w t ds l
 due_leads P w t (in_block b free ds cs st) l x = block_leads P w t b free ds cs st l x
 due_leads P w t (in_let m ds st) l x = leads_named P (Defines P (in_let m ds st) 2 2) t l x (λ y. due (at_name y (in_let m ds st))) (λ y h. h)
-due_leads P w t (at_name y st) l x =
-    leads_if P (Defines P st 2 2) (is_open t) (Some (due (at_formals y st))) _ (λ j h. h)
-    (λ j. leads_if P (Defines P st 2 2) (inside st) (in_names (y ∷ []) st t) None (λ i. leads_by P (Defines P st 2 (length (y ∷ []) + 1)) (Defines P st 2 2) (in_names (y ∷ []) st t) (defines_fall P w st 2 2 2 (length (y ∷ []) + 1) (omega arith) (omega arith)) (names_lead P w t (y ∷ []) st)) (λ i. tt))
+due_leads P w t (at_name y st) l x = grind (arith, leads_if, leads_by, (due (at_formals y st)), (inside st), (length (y ∷ []) + 1), (defines_fall P w st 2 2 2 (length (y ∷ []) + 1) (omega arith) (omega arith)), (names_lead P w t (y ∷ []) st))
 due_leads P w t (at_formals y st) l x = leads_if P (Defines P st 2 2) (is_close t) (Some (due (at_head y [] st))) _ (λ j h. h) (λ j. leads_named P (Defines P st 2 2) t l x (λ f. due (at_formal_end y (f ∷ []) st)) (λ f h. h))
 due_leads P w t (at_formal y fs st) l x = leads_named P (Defines P st 2 2) t l x (λ f. due (at_formal_end y (fs ++ f ∷ []) st)) (λ f h. h)
 due_leads P w t (at_formal_end y fs st) l x = formals_lead P t y fs st
@@ -800,10 +772,7 @@ due_leads P w t (at_variable_end xs st) l x = names_lead P w t xs st
 due_leads P w t (at_starts xs is st) l x = leads_if P (Any (Gives P (in_value xs is st) Label 1 1)) (is_vec t) (Some (want (in_vector l xs is st))) (take_operand (in_value xs is st) l x t) (λ j h. h) (λ j. operand_leads P w t (in_value xs is st) l x)
 due_leads P w t (at_opening m s st) l x = leads_if P (Declares P st 2 2) (opens t) (Some (due (at_items m s no_items st))) None (λ j h. h) (λ j. tt)
 due_leads P w t (at_items m s is st) l x = item_leads P w t m s is st l x
-due_leads P w t (at_sign m s is y st) l x =
-    let X : Type 0 = Declares P st (max 2 (depth_of_items is)) (nodes_of_items is + 2) in
-    leads_if P X (is_equal t) (Some (want (in_item m s is y st))) _ (λ j. sign_leads P w is st)
-    (λ j. leads_if P X (is_colon t) (Some (want (in_item m s is y st))) None (λ i. sign_leads P w is st) (λ i. tt))
+due_leads P w t (at_sign m s is y st) l x = grind (arith, leads_if, sign_leads)
 due_leads P w t (at_goto m st) l x = leads_named P (Any (Does P st 1 1)) t l x (λ y. did st (goto m y)) (λ y h. h)
 due_leads P w t (at_for m st) l x = leads_named P (Any (Does P st 2 4)) t l x (λ y. due (at_forward m y st)) (λ y h. h)
 due_leads P w t (at_forward m y st) l x = leads_if P (Any (Does P st 2 4)) (is_equal t) (Some (want (in_from m y st))) None (λ j h. any_falls (Does P st) (does_falls P w st) 2 (max 1 1 + 1) 4 (1 + 3) (omega arith) (omega arith) (from_closing h)) (λ j. tt)
@@ -897,10 +866,7 @@ step_leads P w (due st) l s t = due_leads P w t st l s
 
 whole_leads : (P : ℕ → ℕ → Type 0) → Down P → (X : Type 0) (r : Option State) (ds : Declarations) → Leads P X r → whole r ≡ Ok ds → P (depth_of_declarations ds) (nodes_of_declarations ds) → X
 whole_leads P w X None ds h is p = absurd cc
-whole_leads P w X (Some (due (in_section es))) ds h is p =
-    let same : ds ≡ es = cc in
-    let Q : Declarations → Type 0 = λ z. P (depth_of_declarations z) (nodes_of_declarations z) in
-    h (w (max (depth_of_declarations es) 0) (depth_of_declarations es) (nodes_of_declarations es + 0) (nodes_of_declarations es) (omega arith) (omega arith) (subst Q same p))
+whole_leads P w X (Some (due (in_section es))) ds h is p = grind arith
 whole_leads P w X (Some (due _)) ds h is p = absurd cc
 whole_leads P w X (Some _) ds h is p = absurd cc
 

@@ -100,14 +100,7 @@ not_call _ m y = tt
 -- a definition is complete
 defines : (P : ℕ → ℕ → Type 0) → Down P → (st : Stack) (y : Definition) (l : ℕ) (x : List ℕ) (ds : Declarations) → Ended (defined_by st y l x k.Semicolon) ds
     → (d n : ℕ) → depth_of_definition y ≤ d → nodes_of_definition y ≤ n → Defines P st d n → Has P ds
-defines P w (in_let m es (in_section gs)) y l x ds h d n p q i =
-    let whole = definitions m (definitions_then es (define y no_definitions)) in
-    let same : declarations_then gs (declare whole no_declarations) ≡ ds = section_is _ _ h in
-    let a = declarations_depth gs whole in
-    let b = declarations_nodes gs whole in
-    let e = definitions_depth es y in
-    let f = definitions_nodes es y in
-    subst (Has P) same (w _ (max (depth_of_declarations gs) (max (depth_of_definitions es) d)) _ (nodes_of_declarations gs + (nodes_of_definitions es + n)) (omega (arith, a, e, p)) (omega (arith, b, f, q)) i)
+defines P w (in_let m es (in_section gs)) y l x ds h d n p q i = grind (arith, section_is, declarations_depth, declarations_nodes, definitions_depth, definitions_nodes)
 defines P w (in_let m es (in_block b free fs cs st)) y l x ds h d n p q i = absurd cc
 defines P w (in_let m es _) y l x ds h d n p q i = absurd cc
 defines P w _ y l x ds h d n p q i = absurd cc
@@ -200,8 +193,7 @@ missed P ds F G a b f h = missing_has P ds F a b f a b (omega arith) (omega arit
 pub ends : (P : ℕ → ℕ → Type 0) → Down P → (x : State) (ds : Declarations) → Ended (stepped_by x 1 [] k.Semicolon) ds → Completes P x → Has P ds
 ends P w (have st e) ds h i = whole_has P ds (Gives P st) (form_of e) (depth e) (nodes e) (gives P w st (form_of e) e 1 [] ds h (form_apart e)) (gives P w st Call e 1 [] ds h tt) i
 ends P w (did st c) ds h i = finishes P w st c 1 [] ds h (depth_of_command c) (nodes_of_command c) (omega arith) (omega arith) i.0 i.1
-ends P w (due (in_section gs)) ds h i =
-    subst (Has P) (section_is gs ds h) (w _ (max (depth_of_declarations gs) 0) _ (nodes_of_declarations gs + 0) (omega arith) (omega arith) i)
+ends P w (due (in_section gs)) ds h i = grind (arith, section_is)
 ends P w (due (at_name n st)) ds h i = absurd (inside_not (inside st) ds h)
 ends P w (due (at_items m s no_items st)) ds h i = absurd cc
 ends P w (due (at_items m s (item b y e is) st)) ds h i = absurd cc
@@ -212,10 +204,7 @@ ends P w (maybe (in_guarded gd m e st)) ds h (inl i) =
     let u = guarded_depth gd m e empty in
     let v = guarded_nodes gd m e empty in
     missing_has P ds (Does P st) _ _ (finishes P w st (guarded gd m e empty) 1 [] ds h) (depth e + 1) (nodes e + 1) (omega (arith, u)) (omega (arith, v)) i.0 i.1
-ends P w (maybe (in_guarded gd m e st)) ds h (inr i) =
-    let u = guarded_depth gd m e empty in
-    let v = guarded_nodes gd m e empty in
-    finishes P w st (guarded gd m e empty) 1 [] ds h (max (depth e) 1 + 1) (nodes e + 1 + 1) (omega (arith, u)) (omega (arith, v)) i.0 i.1
+ends P w (maybe (in_guarded gd m e st)) ds h (inr i) = grind (arith, guarded_depth, empty, guarded_nodes, finishes, depth)
 ends P w (maybe (in_default m st)) ds h (inl i) = missed P ds (Does P st) (Does P st) 1 1 (finishes P w st (default m empty) 1 [] ds h) i
 ends P w (maybe (in_default m st)) ds h (inr i) = finishes P w st (default m empty) 1 [] ds h 2 2 (omega arith) (omega arith) i.0 i.1
 ends P w (maybe _) ds h i = absurd cc

@@ -13,10 +13,7 @@ pub ends_within : (x : State) (ds : Declarations) → Bounded x → stepped_by x
 ends_within x ds b h = ends (AtMost TREE_DEPTH TREE_NODES) (at_most_down TREE_DEPTH TREE_NODES) x ds h b
 
 pub empty_bounded : (ds : List Decl) (xs : List Frame) → ds ≡ [] → xs ≡ [] → Bounded (due (stack ds xs))
-empty_bounded ds xs no_decls nothing =
-    let at : stack ds xs ≡ in_section no_declarations = ap (λ z. stack z xs) no_decls ∙ ap (stack []) nothing ∙ stack_none [] in
-    let P : Stack → Type 0 = λ z. Bounded (due z) in
-    subst P (sym at) (omega arith, omega arith)
+empty_bounded ds xs no_decls nothing = grind (arith, stack, in_section, stack_none, due)
 
 pub within_limits : (r : Result Section (Refused SourceFault)) → IfOk r (λ x. Within (declarations_of x))
 within_limits (Ok x) = x.within

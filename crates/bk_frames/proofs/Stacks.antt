@@ -136,15 +136,11 @@ pub stack_first : (ds : List Decl) (xs : List Frame) (n : ℕ) → n ≡ 0 → s
 stack_first ds xs n is = ap (λ i. stack ds (take i xs)) is ∙ ap (stack ds) (take_none xs) ∙ stack_none ds
 
 pub budgets_at : (ds : List Decl) (xs : List Frame) (rs : List FrameBudgets) (i n : ℕ) (r : FrameBudgets) → r ≡ get_or rs i r → i < length rs → i < length xs → n ≡ i + 1 → Ample ds xs rs → AreBudgets true (stack ds (take n xs)) r.budgets.items
-budgets_at ds xs rs i n r at lt within is h =
-    let P : ℕ → Type 0 = λ j. AreBudgets true (stack ds (take j xs)) r.budgets.items in
-    subst P (sym is) (h i r (slice_get_read rs (length rs) i r refl lt at) within)
+budgets_at ds xs rs i n r at lt within is h = grind (arith, stack, slice_get_read, length)
 
 -- and those of the last of them all
 pub budgets_last : (ds : List Decl) (xs : List Frame) (rs : List FrameBudgets) (n : ℕ) (r : FrameBudgets) → n ≡ length xs → r ≡ get_or rs (n - 1) r → 0 < n → length xs ≤ length rs → Ample ds xs rs → AreBudgets true (stack ds xs) r.budgets.items
-budgets_last ds xs rs n r is at some lt h =
-    let P : List Frame → Type 0 = λ z. AreBudgets true (stack ds z) r.budgets.items in
-    subst P (ap (λ i. take i xs) is ∙ take-length xs) (budgets_at ds xs rs (n - 1) n r at (omega arith) (omega arith) (omega arith) h)
+budgets_last ds xs rs n r is at some lt h = grind (arith, stack, take-length, (budgets_at ds xs rs (n - 1) n r at (omega arith) (omega arith) (omega arith) h))
 
 pub stack_of_none : (ds : List Decl) (xs : List Frame) (n : ℕ) → n ≡ length xs → n ≡ 0 → stack ds xs ≡ in_section (declarations_in ds)
 stack_of_none ds [] n is zeroed = stack_none ds

@@ -8,7 +8,7 @@ pub use Rattle.bk_base.specs.declared.limit.TheConstants.{TREE_DEPTH, TREE_NODES
 pub use Rattle.bk_grammar.proofs.Lemmas.{falls, behind_ok, inner_ok, pushes, repeated, size_then, count_then, no_comma, ForExpression, ForCommand, ForDefinition, ForDeclaration, ForSymbol, Fits}
 pub use Rattle.bk_grammar.specs.Grammar.{last}
 pub use Rattle.bk_grammar.specs.Machine.{Stack, in_parens, in_binary, in_start, in_section, in_block, in_let, in_unary, in_chain, in_then, in_else, in_args, in_table, in_dests, in_values, in_guard, in_test, in_result, in_while, in_from, in_to, in_by, in_item, in_function, in_value, in_vector, in_valof, in_label, in_guarded, in_default, in_do, in_or, in_for, in_routine, at_name, at_formals, at_formal, at_formal_end, at_head, at_variable, at_variable_end, at_starts, at_opening, at_items, at_sign, at_goto, at_for, at_forward, at_default, want, have, begin, maybe, did, due, State, bars, stepped_by, inside, limit, push, infixed, is_open, is_assign, is_equal, is_close, is_be, is_by, is_do, is_semicolon, closes, no_args, take_operand, take_command, dests, in_names, in_formals, headed, to_or_do, in_constants, declared, again, named, take_declaration, declared_by, take_due, take_item, give, finish, in_head, guarded}
-pub use Rattle.bk_grammar.specs.Rows.{inner, behind, is_relation, infix_of, prefix_of, sort_of, begins_command, repeats, assigns, is_and, is_comma, goes, leaf, simple_of, guard_of, is_arrow, is_both, is_name, declaring_of, opening_of, heading_of, repetition_of}
+pub use Rattle.bk_grammar.specs.Rows.{inner, following, is_relation, infix_of, prefix_of, sort_of, begins_command, repeats, assigns, is_and, is_comma, goes, leaf, simple_of, guard_of, is_arrow, is_both, is_name, declaring_of, opening_of, heading_of, repetition_of}
 pub use Rattle.bk_grammar.specs.declared.symbols.Guard.{Guard}
 pub use Rattle.bk_lex.specs.declared.token.Kind.{Kind}
 pub use Rattle.bk_tree.proofs.Lemmas.{eq_is, each_depth, each_nodes, commands_depth, commands_nodes, declarations_depth, declarations_nodes, definitions_depth, definitions_nodes, items_depth, items_nodes, starts_depth, starts_nodes}

@@ -1,5 +1,5 @@
 -- What the machine does with a symbol, by the tests that the parser makes in turn.
-use Rattle.bk_frames.proofs.Terms.{◌≡◌, ◌≤◌, ◌+◌, max, ◌∙◌, [], ◌∷◌, length, arith, ℕ, List, Bool, true, false, cond, Option, Some, None, refl, ap, Kind, Operator, Both, Prefix, Guard, depth, depth_of_command, nodes, nodes_of_command, leaf, goes, assigns, inner, behind, infix_of, prefix_of, simple_of, guard_of, is_arrow, is_both, is_comma, is_name, declaring_of, opening_of, heading_of, repetition_of, last, at_expression, at_command, Stack, State, push, infixed, want, have, begin, due, did, in_args, in_then, in_parens, in_unary, in_valof, in_table, in_start, in_guard, in_dests, in_values, in_by, in_for, in_routine, in_function, in_while, at_variable, at_starts, at_formal, at_head, at_items, is_open, is_assign, is_equal, is_close, is_be, is_by, is_do, is_semicolon, closes, bars, no_args, take_operand, take_command, dests, in_names, in_formals, headed, to_or_do, in_constants, declared, again, named, in_section, in_block, take_declaration, declared_by, take_due, take_item, at_sign, give, finish, in_head, in_binary, guarded, Sort, related, heads, declaring, are_none, are_no_items, Kind as k, Guard as g, Opening, Opening as s, ConstItem, ConstItem as i, Repetition, Repetition as r}
+use Rattle.bk_frames.proofs.Terms.{◌≡◌, ◌≤◌, ◌+◌, max, ◌∙◌, [], ◌∷◌, length, arith, ℕ, List, Bool, true, false, cond, Option, Some, None, refl, ap, Kind, Operator, Both, Prefix, Guard, depth, depth_of_command, nodes, nodes_of_command, leaf, goes, assigns, inner, following, infix_of, prefix_of, simple_of, guard_of, is_arrow, is_both, is_comma, is_name, declaring_of, opening_of, heading_of, repetition_of, last, at_expression, at_command, Stack, State, push, infixed, want, have, begin, due, did, in_args, in_then, in_parens, in_unary, in_valof, in_table, in_start, in_guard, in_dests, in_values, in_by, in_for, in_routine, in_function, in_while, at_variable, at_starts, at_formal, at_head, at_items, is_open, is_assign, is_equal, is_close, is_be, is_by, is_do, is_semicolon, closes, bars, no_args, take_operand, take_command, dests, in_names, in_formals, headed, to_or_do, in_constants, declared, again, named, in_section, in_block, take_declaration, declared_by, take_due, take_item, at_sign, give, finish, in_head, in_binary, guarded, Sort, related, heads, declaring, are_none, are_no_items, Kind as k, Guard as g, Opening, Opening as s, ConstItem, ConstItem as i, Repetition, Repetition as r}
 use Rattle.bk_tree.specs.declared.tree.Simple.{Simple}
 use Rattle.bk_grammar.specs.declared.symbols.Heading.{Heading}
 use Rattle.bk_tree.specs.declared.tree.Expr.{Expr}
@@ -112,7 +112,7 @@ named_cases k.Open l x f = refl
 named_cases _ l x f = refl
 
 -- an expression with which the symbol does not go on is complete
-pub unary_done : (m : ℕ) (p : Prefix) (st : Stack) (e : Expression) (l : ℕ) (x : List ℕ) (kind : Kind) → goes (behind p) kind ≡ false → give (in_unary m p st) e l x kind ≡ give st (unary m p e) l x kind
+pub unary_done : (m : ℕ) (p : Prefix) (st : Stack) (e : Expression) (l : ℕ) (x : List ℕ) (kind : Kind) → goes (following p) kind ≡ false → give (in_unary m p st) e l x kind ≡ give st (unary m p e) l x kind
 unary_done m p st e l x kind h = ap (λ b. cond b (push (in_unary m p st) e kind l) (give st (unary m p e) l x kind)) h
 
 pub binary_done : (o : Operator) (m : ℕ) (a : Expression) (st : Stack) (e : Expression) (l : ℕ) (x : List ℕ) (kind : Kind) → goes (inner o) kind ≡ false → give (in_binary o m a st) e l x kind ≡ give st (binary (at_expression a) o m a e) l x kind
@@ -140,9 +140,7 @@ some_commands (x ∷ xs) h = refl
 
 -- a call at the head of a command is complete
 pub call_done : (st : Stack) (m s : ℕ) (f : Expression) (es : Expressions) (l : ℕ) (x : List ℕ) (kind : Kind) → goes 12 kind ≡ false → assigns kind ≡ false → give (in_start st) (apply m s f es) l x kind ≡ finish st (call m f es) l x kind
-call_done st m s f es l x kind stops other =
-    ap (λ b. cond b (push (in_start st) (apply m s f es) kind l) (cond (assigns kind) (dests (more (apply m s f es) none) st kind) (finish st (call m f es) l x kind))) stops
-    ∙ ap (λ b. cond b (dests (more (apply m s f es) none) st kind) (finish st (call m f es) l x kind)) other
+call_done st m s f es l x kind stops other = grind (arith, dests, more, none, finish)
 
 pub guarded_depth : (k : Guard) (l : ℕ) (e : Expression) (c : Command) → depth_of_command (guarded k l e c) ≡ max (depth e) (depth_of_command c) + 1
 guarded_depth g.If l e c = refl

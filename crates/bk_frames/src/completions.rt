@@ -29,7 +29,7 @@ fn is_last(all: usize, done: usize) -> bool
 }
 
 /// Whether an operator after a VALOF that is the right operand of this one goes on the whole.
-fn is_tight_behind(operator: Operator) -> bool
+fn is_tight_after(operator: Operator) -> bool
     ensures { result ≡ not (nat_lt 1 (inner operator)) }
 {
     inner_row(operator) <= 1
@@ -40,7 +40,7 @@ pub fn is_tight(unfinished: &Unfinished) -> bool
     ensures { (st : Stack) → result ≡ is_tight (unfinished_on unfinished.now st) }
 {
     match unfinished {
-        Unfinished::OpenExpression(OpenExpression::Binary(operator, _, _)) => is_tight_behind(
+        Unfinished::OpenExpression(OpenExpression::Binary(operator, _, _)) => is_tight_after(
             *operator,
         ),
         _ => false,
@@ -288,7 +288,7 @@ fn completions_of_operand(operand: &OpenExpression, held: Size, tight_below: boo
             0,
         )),
         OpenExpression::Binary(operator, _, _) => {
-            completions_of_binary(is_tight_behind(*operator), tight_below, held)
+            completions_of_binary(is_tight_after(*operator), tight_below, held)
         }
         OpenExpression::Chain(_, _, _, _) => Completions::One(deep(
             Category::Expression,

@@ -218,7 +218,7 @@ fn listed(alloc: Global, lexed: &Lexed<'_>, from: Line) -> Result<String, AllocE
 }
 
 /// What is reported of a text: its tokens, or how many if `counted`, or its fault.
-fn told(alloc: Global, text: &[u8], from: u32, counted: bool) -> Result<String, AllocError> {
+fn reported(alloc: Global, text: &[u8], from: u32, counted: bool) -> Result<String, AllocError> {
     let from = Line::new(from.max(1));
     match lex(alloc, text, from) {
         Ok(lexed) if counted => format!(in alloc; "{} tokens", lexed.tokens.len()),
@@ -236,7 +236,7 @@ fn tells(
     counted: bool,
     expected: &[u8],
 ) -> Result<bool, AllocError> {
-    let answer = told(alloc, text, from, counted)?;
+    let answer = reported(alloc, text, from, counted)?;
     Ok(answer.as_bytes() == expected)
 }
 
@@ -308,19 +308,19 @@ fn with_header(
     alloc: Global,
     before: &[u8],
     formatted: bool,
-    behind: &[u8],
+    following: &[u8],
 ) -> Result<Vec<u8>, AllocError> {
     let mut tokens = Vec::new(alloc);
     tokens.extend_from_slice(before)?;
     tokens.extend_from_slice(if formatted { FORMATTED } else { PLAIN })?;
-    tokens.extend_from_slice(behind)?;
+    tokens.extend_from_slice(following)?;
     Ok(tokens)
 }
 
 #[test]
 fn headers(rt: HostRuntime) -> Result<(), Fail> {
-    for (text, before, formatted, behind) in &HEADERS {
-        let expected = with_header(rt.alloc(), before, *formatted, behind)?;
+    for (text, before, formatted, following) in &HEADERS {
+        let expected = with_header(rt.alloc(), before, *formatted, following)?;
         assert!(rt; tells(rt.alloc(), text, 1, false, expected.as_slice())?);
     }
     Ok(())
@@ -332,21 +332,21 @@ fn long_text(
     before: &[u8],
     byte: u8,
     times: usize,
-    behind: &[u8],
+    following: &[u8],
 ) -> Result<Vec<u8>, AllocError> {
     let mut text = Vec::new(alloc);
     text.extend_from_slice(before)?;
     for _ in 0..times {
         text.push(byte)?;
     }
-    text.extend_from_slice(behind)?;
+    text.extend_from_slice(following)?;
     Ok(text)
 }
 
 #[test]
 fn places(rt: HostRuntime) -> Result<(), Fail> {
-    for (text, before, nowhere, behind) in &PLACES {
-        let expected = long_text(rt.alloc(), before, b'-', *nowhere, behind)?;
+    for (text, before, nowhere, following) in &PLACES {
+        let expected = long_text(rt.alloc(), before, b'-', *nowhere, following)?;
         let Ok(lexed) = lex(rt.alloc(), text, Line::first()) else {
             return Err(Fail::from("refused"));
         };
@@ -421,8 +421,8 @@ fn each_byte(rt: HostRuntime) -> Result<(), Fail> {
             outcome(&rt, &[b'"', b'*', byte, b'"'])?,
         ];
         assert!(rt; answers == expected_of(byte));
-        let behind = outcome(&rt, &[b'/', b'/', byte, b'A', b'B'])?;
-        assert!(rt; behind == usize::from(byte == b'\n'));
+        let following = outcome(&rt, &[b'/', b'/', byte, b'A', b'B'])?;
+        assert!(rt; following == usize::from(byte == b'\n'));
     }
     Ok(())
 }

@@ -9,23 +9,23 @@ pub use Rattle.std.specs.Prelude.{slice_get, slice_set, pos, ⊤, ℤ, nat_le, �
 pub use Rattle.bk_base.specs.Word.{word_sum, word_of, truth, word_with_byte, packed_word, word_byte, byte_distance, byte_place, word_negation, word_not, signed, word_difference}
 pub use Rattle.bk_base.specs.declared.limit.TheConstants.{STORE_MOST, GLOBAL_NUMBER, OCODE_STATEMENTS, FRAME_WORDS, FRAME_WORDS_LEAST, INTCODE_ITEMS, INTCODE_LABEL, OCODE_LABEL}
 pub use Rattle.bk_base.specs.declared.run_end.End.{End}
-pub use Rattle.bk_machine.specs.Inner.Getting.{get_set_same, get_set_other, get_front, get_behind, get_inside}
+pub use Rattle.bk_machine.specs.Inner.Getting.{get_set_same, get_set_other, get_front, get_after, get_inside}
 pub use Rattle.bk_machine.specs.RunLaws.{onwards, run-add, input_of, run-begins, onwards-begins}
-pub use Rattle.bk_machine.specs.Runs.{Over, after, Going, run, Standing, output_of, next_byte, behind_next}
+pub use Rattle.bk_machine.specs.Runs.{Over, after, Going, run, Standing, output_of, next_byte, after_next}
 pub use Rattle.bk_machine.specs.Step.{executed, switched, stored, matched}
 pub use Rattle.bk_machine.specs.declared.item.Operand.{Operand}
 pub use Rattle.bk_machine.specs.declared.registers.Registers.{Registers}
 pub use Rattle.bk_ocode.specs.Cells.{Content, Variable, Cell, Free, Held, content_of, Word, Temporary, write, Unset, below, Partly, byte_in, four_bytes, with_byte, settle, Kind, kind_of, Link}
-pub use Rattle.bk_ocode.specs.OcodeState.{State, Placed, Inside, Callables, Control, At, Goes, Wild, Behind, global_place, Routine, Next, Ends, rest_place, Placement, Stop, Rdch, Wrch, Newline, Writes, Writen, Writed, Getbyte, Putbyte, Writef}
+pub use Rattle.bk_ocode.specs.OcodeState.{State, Placed, Inside, Callables, Control, At, Goes, Wild, Following, global_place, Routine, Next, Ends, rest_place, Placement, Stop, Rdch, Wrch, Newline, Writes, Writen, Writed, Getbyte, Putbyte, Writef}
 pub use Rattle.bk_ocode.specs.OcodeStep.{on, dyadic_word, push, on_number, on_some, from_label, step, step_by, case_label, routine_step, operated, is_label, named_place, has_word, step_in, step_from, can_be_called, call, jump}
 pub use Rattle.bk_ocode.specs.declared.stmt.Stmt.{Stmt}
 pub use Rattle.bk_ocode.specs.declared.stmt.Stmt.TheVariants.{Label, Entry, CallFunction, CallRoutine, Text, EndProcedure, DataLabel, DataNumber, DataAddress, Save, ReturnItem, Return, Finish, Globals, Jump, JumpIf, Switch, Query, LoadByte, AssignByte, Stack, Store, Number, Load, Address, Assign, GiveResult, TakeResult, True, False, Monadic, AssignAt}
 pub use Rattle.bk_gen.specs.Accumulator.{kept_if, knows, comparison, evaluated_so, flushed_so, flushed, put_in, filled, evaluate, take, taken, evaluated, reads_below, fill, saved, with_item, IsLow, flush, HasLowSlot, is, unknown, word_is_below, is_other, keeps_through, with_loaded, compare, release, put, forget}
 pub use Rattle.bk_gen.specs.Agreement.{SameWord, SameCell, IsHeld, Mirrors, MachineState, SameHand, Agrees, IsInStack, SameByte, HasByte, SameContent, Matches}
-pub use Rattle.bk_gen.specs.Code.{last_of, but_last, Point, lowered, Kept, top, with_result, items_of, next_point, spill, brought, point, nothing, finish, finished, section_items, start, instructions, code_of, bring, behind, settled, lower_items, mirror, mirrored, plan_of, has_room, push_items, pushed, second, spill_more, spilled_if, at_items, behind_at, number_in, compared, subtracted, combine, take_side, plan_items, plan_known, folded_numbers, folded, is_saved_from, dyadic_by, behind_dyadic_by, is_zero, comes_next, jump_unless, test_jump, only_test, jump_by, jump_known, is_settled, with_test, number_operand, is_nothing, is_empty}
+pub use Rattle.bk_gen.specs.Code.{last_of, but_last, Point, lowered, Kept, top, with_result, items_of, next_point, spill, brought, point, nothing, finish, finished, section_items, start, instructions, code_of, bring, following, settled, lower_items, mirror, mirrored, plan_of, has_room, push_items, pushed, second, spill_more, spilled_if, at_items, after_at, number_in, compared, subtracted, combine, take_side, plan_items, plan_known, folded_numbers, folded, is_saved_from, dyadic_by, after_dyadic_by, is_zero, comes_next, jump_unless, test_jump, only_test, jump_by, jump_known, is_settled, with_test, number_operand, is_nothing, is_empty}
 pub use Rattle.bk_gen.specs.Instructions.{slot, same_value, Instruction, code, load, item_of, number, store_slot, operate, dyadic_operation, same_operand, same_bool, operand_of, slot_address, store, add, go_to, jump_function}
 pub use Rattle.bk_gen.specs.PlacedStore.{HasWords, LiesAt, word_at, code_word, fixed_word, words_at}
-pub use Rattle.bk_gen.specs.StandsFor.{ahead, Leads, PACE, Follows, EndsSo, StandsFor, EndsWithFrame, frame_words, Does, Lays, as_setting, StopsBefore, Begins}
+pub use Rattle.bk_gen.specs.Represents.{ahead, Leads, PACE, Follows, EndsSo, Represents, EndsWithFrame, frame_words, Does, Lays, as_setting, StopsBefore, Begins}
 pub use Rattle.bk_gen.specs.declared.accumulator.Accumulator.{Accumulator}
 pub use Rattle.bk_gen.specs.declared.accumulator.Unsaved.{Unsaved}
 pub use Rattle.bk_gen.specs.declared.value.Value.{Value}
@@ -33,7 +33,7 @@ pub use Rattle.bk_base.specs.declared.run_end.End.TheVariants.{StoreLimit, Statu
 pub use Rattle.bk_gen.specs.LibraryWords.{library_word}
 pub use Rattle.bk_machine.specs.Decoding.{operation_by}
 pub use Rattle.bk_machine.specs.declared.item.Item.{Item}
-pub use Rattle.bk_ocode.specs.Depth.{next_depth, largest_depth, depth_behind, largest_behind, least_depth, load_depth}
+pub use Rattle.bk_ocode.specs.Depth.{next_depth, largest_depth, depth_after, largest_after, least_depth, load_depth}
 pub use Rattle.bk_ocode.specs.Library.{library_routine, library_globals}
 pub use Rattle.bk_ocode.specs.StepLaws.{IsNotAmong, Keeps, KeepsNext}
 pub use Rattle.std.proofs.Common.{◌≡◌, ◌++◌, drop, ◌+◌, ◌≤◌, length, List, sym, ap, ◌∙◌, subst, ℕ, suc, ◌*◌, ◌<◌, Bool, true, false, [], append-nil, Option, Some, None, refl, arith, ◌⊎◌, inl, inr, add_assoc, zero, ◌-◌, ◌^◌, ◌∷◌, append_assoc, if◌then◌else◌, ◌≢◌, map, length-append, get_or, ◌%◌, w32, negsuc, max}

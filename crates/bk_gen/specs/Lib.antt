@@ -1,7 +1,7 @@
 pub mod LibraryWords
 pub mod PlacedStore
 pub mod Agreement
-pub mod StandsFor
+pub mod Represents
 pub mod Instructions
 pub mod Accumulator
 pub mod PlainCode

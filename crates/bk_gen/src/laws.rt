@@ -40,7 +40,7 @@ fn run_laws()
     steps_come_nearer();
 }
 
-/// The back end as a whole: the segments that stand for accepted sections, loaded and run, write what the steps of OCODE write, where
+/// The back end as a whole: the segments that represent accepted sections, loaded and run, write what the steps of OCODE write, where
 /// no step is wild. With q steps and at most d frames at once, 16 q + 16 steps of the machine are enough, and d + 1 frames of the
 /// largest depth and 16 words after the image; with less it is a beginning of that, up to the limit. Where the run of OCODE goes on,
 /// so does the machine's.

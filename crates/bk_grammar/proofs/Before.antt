@@ -1,5 +1,5 @@
 -- What is read is in the grammar: what was begun, and expressions.
-use Rattle.bk_grammar.proofs.Terms.{◌≡◌, ℕ, zero, suc, ◌<◌, ◌≤◌, Bool, true, false, cond, List, [], ◌∷◌, Option, Some, None, refl, ap, subst, ◌⊎◌, inl, inr, arith, nat_lt, ltb-false, le-ltb, Kind, Kind as k, Symbol, Operator, Operator as o, Prefix, Guard as g, Mention, Expression, Expressions, Commands, Declarations, Items, Definitions, Starts, unary, binary, choice, apply, none, more, no_commands, also, no_declarations, declare, no_items, item, no_definitions, define, no_starts, value, vector, row, inner, left, behind, is_relation, infix_of, prefix_of, sort_of, guard_of, sign_of, is_and, is_comma, goes, SpellsName, Names, Formals, Semis, last, Full, Filled, repeats_while, Reads, Each, Does, Heads, Defines, Stack, in_section, in_block, in_let, at_name, at_formals, at_formal, at_formal_end, at_head, at_variable, at_variable_end, at_starts, at_opening, at_items, at_sign, at_goto, at_for, at_forward, at_default, in_parens, in_unary, in_binary, in_chain, in_then, in_else, in_args, in_table, in_start, in_dests, in_values, in_guard, in_test, in_result, in_while, in_from, in_to, in_by, in_item, in_function, in_value, in_vector, in_valof, in_label, in_guarded, in_default, in_do, in_or, in_for, in_routine, State, want, have, begin, maybe, did, due, limit, is_close, is_colon, is_do, is_or, is_to, is_equal, is_semicolon, opens, closes, is_vec, is_let, is_open, if_is, inside}
+use Rattle.bk_grammar.proofs.Terms.{◌≡◌, ℕ, zero, suc, ◌<◌, ◌≤◌, Bool, true, false, cond, List, [], ◌∷◌, Option, Some, None, refl, ap, subst, ◌⊎◌, inl, inr, arith, nat_lt, ltb-false, le-ltb, Kind, Kind as k, Symbol, Operator, Operator as o, Prefix, Guard as g, Mention, Expression, Expressions, Commands, Declarations, Items, Definitions, Starts, unary, binary, choice, apply, none, more, no_commands, also, no_declarations, declare, no_items, item, no_definitions, define, no_starts, value, vector, row, inner, left, following, is_relation, infix_of, prefix_of, sort_of, guard_of, sign_of, is_and, is_comma, goes, SpellsName, Names, Formals, Semis, last, Full, Filled, repeats_while, Reads, Each, Does, Heads, Defines, Stack, in_section, in_block, in_let, at_name, at_formals, at_formal, at_formal_end, at_head, at_variable, at_variable_end, at_starts, at_opening, at_items, at_sign, at_goto, at_for, at_forward, at_default, in_parens, in_unary, in_binary, in_chain, in_then, in_else, in_args, in_table, in_start, in_dests, in_values, in_guard, in_test, in_result, in_while, in_from, in_to, in_by, in_item, in_function, in_value, in_vector, in_valof, in_label, in_guarded, in_default, in_do, in_or, in_for, in_routine, State, want, have, begin, maybe, did, due, limit, is_close, is_colon, is_do, is_or, is_to, is_equal, is_semicolon, opens, closes, is_vec, is_let, is_open, if_is, inside}
 use Rattle.bk_tree.specs.declared.tree.Prefix.TheVariants.{Contents}
 use Rattle.bk_grammar.specs.Placed.{position_of}
 
@@ -223,7 +223,7 @@ pub record Reached (j : ℕ) (e : Expression) (ms us : List Symbol) (t : Symbol)
   pub below : (m : ℕ) → m < j → goes m t.kind ≡ false
   pub top : (j ≤ 11) ⊎ (goes 12 t.kind ≡ false)
 
-pub behind_ok : (p : Prefix) → (1 ≤ behind p) × (behind p ≤ 12)
+pub behind_ok : (p : Prefix) → (1 ≤ following p) × (following p ≤ 12)
 behind_ok Contents = (omega arith, omega arith)
 behind_ok _ = (omega arith, omega arith)
 

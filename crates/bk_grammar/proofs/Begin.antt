@@ -1,5 +1,5 @@
 -- What the grammar allows is read.
-use Rattle.bk_grammar.proofs.Terms.{◌≡◌, ℕ, ◌+◌, ◌<◌, ◌≤◌, Bool, true, false, cond, List, ◌∷◌, Some, None, refl, sym, ap, subst, ◌∙◌, inl, inr, arith, Kind, Kind as k, Symbol, Operator, Operator as o, Expression, Expressions, Command, Commands, Declarations, name, parens, unary, binary, choice, apply, valof, table, none, more, empty, assign, call, goto, label, default, when, test, while, for_loop, result, simple, block, repeat, repeat_while, no_declarations, declare, row, inner, left, is_relation, infix_of, begins_operand, begins_command, repeats, assigns, is_comma, goes, Fails, Stops, Leaf, last, Full, EndsCommand, Filled, if_or_unless, while_or_until, Reads, Each, Does, at_expression, at_expressions, size, Stack, in_block, in_binary, in_chain, in_table, in_start, in_values, State, want, have, begin, maybe, did, due, limit, linked, guarded, behind_sign, bars, give, finish, without, stepped_by, run, each_then}
+use Rattle.bk_grammar.proofs.Terms.{◌≡◌, ℕ, ◌+◌, ◌<◌, ◌≤◌, Bool, true, false, cond, List, ◌∷◌, Some, None, refl, sym, ap, subst, ◌∙◌, inl, inr, arith, Kind, Kind as k, Symbol, Operator, Operator as o, Expression, Expressions, Command, Commands, Declarations, name, parens, unary, binary, choice, apply, valof, table, none, more, empty, assign, call, goto, label, default, when, test, while, for_loop, result, simple, block, repeat, repeat_while, no_declarations, declare, row, inner, left, is_relation, infix_of, begins_operand, begins_command, repeats, assigns, is_comma, goes, Fails, Stops, Leaf, last, Full, EndsCommand, Filled, if_or_unless, while_or_until, Reads, Each, Does, at_expression, at_expressions, size, Stack, in_block, in_binary, in_chain, in_table, in_start, in_values, State, want, have, begin, maybe, did, due, limit, linked, guarded, after_sign, bars, give, finish, without, stepped_by, run, each_then}
 use Rattle.bk_grammar.proofs.Steps.{stepped, same_step, alike, takes, failing, failing_both, stops_alike, repeats_alike, pushes, row_le, infix_goes, push_infix, prefix_begins, leaf_begins, operand_begins, simple_begins, guard_begins, at_operand, at_item, same_eq, less_eq}
 use Rattle.bk_grammar.specs.Placed.{position_of}
 
@@ -8,8 +8,7 @@ use Rattle.bk_grammar.specs.Placed.{position_of}
 -- an infix operator within the rows is taken
 pub takes_infix : (st : Stack) (a : Expression) (q : Operator) (t : Symbol) (ms : List Symbol) → infix_of t.kind ≡ Some q → row q ≤ limit st
     → run (t ∷ ms) (have st a) ≡ run ms (cond (is_relation q) (linked q (position_of t) a st (last a)) (want (in_binary q (position_of t) a st)))
-takes_infix st a q t ms is le =
-    stepped (have st a) _ t ms (pushes st a (position_of t) t.text t.kind (infix_goes t.kind q (limit st) is le) ∙ push_infix t.kind q st a (position_of t) is)
+takes_infix st a q t ms is le = grind (arith, stepped, is, push_infix, (pushes st a (position_of t) t.text t.kind (infix_goes t.kind q (limit st) is le) ∙ push_infix t.kind q st a (position_of t) is), (infix_goes t.kind q (limit st) is le))
 
 pub cond_pick : (b : Bool) (x y : State) → (b ≡ true → x ≡ y) → cond b x y ≡ y
 cond_pick true x y h = h refl
@@ -82,9 +81,7 @@ pub at_comma : (st : Stack) (t : Symbol) (ms : List Symbol) → t.kind ≡ k.Com
 at_comma st t ms h = λ stops plain. let e : is_comma t.kind ≡ true = ap is_comma h in absurd cc
 
 pub table_ends : (l : ℕ) (es : Expressions) (x : Expression) (us : List Symbol) (st : Stack) → Stops 12 us → Fails is_comma us → run us (have (in_table l es st) x) ≡ run us (have st (table l (each_then es (more x none))))
-table_ends l es x us st stops bare =
-    alike us (have (in_table l es st) x) (have st (table l (each_then es (more x none)))) (stepped_by (have st (table l (each_then es (more x none)))))
-    (failing_both (goes 12) is_comma us (have (in_table l es st) x) _ refl refl stops bare (λ m s t h j. rw (h, j) refl)) (takes us (have st (table l (each_then es (more x none)))))
+table_ends l es x us st stops bare = grind (arith, alike, none, failing_both, (table l (each_then es (more x none))), (more x none), (goes 12), (takes us (have st (table l (each_then es (more x none))))))
 
 -- ---- how commands begin
 
@@ -164,9 +161,7 @@ pub perhaps : (c : Command) (ts us : List Symbol) (fr st : Stack) (make : Comman
     → ((l : ℕ) (s : List ℕ) (t : Kind) → without fr l s t ≡ finish st (make empty) l s t)
     → ((a : Command) (l : ℕ) (s : List ℕ) (t : Kind) → repeats t ≡ false → finish fr a l s t ≡ finish st (make a) l s t)
     → (Filled c → run ts (begin fr) ≡ run us (did fr c)) → Does c ts us → EndsCommand c us → run ts (maybe fr) ≡ run us (did st (make c))
-perhaps empty ts us fr st make bare made runs h ends =
-    ap (λ z. run z (maybe fr)) h.0 ∙ alike us (maybe fr) (did st (make empty)) (stepped_by (did st (make empty)))
-    (failing begins_command us (maybe fr) _ refl h.1 (λ l s t f. rw f (bare l s t))) (takes us (did st (make empty)))
+perhaps empty ts us fr st make bare made runs h ends = grind (arith, alike, empty, failing, (did st (make empty)), (takes us (did st (make empty))))
 perhaps c ts us fr st make bare made runs h ends =
     at_first begins_command ts (maybe fr) (begin fr) (opens_does c ts us tt h) (λ l s t good. rw good refl)
     ∙ runs tt ∙ repeats_alike us (did fr c) (did st (make c)) ends (λ l s t f. made c l s t f)
@@ -179,18 +174,16 @@ pub guarded_while : (b : Bool) (l : ℕ) (e : Expression) (c : Command) → guar
 guarded_while true l e c = refl
 guarded_while false l e c = refl
 
-pub begins_if : (b : Bool) (st : Stack) → behind_sign (if_or_unless b) st ≡ begin st
+pub begins_if : (b : Bool) (st : Stack) → after_sign (if_or_unless b) st ≡ begin st
 begins_if true st = refl
 begins_if false st = refl
 
-pub begins_while : (b : Bool) (st : Stack) → behind_sign (while_or_until b) st ≡ begin st
+pub begins_while : (b : Bool) (st : Stack) → after_sign (while_or_until b) st ≡ begin st
 begins_while true st = refl
 begins_while false st = refl
 
 pub call_ends : (st : Stack) (m s : ℕ) (f : Expression) (es : Expressions) (us : List Symbol) → Stops 12 us → Fails assigns us → run us (have (in_start st) (apply m s f es)) ≡ run us (did st (call m f es))
-call_ends st m s f es us stops fails =
-    alike us (have (in_start st) (apply m s f es)) (did st (call m f es)) (stepped_by (did st (call m f es)))
-    (failing_both (goes 12) assigns us (have (in_start st) (apply m s f es)) _ refl refl stops fails (λ l x t h j. rw (h, j) refl)) (takes us (did st (call m f es)))
+call_ends st m s f es us stops fails = grind (arith, alike, failing_both, (did st (call m f es)), (goes 12), (takes us (did st (call m f es))))
 
 pub value_ends : (xs zs : Expressions) (y : Expression) (us : List Symbol) (st : Stack) → size xs ≡ size zs + 1 → Stops 12 us
     → run us (have (in_values xs zs st) y) ≡ run us (did st (assign (at_expressions xs) xs (each_then zs (more y none))))

@@ -1,5 +1,5 @@
 -- What the grammar allows is read.
-use Rattle.bk_grammar.proofs.Terms.{◌≡◌, ℕ, ◌+◌, ◌<◌, ◌≤◌, Bool, true, false, cond, List, [], ◌∷◌, ◌++◌, Option, Some, None, Ok, length, refl, sym, ap, subst, ◌∙◌, ◌⊎◌, inl, inr, append_assoc, arith, le-ltb, lt-ltb, Kind, Kind as k, Symbol, Operator as o, Sort, Guard as g, Mention, Expression, Expressions, Command, Commands, Declaration, Declarations, Items, Definition, Definitions, Starts, name, number, text, truth, query, parens, unary, binary, choice, apply, valof, table, none, more, empty, assign, call, goto, label, case_of, default, when, test, while, for_loop, switch, result, simple, block, repeat, repeat_while, no_commands, also, constants, definitions, no_declarations, declare, no_items, item, routine, function, variables, no_definitions, define, no_starts, value, vector, inner, left, behind, infix_of, sort_of, begins_operand, repeats, is_and, is_comma, goes, Fails, SpellsName, Names, Formals, Semis, Filled, if_or_unless, while_or_until, repeats_while, Reads, Each, Does, Body, Parted, Heads, Declares, Listed, Defined, Defines, Started, Section, at_expression, at_expressions, at_names, at_command, size, start_count, Stack, in_section, in_block, in_let, at_name, at_formals, at_formal, at_formal_end, at_head, at_variable, at_variable_end, at_starts, at_opening, at_items, at_sign, at_goto, at_for, at_forward, at_default, in_parens, in_unary, in_binary, in_chain, in_then, in_else, in_args, in_table, in_start, in_dests, in_values, in_guard, in_test, in_result, in_while, in_from, in_to, in_by, in_item, in_function, in_value, in_vector, in_valof, in_label, in_guarded, in_default, in_do, in_or, in_for, in_routine, State, want, have, begin, maybe, did, due, limit, is_vec, named, guarded, behind_sign, take_command, sorted, declared, declared_by, defined_by, again, finish, inside, in_names, take_item, take_due, step, run, each_then, commands_then, declarations_then, items_then, definitions_then, starts_then}
+use Rattle.bk_grammar.proofs.Terms.{◌≡◌, ℕ, ◌+◌, ◌<◌, ◌≤◌, Bool, true, false, cond, List, [], ◌∷◌, ◌++◌, Option, Some, None, Ok, length, refl, sym, ap, subst, ◌∙◌, ◌⊎◌, inl, inr, append_assoc, arith, le-ltb, lt-ltb, Kind, Kind as k, Symbol, Operator as o, Sort, Guard as g, Mention, Expression, Expressions, Command, Commands, Declaration, Declarations, Items, Definition, Definitions, Starts, name, number, text, truth, query, parens, unary, binary, choice, apply, valof, table, none, more, empty, assign, call, goto, label, case_of, default, when, test, while, for_loop, switch, result, simple, block, repeat, repeat_while, no_commands, also, constants, definitions, no_declarations, declare, no_items, item, routine, function, variables, no_definitions, define, no_starts, value, vector, inner, left, following, infix_of, sort_of, begins_operand, repeats, is_and, is_comma, goes, Fails, SpellsName, Names, Formals, Semis, Filled, if_or_unless, while_or_until, repeats_while, Reads, Each, Does, Body, Parted, Heads, Declares, Listed, Defined, Defines, Started, Section, at_expression, at_expressions, at_names, at_command, size, start_count, Stack, in_section, in_block, in_let, at_name, at_formals, at_formal, at_formal_end, at_head, at_variable, at_variable_end, at_starts, at_opening, at_items, at_sign, at_goto, at_for, at_forward, at_default, in_parens, in_unary, in_binary, in_chain, in_then, in_else, in_args, in_table, in_start, in_dests, in_values, in_guard, in_test, in_result, in_while, in_from, in_to, in_by, in_item, in_function, in_value, in_vector, in_valof, in_label, in_guarded, in_default, in_do, in_or, in_for, in_routine, State, want, have, begin, maybe, did, due, limit, is_vec, named, guarded, after_sign, take_command, sorted, declared, declared_by, defined_by, again, finish, inside, in_names, take_item, take_due, step, run, each_then, commands_then, declarations_then, items_then, definitions_then, starts_then}
 use Rattle.bk_grammar.proofs.Steps.{stepped, Takes, alike, failing, stops_alike, repeats_alike, pushes, repeated, left_le, leaf_step, prefix_step, simple_step, guard_step, sign_step, same_eq, less_eq, each_end, commands_end, declarations_end, declarations_all, items_end, definitions_end, value_end, vector_end, size_then, count_then}
 use Rattle.bk_grammar.proofs.Begin.{Free, Opens, joins, joins_chain, row_6, free_left, each_stops, at_infix, at_open, at_arrow, at_comma, table_ends, opens_read, opens_each, opens_does, at_first, opened, item_starts, full_filled, full_fails, perhaps, guarded_when, guarded_while, begins_if, begins_while, call_ends, value_ends, value_more}
 use Rattle.bk_grammar.specs.Placed.{position_of}
@@ -15,9 +15,7 @@ semis_run b ds cs (t ∷ ts) us st (inr h) =
 last_semis : (b : ℕ) (f : Bool) (ds : Declarations) (bs : Commands) (c : Command) (ts : List Symbol) (x : Symbol) (us : List Symbol) (st : Stack) → x.kind ≡ k.SectionClose → Semis ts (x ∷ us)
     → run ts (did (in_block b f ds bs st) c) ≡ run us (did st (block b ds (commands_then bs (also c no_commands))))
 last_semis b f ds bs c [] x us st is h = absurd cc
-last_semis b f ds bs c (t ∷ ts) x us st is (inl h) =
-    let e : step (did (in_block b f ds bs st) c) x ≡ Some (did st (block b ds (commands_then bs (also c no_commands)))) = rw is refl in
-    ap (λ z. run z (did (in_block b f ds bs st) c)) h ∙ stepped (did (in_block b f ds bs st) c) _ x us e
+last_semis b f ds bs c (t ∷ ts) x us st is (inl h) = grind (arith, step, did, stepped)
 last_semis b f ds bs c (t ∷ ts) x us st is (inr h) =
     let e : step (did (in_block b f ds bs st) c) t ≡ Some (due (in_block b true ds (commands_then bs (also c no_commands)) st)) = rw h.0 refl in
     let d : step (due (in_block b true ds (commands_then bs (also c no_commands)) st)) x ≡ Some (did st (block b ds (commands_then bs (also c no_commands)))) = rw is refl in
@@ -28,9 +26,7 @@ last_semis b f ds bs c (t ∷ ts) x us st is (inr h) =
 head_semis : (b : ℕ) (f : Bool) (ds : Declarations) (ts : List Symbol) (x : Symbol) (us : List Symbol) (st : Stack) → x.kind ≡ k.SectionClose → Semis ts (x ∷ us)
     → run ts (due (in_block b f ds no_commands st)) ≡ run us (did st (block b ds no_commands))
 head_semis b f ds [] x us st is h = absurd cc
-head_semis b f ds (t ∷ ts) x us st is (inl h) =
-    let e : step (due (in_block b f ds no_commands st)) x ≡ Some (did st (block b ds no_commands)) = rw is refl in
-    ap (λ z. run z (due (in_block b f ds no_commands st))) h ∙ stepped (due (in_block b f ds no_commands st)) _ x us e
+head_semis b f ds (t ∷ ts) x us st is (inl h) = grind (arith, step, due, did, stepped)
 head_semis b f ds (t ∷ ts) x us st is (inr h) =
     let e : step (due (in_block b f ds no_commands st)) t ≡ Some (due (in_block b true ds no_commands st)) = rw h.0 refl in
     let d : step (due (in_block b true ds no_commands st)) x ≡ Some (did st (block b ds no_commands)) = rw is refl in
@@ -140,9 +136,7 @@ items_shut m s (item a b c zs) fr inside t some head h = rw h (declared_is insid
 items_close : (m : ℕ) (s : Sort) (zs : Items) (x : Mention) (e : Expression) (fr : Stack) (inside : Bool) (ns : List Symbol) (c : Symbol) (us : List Symbol) → Head inside fr → c.kind ≡ k.SectionClose → Semis ns (c ∷ us)
     → run ns (have (in_item m s zs x fr) e) ≡ run us (due (after fr (constants m s (items_then zs (item x.at x.letters e no_items)))))
 items_close m s zs x e fr inside [] c us head is h = absurd cc
-items_close m s zs x e fr inside (t ∷ ns) c us head is (inl h) =
-    let d : step (have (in_item m s zs x fr) e) c ≡ Some (due (after fr (constants m s (items_then zs (item x.at x.letters e no_items))))) = rw is (declared_is inside fr (constants m s (items_then zs (item x.at x.letters e no_items))) head) in
-    ap (λ z. run z (have (in_item m s zs x fr) e)) h ∙ stepped (have (in_item m s zs x fr) e) _ c us d
+items_close m s zs x e fr inside (t ∷ ns) c us head is (inl h) = grind (arith, step, due, no_items, declared_is, inside, stepped)
 items_close m s zs x e fr inside (t ∷ ns) c us head is (inr h) =
     let ys = items_then zs (item x.at x.letters e no_items) in
     let d : step (have (in_item m s zs x fr) e) t ≡ Some (due (at_items m s ys fr)) = rw h.0 refl in
@@ -167,8 +161,7 @@ formals_more n (x ∷ (y ∷ ys)) zs L ts c us shuts h =
     ∙ formals_more n (y ∷ ys) (zs ++ x ∷ []) L h.2 c us shuts h.6 ∙ ap (λ z. run us (due (at_head n z L))) (append_assoc zs (x ∷ []) (y ∷ ys))
 
 formals_run : (n : Mention) (fs : List Mention) (L : Stack) (ts us : List Symbol) → Formals fs ts us → run ts (due (at_formals n L)) ≡ run us (due (at_head n fs L))
-formals_run n [] L ts us h =
-    let a : step (due (at_formals n L)) h.0 ≡ Some (due (at_head n [] L)) = rw h.2 refl in ap (λ z. run z (due (at_formals n L))) h.1 ∙ stepped (due (at_formals n L)) _ h.0 us a
+formals_run n [] L ts us h = grind (arith, step, due, at_head, stepped)
 formals_run n (x ∷ []) L ts us h =
     let j = h.2 in
     let a : step (due (at_formals n L)) j.0 ≡ Some (due (at_formal_end n (x ∷ []) L)) = rw (j.2.0, j.2.1, j.2.2) refl in
@@ -239,8 +232,8 @@ mutual
       ∙ stepped (have (in_parens l st) x) (have st (parens l x)) h.2 us b
   reads_run rows (unary l p x) ts us st le free h =
       let e : step (want st) h.1 ≡ Some (want (in_unary l p st)) = rw h.5 (prefix_step h.1.kind st l h.1.text p h.4) in
-      ap (λ z. run z (want st)) h.3 ∙ stepped (want st) _ h.1 h.2 e ∙ reads_run (behind p) x h.2 us (in_unary l p st) (omega arith) free h.6
-      ∙ stops_alike (behind p) us (have (in_unary l p st) x) (have st (unary l p x)) h.7 (λ m y t g. rw g refl)
+      ap (λ z. run z (want st)) h.3 ∙ stepped (want st) _ h.1 h.2 e ∙ reads_run (following p) x h.2 us (in_unary l p st) (omega arith) free h.6
+      ∙ stops_alike (following p) us (have (in_unary l p st) x) (have st (unary l p x)) h.7 (λ m y t g. rw g refl)
   reads_run rows (binary l o.Both s x (binary m q n b c)) ts us st le free (inl h) =
       let is : infix_of h.1.kind ≡ Some o.Both = ap infix_of h.3 in
       reads_run 9 x ts (h.1 ∷ h.2) st (omega arith) (at_infix st o.Both h.1 h.2 is) h.6
@@ -324,7 +317,7 @@ mutual
       ∙ perhaps c h.2 us (in_label l x st) st (label l x) (λ m y t. refl) (λ a m y t g. rw g refl) (λ filled. does_run c h.2 us (in_label l x st) filled h.6) h.6 h.7
   does_run (case_of l e c) ts us st full h =
       let o : step (begin st) h.0 ≡ Some (want (in_guard (g.Case) l st)) = rw h.6 (guard_step h.0.kind st l h.0.text (g.Case) h.5) in
-      let d : step (have (in_guard (g.Case) l st) e) h.2 ≡ Some (behind_sign (g.Case) (in_guarded (g.Case) l e st)) = sign_step (g.Case) h.2.kind l e st (position_of h.2) h.2.text h.8 in
+      let d : step (have (in_guard (g.Case) l st) e) h.2 ≡ Some (after_sign (g.Case) (in_guarded (g.Case) l e st)) = sign_step (g.Case) h.2.kind l e st (position_of h.2) h.2.text h.8 in
       ap (λ z. run z (begin st)) h.4 ∙ stepped (begin st) _ h.0 h.1 o ∙ reads_run 12 e h.1 (h.2 ∷ h.3) (in_guard (g.Case) l st) (omega arith) (λ a b. refl) h.7
       ∙ stepped (have (in_guard (g.Case) l st) e) _ h.2 h.3 d ∙ perhaps c h.3 us (in_guarded g.Case l e st) st (case_of l e) (λ m y t. refl) (λ a m y t f. rw f refl) (λ filled. does_run c h.3 us (in_guarded g.Case l e st) filled h.9) h.9 h.10
   does_run (default l c) ts us st full h =
@@ -334,19 +327,19 @@ mutual
       ∙ perhaps c h.2 us (in_default l st) st (default l) (λ m y t. refl) (λ a m y t g. rw g refl) (λ filled. does_run c h.2 us (in_default l st) filled h.7) h.7 h.8
   does_run (when l b e c) ts us st full h =
       let o : step (begin st) h.0 ≡ Some (want (in_guard (if_or_unless b) l st)) = rw h.6 (guard_step h.0.kind st l h.0.text (if_or_unless b) h.5) in
-      let d : step (have (in_guard (if_or_unless b) l st) e) h.2 ≡ Some (behind_sign (if_or_unless b) (in_guarded (if_or_unless b) l e st)) = sign_step (if_or_unless b) h.2.kind l e st (position_of h.2) h.2.text h.8 in
+      let d : step (have (in_guard (if_or_unless b) l st) e) h.2 ≡ Some (after_sign (if_or_unless b) (in_guarded (if_or_unless b) l e st)) = sign_step (if_or_unless b) h.2.kind l e st (position_of h.2) h.2.text h.8 in
       ap (λ z. run z (begin st)) h.4 ∙ stepped (begin st) _ h.0 h.1 o ∙ reads_run 12 e h.1 (h.2 ∷ h.3) (in_guard (if_or_unless b) l st) (omega arith) (λ a b. refl) h.7
       ∙ stepped (have (in_guard (if_or_unless b) l st) e) _ h.2 h.3 d ∙ ap (run h.3) (begins_if b (in_guarded (if_or_unless b) l e st)) ∙ does_run c h.3 us (in_guarded (if_or_unless b) l e st) (full_filled c us h.10) h.9
       ∙ repeats_alike us (did (in_guarded (if_or_unless b) l e st) c) (did st (guarded (if_or_unless b) l e c)) (full_fails c us h.10) (λ m x t g. rw g refl) ∙ ap (λ z. run us (did st z)) (guarded_when b l e c)
   does_run (while l b e c) ts us st full h =
       let o : step (begin st) h.0 ≡ Some (want (in_guard (while_or_until b) l st)) = rw h.6 (guard_step h.0.kind st l h.0.text (while_or_until b) h.5) in
-      let d : step (have (in_guard (while_or_until b) l st) e) h.2 ≡ Some (behind_sign (while_or_until b) (in_guarded (while_or_until b) l e st)) = sign_step (while_or_until b) h.2.kind l e st (position_of h.2) h.2.text h.8 in
+      let d : step (have (in_guard (while_or_until b) l st) e) h.2 ≡ Some (after_sign (while_or_until b) (in_guarded (while_or_until b) l e st)) = sign_step (while_or_until b) h.2.kind l e st (position_of h.2) h.2.text h.8 in
       ap (λ z. run z (begin st)) h.4 ∙ stepped (begin st) _ h.0 h.1 o ∙ reads_run 12 e h.1 (h.2 ∷ h.3) (in_guard (while_or_until b) l st) (omega arith) (λ a b. refl) h.7
       ∙ stepped (have (in_guard (while_or_until b) l st) e) _ h.2 h.3 d ∙ ap (run h.3) (begins_while b (in_guarded (while_or_until b) l e st)) ∙ does_run c h.3 us (in_guarded (while_or_until b) l e st) (full_filled c us h.10) h.9
       ∙ repeats_alike us (did (in_guarded (while_or_until b) l e st) c) (did st (guarded (while_or_until b) l e c)) (full_fails c us h.10) (λ m x t g. rw g refl) ∙ ap (λ z. run us (did st z)) (guarded_while b l e c)
   does_run (switch l e c) ts us st full h =
       let o : step (begin st) h.0 ≡ Some (want (in_guard (g.SwitchOn) l st)) = rw h.6 (guard_step h.0.kind st l h.0.text (g.SwitchOn) h.5) in
-      let d : step (have (in_guard (g.SwitchOn) l st) e) h.2 ≡ Some (behind_sign (g.SwitchOn) (in_guarded (g.SwitchOn) l e st)) = sign_step (g.SwitchOn) h.2.kind l e st (position_of h.2) h.2.text h.8 in
+      let d : step (have (in_guard (g.SwitchOn) l st) e) h.2 ≡ Some (after_sign (g.SwitchOn) (in_guarded (g.SwitchOn) l e st)) = sign_step (g.SwitchOn) h.2.kind l e st (position_of h.2) h.2.text h.8 in
       ap (λ z. run z (begin st)) h.4 ∙ stepped (begin st) _ h.0 h.1 o ∙ reads_run 12 e h.1 (h.2 ∷ h.3) (in_guard (g.SwitchOn) l st) (omega arith) (λ a b. refl) h.7
       ∙ stepped (have (in_guard (g.SwitchOn) l st) e) _ h.2 h.3 d ∙ does_run c h.3 us (in_guarded g.SwitchOn l e st) (full_filled c us h.10) h.9
       ∙ repeats_alike us (did (in_guarded g.SwitchOn l e st) c) (did st (switch l e c)) (full_fails c us h.10) (λ m x t f. rw f refl)

@@ -1,5 +1,5 @@
 -- Each step of the machine leads from a state that fits to one that fits.
-use Rattle.bk_grammar.proofs.Terms.{◌≡◌, ℕ, ◌+◌, ◌<◌, Bool, true, false, cond, List, [], ◌∷◌, ◌++◌, ◌==◌, length, length-append, Option, Some, None, refl, sym, subst, arith, nat_tests, Kind, Kind as k, Symbol, Operator, Sort, Guard, Guard as g, Mention, Expression, Expressions, Command, Commands, Declaration, Declarations, Items, Definition, name, parens, unary, binary, choice, apply, valof, table, none, more, empty, assign, label, default, test, for_loop, result, block, repeat_while, no_commands, also, constants, definitions, no_declarations, declare, no_items, item, routine, function, variables, no_definitions, define, no_starts, value, vector, inner, behind, is_relation, infix_of, sort_of, sign_of, begins_command, repeats, assigns, is_and, is_comma, goes, last, at_expression, at_expressions, at_names, at_command, size, start_count, Stack, in_section, in_block, in_let, at_name, at_formals, at_formal, at_formal_end, at_head, at_variable, at_variable_end, at_starts, at_opening, at_items, at_sign, at_goto, at_for, at_forward, at_default, in_parens, in_unary, in_binary, in_chain, in_then, in_else, in_args, in_table, in_start, in_dests, in_values, in_guard, in_test, in_result, in_while, in_from, in_to, in_by, in_item, in_function, in_value, in_vector, in_valof, in_label, in_guarded, in_default, in_do, in_or, in_for, in_routine, State, want, have, begin, maybe, did, due, linked, infixed, push, is_close, is_colon, is_do, is_or, is_to, is_equal, is_semicolon, opens, closes, is_vec, is_let, is_open, is_sign_of, if_is, named, guarded, behind_sign, no_args, bars, take_operand, take_command, sorted, take_declaration, take_in_section, in_head, take_in_block, declared, declared_by, defined_by, again, dests, labelled, is_call, call_of, in_constants, to_or_do, give, finish, without, inside, in_names, in_formals, headed, take_item, take_due, step, each_then, commands_then, declarations_then, items_then, definitions_then, starts_then}
+use Rattle.bk_grammar.proofs.Terms.{◌≡◌, ℕ, ◌+◌, ◌<◌, Bool, true, false, cond, List, [], ◌∷◌, ◌++◌, ◌==◌, length, length-append, Option, Some, None, refl, sym, subst, arith, nat_tests, Kind, Kind as k, Symbol, Operator, Sort, Guard, Guard as g, Mention, Expression, Expressions, Command, Commands, Declaration, Declarations, Items, Definition, name, parens, unary, binary, choice, apply, valof, table, none, more, empty, assign, label, default, test, for_loop, result, block, repeat_while, no_commands, also, constants, definitions, no_declarations, declare, no_items, item, routine, function, variables, no_definitions, define, no_starts, value, vector, inner, following, is_relation, infix_of, sort_of, sign_of, begins_command, repeats, assigns, is_and, is_comma, goes, last, at_expression, at_expressions, at_names, at_command, size, start_count, Stack, in_section, in_block, in_let, at_name, at_formals, at_formal, at_formal_end, at_head, at_variable, at_variable_end, at_starts, at_opening, at_items, at_sign, at_goto, at_for, at_forward, at_default, in_parens, in_unary, in_binary, in_chain, in_then, in_else, in_args, in_table, in_start, in_dests, in_values, in_guard, in_test, in_result, in_while, in_from, in_to, in_by, in_item, in_function, in_value, in_vector, in_valof, in_label, in_guarded, in_default, in_do, in_or, in_for, in_routine, State, want, have, begin, maybe, did, due, linked, infixed, push, is_close, is_colon, is_do, is_or, is_to, is_equal, is_semicolon, opens, closes, is_vec, is_let, is_open, is_sign_of, if_is, named, guarded, after_sign, no_args, bars, take_operand, take_command, sorted, take_declaration, take_in_section, in_head, take_in_block, declared, declared_by, defined_by, again, dests, labelled, is_call, call_of, in_constants, to_or_do, give, finish, without, inside, in_names, in_formals, headed, take_item, take_due, step, each_then, commands_then, declarations_then, items_then, definitions_then, starts_then}
 use Rattle.bk_tree.specs.declared.tree.Operator.TheVariants.{Both}
 use Rattle.bk_grammar.proofs.Steps.{size_then, count_then}
 use Rattle.bk_grammar.proofs.Before.{is_close_kind, is_comma_kind, is_colon_kind, is_do_kind, is_or_kind, is_to_kind, is_and_kind, is_equal_kind, is_semicolon_kind, opens_kind, closes_kind, is_vec_kind, is_let_kind, is_open_kind}
@@ -130,7 +130,7 @@ to_or_do_fits k.SectionOpen l n a b st os h = λ tag has. tt
 to_or_do_fits k.SectionClose l n a b st os h = tt
 to_or_do_fits _ l n a b st os h = tt
 
-guard_fits : (gd : Guard) (m : ℕ) (e : Expression) (st : Stack) (os : List (List ℕ)) → ForCommand st os → After (sign_of gd) (Some (behind_sign gd (in_guarded gd m e st))) os
+guard_fits : (gd : Guard) (m : ℕ) (e : Expression) (st : Stack) (os : List (List ℕ)) → ForCommand st os → After (sign_of gd) (Some (after_sign gd (in_guarded gd m e st))) os
 guard_fits g.Case m e st os h = (tt, h)
 guard_fits x m e st os h = h
 
@@ -162,13 +162,7 @@ section_fits : (t : Kind) (ds : Declarations) (l : ℕ) (os : List (List ℕ)) �
 section_fits t ds l os h = sign_or (is_semicolon t) k.Semicolon t (due (in_section ds)) _ os (is_semicolon_kind t) h (declaration_fits t (in_section ds) l None os h (stuck t os))
 
 block_fits : (t : Kind) (b : ℕ) (free : Bool) (ds : Declarations) (cs : Commands) (st : Stack) (l : ℕ) (x : List ℕ) (os : List (List ℕ)) → Under (ForCommand st) os → After t (take_in_block b free ds cs st l x t) os
-block_fits t b free ds cs st l x os h =
-    let here : Stack = in_block b free ds cs st in
-    let rest : Option State = cond free (take_command here l x t) None in
-    let command : After t rest os = either free t (take_command here l x t) None os (λ e. command_fits t here l x os h) (λ e. stuck t os) in
-    sign_or (is_semicolon t) k.Semicolon t (due (in_block b true ds cs st)) _ os (is_semicolon_kind t) h
-    (sign_or (closes t) k.SectionClose t (did st (block b ds cs)) _ os (closes_kind t) h
-    (either (in_head cs) t (take_declaration here l t rest) rest os (λ e. declaration_fits t here l rest os h command) (λ e. command)))
+block_fits t b free ds cs st l x os h = grind (arith, either, command_fits, stuck, sign_or, due, is_semicolon_kind, closes, did, closes_kind, declaration_fits)
 
 declared_by_fits : (t : Kind) (st : Stack) (d : Declaration) (l : ℕ) (x : List ℕ) (os : List (List ℕ)) → ForDeclaration st os → After t (declared_by st d l x t) os
 declared_by_fits t (in_section ds) d l x os h = section_fits t (declarations_then ds (declare d no_declarations)) l os h
@@ -176,9 +170,7 @@ declared_by_fits t (in_block b free ds cs st) d l x os h = block_fits t b false 
 declared_by_fits t _ d l x os h = absurd h
 
 defined_fits : (t : Kind) (st : Stack) (d : Definition) (l : ℕ) (x : List ℕ) (os : List (List ℕ)) → ForDefinition st os → After t (defined_by st d l x t) os
-defined_fits t (in_let m ds st) d l x os h =
-    sign_or (is_and t) k.And t (due (in_let m (definitions_then ds (define d no_definitions)) st)) _ os (is_and_kind t) h
-    (declared_by_fits t st (definitions m (definitions_then ds (define d no_definitions))) l x os h)
+defined_fits t (in_let m ds st) d l x os h = grind (arith, sign_or, due, is_and_kind, declared_by_fits)
 defined_fits t _ d l x os h = absurd h
 
 -- ---- what is complete
@@ -189,7 +181,7 @@ fewer m n i lt other is = grind (arith, nat_tests)
 mutual
   pub give_fits : (t : Kind) (st : Stack) (e : Expression) (l : ℕ) (x : List ℕ) (os : List (List ℕ)) → ForExpression st os → After t (give st e l x t) os
   give_fits t (in_parens m st) e l x os h = goes_or (goes 12 t) t (in_parens m st) e l _ os h (sign (is_close t) k.Close t (have st (parens m e)) os (is_close_kind t) h)
-  give_fits t (in_unary m p st) e l x os h = goes_or (goes (behind p) t) t (in_unary m p st) e l _ os h (give_fits t st (unary m p e) l x os h)
+  give_fits t (in_unary m p st) e l x os h = goes_or (goes (following p) t) t (in_unary m p st) e l _ os h (give_fits t st (unary m p e) l x os h)
   give_fits t (in_binary q s a st) e l x os h = goes_or (goes (inner q) t) t (in_binary q s a st) e l _ os h (give_fits t st (binary (at_expression a) q s a e) l x os h)
   give_fits t (in_chain q s a b st) e l x os h = goes_or (goes 5 t) t (in_chain q s a b st) e l _ os h (give_fits t st (binary (at_expression a) Both s a (binary (at_expression b) q s b e)) l x os h)
   give_fits t (in_then s c st) e l x os h = goes_or (goes 12 t) t (in_then s c st) e l _ os h (sign (is_comma t) k.Comma t (want (in_else s c e st)) os (is_comma_kind t) h)
@@ -207,7 +199,7 @@ mutual
   give_fits t (in_values xs ys st) e l x os h = goes_or (goes 12 t) t (in_values xs ys st) e l _ os h
       (either (size xs == size ys + 1) t _ _ os (λ y. finish_fits t st (assign (at_expressions xs) xs (each_then ys (more e none))) l x os h.1)
       (λ y. sign (is_comma t) k.Comma t (want (in_values xs (each_then ys (more e none)) st)) os (is_comma_kind t) (fewer (size xs) (size ys) _ h.0 y (size_then ys (more e none)), h.1)))
-  give_fits t (in_guard gd m st) e l x os h = goes_or (goes 12 t) t (in_guard gd m st) e l _ os h (sign (is_sign_of gd t) (sign_of gd) t (behind_sign gd (in_guarded gd m e st)) os (sign_is gd t) (guard_fits gd m e st os h))
+  give_fits t (in_guard gd m st) e l x os h = goes_or (goes 12 t) t (in_guard gd m st) e l _ os h (sign (is_sign_of gd t) (sign_of gd) t (after_sign gd (in_guarded gd m e st)) os (sign_is gd t) (guard_fits gd m e st os h))
   give_fits t (in_test m st) e l x os h = goes_or (goes 12 t) t (in_test m st) e l _ os h (sign (is_do t) k.Do t (begin (in_do m e st)) os (is_do_kind t) h)
   give_fits t (in_result m st) e l x os h = goes_or (goes 12 t) t (in_result m st) e l _ os h (finish_fits t st (result m e) l x os h)
   give_fits t (in_while b c st) e l x os h = goes_or (goes 12 t) t (in_while b c st) e l _ os h (finish_fits t st (repeat_while (at_command c) b c e) l x os h)
@@ -275,11 +267,7 @@ headed_fits _ n fs st os h = tt
 
 item_fits : (t : Kind) (m : ℕ) (s : Sort) (is : Items) (st : Stack) (l : ℕ) (x : List ℕ) (os : List (List ℕ)) → Under (ForDeclaration st) os → After t (take_item m s is st l x t) os
 item_fits t m s no_items st l x os h = named_fits t l x (λ n. due (at_sign m s no_items n st)) os (λ n. h)
-item_fits t m s (item b y e is) st l x os h =
-    sign_or (is_semicolon t) k.Semicolon t (due (at_items m s (item b y e is) st)) _ os (is_semicolon_kind t) h
-    (either (closes t) t (declared st (constants m s (item b y e is))) _ os
-    (λ c. as_kind k.SectionClose t (declared st (constants m s (item b y e is))) os (closes_kind t c) (declared_fits st (constants m s (item b y e is)) os h))
-    (λ c. named_fits t l x (λ n. due (at_sign m s (item b y e is) n st)) os (λ n. h)))
+item_fits t m s (item b y e is) st l x os h = grind (arith, sign_or, due, is_semicolon_kind, either, closes, declared, as_kind, closes_kind, declared_fits, named_fits)
 
 pub more_names : (xs : List Mention) (n : Mention) → 0 < length (xs ++ n ∷ [])
 more_names xs n = let h = length-append xs (n ∷ []) in omega arith
@@ -288,8 +276,7 @@ due_fits : (t : Kind) (st : Stack) (l : ℕ) (x : List ℕ) (os : List (List ℕ
 due_fits t (in_section ds) l x os h = section_fits t ds l os h
 due_fits t (in_block b free ds cs st) l x os h = block_fits t b free ds cs st l x os h
 due_fits t (in_let m ds st) l x os h = named_fits t l x (λ n. due (at_name n (in_let m ds st))) os (λ n. h)
-due_fits t (at_name n st) l x os h = sign_or (is_open t) k.Open t (due (at_formals n st)) _ os (is_open_kind t) h
-    (either (inside st) t (in_names (n ∷ []) st t) None os (λ i. names_fits t (n ∷ []) st os (omega arith) h) (λ i. stuck t os))
+due_fits t (at_name n st) l x os h = grind (arith, sign_or, due, is_open_kind, either, inside, names_fits, stuck)
 due_fits t (at_formals n st) l x os h = sign_or (is_close t) k.Close t (due (at_head n [] st)) _ os (is_close_kind t) h (named_fits t l x (λ f. due (at_formal_end n (f ∷ []) st)) os (λ f. h))
 due_fits t (at_formal n fs st) l x os h = named_fits t l x (λ f. due (at_formal_end n (fs ++ f ∷ []) st)) os (λ f. h)
 due_fits t (at_formal_end n fs st) l x os h = formals_fits t n fs st os h

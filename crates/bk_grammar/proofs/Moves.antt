@@ -1,5 +1,5 @@
 -- What is read is in the grammar: each step.
-use Rattle.bk_grammar.proofs.Terms.{◌≡◌, ℕ, ◌≤◌, Bool, true, false, cond, List, ◌∷◌, Option, Some, None, refl, sym, ap, subst, ◌∙◌, inl, inr, arith, nat_lt, ltb-true, cases_lt, Kind, Kind as k, Symbol, Operator, Operator as o, Prefix, Sort, Simple, Guard, Guard as g, Mention, Expression, Expressions, Command, Commands, Declaration, Declarations, Items, Definition, name, number, text, truth, query, apply, none, more, empty, simple, block, repeat, no_commands, also, constants, definitions, no_declarations, declare, no_definitions, define, upper_name, number_word, string_bytes, character_byte, row, left, is_relation, infix_of, prefix_of, leaf, simple_of, sort_of, guard_of, sign_of, repeats, is_and, goes, Fails, last, Full, EndsCommand, Filled, Reads, Does, Declares, Defines, at_expression, at_command, Stack, in_section, in_block, in_let, at_opening, at_items, at_goto, at_for, at_default, in_parens, in_unary, in_binary, in_chain, in_then, in_args, in_table, in_start, in_dests, in_values, in_guard, in_test, in_result, in_while, in_by, in_valof, in_label, in_guarded, in_for, State, want, have, begin, maybe, did, due, limit, linked, infixed, push, is_semicolon, closes, is_let, is_sign_of, guarded, behind_sign, prefixed, no_args, bars, leaved, take_operand, take_start, take_command, sorted, take_declaration, take_in_section, in_head, take_in_block, declared, declared_by, defined_by, again, dests, labelled, in_constants, to_or_do, inside, declarations_then, definitions_then}
+use Rattle.bk_grammar.proofs.Terms.{◌≡◌, ℕ, ◌≤◌, Bool, true, false, cond, List, ◌∷◌, Option, Some, None, refl, sym, ap, subst, ◌∙◌, inl, inr, arith, nat_lt, ltb-true, cases_lt, Kind, Kind as k, Symbol, Operator, Operator as o, Prefix, Sort, Simple, Guard, Guard as g, Mention, Expression, Expressions, Command, Commands, Declaration, Declarations, Items, Definition, name, number, text, truth, query, apply, none, more, empty, simple, block, repeat, no_commands, also, constants, definitions, no_declarations, declare, no_definitions, define, upper_name, number_word, string_bytes, character_byte, row, left, is_relation, infix_of, prefix_of, leaf, simple_of, sort_of, guard_of, sign_of, repeats, is_and, goes, Fails, last, Full, EndsCommand, Filled, Reads, Does, Declares, Defines, at_expression, at_command, Stack, in_section, in_block, in_let, at_opening, at_items, at_goto, at_for, at_default, in_parens, in_unary, in_binary, in_chain, in_then, in_args, in_table, in_start, in_dests, in_values, in_guard, in_test, in_result, in_while, in_by, in_valof, in_label, in_guarded, in_for, State, want, have, begin, maybe, did, due, limit, linked, infixed, push, is_semicolon, closes, is_let, is_sign_of, guarded, after_sign, prefixed, no_args, bars, leaved, take_operand, take_start, take_command, sorted, take_declaration, take_in_section, in_head, take_in_block, declared, declared_by, defined_by, again, dests, labelled, in_constants, to_or_do, inside, declarations_then, definitions_then}
 use Rattle.bk_grammar.proofs.Begin.{row_6}
 use Rattle.bk_grammar.proofs.Steps.{infix_goes, infix_row}
 use Rattle.bk_grammar.proofs.Complete.{after}
@@ -8,10 +8,7 @@ use Rattle.bk_grammar.proofs.Lists.{semis_refl, semis_snoc, heads_snoc, inside_s
 use Rattle.bk_grammar.specs.Placed.{position_of}
 
 pub up_to : (j : ℕ) (q : Operator) (e : Expression) (ms us : List Symbol) (t : Symbol) → Reached j e ms us t → infix_of t.kind ≡ Some q → j ≤ row q
-up_to j q e ms us t r h = elim (cases_lt (row q) j) [
-  | inl lt ↦ let f = infix_goes t.kind q (row q) h (omega arith) in let w = r.below (row q) lt in absurd cc
-  | inr le ↦ le
-]
+up_to j q e ms us t r h = grind (arith, infix_goes)
 
 pub cond_inv : (b : Bool) (x y : State) (a us : List Symbol) → (b ≡ true → Inv x a us) → (b ≡ false → Inv y a us) → Inv (cond b x y) a us
 cond_inv true x y a us f w = f refl
@@ -79,10 +76,7 @@ pub operand_at : (y : Kind) (st : Stack) (t : Symbol) (n : State) (a us : List S
 operand_at k.Open st t n a us is b h = to (want (in_parens (position_of t) st)) n a us h (t, b, is, refl)
 operand_at k.Close st t n a us is b h = no_args_at st t n a us is b h
 operand_at k.Valof st t n a us is b h = to (begin (in_valof (position_of t) st)) n a us h ((t, b, is, refl), tt)
-operand_at k.Table st t n a us is b h = elim (split (bars st) _ _ n h) [
-  | inl x ↦ absurd cc
-  | inr x ↦ to (want (in_table (position_of t) none st)) n a us x.1 (t, us, b, is, refl, refl)
-]
+operand_at k.Table st t n a us is b h = grind (arith, split, to, none)
 operand_at y st t n a us is b h = leaved_at (leaf y (position_of t) t.text) y st t n a us is refl b h
 
 -- ---- commands
@@ -93,9 +87,7 @@ start_at None (Some gd) st t n a us is j b r h = to (want (in_guard gd (position
 start_at None None st t n a us is j b r h = operand_at t.kind (in_start st) t n a us refl (b, r) h
 
 pub start_as : (y : Kind) (st : Stack) (t : Symbol) (n : State) (a us : List Symbol) → t.kind ≡ y → Before st a (t ∷ us) → Ready st → take_start st (position_of t) t.text y (simple_of y) (guard_of y) ≡ Some n → Inv n a us
-start_as y st t n a us is b r h =
-    let P : Kind → Type 0 = λ z. take_start st (position_of t) t.text z (simple_of z) (guard_of z) ≡ Some n in
-    start_at (simple_of t.kind) (guard_of t.kind) st t n a us refl refl b r (subst P (sym is) h)
+start_as y st t n a us is b r h = grind (arith, text, start_at)
 
 pub command_at : (y : Kind) (st : Stack) (t : Symbol) (n : State) (a us : List Symbol) → t.kind ≡ y → Before st a (t ∷ us) → Ready st → take_command st (position_of t) t.text y ≡ Some n → Inv n a us
 command_at k.Goto st t n a us is b r h = to (due (at_goto (position_of t) st)) n a us h (t, (b, r), is, refl)
@@ -126,7 +118,7 @@ sign_is g.SwitchOn _ h = absurd cc
 sign_is g.Case t h = is_colon_kind t h
 sign_is x t h = is_do_kind t h
 
-pub behind_inv : (gd : Guard) (m : ℕ) (e : Expression) (st : Stack) (a us : List Symbol) → Before (in_guarded gd m e st) a us → Inv (behind_sign gd (in_guarded gd m e st)) a us
+pub behind_inv : (gd : Guard) (m : ℕ) (e : Expression) (st : Stack) (a us : List Symbol) → Before (in_guarded gd m e st) a us → Inv (after_sign gd (in_guarded gd m e st)) a us
 behind_inv g.Case m e st a us b = (b, tt)
 behind_inv _ m e st a us b = (b, tt)
 
@@ -153,10 +145,7 @@ name_spelled k.Name m s l x h = (refl, cc, cc)
 name_spelled _ m s l x h = absurd cc
 
 pub labelled_at : (e : Expression) (st : Stack) (t : Symbol) (n : State) (a ms us : List Symbol) → Before st a ms → Ready st → Reads 0 e ms (t ∷ us) → t.kind ≡ k.Colon → labelled e st ≡ Some n → Inv n a us
-labelled_at (name l x) st t n a ms us b r e is h =
-    let P : List Symbol → Type 0 = λ z. Before st a z in
-    let s = name_spelled e.0.kind (position_of e.0) e.0.text l x e.2 in
-    to (maybe (in_label l x st)) n a us h ((e.0, t, (subst P e.1 b, r), s, is), tt)
+labelled_at (name l x) st t n a ms us b r e is h = grind (arith, name_spelled, text, to)
 labelled_at _ st t n a ms us b r e is h = absurd cc
 
 -- ---- declarations
@@ -166,16 +155,10 @@ sorted_at None st t other n a us is b head h i = i h
 sorted_at (Some s) st t other n a us is b head h i = to (due (at_opening (position_of t) s st)) n a us h (t, b, head, is, refl)
 
 pub declaration_at : (st : Stack) (t : Symbol) (other : Option State) (n : State) (a us : List Symbol) → Before st a (t ∷ us) → At_head st → take_declaration st (position_of t) t.kind other ≡ Some n → (other ≡ Some n → Inv n a us) → Inv n a us
-declaration_at st t other n a us b head h i = elim (split (is_let t.kind) _ _ n h) [
-  | inl x ↦ to (due (in_let (position_of t) no_definitions st)) n a us x.1 (t, us, b, is_let_kind t.kind x.0, refl, head, refl)
-  | inr x ↦ sorted_at (sort_of t.kind) st t other n a us refl b head x.1 i
-]
+declaration_at st t other n a us b head h i = grind (arith, split, to, due, is_let_kind, sorted_at)
 
 pub section_at : (ds : Declarations) (t : Symbol) (n : State) (a us : List Symbol) → Before (in_section ds) a (t ∷ us) → take_in_section ds (position_of t) t.kind ≡ Some n → Inv n a us
-section_at ds t n a us b h = elim (split (is_semicolon t.kind) _ _ n h) [
-  | inl x ↦ to (due (in_section ds)) n a us x.1 (b.0, b.1, semis_snoc b.0 t us b.2 (is_semicolon_kind t.kind x.0))
-  | inr x ↦ declaration_at (in_section ds) t None n a us b tt x.1 (λ w. absurd cc)
-]
+section_at ds t n a us b h = grind (arith, split, to, due, in_section, semis_snoc, is_semicolon_kind, declaration_at)
 
 pub block_command : (f : Bool) (l : ℕ) (ds : Declarations) (cs : Commands) (st : Stack) (t : Symbol) (n : State) (a us : List Symbol) → Before (in_block l f ds cs st) a (t ∷ us) → cond f (take_command (in_block l f ds cs st) (position_of t) t.text t.kind) None ≡ Some n → Inv n a us
 block_command true l ds cs st t n a us b h = command_at t.kind (in_block l true ds cs st) t n a us refl b tt h

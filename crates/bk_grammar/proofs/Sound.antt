@@ -1,5 +1,5 @@
 -- What is read is in the grammar.
-use Rattle.bk_grammar.proofs.Terms.{◌≡◌, ℕ, ◌+◌, ◌≤◌, true, false, List, ◌∷◌, Some, ◌==◌, length, refl, inl, inr, arith, Kind, Kind as k, Symbol, Operator, Operator as o, Expression, Expressions, Command, name, parens, unary, binary, choice, apply, valof, table, none, more, assign, label, default, test, for_loop, result, block, repeat_while, no_commands, also, constants, no_items, item, routine, function, variables, no_starts, value, vector, row, inner, left, behind, infix_of, repeats, assigns, is_comma, goes, Fails, Stops, Filled, Reads, Each, Does, at_expression, at_expressions, at_names, at_command, size, start_count, Stack, in_block, at_starts, in_parens, in_unary, in_binary, in_chain, in_then, in_else, in_args, in_table, in_start, in_dests, in_values, in_guard, in_test, in_result, in_while, in_from, in_to, in_by, in_item, in_function, in_value, in_vector, in_valof, in_label, in_guarded, in_default, in_do, in_or, in_for, in_routine, State, want, have, begin, did, due, limit, is_close, is_colon, is_do, is_or, is_to, is_semicolon, closes, is_sign_of, guarded, behind_sign, labelled, is_call, call_of, give, finish, each_then, commands_then, items_then, starts_then, eq_is, Option, cond, push, again}
+use Rattle.bk_grammar.proofs.Terms.{◌≡◌, ℕ, ◌+◌, ◌≤◌, true, false, List, ◌∷◌, Some, ◌==◌, length, refl, inl, inr, arith, Kind, Kind as k, Symbol, Operator, Operator as o, Expression, Expressions, Command, name, parens, unary, binary, choice, apply, valof, table, none, more, assign, label, default, test, for_loop, result, block, repeat_while, no_commands, also, constants, no_items, item, routine, function, variables, no_starts, value, vector, row, inner, left, following, infix_of, repeats, assigns, is_comma, goes, Fails, Stops, Filled, Reads, Each, Does, at_expression, at_expressions, at_names, at_command, size, start_count, Stack, in_block, at_starts, in_parens, in_unary, in_binary, in_chain, in_then, in_else, in_args, in_table, in_start, in_dests, in_values, in_guard, in_test, in_result, in_while, in_from, in_to, in_by, in_item, in_function, in_value, in_vector, in_valof, in_label, in_guarded, in_default, in_do, in_or, in_for, in_routine, State, want, have, begin, did, due, limit, is_close, is_colon, is_do, is_or, is_to, is_semicolon, closes, is_sign_of, guarded, after_sign, labelled, is_call, call_of, give, finish, each_then, commands_then, items_then, starts_then, eq_is, Option, cond, push, again}
 use Rattle.bk_grammar.proofs.Steps.{inner_is, size_then, count_then}
 use Rattle.bk_grammar.proofs.Before.{is_close_kind, is_comma_kind, is_colon_kind, is_do_kind, is_or_kind, is_to_kind, is_semicolon_kind, closes_kind, Ready, Before, Inv, mono, split, to, if_at, Reached, row_11, falls, limit_ok}
 use Rattle.bk_grammar.proofs.Lists.{inside_more, inside_then, commas_snoc, each_of, items_snoc, items_last, value_snoc, vector_snoc, value_last, vector_last}
@@ -45,10 +45,7 @@ give_or st e t n a ms us j rest b lo r h then = elim (split (goes (limit st) t.k
 -- a command is repeated, or is complete with the symbol behind it
 finish_or : (st : Stack) (c : Command) (t : Symbol) (n : State) (a ms us : List Symbol) (rest : Option State) → Before st a ms → Ready st → Filled c → Does c ms (t ∷ us)
     → cond (repeats t.kind) (again st c t.kind) rest ≡ Some n → (repeats t.kind ≡ false → rest ≡ Some n → Inv n a us) → Inv n a us
-finish_or st c t n a ms us rest b r f d h then = elim (split (repeats t.kind) _ _ n h) [
-  | inl x ↦ again_at t.kind st c t n a ms us refl b r f d x.1
-  | inr x ↦ then x.0 x.1
-]
+finish_or st c t n a ms us rest b r f d h then = grind (arith, again_at, (split (repeats t.kind) _ _ n h))
 
 mutual
   pub give_at : (st : Stack) (e : Expression) (t : Symbol) (n : State) (a ms us : List Symbol) (j : ℕ) → Before st a ms → j ≤ limit st → Reached j e ms us t → give st e (position_of t) t.text t.kind ≡ Some n → Inv n a us
@@ -56,8 +53,8 @@ mutual
       (λ w off so. if_at (is_close t.kind) (have st (parens l e)) n a us so (λ c. (b.0 ∷ ms, b.1, (b.0, ms, t, refl, b.2, b.3, is_close_kind t.kind c, w))))
   give_at (in_unary l p st) e t n a ms us j b lo r h = give_or (in_unary l p st) e t n a ms us j _ b lo r h
       (λ w off so. give_at st (unary l p e) t n a (b.0 ∷ ms) us 1 b.1 (limit_ok st).0 (record {
-        reads = (omega arith, b.0, ms, refl, b.2, b.3, mono j (behind p) e ms (t ∷ us) lo r.reads, off);
-        below = λ m lt. falls m (behind p) t.kind (omega arith) off;
+        reads = (omega arith, b.0, ms, refl, b.2, b.3, mono j (following p) e ms (t ∷ us) lo r.reads, off);
+        below = λ m lt. falls m (following p) t.kind (omega arith) off;
         top = inl (omega arith);
       }) so)
   give_at (in_binary q s y st) e t n a ms us j b lo r h = give_or (in_binary q s y st) e t n a ms us j _ b lo r h
@@ -117,7 +114,7 @@ mutual
             (λ c. (b.0, b.1, b.2, b.3, b.4, b.5, commas_snoc ys e b.2 ms t us b.6 w (is_comma_kind t.kind c)))
       ])
   give_at (in_guard gd l st) e t n a ms us j b lo r h = give_or (in_guard gd l st) e t n a ms us j _ b lo r h
-      (λ w off so. if_at (is_sign_of gd t.kind) (behind_sign gd (in_guarded gd l e st)) n a us so
+      (λ w off so. if_at (is_sign_of gd t.kind) (after_sign gd (in_guarded gd l e st)) n a us so
       (λ c. behind_inv gd l e st a us (b.0, ms, t, b.1, b.2, b.3, w, sign_is gd t.kind c)))
   give_at (in_test l st) e t n a ms us j b lo r h = give_or (in_test l st) e t n a ms us j _ b lo r h
       (λ w off so. if_at (is_do t.kind) (begin (in_do l e st)) n a us so (λ c. ((b.0, ms, t, b.1, b.2, b.3, w, is_do_kind t.kind c), tt)))

@@ -1,5 +1,5 @@
 -- Steps of the machine, and where two states go on alike.
-use Rattle.bk_grammar.proofs.Terms.{◌≡◌, ℕ, ◌+◌, ◌<◌, ◌≤◌, Bool, true, false, cond, List, [], ◌∷◌, Option, Some, None, ◌==◌, refl, sym, ap, ◌∙◌, arith, lt-ltb, nat_tests, Kind, Kind as k, Symbol, Operator, Operator as o, Prefix, Simple, Guard, Guard as g, Expression, Expressions, Command, Commands, Declaration, Declarations, Items, Definition, Definitions, Starts, none, more, simple, no_commands, also, no_declarations, declare, no_items, item, no_definitions, define, no_starts, value, vector, row, inner, left, is_relation, infix_of, prefix_of, leaf, simple_of, guard_of, sign_of, begins_operand, begins_command, repeats, assigns, is_comma, goes, Fails, Stops, last, size, start_count, Stack, in_section, in_block, in_unary, in_binary, in_start, in_guard, in_guarded, State, want, have, did, limit, linked, infixed, push, behind_sign, prefixed, leaved, take_operand, take_start, take_command, in_head, take_in_block, again, give, finish, stepped_by, step, whole, going, run, each_then, commands_then, declarations_then, items_then, definitions_then, starts_then, nat_lt, ltb-true}
+use Rattle.bk_grammar.proofs.Terms.{◌≡◌, ℕ, ◌+◌, ◌<◌, ◌≤◌, Bool, true, false, cond, List, [], ◌∷◌, Option, Some, None, ◌==◌, refl, sym, ap, ◌∙◌, arith, lt-ltb, nat_tests, Kind, Kind as k, Symbol, Operator, Operator as o, Prefix, Simple, Guard, Guard as g, Expression, Expressions, Command, Commands, Declaration, Declarations, Items, Definition, Definitions, Starts, none, more, simple, no_commands, also, no_declarations, declare, no_items, item, no_definitions, define, no_starts, value, vector, row, inner, left, is_relation, infix_of, prefix_of, leaf, simple_of, guard_of, sign_of, begins_operand, begins_command, repeats, assigns, is_comma, goes, Fails, Stops, last, size, start_count, Stack, in_section, in_block, in_unary, in_binary, in_start, in_guard, in_guarded, State, want, have, did, limit, linked, infixed, push, after_sign, prefixed, leaved, take_operand, take_start, take_command, in_head, take_in_block, again, give, finish, stepped_by, step, whole, going, run, each_then, commands_then, declarations_then, items_then, definitions_then, starts_then, nat_lt, ltb-true}
 use Rattle.bk_grammar.specs.Placed.{position_of}
 
 -- one step
@@ -120,7 +120,7 @@ guard_step k.SwitchOn st l x gd h = ap (take_start st l x k.SwitchOn None) h
 guard_step k.Case st l x gd h = ap (take_start st l x k.Case None) h
 guard_step _ st l x gd h = absurd cc
 
-pub sign_step : (gd : Guard) (t : Kind) (m : ℕ) (e : Expression) (st : Stack) (l : ℕ) (x : List ℕ) → t ≡ sign_of gd → give (in_guard gd m st) e l x t ≡ Some (behind_sign gd (in_guarded gd m e st))
+pub sign_step : (gd : Guard) (t : Kind) (m : ℕ) (e : Expression) (st : Stack) (l : ℕ) (x : List ℕ) → t ≡ sign_of gd → give (in_guard gd m st) e l x t ≡ Some (after_sign gd (in_guarded gd m e st))
 sign_step g.If t m e st l x h = rw h refl
 sign_step _ t m e st l x h = rw h refl
 

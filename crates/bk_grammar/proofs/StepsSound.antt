@@ -48,37 +48,20 @@ due_at : (st : Stack) (t : Symbol) (n : State) (a us : List Symbol) → Before s
 due_at (in_section ds) t n a us b h = section_at ds t n a us b h
 due_at (in_block l f ds cs st) t n a us b h = block_at l f ds cs st t n a us b h
 due_at (in_let l ds st) t n a us b h = as_name t (λ m. due (at_name m (in_let l ds st))) n a us h (λ m sp. (t, b, sp))
-due_at (at_name m st) t n a us b h = elim (split (is_open t.kind) _ _ n h) [
-  | inl x ↦ to (due (at_formals m st)) n a us x.1 (b.0 ∷ t ∷ us, b.1, (b.0, t, refl, b.2, is_open_kind t.kind x.0))
-  | inr x ↦ inside_at (inside st) t.kind (m ∷ []) st n a us x.1 (λ i w. names_at t.kind (m ∷ []) st n a us w
-      (λ c. (b.0 ∷ t ∷ us, b.1, i, (b.0, t, us, refl, b.2, c, refl)))
-      (λ c. (b.0 ∷ t ∷ us, t, us, b.1, i, c, (b.0, refl, b.2), refl)))
-]
-due_at (at_formals m st) t n a us b h = elim (split (is_close t.kind) _ _ n h) [
-  | inl x ↦ to (due (at_head m [] st)) n a us x.1 (b.0, t ∷ us, b.1, b.2, (t, refl, is_close_kind t.kind x.0))
-  | inr x ↦ as_name t (λ f. due (at_formal_end m (f ∷ []) st)) n a us x.1 (λ f sp. (b.0, t ∷ us, b.1, b.2, (t, refl, sp)))
-]
+due_at (at_name m st) t n a us b h = grind (arith, to, is_open_kind, inside_at, names_at, (split (is_open t.kind) _ _ n h), (due (at_formals m st)), (inside st))
+due_at (at_formals m st) t n a us b h = grind (arith, split, to, due, at_head, is_close_kind, as_name)
 due_at (at_formal m fs st) t n a us b h = as_name t (λ f. due (at_formal_end m (fs ++ f ∷ []) st)) n a us h (λ f sp. (b.0, b.1, b.2, b.3, names_snoc fs f b.1 t us b.4 sp))
-due_at (at_formal_end m fs st) t n a us b h = formals_at t.kind m fs st n a us h
-    (λ c. (b.0, b.1, b.2, b.3, names_comma fs b.1 t us b.4 c))
-    (λ c. (b.0, b.1, b.2, b.3, formals_of fs b.1 t us b.4 c))
-due_at (at_head m fs st) t n a us b h = head_at t.kind m fs st n a us h
-    (λ c. ((b.0, b.1, t, b.2, b.3, b.4, c), tt))
-    (λ c. (b.0, b.1, t, b.2, b.3, b.4, c))
+due_at (at_formal_end m fs st) t n a us b h = grind (arith, formals_at, names_comma, formals_of)
+due_at (at_head m fs st) t n a us b h = grind (arith, head_at)
 due_at (at_variable xs st) t n a us b h = as_name t (λ m. due (at_variable_end (xs ++ m ∷ []) st)) n a us h (λ m sp. (b.0, b.1, b.2, names_snoc xs m b.0 t us b.3 sp))
-due_at (at_variable_end xs st) t n a us b h = names_at t.kind xs st n a us h
-    (λ c. (b.0, b.1, b.2, names_comma xs b.0 t us b.3 c))
-    (λ c. (b.0, t, us, b.1, b.2, c, b.3, refl))
+due_at (at_variable_end xs st) t n a us b h = grind (arith, names_at, names_comma)
 due_at (at_starts xs is st) t n a us b h = elim (split (is_vec t.kind) _ _ n h) [
   | inl x ↦ to (want (in_vector (position_of t) xs is st)) n a us x.1 (b.0, b.1, b.2, t, b.3, b.4, b.5, b.6, b.7, is_vec_kind t.kind x.0, refl)
   | inr x ↦ operand_at t.kind (in_value xs is st) t n a us refl b x.1
 ]
 due_at (at_opening l s st) t n a us b h = if_at (opens t.kind) (due (at_items l s no_items st)) n a us h (λ c. (b.0, t, us, b.1, b.2, b.3, b.4, opens_kind t.kind c, refl))
 due_at (at_items l s is st) t n a us b h = item_at l s is st t n a us b h
-due_at (at_sign l s is m st) t n a us b h = elim (split (is_equal t.kind) _ _ n h) [
-  | inl x ↦ to (want (in_item l s is m st)) n a us x.1 (b.0, b.1, b.2, b.3, t, b.4, b.5, b.6, b.7, b.8, b.9, b.10, inl (is_equal_kind t.kind x.0))
-  | inr x ↦ if_at (is_colon t.kind) (want (in_item l s is m st)) n a us x.1 (λ c. (b.0, b.1, b.2, b.3, t, b.4, b.5, b.6, b.7, b.8, b.9, b.10, inr (is_colon_kind t.kind c)))
-]
+due_at (at_sign l s is m st) t n a us b h = grind (arith, split, to, is_equal_kind, if_at, is_colon_kind)
 due_at (at_goto l st) t n a us b h = as_name t (λ m. did st (goto l m)) n a us h (λ m sp. (b.0 ∷ t ∷ us, b.1, tt, (b.0, t, refl, b.2, b.3, sp)))
 due_at (at_for l st) t n a us b h = as_name t (λ m. due (at_forward l m st)) n a us h (λ m sp. (b.0, t, b.1, b.2, b.3, sp))
 due_at (at_forward l m st) t n a us b h = if_at (is_equal t.kind) (want (in_from l m st)) n a us h (λ c. (b.0, b.1, t, b.2, b.3, b.4, b.5, is_equal_kind t.kind c))
@@ -100,9 +83,6 @@ pub step_sound : (x : State) (t : Symbol) (n : State) (a us : List Symbol) → I
 step_sound (want st) t n a us i h = operand_at t.kind st t n a us refl i h
 step_sound (have st e) t n a us i h = give_at st e t n a i.0 us 0 i.1 (omega arith) (low e i.0 us t i.2) h
 step_sound (begin st) t n a us i h = command_at t.kind st t n a us refl i.0 i.1 h
-step_sound (maybe st) t n a us i h = elim (split (begins_command t.kind) _ _ n h) [
-  | inl x ↦ command_at t.kind st t n a us refl i.0 (may_ready st i.1) x.1
-  | inr x ↦ without_at st t n a us i.0 i.1 x.0 x.1
-]
+step_sound (maybe st) t n a us i h = grind (arith, command_at, without_at, (split (begins_command t.kind) _ _ n h), (may_ready st i.1))
 step_sound (did st c) t n a us i h = finish_at st c t n a i.0 us i.1.0 i.1.1 i.2 i.3 h
 step_sound (due st) t n a us i h = due_at st t n a us i h

@@ -1,4 +1,4 @@
--- Section brackets: a `$)` with a tag stands for as many plain closings as sections are open, up to and with the
+-- Section brackets: a `$)` with a tag means as many plain closings as sections are open, up to and with the
 -- innermost open one of that tag. The tag clause fails at a tag that is not open, and at a `$)` without a tag where the
 -- innermost open section has one.
 use Rattle.std.specs.Prelude.{ℕ, Bool, true, false, Option, Some, None, cond, ◌==◌, List, [], ◌∷◌, ◌++◌}
@@ -41,13 +41,13 @@ abbrev pub in_front : List Symbol → Option (List Symbol) → Option (List Symb
 in_front ts None = None
 in_front ts (Some us) = Some (ts ++ us)
 
-abbrev pub plain_behind : (List (List ℕ) → Option (List Symbol)) → Option Closing → Option (List Symbol)
-plain_behind rest None = None
-plain_behind rest (Some c) = in_front c.closings (rest c.still)
+abbrev pub plain_after : (List (List ℕ) → Option (List Symbol)) → Option Closing → Option (List Symbol)
+plain_after rest None = None
+plain_after rest (Some c) = in_front c.closings (rest c.still)
 
 abbrev pub plain_by : Symbol → Kind → (List (List ℕ) → Option (List Symbol)) → List (List ℕ) → Option (List Symbol)
 plain_by t k.SectionOpen rest opens = in_front (t ∷ []) (rest (tag_of t.text ∷ opens))
-plain_by t k.SectionClose rest opens = plain_behind rest (closed_by t (tag_of t.text) opens)
+plain_by t k.SectionClose rest opens = plain_after rest (closed_by t (tag_of t.text) opens)
 plain_by t _ rest opens = in_front (t ∷ []) (rest opens)
 
 -- the list with plain closings, where these sections are open; None where the tag clause fails

@@ -11,7 +11,7 @@ use Rattle.bk_grammar.specs.declared.symbols.Guard.TheVariants as g
 use Rattle.bk_tree.specs.Tree.{Mention, Expression, Expressions, Command, Commands, Declaration, Declarations, Items, Definition, Definitions, Starts, name, number, text, truth, query, parens, unary, binary, choice, apply, valof, table, none, more, empty, assign, call, goto, label, case_of, default, when, test, while, for_loop, switch, result, simple, block, repeat, repeat_while, no_commands, also, constants, definitions, no_declarations, declare, no_items, item, routine, function, variables, no_definitions, define, no_starts, value, vector}
 use Rattle.bk_tree.specs.Parts.{at_expression, at_command, at_expressions, at_names, size, start_count}
 use Rattle.bk_lex.specs.Values.{upper_name}
-use Rattle.bk_grammar.specs.Rows.{row, inner, left, behind, is_relation, infix_of, prefix_of, leaf, simple_of, sort_of, guard_of, sign_of, begins_command, repeats, assigns, is_and, is_comma, Fails, Stops}
+use Rattle.bk_grammar.specs.Rows.{row, inner, left, following, is_relation, infix_of, prefix_of, leaf, simple_of, sort_of, guard_of, sign_of, begins_command, repeats, assigns, is_and, is_comma, Fails, Stops}
 use Rattle.bk_grammar.specs.Placed.{position_of}
 
 -- one symbol, which is this operand by itself
@@ -79,7 +79,7 @@ abbrev mutual
   Reads rows (query l) ts us = Leaf (query l) ts us
   Reads rows (parens l e) ts us = (t : Symbol) × (ms : List Symbol) × (c : Symbol) × (ts ≡ t ∷ ms) × (t.kind ≡ k.Open) × (position_of t ≡ l) × (c.kind ≡ k.Close) × Reads 12 e ms (c ∷ us)
   -- a prefix operator may begin any operand
-  Reads rows (unary l p e) ts us = (0 < rows) × (t : Symbol) × (ms : List Symbol) × (ts ≡ t ∷ ms) × (prefix_of t.kind ≡ Some p) × (position_of t ≡ l) × Reads (behind p) e ms us × Stops (behind p) us
+  Reads rows (unary l p e) ts us = (0 < rows) × (t : Symbol) × (ms : List Symbol) × (ts ≡ t ∷ ms) × (prefix_of t.kind ≡ Some p) × (position_of t ≡ l) × Reads (following p) e ms us × Stops (following p) us
   -- an `&`, or one more relation of a chain: x ends with the operand b, of which this is a copy
   Reads rows (binary l Both s x (binary m o n b c)) ts us =
       ((9 ≤ rows) × (t : Symbol) × (ms : List Symbol) × (t.kind ≡ k.Ampersand) × (position_of t ≡ s) × (l ≡ at_expression x) × Reads 9 x ts (t ∷ ms) × Reads 8 (binary m o n b c) ms us × Stops 8 us)

@@ -12,7 +12,7 @@ use Rattle.bk_grammar.specs.declared.symbols.Guard.{Guard}
 use Rattle.bk_grammar.specs.declared.symbols.Guard.TheVariants as g
 use Rattle.bk_tree.specs.Tree.{Mention, Expression, Expressions, Command, Commands, Declaration, Declarations, Items, Definition, Definitions, Starts, name, parens, unary, binary, choice, apply, valof, table, none, more, empty, assign, call, goto, label, case_of, default, when, test, while, for_loop, switch, result, simple, block, repeat, repeat_while, no_commands, also, constants, definitions, no_declarations, declare, no_items, item, routine, function, variables, no_definitions, define, no_starts, value, vector}
 use Rattle.bk_lex.specs.Values.{upper_name}
-use Rattle.bk_grammar.specs.Rows.{inner, behind, is_relation, infix_of, prefix_of, leaf, simple_of, sort_of, guard_of, begins_command, repeats, assigns, is_and, is_comma, goes}
+use Rattle.bk_grammar.specs.Rows.{inner, following, is_relation, infix_of, prefix_of, leaf, simple_of, sort_of, guard_of, begins_command, repeats, assigns, is_and, is_comma, goes}
 use Rattle.bk_grammar.specs.Grammar.{last}
 use Rattle.bk_tree.specs.Parts.{at_expression, at_expressions, at_names, at_command, size, start_count, commands_then, declarations_then, definitions_then, each_then, items_then, starts_then}
 use Rattle.bk_grammar.specs.Placed.{position_of}
@@ -78,7 +78,7 @@ pub data State : Type 0 where
 
 -- the rows that may be on top
 abbrev pub limit : Stack → ℕ
-limit (in_unary l p st) = behind p
+limit (in_unary l p st) = following p
 limit (in_binary o s a st) = inner o
 limit (in_chain o s a b st) = 5
 limit _ = 12
@@ -181,9 +181,9 @@ guarded g.SwitchOn l e c = switch l e c
 guarded g.Case l e c = case_of l e c
 
 -- after a guard's sign a command is due; after that of a CASE one may come
-abbrev pub behind_sign : Guard → Stack → State
-behind_sign g.Case st = maybe st
-behind_sign _ st = begin st
+abbrev pub after_sign : Guard → Stack → State
+after_sign g.Case st = maybe st
+after_sign _ st = begin st
 
 abbrev pub prefixed : Stack → ℕ → Option Prefix → Option State
 prefixed st l None = None
@@ -324,7 +324,7 @@ abbrev mutual
   -- an expression is complete, and a symbol comes after it
   pub give : Stack → Expression → ℕ → List ℕ → Kind → Option State
   give (in_parens m st) e l x t = cond (goes 12 t) (push (in_parens m st) e t l) (if_is (is_close t) (have st (parens m e)))
-  give (in_unary m p st) e l x t = cond (goes (behind p) t) (push (in_unary m p st) e t l) (give st (unary m p e) l x t)
+  give (in_unary m p st) e l x t = cond (goes (following p) t) (push (in_unary m p st) e t l) (give st (unary m p e) l x t)
   give (in_binary o s a st) e l x t = cond (goes (inner o) t) (push (in_binary o s a st) e t l) (give st (binary (at_expression a) o s a e) l x t)
   give (in_chain o s a b st) e l x t = cond (goes 5 t) (push (in_chain o s a b st) e t l) (give st (binary (at_expression a) Both s a (binary (at_expression b) o s b e)) l x t)
   give (in_then s c st) e l x t = cond (goes 12 t) (push (in_then s c st) e t l) (if_is (is_comma t) (want (in_else s c e st)))
@@ -338,7 +338,7 @@ abbrev mutual
   give (in_dests xs st) e l x t = cond (goes 12 t) (push (in_dests xs st) e t l) (dests (each_then xs (more e none)) st t)
   give (in_values xs ys st) e l x t = cond (goes 12 t) (push (in_values xs ys st) e t l)
       (counted (size xs == size ys + 1) (finish st (assign (at_expressions xs) xs (each_then ys (more e none))) l x t) t (want (in_values xs (each_then ys (more e none)) st)))
-  give (in_guard gd m st) e l x t = cond (goes 12 t) (push (in_guard gd m st) e t l) (if_is (is_sign_of gd t) (behind_sign gd (in_guarded gd m e st)))
+  give (in_guard gd m st) e l x t = cond (goes 12 t) (push (in_guard gd m st) e t l) (if_is (is_sign_of gd t) (after_sign gd (in_guarded gd m e st)))
   give (in_test m st) e l x t = cond (goes 12 t) (push (in_test m st) e t l) (if_is (is_do t) (begin (in_do m e st)))
   give (in_result m st) e l x t = cond (goes 12 t) (push (in_result m st) e t l) (finish st (result m e) l x t)
   give (in_while b c st) e l x t = cond (goes 12 t) (push (in_while b c st) e t l) (finish st (repeat_while (at_command c) b c e) l x t)

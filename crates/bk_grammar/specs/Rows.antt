@@ -82,12 +82,12 @@ abbrev pub left : Operator → ℕ
 left o = cond (is_relation o) 5 (row o)
 
 -- the rows that the operand of a prefix operator may have: those above its own
-abbrev pub behind : Prefix → ℕ
-behind p.Contents = 2
-behind p.Address = 2
-behind p.Plus = 4
-behind p.Minus = 4
-behind p.Not = 7
+abbrev pub following : Prefix → ℕ
+following p.Contents = 2
+following p.Address = 2
+following p.Plus = 4
+following p.Minus = 4
+following p.Not = 7
 
 -- the operator between two operands that a symbol is
 abbrev pub infix_of : Kind → Option Operator

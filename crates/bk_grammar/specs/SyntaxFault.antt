@@ -35,13 +35,13 @@ KindAt TooManyNodes ts = Begins Shallow ts × (Begins Within ts → ⊥)
 KindAt _ ts = ⊥
 
 -- a fault of this kind is at the symbol t of u, t and v
-abbrev pub Stands : SourceKind → List Symbol → Symbol → Type 0
-Stands kind u t = (Begins Within (u ++ t ∷ []) → ⊥) × KindAt kind (u ++ t ∷ [])
+abbrev pub Applies : SourceKind → List Symbol → Symbol → Type 0
+Applies kind u t = (Begins Within (u ++ t ∷ []) → ⊥) × KindAt kind (u ++ t ∷ [])
 
 -- and it is the first
 abbrev pub First : SourceKind → List Symbol → Symbol → Type 0
-First kind u t = Begins Within u × Stands kind u t
+First kind u t = Begins Within u × Applies kind u t
 
 -- the fault is at the end: the symbols begin a section, and are none
-abbrev pub StandsAtEnd : List Symbol → Type 0
-StandsAtEnd ts = (ds : Declarations) → IsSection ds ts → ⊥
+abbrev pub AppliesAtEnd : List Symbol → Type 0
+AppliesAtEnd ts = (ds : Declarations) → IsSection ds ts → ⊥

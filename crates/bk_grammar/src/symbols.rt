@@ -2,7 +2,7 @@
 
 ghost use Rattle.std.specs.Prelude.{◌≡◌};
 ghost use Rattle.bk_grammar.specs.Machine.{is_sign_of, is_close, is_assign, is_colon, is_do, is_or, is_to, is_by, is_be, is_equal, is_semicolon, opens, closes, is_vec, is_open};
-ghost use Rattle.bk_grammar.specs.Rows.{infix_of, prefix_of, inner, is_comma, is_and, assigns, repeats, is_relation, behind, goes, simple_of, guard_of, is_arrow, is_both, is_name, declaring_of, repetition_of, opening_of, heading_of, begins_operand, begins_command};
+ghost use Rattle.bk_grammar.specs.Rows.{infix_of, prefix_of, inner, is_comma, is_and, assigns, repeats, is_relation, following, goes, simple_of, guard_of, is_arrow, is_both, is_name, declaring_of, repetition_of, opening_of, heading_of, begins_operand, begins_command};
 
 use bk_lex::Kind;
 use bk_tree::{Operator, Prefix, Simple, Sort};
@@ -37,6 +37,7 @@ pub fn infix(kind: Kind) -> Option<Operator>
 }
 
 /// The operator that is before an operand.
+#[inline(always)]
 pub fn prefix(kind: Kind) -> Option<Prefix>
     ensures { result ≡ prefix_of kind }
 {
@@ -87,8 +88,8 @@ pub fn relates(operator: Operator) -> bool
 }
 
 /// The rows that the operand of a prefix operator may have: up to this one.
-pub fn row_behind(prefix: Prefix) -> u8
-    ensures { result ≡ behind prefix }
+pub fn row_after(prefix: Prefix) -> u8
+    ensures { result ≡ following prefix }
 {
     match prefix {
         Prefix::Contents | Prefix::Address => 2,
@@ -220,6 +221,7 @@ pub fn starts_operand(kind: Kind) -> bool
 }
 
 /// Whether a command begins with the symbol.
+#[inline(always)]
 pub fn starts_command(kind: Kind) -> bool
     ensures { result ≡ begins_command kind }
 {

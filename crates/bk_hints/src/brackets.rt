@@ -1,7 +1,7 @@
 //! Section brackets: `$(` that is not closed, `$)` that closes nothing, and their tags.
 
 use crate::scene::Scene;
-use crate::sentence::Told;
+use crate::sentence::Reported;
 use bk_grammar::spelling::{same_tag, tag};
 use bk_lex::{Kind, Token};
 use std::alloc::{AllocError, Global};
@@ -68,7 +68,7 @@ pub fn open_sections(scene: &Scene) -> Result<OpenSections, AllocError> {
 }
 
 /// What is reported where a `$(` is not closed: which one, or perhaps which, by how the lines are.
-fn hint_unclosed(scene: &Scene, opened: &OpenSections) -> Result<Option<Told>, AllocError> {
+fn hint_unclosed(scene: &Scene, opened: &OpenSections) -> Result<Option<Reported>, AllocError> {
     let Some(open) = opened.indices.last().copied() else {
         return Ok(None);
     };
@@ -81,7 +81,7 @@ fn hint_unclosed(scene: &Scene, opened: &OpenSections) -> Result<Option<Told>, A
                 .say(" is never closed, since the `$)` of ")?
                 .line(scene.line(last))?
                 .say(" is further left")?;
-            return Ok(Some(scene.told(first, sentence).and(scene.spot(last))));
+            return Ok(Some(scene.reported(first, sentence).and(scene.spot(last))));
         }
     }
     let sentence = scene
@@ -92,11 +92,11 @@ fn hint_unclosed(scene: &Scene, opened: &OpenSections) -> Result<Option<Told>, A
         .say("$)")?
         .spell(tag_at(scene.tokens, open))?
         .say("` is missing")?;
-    Ok(Some(scene.told(open, sentence).and(scene.spot(scene.at))))
+    Ok(Some(scene.reported(open, sentence).and(scene.spot(scene.at))))
 }
 
 /// What is reported where a section is refused at its end.
-pub fn hint_end(scene: &Scene, opened: &OpenSections) -> Result<Option<Told>, AllocError> {
+pub fn hint_end(scene: &Scene, opened: &OpenSections) -> Result<Option<Reported>, AllocError> {
     if scene.at < scene.tokens.len() {
         return Ok(None);
     }
@@ -162,7 +162,7 @@ fn is_reserved(tag: &[u8]) -> bool {
 }
 
 /// A bracket with this index has a tag that was perhaps meant as a word of its own.
-fn hint_tag(scene: &Scene, index: usize) -> Result<Told, AllocError> {
+fn hint_tag(scene: &Scene, index: usize) -> Result<Reported, AllocError> {
     let bracket = if scene.kind(index) == Some(Kind::SectionOpen) {
         "`$(`"
     } else {
@@ -176,11 +176,11 @@ fn hint_tag(scene: &Scene, index: usize) -> Result<Told, AllocError> {
         .say(" of ")?
         .line(scene.line(index))?
         .say(", since it comes directly after it: a blank is missing")?;
-    Ok(scene.told(index, sentence).and(scene.spot(scene.at)))
+    Ok(scene.reported(index, sentence).and(scene.spot(scene.at)))
 }
 
 /// What is reported where the command before the refused symbol is after a bracket whose tag was meant as a word.
-pub fn hint_glued(scene: &Scene) -> Result<Option<Told>, AllocError> {
+pub fn hint_glued(scene: &Scene) -> Result<Option<Reported>, AllocError> {
     let Some(index) = scene.statement().checked_sub(1) else {
         return Ok(None);
     };
@@ -206,7 +206,7 @@ pub fn hint_glued(scene: &Scene) -> Result<Option<Told>, AllocError> {
 }
 
 /// What is reported of a `$)` whose tag is wrong.
-pub fn hint_wrong_tag(scene: &Scene) -> Result<Told, AllocError> {
+pub fn hint_wrong_tag(scene: &Scene) -> Result<Reported, AllocError> {
     let opened = open_sections(scene)?;
     let wanted = tag_at(scene.tokens, scene.at);
     if is_reserved(wanted) {
@@ -216,7 +216,7 @@ pub fn hint_wrong_tag(scene: &Scene) -> Result<Told, AllocError> {
         let sentence = scene
             .sentence()
             .say("this `$)` closes nothing: no `$(` is open here")?;
-        return Ok(scene.told(scene.at, sentence));
+        return Ok(scene.reported(scene.at, sentence));
     };
     let tag = tag_at(scene.tokens, open);
     if !wanted.is_empty() {
@@ -228,7 +228,7 @@ pub fn hint_wrong_tag(scene: &Scene) -> Result<Told, AllocError> {
             .spell(tag)?
             .say("` of ")?
             .line(scene.line(open))?;
-        return Ok(scene.told(scene.at, sentence).and(scene.spot(open)));
+        return Ok(scene.reported(scene.at, sentence).and(scene.spot(open)));
     }
     let sentence = scene
         .sentence()
@@ -238,11 +238,11 @@ pub fn hint_wrong_tag(scene: &Scene) -> Result<Told, AllocError> {
         .say(", which `$)")?
         .spell(tag)?
         .say("` closes; perhaps a blank is missing after that `$(`")?;
-    Ok(scene.told(open, sentence))
+    Ok(scene.reported(open, sentence))
 }
 
 /// What is reported of a `$)` where no section is open.
-pub fn hint_extra(scene: &Scene, opened: &OpenSections) -> Result<Option<Told>, AllocError> {
+pub fn hint_extra(scene: &Scene, opened: &OpenSections) -> Result<Option<Reported>, AllocError> {
     if scene.refused() == Some(Kind::SectionClose) && opened.indices.is_empty() {
         return Ok(Some(scene.here("this `$)` closes nothing: no `$(` is open here")?));
     }
@@ -282,7 +282,7 @@ fn late_in(scene: &Scene, opened: &OpenSections) -> Result<Option<usize>, AllocE
 pub fn hint_unclosed_before(
     scene: &Scene,
     opened: &OpenSections,
-) -> Result<Option<Told>, AllocError> {
+) -> Result<Option<Reported>, AllocError> {
     match late_in(scene, opened)? {
         Some(open) if lacks_closings(scene, opened, open)? => Ok(Some(hint_before(
             scene, opened, open,
@@ -292,7 +292,7 @@ pub fn hint_unclosed_before(
 }
 
 /// What is reported where a declaration is after a command.
-pub fn hint_late(scene: &Scene, opened: &OpenSections) -> Result<Option<Told>, AllocError> {
+pub fn hint_late(scene: &Scene, opened: &OpenSections) -> Result<Option<Reported>, AllocError> {
     if scene.refused() == Some(Kind::And) || late_in(scene, opened)?.is_none() {
         return Ok(None);
     }
@@ -319,7 +319,7 @@ fn lacks_closings(scene: &Scene, opened: &OpenSections, open: usize) -> Result<b
 }
 
 /// What is reported where a `$)` is missing before a declaration.
-fn hint_before(scene: &Scene, opened: &OpenSections, open: usize) -> Result<Told, AllocError> {
+fn hint_before(scene: &Scene, opened: &OpenSections, open: usize) -> Result<Reported, AllocError> {
     let index = match opened.uneven {
         Some((first, _)) if open < first => first,
         _ => open,
@@ -333,5 +333,5 @@ fn hint_before(scene: &Scene, opened: &OpenSections, open: usize) -> Result<Told
         .say(" of ")?
         .line(scene.line(scene.at))?
         .say(" comes after a command of that block")?;
-    Ok(scene.told(index, sentence).and(scene.spot(scene.at)))
+    Ok(scene.reported(index, sentence).and(scene.spot(scene.at)))
 }

@@ -1,7 +1,7 @@
 //! What is reported of a text that can't be cut into symbols.
 
 use crate::lines::line_start;
-use crate::sentence::Told;
+use crate::sentence::Reported;
 use bk_base::SourceKind;
 use bk_lex::LexicalFault;
 use std::alloc::{AllocError, Global};
@@ -51,11 +51,11 @@ fn is_escape(text: &[u8], at: usize) -> bool {
 }
 
 /// What is reported of a bad byte.
-fn hint_byte(alloc: Global, text: &[u8], fault: &LexicalFault) -> Result<Told, AllocError> {
+fn hint_byte(alloc: Global, text: &[u8], fault: &LexicalFault) -> Result<Reported, AllocError> {
     let at = fault.byte;
     let byte = text.get(at).copied();
     if byte == Some(b'\\') && is_escape(text, at) {
-        return Told::new(
+        return Reported::new(
             alloc,
             Some(at),
             "`\\` begins no escape, so the string ended at the `\"`: `*\"` is a quote in a string, and `*N` the end of a line",
@@ -64,11 +64,11 @@ fn hint_byte(alloc: Global, text: &[u8], fault: &LexicalFault) -> Result<Told, A
     if fault.piece < at {
         let last = text.get(at.saturating_sub(1)).copied().unwrap_or(b' ');
         if let Some(says) = sign_says(last, byte.unwrap_or(b' ')) {
-            return Told::new(alloc, Some(at.saturating_sub(1)), says);
+            return Reported::new(alloc, Some(at.saturating_sub(1)), says);
         }
     }
     if at == 0 && byte == Some(0xEF) {
-        return Told::new(
+        return Reported::new(
             alloc,
             Some(0),
             "perhaps a byte order mark, which editors put before a text; here it is left out",
@@ -78,7 +78,7 @@ fn hint_byte(alloc: Global, text: &[u8], fault: &LexicalFault) -> Result<Told, A
         Some(byte) => byte_says(byte),
         None => "a symbol is not whole at the end of the text",
     };
-    Told::new(alloc, Some(at), says)
+    Reported::new(alloc, Some(at), says)
 }
 
 /// What is reported of a character constant that begins here.
@@ -104,7 +104,11 @@ fn string_says(text: &[u8], fault: &LexicalFault) -> &'static str {
 }
 
 /// What is reported of a text that can't be cut into symbols.
-pub fn hint_bytes(alloc: Global, text: &[u8], fault: &LexicalFault) -> Result<Told, AllocError> {
+pub fn hint_bytes(
+    alloc: Global,
+    text: &[u8],
+    fault: &LexicalFault,
+) -> Result<Reported, AllocError> {
     let (at, says) = match fault.fault.kind {
         SourceKind::BadByte => return hint_byte(alloc, text, fault),
         SourceKind::BadString => (fault.piece, string_says(text, fault)),
@@ -131,5 +135,5 @@ pub fn hint_bytes(alloc: Global, text: &[u8], fault: &LexicalFault) -> Result<To
             "a section has at most 1048576 bytes and 262144 symbols; a `.` and another section split it",
         ),
     };
-    Told::new(alloc, Some(at), says)
+    Reported::new(alloc, Some(at), says)
 }

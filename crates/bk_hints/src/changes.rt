@@ -6,13 +6,13 @@ use crate::near::is_list;
 use crate::reader::{Part, State};
 use crate::repair::{Edit, Near, Repair, find_repair};
 use crate::scene::Scene;
-use crate::sentence::{Sentence, Told};
+use crate::sentence::{Reported, Sentence};
 use bk_grammar::symbols::{infix, starts_operand};
 use bk_lex::Kind;
 use std::alloc::AllocError;
 
 /// The sentence, at the gap before a symbol, which is named.
-fn before(scene: &Scene, index: usize, sentence: Sentence) -> Result<Told, AllocError> {
+fn before(scene: &Scene, index: usize, sentence: Sentence) -> Result<Reported, AllocError> {
     let sentence = scene.name_at(index, sentence)?;
     let at = scene.gap_at(index);
     let sentence = if scene.kind(index).is_none() || at == scene.spot(index) {
@@ -20,7 +20,7 @@ fn before(scene: &Scene, index: usize, sentence: Sentence) -> Result<Told, Alloc
     } else {
         sentence.say(" of ")?.line(scene.line(index))?
     };
-    Ok(Told::at(at, sentence))
+    Ok(Reported::at(at, sentence))
 }
 
 /// What is reported of a missing operand, name or command.
@@ -29,25 +29,25 @@ fn lacks_operand(
     near: &Near,
     repair: &Repair,
     index: usize,
-) -> Result<Told, AllocError> {
+) -> Result<Reported, AllocError> {
     let words = match repair.state {
         State::Begin | State::Maybe => "a command is missing before ",
         State::Due => "a name is missing before ",
         _ => "an expression is missing before ",
     };
-    let told = before(scene, index, scene.sentence().say(words)?)?;
+    let reported = before(scene, index, scene.sentence().say(words)?)?;
     let Some(last) = near.symbols.get(repair.place.saturating_sub(1)) else {
-        return Ok(told);
+        return Ok(reported);
     };
     if !is_operator(last.kind) && last.kind != Kind::Comma {
-        return Ok(told);
+        return Ok(reported);
     }
-    let sentence = told
+    let sentence = reported
         .sentence
         .say(", or the ")?
         .quote(last.text)?
         .say(" before it is one too many")?;
-    Ok(Told::at(told.at, sentence))
+    Ok(Reported::at(reported.at, sentence))
 }
 
 /// The last TEST before a symbol that has no ELSE before it.
@@ -66,15 +66,16 @@ fn last_test(scene: &Scene, index: usize) -> Option<usize> {
 }
 
 /// What is reported of the missing ELSE of a TEST.
-fn lacks_else(scene: &Scene, index: usize) -> Result<Told, AllocError> {
+fn lacks_else(scene: &Scene, index: usize) -> Result<Reported, AllocError> {
     let sentence = scene.sentence().say("the `ELSE` (or `OR`) of the `TEST`")?;
     let test = last_test(scene, index);
     let sentence = match test {
         Some(test) => sentence.say(" of ")?.line(scene.line(test))?,
         None => sentence,
     };
-    let told = before(scene, index, sentence.say(" is missing before ")?)?;
-    told.and(test.and_then(|test| scene.spot(test)))
+    let reported = before(scene, index, sentence.say(" is missing before ")?)?;
+    reported
+        .and(test.and_then(|test| scene.spot(test)))
         .say("; `IF` takes none")
 }
 
@@ -94,7 +95,7 @@ fn opening(scene: &Scene, index: usize) -> Option<usize> {
 }
 
 /// What is reported of a `(` that is not closed.
-fn lacks_close(scene: &Scene, index: usize) -> Result<Told, AllocError> {
+fn lacks_close(scene: &Scene, index: usize) -> Result<Reported, AllocError> {
     let open = opening(scene, index);
     let sentence = match open {
         Some(open) => scene
@@ -108,17 +109,17 @@ fn lacks_close(scene: &Scene, index: usize) -> Result<Told, AllocError> {
 }
 
 /// What is reported of a missing `$(`, where the refused symbol is outside procedures.
-fn lacks_opening(scene: &Scene, index: usize) -> Result<Told, AllocError> {
-    let told = before(
+fn lacks_opening(scene: &Scene, index: usize) -> Result<Reported, AllocError> {
+    let reported = before(
         scene,
         index,
         scene.sentence().say("`$(` is missing before ")?,
     )?;
-    told.say(", or a `$)` too many is further down")
+    reported.say(", or a `$)` too many is further down")
 }
 
 /// What is reported of a `$(` that is not closed.
-fn lacks_closing(scene: &Scene, near: &Near, index: usize) -> Result<Told, AllocError> {
+fn lacks_closing(scene: &Scene, near: &Near, index: usize) -> Result<Reported, AllocError> {
     let sentence = match near.open {
         Some(open) => scene
             .sentence()
@@ -154,7 +155,7 @@ fn lacks_parentheses(
     near: &Near,
     place: usize,
     index: usize,
-) -> Result<Told, AllocError> {
+) -> Result<Reported, AllocError> {
     let sentence = scene
         .sentence()
         .say("`(` is missing before ")?
@@ -162,7 +163,7 @@ fn lacks_parentheses(
         .say(": the arguments of a call go in parentheses, as in `")?
         .spell(near.text(place.saturating_sub(1)))?
         .say("(X, Y)`")?;
-    Ok(scene.told(index, sentence))
+    Ok(scene.reported(index, sentence))
 }
 
 /// Whether an operator may be missing where a `;` may.
@@ -178,22 +179,27 @@ fn lacks_valof(
     near: &Near,
     repair: &Repair,
     index: usize,
-) -> Result<Told, AllocError> {
-    let told = before(
+) -> Result<Reported, AllocError> {
+    let reported = before(
         scene,
         index,
         scene.sentence().say("`VALOF` is missing before ")?,
     )?;
     match near.symbols.get(repair.place.saturating_sub(1)) {
-        Some(last) if is_operator(last.kind) && repair.is_operand => told.say(
+        Some(last) if is_operator(last.kind) && repair.is_operand => reported.say(
             ", or the operator before it is one too many",
         ),
-        _ => Ok(told),
+        _ => Ok(reported),
     }
 }
 
 /// What is reported of a missing symbol.
-fn hint_lack(scene: &Scene, near: &Near, repair: &Repair, kind: Kind) -> Result<Told, AllocError> {
+fn hint_lack(
+    scene: &Scene,
+    near: &Near,
+    repair: &Repair,
+    kind: Kind,
+) -> Result<Reported, AllocError> {
     let sentence = scene.sentence();
     let index = near.gap(repair.place, scene.at);
     let sentence = match kind {
@@ -253,7 +259,7 @@ fn semicolon_extra(near: &Near, place: usize, sentence: Sentence) -> Result<Sent
 }
 
 /// What is reported of a symbol that is one too many.
-fn hint_extra(scene: &Scene, near: &Near, repair: &Repair) -> Result<Told, AllocError> {
+fn hint_extra(scene: &Scene, near: &Near, repair: &Repair) -> Result<Reported, AllocError> {
     let index = near.index(repair.place);
     let spelled = near.text(repair.place);
     let sentence = scene.sentence();
@@ -267,7 +273,7 @@ fn hint_extra(scene: &Scene, near: &Near, repair: &Repair) -> Result<Told, Alloc
             .say(" and ")?
             .quote(spelled)?
             .say(" is one too many, or an operand is missing between them")?;
-        return Ok(scene.told(index, sentence));
+        return Ok(scene.reported(index, sentence));
     }
     if matches!(
         kind,
@@ -278,7 +284,7 @@ fn hint_extra(scene: &Scene, near: &Near, repair: &Repair) -> Result<Told, Alloc
         } else {
             " is one too many, or an operator is missing before it"
         })?;
-        return Ok(scene.told(index, sentence));
+        return Ok(scene.reported(index, sentence));
     }
     let sentence = match near.kind(repair.place) {
         Some(Kind::Close) => sentence.say(
@@ -306,11 +312,16 @@ fn hint_extra(scene: &Scene, near: &Near, repair: &Repair) -> Result<Told, Alloc
             .quote(spelled)?
             .say(" is one too many")?,
     };
-    Ok(scene.told(index, sentence))
+    Ok(scene.reported(index, sentence))
 }
 
 /// What is reported of a symbol in the place of which another is meant.
-fn hint_other(scene: &Scene, near: &Near, repair: &Repair, kind: Kind) -> Result<Told, AllocError> {
+fn hint_other(
+    scene: &Scene,
+    near: &Near,
+    repair: &Repair,
+    kind: Kind,
+) -> Result<Reported, AllocError> {
     let index = near.index(repair.place);
     let words = match (near.kind(repair.place), kind) {
         (Some(Kind::Assign), _) if repair.state == State::Due => {
@@ -325,7 +336,7 @@ fn hint_other(scene: &Scene, near: &Near, repair: &Repair, kind: Kind) -> Result
         _ => "",
     };
     if !words.is_empty() {
-        return Ok(scene.told(index, scene.sentence().say(words)?));
+        return Ok(scene.reported(index, scene.sentence().say(words)?));
     }
     if kind == Kind::Test {
         let sentence = scene
@@ -337,18 +348,18 @@ fn hint_other(scene: &Scene, near: &Near, repair: &Repair, kind: Kind) -> Result
             .say(
                 " takes no `ELSE` (or `OR`); `TEST E THEN C ELSE C` does, with no `;` before `ELSE`",
             )?;
-        return Ok(scene.told(index, sentence));
+        return Ok(scene.reported(index, sentence));
     }
     let sentence = scene
         .sentence()
         .quote(spelling(kind))?
         .say(" is meant here, perhaps, in the place of ")?
         .quote(near.text(repair.place))?;
-    Ok(scene.told(index, sentence))
+    Ok(scene.reported(index, sentence))
 }
 
 /// What is reported where several `)` are missing, as far as is known.
-pub fn hint_closes(scene: &Scene) -> Result<Option<Told>, AllocError> {
+pub fn hint_closes(scene: &Scene) -> Result<Option<Reported>, AllocError> {
     let before = scene.at.saturating_sub(1);
     let ends_line = scene.refused().is_none() || scene.line(before) != scene.line(scene.at);
     if opening(scene, scene.at).is_some() && ends_line && scene.takes(Kind::Close)? {
@@ -358,15 +369,15 @@ pub fn hint_closes(scene: &Scene) -> Result<Option<Told>, AllocError> {
 }
 
 /// What is reported where the change of one symbol makes the text right, or more of it.
-pub fn hint_change(scene: &Scene, opened: &OpenSections) -> Result<Option<Told>, AllocError> {
+pub fn hint_change(scene: &Scene, opened: &OpenSections) -> Result<Option<Reported>, AllocError> {
     let (near, found) = find_repair(scene, opened.indices.last().copied())?;
     let Some(repair) = found else {
         return Ok(None);
     };
-    let told = match repair.edit {
+    let reported = match repair.edit {
         Edit::Insert(kind) => hint_lack(scene, &near, &repair, kind)?,
         Edit::Delete => hint_extra(scene, &near, &repair)?,
         Edit::Replace(kind) => hint_other(scene, &near, &repair, kind)?,
     };
-    Ok(Some(told))
+    Ok(Some(reported))
 }

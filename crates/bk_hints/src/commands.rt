@@ -1,7 +1,7 @@
 //! Commands that lack a word, or have one too many.
 
 use crate::scene::Scene;
-use crate::sentence::Told;
+use crate::sentence::Reported;
 use bk_lex::Kind;
 use std::alloc::AllocError;
 
@@ -34,7 +34,7 @@ fn is_right_else(scene: &Scene, index: usize, other: Kind) -> Result<bool, Alloc
 }
 
 /// What is reported of ELSE that no TEST awaits.
-pub fn hint_else(scene: &Scene) -> Result<Option<Told>, AllocError> {
+pub fn hint_else(scene: &Scene) -> Result<Option<Reported>, AllocError> {
     if scene.refused() != Some(Kind::Or) {
         return Ok(None);
     }
@@ -44,7 +44,7 @@ pub fn hint_else(scene: &Scene) -> Result<Option<Told>, AllocError> {
                 .sentence()
                 .say("no `;` goes before ")?
                 .quote(scene.spelling(scene.at))?;
-            return Ok(Some(scene.told(before, sentence)));
+            return Ok(Some(scene.reported(before, sentence)));
         }
     }
     if let Some(index) = turned(scene, &[Kind::If, Kind::Unless], Kind::Test)? {
@@ -57,14 +57,14 @@ pub fn hint_else(scene: &Scene) -> Result<Option<Told>, AllocError> {
             .say(" takes no ")?
             .quote(scene.spelling(scene.at))?
             .say("; `TEST E THEN C ELSE C` does, with no `;` before `ELSE`")?;
-        return Ok(Some(scene.told(scene.at, sentence)));
+        return Ok(Some(scene.reported(scene.at, sentence)));
     }
     if scene.lacks(&[Kind::SectionClose])? {
         let sentence = scene
             .sentence()
             .say("a `$)` is missing before ")?
             .quote(scene.spelling(scene.at))?;
-        return Ok(Some(Told::at(scene.gap(), sentence)));
+        return Ok(Some(Reported::at(scene.gap(), sentence)));
     }
     if scene.means(Kind::Bar)? {
         return Ok(Some(scene.here("`|` is or; `OR` is another spelling of `ELSE`")?));
@@ -75,7 +75,7 @@ pub fn hint_else(scene: &Scene) -> Result<Option<Told>, AllocError> {
 }
 
 /// What is reported of a TEST that lacks ELSE.
-pub fn hint_test(scene: &Scene) -> Result<Option<Told>, AllocError> {
+pub fn hint_test(scene: &Scene) -> Result<Option<Reported>, AllocError> {
     if !scene.takes(Kind::Or)? {
         return Ok(None);
     }
@@ -85,7 +85,7 @@ pub fn hint_test(scene: &Scene) -> Result<Option<Told>, AllocError> {
             .sentence()
             .say("no `;` goes before ")?
             .quote(scene.spelling(next))?;
-        return Ok(Some(scene.told(scene.at, sentence)));
+        return Ok(Some(scene.reported(scene.at, sentence)));
     }
     if let Some(index) = turned(scene, &[Kind::Test], Kind::If)? {
         let sentence = scene
@@ -93,16 +93,16 @@ pub fn hint_test(scene: &Scene) -> Result<Option<Told>, AllocError> {
             .say("the `TEST` of ")?
             .line(scene.line(index))?
             .say(" needs `ELSE` (or `OR`); `IF` takes none")?;
-        return Ok(Some(scene.told(index, sentence)));
+        return Ok(Some(scene.reported(index, sentence)));
     }
     let sentence = scene
         .sentence()
         .say("the `ELSE` of a TEST is missing before ")?;
-    Ok(Some(Told::at(scene.gap(), scene.name_refused(sentence)?)))
+    Ok(Some(Reported::at(scene.gap(), scene.name_refused(sentence)?)))
 }
 
 /// What is reported of `:=` where `=` is due, and of `=` where `:=` is.
-pub fn hint_equal(scene: &Scene) -> Result<Option<Told>, AllocError> {
+pub fn hint_equal(scene: &Scene) -> Result<Option<Reported>, AllocError> {
     match scene.refused() {
         Some(Kind::Assign) if scene.means(Kind::Equal)? => {
             let declares = [Kind::Let, Kind::And, Kind::For]
@@ -128,8 +128,8 @@ fn is_item(scene: &Scene) -> bool {
 }
 
 /// What is reported where a line begins with a symbol before which a `;` was inserted that is refused.
-pub fn hint_inserted(scene: &Scene) -> Result<Option<Told>, AllocError> {
-    if !scene.is_inserted(scene.at) || !matches!(scene.behind(), Some(Kind::Open | Kind::Bang)) {
+pub fn hint_inserted(scene: &Scene) -> Result<Option<Reported>, AllocError> {
+    if !scene.is_inserted(scene.at) || !matches!(scene.following(), Some(Kind::Open | Kind::Bang)) {
         return Ok(None);
     }
     let next = scene.at.saturating_add(1);
@@ -149,7 +149,7 @@ pub fn hint_inserted(scene: &Scene) -> Result<Option<Told>, AllocError> {
         .quote(scene.spelling(before))?
         .say(" on ")?
         .line(scene.line(before))?;
-    Ok(Some(scene.told(before, sentence)))
+    Ok(Some(scene.reported(before, sentence)))
 }
 
 /// Whether the refused symbol is DO or THEN where a command may begin, perhaps after a `;`.
@@ -162,7 +162,7 @@ fn is_begun_by_do(scene: &Scene) -> Result<bool, AllocError> {
 }
 
 /// What is reported of DO or THEN where a command may begin.
-pub fn hint_do(scene: &Scene) -> Result<Option<Told>, AllocError> {
+pub fn hint_do(scene: &Scene) -> Result<Option<Reported>, AllocError> {
     if scene.refused() != Some(Kind::Do) || !is_begun_by_do(scene)? {
         return Ok(None);
     }
@@ -172,7 +172,7 @@ pub fn hint_do(scene: &Scene) -> Result<Option<Told>, AllocError> {
 }
 
 /// What is reported where the `,` of a choice is due.
-pub fn hint_choice(scene: &Scene) -> Result<Option<Told>, AllocError> {
+pub fn hint_choice(scene: &Scene) -> Result<Option<Reported>, AllocError> {
     let Some(arrow) = scene.nearest(Kind::Arrow) else {
         return Ok(None);
     };
@@ -182,11 +182,11 @@ pub fn hint_choice(scene: &Scene) -> Result<Option<Told>, AllocError> {
     let sentence = scene.sentence().say(
         "`C -> A, B` has a `,` and a second value; a field of a structure is `P!F`",
     )?;
-    Ok(Some(scene.told(arrow, sentence)))
+    Ok(Some(scene.reported(arrow, sentence)))
 }
 
 /// What is reported of a word that is a command of another kind in C.
-pub fn hint_misused(scene: &Scene) -> Result<Option<Told>, AllocError> {
+pub fn hint_misused(scene: &Scene) -> Result<Option<Reported>, AllocError> {
     let words = match (scene.before(1), scene.refused()) {
         (Some(Kind::Repeat), Some(Kind::Until | Kind::While)) => {
             "`REPEATUNTIL E` and `REPEATWHILE E` are one word each"

@@ -1,7 +1,7 @@
 //! What is missing, and what could be in the place of the refused symbol.
 
 use crate::scene::Scene;
-use crate::sentence::{Sentence, Told};
+use crate::sentence::{Reported, Sentence};
 use bk_lex::Kind;
 use std::alloc::AllocError;
 
@@ -79,7 +79,7 @@ pub fn spelling(kind: Kind) -> &'static [u8] {
 }
 
 /// The sentence with the refused symbol after it, at the gap before that symbol.
-fn hint_gap(scene: &Scene, sentence: Sentence) -> Result<Told, AllocError> {
+fn hint_gap(scene: &Scene, sentence: Sentence) -> Result<Reported, AllocError> {
     let sentence = scene.name_refused(sentence)?;
     let at = scene.gap();
     let sentence = if scene.refused().is_none() || at == scene.spot(scene.at) {
@@ -87,7 +87,7 @@ fn hint_gap(scene: &Scene, sentence: Sentence) -> Result<Told, AllocError> {
     } else {
         sentence.say(" of ")?.line(scene.line(scene.at))?
     };
-    Ok(Told::at(at, sentence))
+    Ok(Reported::at(at, sentence))
 }
 
 /// What is due at the refused symbol, in words, if it is an operand, a name or a command.
@@ -107,13 +107,13 @@ fn due_in_words(scene: &Scene) -> Result<Option<&'static str>, AllocError> {
 }
 
 /// What is reported where nothing else is known.
-pub fn hint_due_here(scene: &Scene) -> Result<Told, AllocError> {
+pub fn hint_due_here(scene: &Scene) -> Result<Reported, AllocError> {
     if let Some(words) = due_in_words(scene)? {
         return hint_gap(scene, scene.sentence().say(words)?);
     }
     let sentence = scene.name_refused(scene.sentence())?.say(" can't go here")?;
     let sentence = put_possible(scene, sentence)?;
-    Ok(scene.told(scene.at, sentence))
+    Ok(scene.reported(scene.at, sentence))
 }
 
 /// How many symbols are reported at most.

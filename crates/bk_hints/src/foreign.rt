@@ -1,7 +1,7 @@
 //! Words that mean something elsewhere: in other dialects and languages, in the headers and in the library.
 
 use crate::scene::Scene;
-use crate::sentence::{Sentence, Told};
+use crate::sentence::{Reported, Sentence};
 use bk_lex::Kind;
 use std::alloc::AllocError;
 
@@ -255,7 +255,7 @@ fn is_declared(scene: &Scene, index: usize) -> bool {
 }
 
 /// What is reported of a name with this index, where it is a word of another dialect or language.
-fn hint_word(scene: &Scene, index: usize) -> Result<Option<Told>, AllocError> {
+fn hint_word(scene: &Scene, index: usize) -> Result<Option<Reported>, AllocError> {
     if scene.kind(index) != Some(Kind::Name) || scene.before_at(index) == Some(Kind::Goto) {
         return Ok(None);
     }
@@ -263,15 +263,15 @@ fn hint_word(scene: &Scene, index: usize) -> Result<Option<Told>, AllocError> {
         return Ok(None);
     }
     match put_foreign(scene.sentence(), scene.spelling(index))? {
-        Some(sentence) => Ok(Some(scene.told(index, sentence))),
+        Some(sentence) => Ok(Some(scene.reported(index, sentence))),
         None => Ok(None),
     }
 }
 
 /// What is reported of words of other dialects and languages, at the refused symbol or before it.
-pub fn hint_foreign(scene: &Scene) -> Result<Option<Told>, AllocError> {
-    if let Some(told) = hint_word(scene, scene.at)? {
-        return Ok(Some(told));
+pub fn hint_foreign(scene: &Scene) -> Result<Option<Reported>, AllocError> {
+    if let Some(reported) = hint_word(scene, scene.at)? {
+        return Ok(Some(reported));
     }
     match scene.back(1) {
         Some(before) => hint_word(scene, before),

@@ -39,7 +39,7 @@ struct Found {
 }
 
 impl Faulty<'_> {
-    /// The next fault after these changes, and the index of its symbol; None where there is none that can be told.
+    /// The next fault after these changes, and the index of its symbol; None where there is none that can be reported.
     fn next(&self, mending: &Mending) -> Result<Option<(usize, PlacedFault)>, AllocError> {
         let Some(mended) = mending.apply(self.alloc, self.text, self.tokens, Line::first())? else {
             return Ok(None);
@@ -67,8 +67,8 @@ impl Faulty<'_> {
             kind: fault.kind,
         };
         let scene = Scene::new(self.alloc, source, self.tokens, index, None)?;
-        let told = hint_meaning(&scene, &fault)?;
-        page(self.alloc, source, &fault, told)
+        let reported = hint_meaning(&scene, &fault)?;
+        page(self.alloc, source, &fault, reported)
     }
 
     /// Adds what is reported of a fault, or counts it.

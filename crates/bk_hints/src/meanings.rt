@@ -5,7 +5,7 @@ use crate::names::{
 };
 use crate::roles::{NameRole, roles};
 use crate::scene::Scene;
-use crate::sentence::Told;
+use crate::sentence::Reported;
 use bk_base::{SourceFault, SourceKind};
 use bk_lex::Kind;
 use std::alloc::AllocError;
@@ -32,7 +32,7 @@ fn manifest(scene: &Scene, roles: &[NameRole], index: usize) -> Option<usize> {
 }
 
 /// What is reported of a destination, or of an operand of `@`, without an address.
-fn hint_assignable(scene: &Scene, roles: &[NameRole]) -> Result<Told, AllocError> {
+fn hint_assignable(scene: &Scene, roles: &[NameRole]) -> Result<Reported, AllocError> {
     let at = scene.at;
     let declared = manifest(scene, roles, at);
     let sentence = match declared {
@@ -46,7 +46,7 @@ fn hint_assignable(scene: &Scene, roles: &[NameRole]) -> Result<Told, AllocError
             "an expression has no address: a name, `!E` and `E!E` go before `:=` and after `@`, and `E%E` before `:=`",
         )?,
     };
-    Ok(scene.told(at, sentence))
+    Ok(scene.reported(at, sentence))
 }
 
 /// What asks for a constant at the refused symbol.
@@ -79,7 +79,7 @@ fn is_case(asks: Option<Kind>) -> bool {
 }
 
 /// What is reported of an expression that is no constant.
-fn hint_constant(scene: &Scene) -> Result<Told, AllocError> {
+fn hint_constant(scene: &Scene) -> Result<Reported, AllocError> {
     let at = scene.at;
     let sentence = match scene.kind(at) {
         Some(Kind::Name | Kind::Text | Kind::Query | Kind::Valof | Kind::Table) => scene
@@ -101,16 +101,16 @@ fn hint_constant(scene: &Scene) -> Result<Told, AllocError> {
         _ =>
             "a constant is due here: numbers, characters, TRUE, FALSE, names of MANIFEST, and operators on them",
     })?;
-    Ok(scene.told(at, sentence))
+    Ok(scene.reported(at, sentence))
 }
 
 /// These words at the refused symbol.
-fn hint_word(scene: &Scene, words: &str) -> Result<Told, AllocError> {
-    Ok(scene.told(scene.at, scene.sentence().say(words)?))
+fn hint_word(scene: &Scene, words: &str) -> Result<Reported, AllocError> {
+    Ok(scene.reported(scene.at, scene.sentence().say(words)?))
 }
 
 /// What is reported of RESULTIS or RETURN where it can't be.
-fn hint_result(scene: &Scene) -> Result<Told, AllocError> {
+fn hint_result(scene: &Scene) -> Result<Reported, AllocError> {
     hint_word(
         scene,
         match scene.refused() {
@@ -127,7 +127,7 @@ fn hint_nameless(
     scene: &Scene,
     roles: &[NameRole],
     fault: &SourceFault,
-) -> Result<Told, AllocError> {
+) -> Result<Reported, AllocError> {
     match fault.kind {
         SourceKind::NotAssignable => hint_assignable(scene, roles),
         SourceKind::NotConstant => hint_constant(scene),
@@ -163,7 +163,7 @@ fn hint_nameless(
 }
 
 /// What is reported of a fault of names or constants.
-pub fn hint_meaning(scene: &Scene, fault: &SourceFault) -> Result<Told, AllocError> {
+pub fn hint_meaning(scene: &Scene, fault: &SourceFault) -> Result<Reported, AllocError> {
     let roles = roles(scene.alloc, scene.tokens)?;
     let name = fault.kind.name().as_bytes();
     if name.is_empty() {

@@ -3,7 +3,7 @@
 use crate::foreign::{library, put_foreign};
 use crate::roles::NameRole;
 use crate::scene::Scene;
-use crate::sentence::{Sentence, Told};
+use crate::sentence::{Reported, Sentence};
 use bk_lex::Kind;
 use std::alloc::AllocError;
 
@@ -52,7 +52,7 @@ impl Names<'_> {
     }
 
     /// The first declaration of the name after a symbol.
-    fn first_behind(&self, at: usize) -> Option<usize> {
+    fn first_after(&self, at: usize) -> Option<usize> {
         for index in 0..self.roles.len() {
             if index > at && self.declares(index) {
                 return Some(index);
@@ -85,12 +85,12 @@ impl Names<'_> {
     }
 
     /// This sentence at a symbol, with that of a declaration as a second place.
-    fn told(&self, at: usize, declared: Option<usize>, sentence: Sentence) -> Told {
+    fn reported(&self, at: usize, declared: Option<usize>, sentence: Sentence) -> Reported {
         let also = match declared {
             Some(declared) => self.scene.spot(declared),
             None => None,
         };
-        self.scene.told(at, sentence).and(also)
+        self.scene.reported(at, sentence).and(also)
     }
 
     /// The sentence with the name after it.
@@ -218,11 +218,11 @@ fn has_header(scene: &Scene, at: usize) -> bool {
 }
 
 /// What is reported of a name that means nothing.
-pub fn hint_not_declared(names: &Names, at: usize) -> Result<Told, AllocError> {
+pub fn hint_not_declared(names: &Names, at: usize) -> Result<Reported, AllocError> {
     let scene = names.scene;
     let sentence = if let Some(declared) = names.last_before(at) {
         hint_past(names, at, declared)?
-    } else if let Some(declared) = names.first_behind(at) {
+    } else if let Some(declared) = names.first_after(at) {
         hint_later(names, declared)?
     } else if let Some(words) = library(names.name) {
         names.quoted("")?.say(" is not declared; ")?.say(words)?
@@ -232,7 +232,7 @@ pub fn hint_not_declared(names: &Names, at: usize) -> Result<Told, AllocError> {
         hint_unknown(names, at)?
     };
     let declared = names.last_before(at);
-    Ok(names.told(at, declared.or(names.first_behind(at)), sentence))
+    Ok(names.reported(at, declared.or(names.first_after(at)), sentence))
 }
 
 /// What is reported of a name that is declared nowhere.
@@ -272,7 +272,7 @@ fn hint_unknown(names: &Names, at: usize) -> Result<Sentence, AllocError> {
 }
 
 /// What is reported of a name that is declared twice in one list.
-pub fn hint_twice(names: &Names, at: usize) -> Result<Told, AllocError> {
+pub fn hint_twice(names: &Names, at: usize) -> Result<Reported, AllocError> {
     let sentence = names.quoted("")?;
     let sentence = match names.last_before(at) {
         Some(first) => sentence
@@ -283,11 +283,11 @@ pub fn hint_twice(names: &Names, at: usize) -> Result<Told, AllocError> {
             )?,
         None => sentence.say(" is declared twice in one list")?,
     };
-    Ok(names.told(at, names.last_before(at), sentence))
+    Ok(names.reported(at, names.last_before(at), sentence))
 }
 
 /// What is reported of a variable of an outer procedure.
-pub fn hint_dynamic(names: &Names, at: usize) -> Result<Told, AllocError> {
+pub fn hint_dynamic(names: &Names, at: usize) -> Result<Reported, AllocError> {
     let sentence = names.quoted("")?;
     let sentence = match names.last_before(at) {
         Some(declared) => sentence.say(" of ")?.line(names.scene.line(declared))?,
@@ -296,11 +296,11 @@ pub fn hint_dynamic(names: &Names, at: usize) -> Result<Told, AllocError> {
     let sentence = sentence.say(
         " is a variable of the procedure outside, which this one can't use; STATIC, a global or an argument serves",
     )?;
-    Ok(names.told(at, names.last_before(at), sentence))
+    Ok(names.reported(at, names.last_before(at), sentence))
 }
 
 /// What is reported of a label that is not one here.
-pub fn hint_label(names: &Names, at: usize) -> Result<Told, AllocError> {
+pub fn hint_label(names: &Names, at: usize) -> Result<Reported, AllocError> {
     let sentence = names.quoted("")?;
     let sentence = if names.scene.before_at(at) != Some(Kind::Goto) {
         sentence.say(" is a label, which is no value: `GOTO` alone takes it")?
@@ -314,11 +314,11 @@ pub fn hint_label(names: &Names, at: usize) -> Result<Told, AllocError> {
             " is no label; `GOTO` takes a label of its procedure, and `F()` calls a procedure",
         )?
     };
-    Ok(names.told(at, names.label(), sentence))
+    Ok(names.reported(at, names.label(), sentence))
 }
 
 /// What is reported of a second procedure of one global.
-pub fn hint_procedures(names: &Names, at: usize) -> Result<Told, AllocError> {
+pub fn hint_procedures(names: &Names, at: usize) -> Result<Reported, AllocError> {
     let sentence = names.quoted("")?.say(
         " is a global, and a section has one procedure for it at most",
     )?;
@@ -328,7 +328,7 @@ pub fn hint_procedures(names: &Names, at: usize) -> Result<Told, AllocError> {
             .line(names.scene.line(first))?,
         None => sentence,
     };
-    Ok(names.told(at, names.last_procedure(at), sentence))
+    Ok(names.reported(at, names.last_procedure(at), sentence))
 }
 
 impl Names<'_> {

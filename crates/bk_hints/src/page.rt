@@ -1,7 +1,7 @@
 //! The lines that a person reads: the place and what is wrong there, the lines of the source with carets, and the sentence.
 
 use crate::lines::{Lines, line_end, line_start};
-use crate::sentence::Told;
+use crate::sentence::Reported;
 use bk_base::{Line, SourceFault};
 use bk_tree::column_after;
 use itoa::Buffer;
@@ -193,19 +193,19 @@ pub fn page(
     alloc: Global,
     source: (&[u8], &Lines),
     fault: &SourceFault,
-    told: Told,
+    reported: Reported,
 ) -> Result<Vec<u8>, AllocError> {
     let (text, lines) = source;
     let mut page = Vec::new(alloc);
-    put_place(&mut page, text, lines, told.at, fault.line)?;
+    put_place(&mut page, text, lines, reported.at, fault.line)?;
     page.extend_from_slice(b": ")?;
     page.extend_from_slice(fault.kind.phrase().as_bytes())?;
     page.extend_from_slice(fault.kind.name().as_bytes())?;
     page.push(b'\n')?;
-    if let Some(at) = told.at {
-        put_sources(&mut page, text, lines, at, told.also)?;
+    if let Some(at) = reported.at {
+        put_sources(&mut page, text, lines, at, reported.also)?;
     }
-    let sentence = told.sentence.into_bytes();
+    let sentence = reported.sentence.into_bytes();
     put_shown(&mut page, sentence.as_slice())?;
     Ok(page)
 }

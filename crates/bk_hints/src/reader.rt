@@ -1,7 +1,7 @@
 //! A reader of symbols that makes no tree: it knows which symbols begin a section, as the parser does, and is copied cheaply.
 
 use bk_grammar::spelling::{same_tag, tag};
-use bk_grammar::symbols::{goes_on, infix, inner_row, prefix, repeats, row_behind, starts_command};
+use bk_grammar::symbols::{goes_on, infix, inner_row, prefix, repeats, row_after, starts_command};
 use bk_lex::Kind;
 use std::alloc::{AllocError, Global};
 
@@ -315,7 +315,7 @@ impl<'a> Reader<'a> {
             Kind::Number | Kind::Text | Kind::Character | Kind::True | Kind::False | Kind::Query =>
                 Ok(self.go(State::Have(Shape::Other))),
             _ => match prefix(kind) {
-                Some(operator) => self.begin(Part::Operand(row_behind(operator)), State::Want),
+                Some(operator) => self.begin(Part::Operand(row_after(operator)), State::Want),
                 None => Ok(Flow::Refused),
             },
         }

@@ -40,7 +40,7 @@ struct Reading {
 }
 
 /// Where the reading is after a symbol.
-fn behind(reading: Reading, kind: Kind) -> Reading {
+fn following(reading: Reading, kind: Kind) -> Reading {
     let next = Reading {
         before: Some(kind),
         ..reading
@@ -140,7 +140,7 @@ pub fn roles(alloc: Global, tokens: &[Token]) -> Result<Vec<NameRole>, AllocErro
         } else {
             NameRole::Used
         })?;
-        reading = behind(reading, token.kind);
+        reading = following(reading, token.kind);
     }
     Ok(roles)
 }

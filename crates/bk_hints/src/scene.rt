@@ -2,7 +2,7 @@
 
 use crate::lines::Lines;
 use crate::reader::Reader;
-use crate::sentence::{Sentence, Told};
+use crate::sentence::{Reported, Sentence};
 use bk_base::Line;
 use bk_lex::{Kind, Token};
 use std::alloc::{AllocError, Global};
@@ -106,7 +106,7 @@ impl<'a> Scene<'a> {
     }
 
     /// The kind of the symbol after the one that is refused.
-    pub fn behind(&self) -> Option<Kind> {
+    pub fn following(&self) -> Option<Kind> {
         self.kind(self.at.saturating_add(1))
     }
 
@@ -330,8 +330,8 @@ impl<'a> Scene<'a> {
     }
 
     /// These words at the refused symbol.
-    pub fn here(&self, words: &str) -> Result<Told, AllocError> {
-        Told::new(self.alloc, self.spot(self.at), words)
+    pub fn here(&self, words: &str) -> Result<Reported, AllocError> {
+        Reported::new(self.alloc, self.spot(self.at), words)
     }
 
     /// A sentence without words.
@@ -340,8 +340,8 @@ impl<'a> Scene<'a> {
     }
 
     /// This sentence at a symbol.
-    pub fn told(&self, index: usize, sentence: Sentence) -> Told {
-        Told::at(self.spot(index), sentence)
+    pub fn reported(&self, index: usize, sentence: Sentence) -> Reported {
+        Reported::at(self.spot(index), sentence)
     }
 }
 

@@ -68,7 +68,7 @@ impl Sentence {
 
 /// What is reported: a place in the text, if there is one, and a sentence.
 #[derive(Drop)]
-pub struct Told {
+pub struct Reported {
     /// How many bytes of the text come before the place.
     pub at: Option<usize>,
     /// The same of a second place, which the sentence names by its line.
@@ -76,10 +76,10 @@ pub struct Told {
     pub sentence: Sentence,
 }
 
-impl Told {
+impl Reported {
     /// These words at this place.
-    pub fn new(alloc: Global, at: Option<usize>, words: &str) -> Result<Told, AllocError> {
-        Ok(Told {
+    pub fn new(alloc: Global, at: Option<usize>, words: &str) -> Result<Reported, AllocError> {
+        Ok(Reported {
             at,
             also: None,
             sentence: Sentence::new(alloc).say(words)?,
@@ -87,8 +87,8 @@ impl Told {
     }
 
     /// This sentence at this place.
-    pub fn at(at: Option<usize>, sentence: Sentence) -> Told {
-        Told {
+    pub fn at(at: Option<usize>, sentence: Sentence) -> Reported {
+        Reported {
             at,
             also: None,
             sentence,
@@ -96,8 +96,8 @@ impl Told {
     }
 
     /// The same with a second place.
-    pub fn and(self, also: Option<usize>) -> Told {
-        Told {
+    pub fn and(self, also: Option<usize>) -> Reported {
+        Reported {
             at: self.at,
             also,
             sentence: self.sentence,
@@ -105,8 +105,8 @@ impl Told {
     }
 
     /// The same with these words after the sentence.
-    pub fn say(self, words: &str) -> Result<Told, AllocError> {
-        Ok(Told {
+    pub fn say(self, words: &str) -> Result<Reported, AllocError> {
+        Ok(Reported {
             at: self.at,
             also: self.also,
             sentence: self.sentence.say(words)?,

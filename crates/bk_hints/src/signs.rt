@@ -1,7 +1,7 @@
 //! Signs of other languages that are two symbols here.
 
 use crate::scene::Scene;
-use crate::sentence::Told;
+use crate::sentence::Reported;
 use bk_lex::Kind;
 use std::alloc::AllocError;
 
@@ -156,23 +156,23 @@ fn steps(scene: &Scene, kind: Kind) -> Option<usize> {
 }
 
 /// What is reported of a sign of C that is two symbols before the refused one.
-fn hint_step(scene: &Scene, kind: Kind, words: &str) -> Result<Option<Told>, AllocError> {
+fn hint_step(scene: &Scene, kind: Kind, words: &str) -> Result<Option<Reported>, AllocError> {
     match steps(scene, kind) {
-        Some(index) => Ok(Some(scene.told(index, scene.sentence().say(words)?))),
+        Some(index) => Ok(Some(scene.reported(index, scene.sentence().say(words)?))),
         None => Ok(None),
     }
 }
 
 /// What is reported of NOT where `~=` is meant, and of a number before a name.
-fn hint_apart(scene: &Scene) -> Result<Option<Told>, AllocError> {
-    if scene.refused() == Some(Kind::Not) && scene.behind() == Some(Kind::Equal) {
+fn hint_apart(scene: &Scene) -> Result<Option<Reported>, AllocError> {
+    if scene.refused() == Some(Kind::Not) && scene.following() == Some(Kind::Equal) {
         return Ok(Some(scene.here("`~=` (or `NE`) is unequal; `NOT =` is no sign")?));
     }
     hint_digits(scene)
 }
 
 /// What is reported of a number that a name follows at once.
-fn hint_digits(scene: &Scene) -> Result<Option<Told>, AllocError> {
+fn hint_digits(scene: &Scene) -> Result<Option<Reported>, AllocError> {
     let index = if scene.refused() == Some(Kind::Number) {
         scene.at
     } else {
@@ -191,22 +191,22 @@ fn hint_digits(scene: &Scene) -> Result<Option<Told>, AllocError> {
         }
         _ => "a name begins with a letter, and a number has digits alone",
     };
-    Ok(Some(scene.told(index, scene.sentence().say(words)?)))
+    Ok(Some(scene.reported(index, scene.sentence().say(words)?)))
 }
 
 /// What is reported of signs of other languages.
-pub fn hint_signs(scene: &Scene) -> Result<Option<Told>, AllocError> {
+pub fn hint_signs(scene: &Scene) -> Result<Option<Reported>, AllocError> {
     if let Some(says) = pair_at(scene, scene.at) {
         return Ok(Some(scene.here(says)?));
     }
     if let Some(says) = pair_at(scene, scene.at.saturating_add(1)) {
         return Ok(Some(scene.here(says)?));
     }
-    if let Some(told) = hint_step(scene, Kind::Plus, "`++` is no sign; write `X := X + 1`")? {
-        return Ok(Some(told));
+    if let Some(reported) = hint_step(scene, Kind::Plus, "`++` is no sign; write `X := X + 1`")? {
+        return Ok(Some(reported));
     }
-    if let Some(told) = hint_step(scene, Kind::Minus, "`--` is no sign; write `X := X - 1`")? {
-        return Ok(Some(told));
+    if let Some(reported) = hint_step(scene, Kind::Minus, "`--` is no sign; write `X := X - 1`")? {
+        return Ok(Some(reported));
     }
     hint_apart(scene)
 }

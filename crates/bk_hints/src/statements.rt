@@ -4,7 +4,7 @@ use crate::brackets::OpenSections;
 use crate::commands::starts_operand;
 use crate::repair::begins_command;
 use crate::scene::Scene;
-use crate::sentence::Told;
+use crate::sentence::Reported;
 use bk_lex::Kind;
 use std::alloc::AllocError;
 
@@ -17,7 +17,7 @@ fn is_word(spelling: &[u8]) -> bool {
 }
 
 /// What is reported of a dot that belongs to the name before the refused symbol.
-pub fn hint_dot(scene: &Scene) -> Result<Option<Told>, AllocError> {
+pub fn hint_dot(scene: &Scene) -> Result<Option<Reported>, AllocError> {
     let Some(before) = scene.back(1) else {
         return Ok(None);
     };
@@ -30,17 +30,20 @@ pub fn hint_dot(scene: &Scene) -> Result<Option<Told>, AllocError> {
         .say("the `.` belongs to the name ")?
         .quote(spelling)?
         .say("; a blank goes before the `.` that ends a section")?;
-    Ok(Some(scene.told(before, sentence)))
+    Ok(Some(scene.reported(before, sentence)))
 }
 
 /// What is reported of a variable that is declared outside procedures.
-pub fn hint_outermost(scene: &Scene, opened: &OpenSections) -> Result<Option<Told>, AllocError> {
+pub fn hint_outermost(
+    scene: &Scene,
+    opened: &OpenSections,
+) -> Result<Option<Reported>, AllocError> {
     if !opened.indices.is_empty() {
         return Ok(None);
     }
     let words = match (scene.before(2), scene.before(1), scene.refused()) {
         (Some(Kind::Let | Kind::And), Some(Kind::Name), Some(Kind::Equal | Kind::Assign)) => {
-            if scene.behind() == Some(Kind::Vec) {
+            if scene.following() == Some(Kind::Vec) {
                 "outside procedures LET declares procedures alone; a vector is a LET of START, and a global or STATIC takes its address"
             } else {
                 "outside procedures LET declares procedures alone; `STATIC $( N = E $)` declares a variable, and MANIFEST a constant"
@@ -76,7 +79,7 @@ fn lacks_let(scene: &Scene) -> bool {
 }
 
 /// What is reported of a command that is outside procedures.
-fn hint_command_outside(scene: &Scene) -> Result<Option<Told>, AllocError> {
+fn hint_command_outside(scene: &Scene) -> Result<Option<Reported>, AllocError> {
     if !scene.takes(Kind::Let)? || !scene.takes(Kind::Semicolon)? {
         return Ok(None);
     }
@@ -111,11 +114,11 @@ fn list_word(scene: &Scene, opened: &OpenSections) -> Option<Kind> {
 }
 
 /// What is reported of the items of MANIFEST, STATIC and GLOBAL.
-pub fn hint_items(scene: &Scene, opened: &OpenSections) -> Result<Option<Told>, AllocError> {
+pub fn hint_items(scene: &Scene, opened: &OpenSections) -> Result<Option<Reported>, AllocError> {
     if matches!(
         scene.before(1),
         Some(Kind::Manifest | Kind::Static | Kind::Global)
-    ) && scene.behind() != Some(Kind::SectionOpen)
+    ) && scene.following() != Some(Kind::SectionOpen)
     {
         let word = scene.spelling(scene.at.saturating_sub(1));
         let sentence = scene
@@ -127,7 +130,7 @@ pub fn hint_items(scene: &Scene, opened: &OpenSections) -> Result<Option<Told>, 
         } else {
             sentence.say(" $( N = 1 $)`")?
         };
-        return Ok(Some(scene.told(scene.at, sentence)));
+        return Ok(Some(scene.reported(scene.at, sentence)));
     }
     let Some(word) = list_word(scene, opened) else {
         return Ok(None);
@@ -145,7 +148,7 @@ pub fn hint_items(scene: &Scene, opened: &OpenSections) -> Result<Option<Told>, 
         _
             if scene.before(1) == Some(Kind::Name)
                 && !matches!(
-                    scene.behind(),
+                    scene.following(),
                     Some(Kind::Colon | Kind::Equal | Kind::Assign)
                 )
                 && scene.takes(Kind::Colon)? => {
@@ -157,7 +160,7 @@ pub fn hint_items(scene: &Scene, opened: &OpenSections) -> Result<Option<Told>, 
 }
 
 /// What is reported of an item without its number or value.
-fn hint_item(scene: &Scene, word: Kind) -> Result<Told, AllocError> {
+fn hint_item(scene: &Scene, word: Kind) -> Result<Reported, AllocError> {
     let before = scene.at.saturating_sub(1);
     let sentence = scene
         .sentence()
@@ -174,11 +177,11 @@ fn hint_item(scene: &Scene, word: Kind) -> Result<Told, AllocError> {
             .spell(scene.spelling(before))?
             .say(" = 0`")?
     };
-    Ok(scene.told(before, sentence))
+    Ok(scene.reported(before, sentence))
 }
 
 /// What is reported of a reserved word where a name is due.
-pub fn hint_reserved(scene: &Scene) -> Result<Option<Told>, AllocError> {
+pub fn hint_reserved(scene: &Scene) -> Result<Option<Reported>, AllocError> {
     let spelling = scene.spelling(scene.at);
     if !is_word(spelling) || scene.refused() == Some(Kind::Name) || !scene.takes(Kind::Name)? {
         return Ok(None);
@@ -187,21 +190,21 @@ pub fn hint_reserved(scene: &Scene) -> Result<Option<Told>, AllocError> {
         scene.before(1),
         Some(Kind::Let | Kind::And | Kind::For | Kind::Goto)
     );
-    if scene.behind() == Some(Kind::Name) || !is_sure && !names_thing(scene) {
+    if scene.following() == Some(Kind::Name) || !is_sure && !names_thing(scene) {
         return Ok(None);
     }
     let sentence = scene
         .sentence()
         .quote(spelling)?
         .say(" is a reserved word, so it can be no name")?;
-    Ok(Some(scene.told(scene.at, sentence)))
+    Ok(Some(scene.reported(scene.at, sentence)))
 }
 
 /// Whether what is after the refused word goes on with a name.
 fn names_thing(scene: &Scene) -> bool {
     !scene.refused().is_some_and(begins_command)
         && matches!(
-            scene.behind(),
+            scene.following(),
             Some(
                 Kind::Equal
                     | Kind::Assign
@@ -220,7 +223,7 @@ fn names_thing(scene: &Scene) -> bool {
 }
 
 /// What is reported of a definition that lacks its parentheses, its value or its body.
-pub fn hint_definition(scene: &Scene) -> Result<Option<Told>, AllocError> {
+pub fn hint_definition(scene: &Scene) -> Result<Option<Reported>, AllocError> {
     let is_head = matches!(scene.before(2), Some(Kind::Let | Kind::And))
         && scene.before(1) == Some(Kind::Name);
     if !is_head {
@@ -239,7 +242,7 @@ pub fn hint_definition(scene: &Scene) -> Result<Option<Told>, AllocError> {
             .say(" = 0`, or `= ?` to leave it unset")?,
         _ => return Ok(None),
     };
-    Ok(Some(scene.told(before, sentence)))
+    Ok(Some(scene.reported(before, sentence)))
 }
 
 /// Whether the refused symbol ends a command.
@@ -270,7 +273,7 @@ fn is_label(scene: &Scene, index: usize) -> bool {
 }
 
 /// What is reported of a name in the place of a command.
-pub fn hint_name(scene: &Scene) -> Result<Option<Told>, AllocError> {
+pub fn hint_name(scene: &Scene) -> Result<Option<Reported>, AllocError> {
     let start = scene.statement();
     let is_name = start.saturating_add(1) == scene.at && scene.kind(start) == Some(Kind::Name);
     if !is_name || !ends_command(scene) || !scene.takes(Kind::Assign)? {
@@ -285,18 +288,18 @@ pub fn hint_name(scene: &Scene) -> Result<Option<Told>, AllocError> {
             .sentence()
             .say("`:` is missing after the label ")?
             .quote(name)?;
-        return Ok(Some(scene.told(start, sentence)));
+        return Ok(Some(scene.reported(start, sentence)));
     }
     let sentence = scene
         .sentence()
         .say("a name alone is no command: `")?
         .spell(name)?
         .say("()` calls it")?;
-    Ok(Some(scene.told(start, sentence)))
+    Ok(Some(scene.reported(start, sentence)))
 }
 
 /// What is reported of an expression in the place of a command, which is no call.
-pub fn hint_expression(scene: &Scene) -> Result<Option<Told>, AllocError> {
+pub fn hint_expression(scene: &Scene) -> Result<Option<Reported>, AllocError> {
     if !ends_command(scene) || !scene.takes(Kind::Assign)? && !scene.takes(Kind::Plus)? {
         return Ok(None);
     }
@@ -309,7 +312,7 @@ pub fn hint_expression(scene: &Scene) -> Result<Option<Told>, AllocError> {
             let sentence = scene.sentence().say(
                 "`=` compares, which is no command; perhaps `:=` is meant, which assigns",
             )?;
-            return Ok(Some(scene.told(index, sentence)));
+            return Ok(Some(scene.reported(index, sentence)));
         }
         if scene.kind(index) == Some(Kind::Equal) {
             break;
@@ -324,7 +327,7 @@ pub fn hint_expression(scene: &Scene) -> Result<Option<Told>, AllocError> {
         let sentence = scene.sentence().say(
             "an expression is a command only where it is a call, as `F()` is",
         )?;
-        return Ok(Some(scene.told(start, sentence)));
+        return Ok(Some(scene.reported(start, sentence)));
     }
     Ok(None)
 }
@@ -335,7 +338,7 @@ fn starts_command_word(scene: &Scene, index: usize) -> bool {
 }
 
 /// What is reported of lists of destinations, names and values.
-pub fn hint_counts(scene: &Scene) -> Result<Option<Told>, AllocError> {
+pub fn hint_counts(scene: &Scene) -> Result<Option<Reported>, AllocError> {
     if scene.refused() == Some(Kind::Comma) && scene.means(Kind::And)? {
         return Ok(Some(scene.here(
             "a LET has as many values as names; `AND` joins a second declaration, as `LET A = 1 AND B = 2`",
@@ -353,11 +356,11 @@ pub fn hint_counts(scene: &Scene) -> Result<Option<Told>, AllocError> {
     let sentence = scene.sentence().say(
         "there are as many values as names or destinations; a `,` and a value are missing",
     )?;
-    Ok(Some(Told::at(scene.gap(), sentence)))
+    Ok(Some(Reported::at(scene.gap(), sentence)))
 }
 
 /// What is reported of a name or an operand after another.
-pub fn hint_arguments(scene: &Scene) -> Result<Option<Told>, AllocError> {
+pub fn hint_arguments(scene: &Scene) -> Result<Option<Reported>, AllocError> {
     let before = scene.at.saturating_sub(1);
     if scene.kind(before) != Some(Kind::Name)
         || !starts_operand(scene)
@@ -371,5 +374,5 @@ pub fn hint_arguments(scene: &Scene) -> Result<Option<Told>, AllocError> {
         .say(" is followed by ")?
         .quote(scene.spelling(scene.at))?
         .say("; perhaps a call is meant: its arguments go in parentheses, as in `F(X, Y)`")?;
-    Ok(Some(scene.told(scene.at, sentence)))
+    Ok(Some(scene.reported(scene.at, sentence)))
 }

@@ -11,7 +11,7 @@ use crate::commands::{
 use crate::due::hint_due_here;
 use crate::foreign::hint_foreign;
 use crate::scene::Scene;
-use crate::sentence::Told;
+use crate::sentence::Reported;
 use crate::signs::hint_signs;
 use crate::statements::{
     hint_arguments, hint_counts, hint_definition, hint_dot, hint_expression, hint_items, hint_name,
@@ -23,15 +23,15 @@ use std::alloc::AllocError;
 /// The first of these that has something to report.
 macro_rules! first_of {
     ($($hint:expr),+) => {{
-        $(if let Some(told) = $hint? {
-            return Ok(Some(told));
+        $(if let Some(reported) = $hint? {
+            return Ok(Some(reported));
         })+
         Ok(None)
     }};
 }
 
 /// What is reported by the spellings around the symbol.
-fn by_spelling(scene: &Scene) -> Result<Option<Told>, AllocError> {
+fn by_spelling(scene: &Scene) -> Result<Option<Reported>, AllocError> {
     first_of!(
         hint_signs(scene),
         hint_dot(scene),
@@ -41,7 +41,7 @@ fn by_spelling(scene: &Scene) -> Result<Option<Told>, AllocError> {
 }
 
 /// What is reported by the sections that are open.
-fn by_brackets(scene: &Scene, opened: &OpenSections) -> Result<Option<Told>, AllocError> {
+fn by_brackets(scene: &Scene, opened: &OpenSections) -> Result<Option<Reported>, AllocError> {
     first_of!(
         hint_end(scene, opened),
         hint_extra(scene, opened),
@@ -51,7 +51,7 @@ fn by_brackets(scene: &Scene, opened: &OpenSections) -> Result<Option<Told>, All
 }
 
 /// What is reported by the declaration or the command that the symbol is in, where people write it so.
-fn by_habit(scene: &Scene) -> Result<Option<Told>, AllocError> {
+fn by_habit(scene: &Scene) -> Result<Option<Reported>, AllocError> {
     first_of!(
         hint_reserved(scene),
         hint_definition(scene),
@@ -62,7 +62,7 @@ fn by_habit(scene: &Scene) -> Result<Option<Told>, AllocError> {
 }
 
 /// What is reported by the declaration or the command that the symbol is in, where no change of one symbol helps.
-fn by_statement(scene: &Scene, opened: &OpenSections) -> Result<Option<Told>, AllocError> {
+fn by_statement(scene: &Scene, opened: &OpenSections) -> Result<Option<Reported>, AllocError> {
     first_of!(
         hint_late(scene, opened),
         hint_outermost(scene, opened),
@@ -79,7 +79,7 @@ fn by_statement(scene: &Scene, opened: &OpenSections) -> Result<Option<Told>, Al
 }
 
 /// What is reported of an unexpected symbol, by the first of these that knows it.
-fn hint_known(scene: &Scene) -> Result<Option<Told>, AllocError> {
+fn hint_known(scene: &Scene) -> Result<Option<Reported>, AllocError> {
     let opened = open_sections(scene)?;
     first_of!(
         by_spelling(scene),
@@ -91,7 +91,7 @@ fn hint_known(scene: &Scene) -> Result<Option<Told>, AllocError> {
 }
 
 /// What is reported of a fault at a symbol.
-pub fn hint_syntax(scene: &Scene, kind: &SourceKind) -> Result<Told, AllocError> {
+pub fn hint_syntax(scene: &Scene, kind: &SourceKind) -> Result<Reported, AllocError> {
     match kind {
         SourceKind::WrongSectionTag => hint_wrong_tag(scene),
         SourceKind::NestedTooDeeply => scene.here(
@@ -101,7 +101,7 @@ pub fn hint_syntax(scene: &Scene, kind: &SourceKind) -> Result<Told, AllocError>
             "the section has more than 65536 nodes here; a `.` and another section split it",
         ),
         _ => match hint_known(scene)? {
-            Some(told) => Ok(told),
+            Some(reported) => Ok(reported),
             None => hint_due_here(scene),
         },
     }

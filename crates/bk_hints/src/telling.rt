@@ -7,7 +7,7 @@ use crate::meanings::hint_meaning;
 use crate::page::page;
 use crate::refused::refused_at;
 use crate::scene::Scene;
-use crate::sentence::Told;
+use crate::sentence::Reported;
 use crate::syntax::hint_syntax;
 use bk_base::{Line, Refused, SourceFault, SourceKind};
 use bk_lex::{Lexed, lex_placed};
@@ -31,7 +31,7 @@ fn hint_symbol(
     lexed: &Lexed,
     at: usize,
     fault: &SourceFault,
-) -> Result<Told, AllocError> {
+) -> Result<Reported, AllocError> {
     let dot = if lexed.ended {
         lexed.used.checked_sub(1)
     } else {
@@ -56,8 +56,8 @@ fn add_section(
     let (text, lines) = source;
     let tokens = lexed.tokens.as_slice();
     let at = refused_at(alloc, text, tokens)?;
-    let told = hint_symbol(alloc, source, lexed, at, fault)?;
-    pages.push(page(alloc, source, fault, told)?)?;
+    let reported = hint_symbol(alloc, source, lexed, at, fault)?;
+    pages.push(page(alloc, source, fault, reported)?)?;
     if is_of_syntax(&fault.kind) {
         return Ok(());
     }
@@ -86,8 +86,8 @@ pub fn hints(
     match lex_placed(alloc, text, from) {
         Ok(lexed) => add_section(alloc, (text, &lines), &lexed, fault, &mut pages)?,
         Err(Refused::Fault(found)) => {
-            let told = hint_bytes(alloc, text, &found)?;
-            pages.push(page(alloc, (text, &lines), fault, told)?)?;
+            let reported = hint_bytes(alloc, text, &found)?;
+            pages.push(page(alloc, (text, &lines), fault, reported)?)?;
         }
         Err(_) => return Err(AllocError),
     }

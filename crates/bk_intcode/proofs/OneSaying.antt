@@ -1,5 +1,5 @@
 -- The words of a text say one thing.
-use Rattle.bk_intcode.proofs.Terms.{◌≡◌, ◌≢◌, inl, inr, ℕ, zero, suc, ◌+◌, ◌-◌, ◌<◌, ◌≤◌, ◌^◌, ◌++◌, ◌&&◌, ◌==◌, nat_lt, Bool, true, false, IsTrue, if◌then◌else◌, pos, List, [], ◌∷◌, Some, None, length, take, get_or, map, slice_get, arith, refl, sym, ap, ◌∙◌, subst, append_assoc, append-nil, length-append, length-take, eq-eqb, lt-ltb, list_all, cases_lt, length-map, decimal_injective, spelling, INTCODE_ITEMS, IntcodeKind, BadLetter, BadNumber, ByteOver255, LabelNotSet, LabelSetTwice, Truncated, TooLong, FrameGivenTwice, sets, item_uses, operand_uses, IsSegment, IsItem, AreItems, operand_is_set, use_is_set, gives_frame, Function, Load, Operand, Label, Item, Instruction, SetLabel, Byte, LabelWord, SetGlobal, Frame, End, letter, item_text, all_set, item_fault, Means, WordFault, begins_item, IsByteOver255, IsPartial, FaultBehind, FaultAt, CutAt, segment, nothing, fault, Says, SayOneThing, rest_same, first-numeral, or_cases}
+use Rattle.bk_intcode.proofs.Terms.{◌≡◌, ◌≢◌, inl, inr, ℕ, zero, suc, ◌+◌, ◌-◌, ◌<◌, ◌≤◌, ◌^◌, ◌++◌, ◌&&◌, ◌==◌, nat_lt, Bool, true, false, IsTrue, if◌then◌else◌, pos, List, [], ◌∷◌, Some, None, length, take, get_or, map, slice_get, arith, refl, sym, ap, ◌∙◌, subst, append_assoc, append-nil, length-append, length-take, eq-eqb, lt-ltb, list_all, cases_lt, length-map, decimal_injective, spelling, INTCODE_ITEMS, IntcodeKind, BadLetter, BadNumber, ByteOver255, LabelNotSet, LabelSetTwice, Truncated, TooLong, FrameGivenTwice, sets, item_uses, operand_uses, IsSegment, IsItem, AreItems, operand_is_set, use_is_set, gives_frame, Function, Load, Operand, Label, Item, Instruction, SetLabel, Byte, LabelWord, SetGlobal, Frame, End, letter, item_text, all_set, item_fault, Means, WordFault, begins_item, IsByteOver255, IsPartial, FaultAfter, FaultAt, CutAt, segment, nothing, fault, Says, SayOneThing, rest_same, first-numeral, or_cases}
 use borrow.Author.Tests.{eqb-true}
 use Rattle.bk_intcode.proofs.WordLemmas.{each_digit, other_class, nothing-empty}
 use Rattle.bk_intcode.proofs.PartialLemmas.{get_low, get-take, sets-at}
@@ -73,7 +73,7 @@ fault_no_item word ByteOver255 item bad m = large_no_item bad.0 bad.1 bad.2 item
 fault_no_item word x item bad m = absurd bad
 
 -- an item without a fault behind others has none
-no_fault_behind : (before : List Item) (item : Item) (kind : IntcodeKind) → IsItem item → item_fault before item ≡ None → FaultBehind before (item_text item) kind → ⊥
+no_fault_behind : (before : List Item) (item : Item) (kind : IntcodeKind) → IsItem item → item_fault before item ≡ None → FaultAfter before (item_text item) kind → ⊥
 no_fault_behind before item kind fits none (inl bad) = fault_no_item (item_text item) kind item bad (record { text = refl; in_range = fits })
 no_fault_behind before item kind fits none (inr p) =
     let same : p.0 ≡ item = item_same p.0 item p.1.in_range fits p.1.text in
@@ -119,7 +119,7 @@ word_kind_same word TooLong TooLong x y = refl
 word_kind_same word FrameGivenTwice FrameGivenTwice x y = refl
 word_kind_same z u v x y = absurd x
 
-kind_same : (before : List Item) (word : List ℕ) (j k : IntcodeKind) → FaultBehind before word j → FaultBehind before word k → j ≡ k
+kind_same : (before : List Item) (word : List ℕ) (j k : IntcodeKind) → FaultAfter before word j → FaultAfter before word k → j ≡ k
 kind_same before word j k (inl x) (inl y) = word_kind_same word j k x y
 kind_same before word j k (inl x) (inr q) = absurd (fault_no_item word j q.0 x q.1)
 kind_same before word j k (inr p) (inl y) = absurd (fault_no_item word k p.0 y p.1)
@@ -175,8 +175,8 @@ set-before_end items whole k at j label item here uses =
     let last : suc k ≡ length items = whole.ends k at in
     elim (cases_lt place.0 k) [
       | inl before ↦ sets-at label (take k items) place.0 (get-take items k place.0 before ∙ place.1)
-      | inr behind ↦
-          let same : place.0 ≡ k = omega (arith, low, last, behind) in
+      | inr following ↦
+          let same : place.0 ≡ k = omega (arith, low, last, following) in
           let h : Some (SetLabel label) ≡ Some End = sym place.1 ∙ ap (λ n. slice_get items n) same ∙ at in absurd (clash label h)
     ]
   where
@@ -244,7 +244,7 @@ segments_same a b x y whole_a whole_b is short =
 -- where a word has a fault behind items, no longer items without a fault begin so
 clash : (before items : List Item) (word : List ℕ) (kind : IntcodeKind) (rest y : List (List ℕ)) → AreItems before → AreItems items →
     ((k : ℕ) (item : Item) → slice_get items k ≡ Some item → item_fault (take k items) item ≡ None) →
-    FaultBehind before word kind → map item_text before ++ word ∷ rest ≡ map item_text items ++ y → length before < length items → ⊥
+    FaultAfter before word kind → map item_text before ++ word ∷ rest ≡ map item_text items ++ y → length before < length items → ⊥
 clash before items word kind rest y p q faultless bad is short = go r.0 r.1 r.2
   where
     r : (c : List Item) × (items ≡ before ++ c) × (word ∷ rest ≡ map item_text c ++ y)
@@ -257,7 +257,7 @@ clash before items word kind rest y p q faultless bad is short = go r.0 r.1 r.2
         let front : take (length before) items ≡ before = ap (λ (l : List Item). take (length before) l) whole ∙ take-seam before (i ∷ c) in
         let none : item_fault before i ≡ None = ap (λ (l : List Item). item_fault l i) (sym front) ∙ faultless (length before) i at in
         let same : word ≡ item_text i = first_words word (item_text i) rest (map item_text c ++ y) words in
-        no_fault_behind before i kind (q (length before) i at) none (subst (λ (w : List ℕ). FaultBehind before w kind) same bad)
+        no_fault_behind before i kind (q (length before) i at) none (subst (λ (w : List ℕ). FaultAfter before w kind) same bad)
       where
         first_words : (v w : List ℕ) (s t : List (List ℕ)) → v ∷ s ≡ w ∷ t → v ≡ w
         first_words v w s t e = cc
@@ -280,18 +280,18 @@ cut_not_empty (i ∷ before) some is = cc
 
 segment_fault : (items : List Item) (number : ℕ) (kind : IntcodeKind) (words : List (List ℕ)) → Says (segment items) words → Says (fault number kind) words → ⊥
 segment_fault items number kind words s (inl f) =
-    let told = f.2 in
-    let is : map item_text told.before ++ told.word ∷ f.1 ≡ map item_text items ++ s.0 = sym (all_words told.before told.word f.0 f.1 words told.are f.3) ∙ s.2 in
-    elim (cases_lt (length told.before) (length items)) [
-      | inl short ↦ clash told.before items told.word kind f.1 s.0 told.begun.in_range s.1.in_range (segment_faultless items s.1) told.fault is short
-      | inr long ↦ let r = same_front items told.before s.0 (told.word ∷ f.1) s.1.in_range told.begun.in_range (sym is) long in begun_no_segment items told.before r.0 s.1 told.begun r.1
+    let reported = f.2 in
+    let is : map item_text reported.before ++ reported.word ∷ f.1 ≡ map item_text items ++ s.0 = sym (all_words reported.before reported.word f.0 f.1 words reported.are f.3) ∙ s.2 in
+    elim (cases_lt (length reported.before) (length items)) [
+      | inl short ↦ clash reported.before items reported.word kind f.1 s.0 reported.begun.in_range s.1.in_range (segment_faultless items s.1) reported.fault is short
+      | inr long ↦ let r = same_front items reported.before s.0 (reported.word ∷ f.1) s.1.in_range reported.begun.in_range (sym is) long in begun_no_segment items reported.before r.0 s.1 reported.begun r.1
     ]
 segment_fault items number kind words s (inr f) =
-    let told = f.1 in
-    let is : map item_text items ++ s.0 ≡ map item_text told.before ++ [] = sym s.2 ∙ told.are ∙ sym (append-nil (map item_text told.before)) in
-    elim (cases_lt (length told.before) (length items)) [
-      | inl short ↦ absurd (omega (arith, short, ap (λ (l : List (List ℕ)). length l) is, length-append (map item_text items) s.0, length-append (map item_text told.before) [], length-map items item_text, length-map told.before item_text))
-      | inr long ↦ let r = same_front items told.before s.0 [] s.1.in_range told.begun.in_range is long in begun_no_segment items told.before r.0 s.1 told.begun r.1
+    let reported = f.1 in
+    let is : map item_text items ++ s.0 ≡ map item_text reported.before ++ [] = sym s.2 ∙ reported.are ∙ sym (append-nil (map item_text reported.before)) in
+    elim (cases_lt (length reported.before) (length items)) [
+      | inl short ↦ absurd (omega (arith, short, ap (λ (l : List (List ℕ)). length l) is, length-append (map item_text items) s.0, length-append (map item_text reported.before) [], length-map items item_text, length-map reported.before item_text))
+      | inr long ↦ let r = same_front items reported.before s.0 [] s.1.in_range reported.begun.in_range is long in begun_no_segment items reported.before r.0 s.1 reported.begun r.1
     ]
 
 nothing_fault : (number : ℕ) (kind : IntcodeKind) (words : List (List ℕ)) → words ≡ [] → Says (fault number kind) words → ⊥
@@ -299,11 +299,11 @@ nothing_fault number kind words none (inl f) = fault_not_empty f.2.before f.2.wo
 nothing_fault number kind words none (inr f) = cut_not_empty f.1.before f.1.some (sym none ∙ f.1.are)
 
 fault_cut : (m n : ℕ) (j : IntcodeKind) (words first rest : List (List ℕ)) → FaultAt first m j → words ≡ first ++ rest → CutAt words n → ⊥
-fault_cut m n j words first rest f are told =
-    let is : map item_text f.before ++ f.word ∷ rest ≡ map item_text told.before ++ [] = sym (all_words f.before f.word first rest words f.are are) ∙ told.are ∙ sym (append-nil (map item_text told.before)) in
-    elim (cases_lt (length f.before) (length told.before)) [
-      | inl short ↦ clash f.before told.before f.word j rest [] f.begun.in_range told.begun.in_range told.begun.faultless f.fault is short
-      | inr long ↦ omega (arith, long, ap (λ (l : List (List ℕ)). length l) is, length-append (map item_text f.before) (f.word ∷ rest), length-append (map item_text told.before) [], length-map f.before item_text, length-map told.before item_text)
+fault_cut m n j words first rest f are reported =
+    let is : map item_text f.before ++ f.word ∷ rest ≡ map item_text reported.before ++ [] = sym (all_words f.before f.word first rest words f.are are) ∙ reported.are ∙ sym (append-nil (map item_text reported.before)) in
+    elim (cases_lt (length f.before) (length reported.before)) [
+      | inl short ↦ clash f.before reported.before f.word j rest [] f.begun.in_range reported.begun.in_range reported.begun.faultless f.fault is short
+      | inr long ↦ omega (arith, long, ap (λ (l : List (List ℕ)). length l) is, length-append (map item_text f.before) (f.word ∷ rest), length-append (map item_text reported.before) [], length-map f.before item_text, length-map reported.before item_text)
     ]
 
 faults_same : (m n : ℕ) (j k : IntcodeKind) (words a x b y : List (List ℕ)) → FaultAt a m j → words ≡ a ++ x → FaultAt b n k → words ≡ b ++ y → (m ≡ n) × (j ≡ k)
@@ -317,8 +317,8 @@ faults_same m n j k words a x b y f is_a g is_b =
             let none : r.0 ≡ [] = no_more r.0 (omega (arith, long, short, ap (λ (l : List Item). length l) r.1, length-append f.before r.0)) in
             let same : g.before ≡ f.before = r.1 ∙ ap (λ (l : List Item). f.before ++ l) none ∙ append-nil f.before in
             let word : f.word ≡ g.word = first_words f.word g.word x y (r.2 ∙ ap (λ (l : List Item). map item_text l ++ g.word ∷ y) none) in
-            let behind : FaultBehind f.before f.word k = subst (λ (l : List Item). FaultBehind l f.word k) same (subst (λ (w : List ℕ). FaultBehind g.before w k) (sym word) g.fault) in
-            (f.place ∙ ap (λ (l : List Item). length l + 1) (sym same) ∙ sym g.place, kind_same f.before f.word j k f.fault behind)
+            let following : FaultAfter f.before f.word k = subst (λ (l : List Item). FaultAfter l f.word k) same (subst (λ (w : List ℕ). FaultAfter g.before w k) (sym word) g.fault) in
+            (f.place ∙ ap (λ (l : List Item). length l + 1) (sym same) ∙ sym g.place, kind_same f.before f.word j k f.fault following)
       ]
     ]
   where

@@ -17,7 +17,7 @@ read_again printed more (Ok (Some read)) says =
     items_same (items_of read) (items_of printed) (one_saying (words_of (segment_text (items_of printed) ++ more)) (segment (items_of read)) (segment (items_of printed)) says (printed_again printed more))
 read_again printed more (Ok None) says =
     segment_nothing (items_of printed) (one_saying (words_of (segment_text (items_of printed) ++ more)) (segment (items_of printed)) nothing (printed_again printed more) says)
-read_again printed more (Err (Fault told)) says =
-    segment_fault (items_of printed) told.item told.kind (one_saying (words_of (segment_text (items_of printed) ++ more)) (segment (items_of printed)) (fault told.item told.kind) (printed_again printed more) says)
+read_again printed more (Err (Fault reported)) says =
+    segment_fault (items_of printed) reported.item reported.kind (one_saying (words_of (segment_text (items_of printed) ++ more)) (segment (items_of printed)) (fault reported.item reported.kind) (printed_again printed more) says)
 read_again printed more (Err Memory) says = tt
 read_again printed more (Err Device) says = tt

@@ -1,5 +1,5 @@
 -- What a text says, one word after another.
-use Rattle.bk_intcode.proofs.Terms.{◌≡◌, ◌≢◌, inl, inr, ℕ, ◌+◌, ◌<◌, ◌++◌, Bool, true, false, List, [], ◌∷◌, Option, Some, None, length, map, arith, refl, sym, ◌∙◌, ap, subst, length-append, map-append, Consumes, IntcodeKind, Truncated, Item, End, item_text, item_fault, AtEnd, words_of, EndsInBlank, TakesWord, IsNext, IsPartial, FaultBehind, GivesSegment, GivesNothing, GivesFault, StopsAtWord, Takes, Consumes-trans, IsParted, IsParted-word, EndsInBlank-word, TakesWords-word, words_of-last, words_of-more_blanks, Found, Found as founds}
+use Rattle.bk_intcode.proofs.Terms.{◌≡◌, ◌≢◌, inl, inr, ℕ, ◌+◌, ◌<◌, ◌++◌, Bool, true, false, List, [], ◌∷◌, Option, Some, None, length, map, arith, refl, sym, ◌∙◌, ap, subst, length-append, map-append, Consumes, IntcodeKind, Truncated, Item, End, item_text, item_fault, AtEnd, words_of, EndsInBlank, TakesWord, IsNext, IsPartial, FaultAfter, GivesSegment, GivesNothing, GivesFault, StopsAtWord, Takes, Consumes-trans, IsParted, IsParted-word, EndsInBlank-word, TakesWords-word, words_of-last, words_of-more_blanks, Found, Found as founds}
 use Rattle.bk_intcode.specs.declared.words.Found.TheVariants.{Fault, Nothing}
 use Rattle.bk_words.specs.Taking.{TakesWords}
 use Rattle.bk_intcode.proofs.PartialLemmas.{IsPartial-push, IsSegment-of}
@@ -37,7 +37,7 @@ cut a b c m k number ended items s n begun some place =
     (inr (refl, n.3.1, record { before = items; begun = begun; some = some; are = words_of-more_blanks s.0 n.0 (map item_text items) s.4 s.3 n.3.0; place = place }))
 
 fault_here : (front given : List ℕ) (last : Bool) (end : Type 0) (items : List Item) (t : TakesWord given last end) (number : ℕ) (kind : IntcodeKind) → IsParted front → words_of front ≡ map item_text items →
-    IsPartial items → number ≡ length items + 1 → FaultBehind items (t.first ∷ t.rest) kind → GivesFault (front ++ given) end number kind
+    IsPartial items → number ≡ length items + 1 → FaultAfter items (t.first ∷ t.rest) kind → GivesFault (front ++ given) end number kind
 fault_here front given last end items t number kind parted are begun place fault =
     inl (
       map item_text items ++ (t.first ∷ t.rest) ∷ [],
@@ -82,10 +82,10 @@ segment_here a b c m k ended items all last s n begun faultless is =
     )
 
 -- the text ends right behind an item, and another is due
-pub cut_behind : (a b c : Option (List ℕ)) (m k number : ℕ) (ended : Bool) (items all : List Item) (item : Item) (last : Bool) → last ≡ true → Read a b m items → Comes b c m k ended (founds.Item item last) → IsPartial items →
+pub cut_after : (a b c : Option (List ℕ)) (m k number : ℕ) (ended : Bool) (items all : List Item) (item : Item) (last : Bool) → last ≡ true → Read a b m items → Comes b c m k ended (founds.Item item last) → IsPartial items →
     item_fault items item ≡ None → item ≢ End → all ≡ items ++ item ∷ [] → number ≡ length all + 1 → Takes a c ended (λ taken end. GivesFault taken end number Truncated)
-cut_behind a b c m k number ended items all item false over s n begun faultless other is place = absurd (let h : false ≡ true = over in cc)
-cut_behind a b c m k number ended items all item true over s n begun faultless other is place =
+cut_after a b c m k number ended items all item false over s n begun faultless other is place = absurd (let h : false ≡ true = over in cc)
+cut_after a b c m k number ended items all item true over s n begun faultless other is place =
     gives a b c s.0 n.0 m k ended (λ taken end. GivesFault taken end number Truncated) s.1 n.1 s.2 n.2
     (inr (
       refl,
@@ -112,4 +112,4 @@ IsPartial-more b c m k ended items all item last n begun faultless other is = su
 pub grows : (b c : Option (List ℕ)) (m k : ℕ) (ended : Bool) (item : Item) (last : Bool) → Comes b c m k ended (founds.Item item last) → m < k
 grows b c m k ended item last n =
     let t = n.3.0 in
-    omega (arith, n.2, ap (λ (l : List ℕ). length l) t.whole, length-append t.blanks ((t.first ∷ t.rest) ++ t.behind), length-append t.rest t.behind)
+    omega (arith, n.2, ap (λ (l : List ℕ). length l) t.whole, length-append t.blanks ((t.first ∷ t.rest) ++ t.following), length-append t.rest t.following)

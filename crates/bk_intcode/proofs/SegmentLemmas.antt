@@ -1,5 +1,5 @@
 -- Facts on the items of segments.
-use Rattle.bk_intcode.proofs.Terms.{◌≡◌, ℕ, ◌+◌, ◌<◌, List, [], ◌∷◌, ◌++◌, length, take, drop, get_or, refl, sym, ◌∙◌, ap, append_assoc, append-nil, subst, Option, Appends, AppendsPart, Appends-trans, AppendsPart-behind, AppendsPart-front, take_more, take-append-drop, Item, item_text, segment_text}
+use Rattle.bk_intcode.proofs.Terms.{◌≡◌, ℕ, ◌+◌, ◌<◌, List, [], ◌∷◌, ◌++◌, length, take, drop, get_or, refl, sym, ◌∙◌, ap, append_assoc, append-nil, subst, Option, Appends, AppendsPart, Appends-trans, AppendsPart-after, AppendsPart-front, take_more, take-append-drop, Item, item_text, segment_text}
 
 pub segment_text-append : (a b : List Item) → segment_text (a ++ b) ≡ segment_text a ++ segment_text b
 segment_text-append [] b = refl
@@ -27,7 +27,7 @@ pub AppendsPart-line : (a b c : Option (List ℕ)) (items : List Item) (k : ℕ)
     Appends a b (segment_text (take k items)) → AppendsPart b c (item_text (get_or items k d) ++ 10 ∷ []) → AppendsPart a c (segment_text items)
 AppendsPart-line a b c items k d low taken part =
     let line = item_text (get_or items k d) ++ 10 ∷ [] in
-    AppendsPart-behind a b c (segment_text (take k items)) (line ++ segment_text (drop (k + 1) items)) (segment_text items) (segment_text-at items k d low) taken
+    AppendsPart-after a b c (segment_text (take k items)) (line ++ segment_text (drop (k + 1) items)) (segment_text items) (segment_text-at items k d low) taken
     (AppendsPart-front b c line (segment_text (drop (k + 1) items)) (line ++ segment_text (drop (k + 1) items)) refl part)
 
 pub Appends-line : (a b c : Option (List ℕ)) (items : List Item) (k : ℕ) (d : Item) → k < length items →

@@ -8,7 +8,7 @@ pub use Rattle.std.specs.Int.{IsInRange}
 pub use Rattle.std.specs.Io.KnownBytes.{Consumes, Appends, Keeps}
 pub use Rattle.std.specs.List.{list_all}
 pub use Rattle.bk_base.specs.Decimal.{spelling}
-pub use Rattle.bk_base.specs.DeviceLaws.{Consumes-trans, Begins-trans, Appends-trans, AppendsPart-behind, AppendsPart-front, AppendsPart-kept}
+pub use Rattle.bk_base.specs.DeviceLaws.{Consumes-trans, Begins-trans, Appends-trans, AppendsPart-after, AppendsPart-front, AppendsPart-kept}
 pub use Rattle.bk_base.specs.Devices.{AppendsPart, NothingLeft, Begins}
 pub use Rattle.bk_base.specs.declared.intcode_fault.IntcodeFault.{IntcodeFault}
 pub use Rattle.bk_base.specs.declared.intcode_fault.IntcodeKind.{IntcodeKind}
@@ -33,8 +33,8 @@ pub use Rattle.bk_intcode.specs.FirstSaying.{segment, nothing, fault, Says, SayO
 pub use Rattle.bk_intcode.specs.ItemFault.{item_fault, all_set, label_not_set, label_set_twice, too_long, frame_given_twice}
 pub use Rattle.bk_intcode.specs.ItemText.{letter, item_text, indirect_text, operand_text}
 pub use Rattle.bk_intcode.specs.Next.{IsNext}
-pub use Rattle.bk_intcode.specs.SegmentAnswer.{Answers, Takes, NoSegmentPassed, PrintedIsReadAgain, AnswersWords, Stands, StandsWhateverFollows}
-pub use Rattle.bk_intcode.specs.SegmentReading.{GivesSegment, IsPartial, FaultBehind, FaultAt, CutAt, StopsAtDevice, GivesNothing, GivesFault, StopsAtWord}
+pub use Rattle.bk_intcode.specs.SegmentAnswer.{Answers, Takes, NoSegmentPassed, PrintedIsReadAgain, AnswersWords, Applies, AppliesWhateverFollows}
+pub use Rattle.bk_intcode.specs.SegmentReading.{GivesSegment, IsPartial, FaultAfter, FaultAt, CutAt, StopsAtDevice, GivesNothing, GivesFault, StopsAtWord}
 pub use Rattle.bk_intcode.specs.SegmentText.{segment_text}
 pub use Rattle.bk_intcode.specs.WordMeaning.{MeansNothing, Means, WordFault, begins_item, IsByteOver255, is_digit, is_function}
 pub use Rattle.bk_intcode.specs.declared.words.Found.{Found}

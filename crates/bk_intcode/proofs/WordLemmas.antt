@@ -103,15 +103,15 @@ tails : (a b : ℕ) (x y : List ℕ) → a ∷ x ≡ b ∷ y → x ≡ y
 tails a b x y is = cc
 
 -- what is no operand behind `I` if that stands there, behind the letter of a function
-no_operand-behind : (i j : Bool) (o : Operand) (rest : List ℕ) → IsOperand o → ((o : Operand) → IsOperand o → operand_text o ≢ rest) → (j ≡ false → (more : List ℕ) → rest ≢ 73 ∷ more) →
+no_operand-following : (i j : Bool) (o : Operand) (rest : List ℕ) → IsOperand o → ((o : Operand) → IsOperand o → operand_text o ≢ rest) → (j ≡ false → (more : List ℕ) → rest ≢ 73 ∷ more) →
     indirect_text i ++ operand_text o ≢ indirect_text j ++ rest
-no_operand-behind true true o rest fits none direct = λ is. none o fits (rest_same 73 (operand_text o) rest is)
-no_operand-behind false false o rest fits none direct = λ is. none o fits is
-no_operand-behind true false o rest fits none direct = λ is. direct refl (operand_text o) (sym is)
-no_operand-behind false true o rest fits none direct = λ is. no_operand-indirect rest o fits is
+no_operand-following true true o rest fits none direct = λ is. none o fits (rest_same 73 (operand_text o) rest is)
+no_operand-following false false o rest fits none direct = λ is. none o fits is
+no_operand-following true false o rest fits none direct = λ is. direct refl (operand_text o) (sym is)
+no_operand-following false true o rest fits none direct = λ is. no_operand-indirect rest o fits is
 
 pub nothing-instruction : (g : Function) (j : Bool) (rest : List ℕ) → ((o : Operand) → IsOperand o → operand_text o ≢ rest) → (j ≡ false → (more : List ℕ) → rest ≢ 73 ∷ more) → MeansNothing (letter g ∷ (indirect_text j ++ rest))
-nothing-instruction g j rest none direct (Instruction f i o) fits = λ is. no_operand-behind i j o rest fits none direct (tails (letter f) (letter g) (indirect_text i ++ operand_text o) (indirect_text j ++ rest) is)
+nothing-instruction g j rest none direct (Instruction f i o) fits = λ is. no_operand-following i j o rest fits none direct (tails (letter f) (letter g) (indirect_text i ++ operand_text o) (indirect_text j ++ rest) is)
 nothing-instruction g j rest none direct x fits = other_class x fits (letter g) (indirect_text j ++ rest) 0 (letter-class g) refl
 
 -- where the first `L` of a global's number, `L` and a label stands

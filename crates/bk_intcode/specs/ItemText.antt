@@ -1,4 +1,4 @@
--- The one word that stands for an item.
+-- The one word that means an item.
 use Rattle.std.specs.Prelude.{ℕ, pos, List, [], ◌∷◌, ◌++◌, Bool, if◌then◌else◌}
 use Rattle.bk_base.specs.Decimal.{spelling}
 use Rattle.bk_machine.specs.declared.item.Function.{Function}

@@ -23,28 +23,28 @@ Takes old new ended what = (taken : List ℕ) × Consumes old new taken × what 
 abbrev pub Answers : Result (Option Intcode) (Refused IntcodeFault) → Option (List ℕ) → Option (List ℕ) → Bool → Type 0
 Answers (Ok (Some read)) old new ended = Takes old new ended (λ taken end. GivesSegment taken end (items_of read))
 Answers (Ok None) old new ended = Takes old new ended GivesNothing
-Answers (Err (Fault told)) old new ended = Takes old new ended (λ taken end. GivesFault taken end told.item told.kind)
+Answers (Err (Fault reported)) old new ended = Takes old new ended (λ taken end. GivesFault taken end reported.item reported.kind)
 Answers (Err Memory) old new ended = Takes old new ended StopsAtWord
 Answers (Err Device) old new ended = Takes old new ended (λ taken end. StopsAtDevice taken)
 
 -- What the answer says of a text that begins with these bytes, which were taken, unless memory was refused or the device
 -- failed.
-abbrev pub Stands : Result (Option Intcode) (Refused IntcodeFault) → List ℕ → List ℕ → Type 0
-Stands (Ok (Some read)) taken more = words_of (taken ++ more) ≡ map item_text (items_of read) ++ words_of more
-Stands (Ok None) taken more = words_of (taken ++ more) ≡ []
-Stands (Err (Fault told)) taken more = Says (fault told.item told.kind) (words_of (taken ++ more))
-Stands (Err Memory) taken more = ⊤
-Stands (Err Device) taken more = ⊤
+abbrev pub Applies : Result (Option Intcode) (Refused IntcodeFault) → List ℕ → List ℕ → Type 0
+Applies (Ok (Some read)) taken more = words_of (taken ++ more) ≡ map item_text (items_of read) ++ words_of more
+Applies (Ok None) taken more = words_of (taken ++ more) ≡ []
+Applies (Err (Fault reported)) taken more = Says (fault reported.item reported.kind) (words_of (taken ++ more))
+Applies (Err Memory) taken more = ⊤
+Applies (Err Device) taken more = ⊤
 
 -- This holds whatever follows: nothing, where the text ends.
-abbrev pub StandsWhateverFollows : Result (Option Intcode) (Refused IntcodeFault) → Option (List ℕ) → Option (List ℕ) → Bool → Type 0
-StandsWhateverFollows (Err Memory) old new ended = ⊤
-StandsWhateverFollows (Err Device) old new ended = ⊤
-StandsWhateverFollows answer old new ended = Takes old new ended (λ taken end. (more : List ℕ) → (end → more ≡ []) → Stands answer taken more)
+abbrev pub AppliesWhateverFollows : Result (Option Intcode) (Refused IntcodeFault) → Option (List ℕ) → Option (List ℕ) → Bool → Type 0
+AppliesWhateverFollows (Err Memory) old new ended = ⊤
+AppliesWhateverFollows (Err Device) old new ended = ⊤
+AppliesWhateverFollows answer old new ended = Takes old new ended (λ taken end. (more : List ℕ) → (end → more ≡ []) → Applies answer taken more)
 
 abbrev pub is_device : Result (Option Intcode) (Refused IntcodeFault) → Bool
 is_device (Ok read) = false
-is_device (Err (Fault told)) = false
+is_device (Err (Fault reported)) = false
 is_device (Err Memory) = false
 is_device (Err Device) = true
 
@@ -52,7 +52,7 @@ is_device (Err Device) = true
 abbrev pub AnswersWords : Result (Option Intcode) (Refused IntcodeFault) → List (List ℕ) → Type 0
 AnswersWords (Ok (Some read)) words = Says (segment (items_of read)) words
 AnswersWords (Ok None) words = Says nothing words
-AnswersWords (Err (Fault told)) words = Says (fault told.item told.kind) words
+AnswersWords (Err (Fault reported)) words = Says (fault reported.item reported.kind) words
 AnswersWords (Err Memory) words = ⊤
 AnswersWords (Err Device) words = ⊤
 
@@ -60,7 +60,7 @@ AnswersWords (Err Device) words = ⊤
 abbrev pub ReadsAgain : Result (Option Intcode) (Refused IntcodeFault) → List Item → Type 0
 ReadsAgain (Ok (Some read)) items = items_of read ≡ items
 ReadsAgain (Ok None) items = ⊥
-ReadsAgain (Err (Fault told)) items = ⊥
+ReadsAgain (Err (Fault reported)) items = ⊥
 ReadsAgain (Err Memory) items = ⊤
 ReadsAgain (Err Device) items = ⊤
 

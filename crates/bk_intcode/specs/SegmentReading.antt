@@ -17,10 +17,10 @@ pub record IsPartial (items : List Item) : Type 0 where
   pub faultless : (k : ℕ) (item : Item) → slice_get items k ≡ Some item → item_fault (take k items) item ≡ None
   pub no_end : (k : ℕ) → slice_get items k ≢ Some End
 
--- The word has the fault where these items come before it. A word that stands for no item has its own fault, and an item
+-- The word has the fault where these items come before it. A word that means no item has its own fault, and an item
 -- the first of those that it has after the others.
-abbrev pub FaultBehind : List Item → List ℕ → IntcodeKind → Type 0
-FaultBehind before word kind = WordFault word kind ⊎ ((item : Item) × Means word item × (item_fault before item ≡ Some kind))
+abbrev pub FaultAfter : List Item → List ℕ → IntcodeKind → Type 0
+FaultAfter before word kind = WordFault word kind ⊎ ((item : Item) × Means word item × (item_fault before item ≡ Some kind))
 
 -- The words are those of items without a fault, and the last word has this one. Items are counted from 1.
 pub record FaultAt (words : List (List ℕ)) (number : ℕ) (kind : IntcodeKind) : Type 0 where
@@ -29,7 +29,7 @@ pub record FaultAt (words : List (List ℕ)) (number : ℕ) (kind : IntcodeKind)
   pub word : List ℕ
   pub are : words ≡ map item_text before ++ word ∷ []
   pub place : number ≡ length before + 1
-  pub fault : FaultBehind before word kind
+  pub fault : FaultAfter before word kind
 
 -- The words are those of items without a fault, and a further item is due.
 pub record CutAt (words : List (List ℕ)) (number : ℕ) : Type 0 where

@@ -7,12 +7,12 @@ use Rattle.bk_machine.specs.declared.item.Item.{Item}
 use Rattle.bk_intcode.specs.ItemText.{item_text}
 use Rattle.bk_machine.specs.Segment.{IsItem}
 
--- the word stands for the item
+-- the word means the item
 pub record Means (word : List ℕ) (item : Item) : Type 0 where
   pub text : item_text item ≡ word
   pub in_range : IsItem item
 
--- the word stands for no item
+-- the word means no item
 abbrev pub MeansNothing : List ℕ → Type 0
 MeansNothing word = (item : Item) → IsItem item → item_text item ≢ word
 
@@ -33,7 +33,7 @@ begins_item byte = is_digit byte || is_function byte || byte == 67 || byte == 68
 abbrev pub IsByteOver255 : List ℕ → Type 0
 IsByteOver255 word = (n : ℕ) × (255 < n) × (n < 2 ^ 31) × (word ≡ 67 ∷ spelling (pos n))
 
--- The fault that a word has by itself. A word that stands for no item has one, by its first byte.
+-- The fault that a word has by itself. A word that means no item has one, by its first byte.
 abbrev pub WordFault : List ℕ → IntcodeKind → Type 0
 WordFault word BadLetter = begins_item (slice_index word 0) ≡ false
 WordFault word BadNumber = IsTrue (begins_item (slice_index word 0)) × MeansNothing word × (IsByteOver255 word → ⊥)

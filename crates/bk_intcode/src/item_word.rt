@@ -76,7 +76,7 @@ fn add_operand(word: &mut WordBuffer, operand: Operand)
     }
 }
 
-/// The word that stands for an item.
+/// The word that means an item.
 pub fn item_word(item: Item) -> WordBuffer
     requires { IsItem item }
     ensures { result ≡ item_text item }

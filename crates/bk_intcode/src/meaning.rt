@@ -111,7 +111,7 @@ fn byte(bytes: &[u8]) -> Result<Item, IntcodeKind>
 }
 
 /// The bytes after an `L`.
-fn behind_mark(bytes: &[u8]) -> Option<&[u8]>
+fn after_mark(bytes: &[u8]) -> Option<&[u8]>
     ensures some { IfSome result (λ rest. bytes.now ≡ 76 ∷ rest.now) }
     ensures none { IfNone result ((more : List ℕ) → bytes.now ≢ 76 ∷ more) }
 {
@@ -126,7 +126,7 @@ fn data(bytes: &[u8]) -> Option<Item>
     ensures found { IfSome result (Means (68 ∷ bytes.now)) }
     ensures none { IfNone result (MeansNothing (68 ∷ bytes.now)) }
 {
-    match behind_mark(bytes) {
+    match after_mark(bytes) {
         Some(rest) => Some(Item::LabelWord(label(rest)?)),
         None => Some(Item::Word(number(bytes)?)),
     }
@@ -190,7 +190,7 @@ pub fn begins(byte: u8) -> bool
         || byte == b'Z'
 }
 
-/// The item that a word stands for, if it begins as one does and is no byte.
+/// The item that a word means, if it begins as one does and is no byte.
 fn item_of(word: &[u8]) -> Option<Item>
     requires begins { IsTrue (begins_item (slice_index word.now 0)) }
     requires no_byte { slice_index word.now 0 ≢ 67 }
@@ -210,7 +210,7 @@ fn item_of(word: &[u8]) -> Option<Item>
     }
 }
 
-/// What a word means: the item that it stands for, or its fault.
+/// What a word means: the item that it means, or its fault.
 pub fn meaning_of(word: &[u8]) -> Result<Item, IntcodeKind>
     ensures item { IfOk result (Means word.now) }
     ensures fault { IfErr result (WordFault word.now) }

@@ -1,7 +1,7 @@
 //! Reading segments.
 ghost use Rattle.std.specs.Prelude.{◌≡◌, ℕ, ◌+◌, ◌<◌, ◌≤◌, List, Some, None, Ok, Err, IsTrue, length, if◌then◌else◌};
 ghost use Rattle.std.specs.Io.KnownBytes.{Keeps};
-ghost use Rattle.bk_intcode.specs.SegmentAnswer.{Answers, StandsWhateverFollows, AnswersWords, is_device};
+ghost use Rattle.bk_intcode.specs.SegmentAnswer.{Answers, AppliesWhateverFollows, AnswersWords, is_device};
 ghost use Rattle.bk_words.specs.Words.{words_of};
 
 use crate::draft::Draft;
@@ -12,7 +12,7 @@ use bk_machine::{Intcode, Item};
 use std::alloc::Global;
 
 /// A fault at the item after so many others.
-fn fault_behind(count: usize, kind: IntcodeKind) -> Refused<IntcodeFault>
+fn fault_after(count: usize, kind: IntcodeKind) -> Refused<IntcodeFault>
     requires { count ≤ INTCODE_ITEMS }
     ensures { result ≡ Refused.Fault (record { item = count + 1; kind = kind }) }
 {
@@ -34,7 +34,7 @@ pub fn read_segment<I: ByteIn>(
     // refused, or some words of a segment that did not end and the first bytes of the next word, where the device failed.
     ensures answers { Answers result (I.left input.old) (I.left input.new) (I.ended input.new) }
     // This holds whatever follows the bytes taken.
-    ensures stands { StandsWhateverFollows result (I.left input.old) (I.left input.new) (I.ended input.new) }
+    ensures applies { AppliesWhateverFollows result (I.left input.old) (I.left input.new) (I.ended input.new) }
     // The same of the whole text, whose words say one thing.
     ensures says { (all : List ℕ) → I.left input.old ≡ Some all → length all < INPUT_BYTES → AnswersWords result (words_of all) }
     // It fails exactly where the device does, and at once where that failed before. Where the end was reported, nothing is left.
@@ -67,12 +67,12 @@ fn next_segment<I: ByteIn>(
                 if count == 0 {
                     return Ok(None);
                 }
-                return Err(fault_behind(count, IntcodeKind::Truncated));
+                return Err(fault_after(count, IntcodeKind::Truncated));
             }
-            Found::Fault(kind) => return Err(fault_behind(draft.len(), kind)),
+            Found::Fault(kind) => return Err(fault_after(draft.len(), kind)),
             Found::Item { item, last } => {
                 if let Some(kind) = draft.fault_of(item) {
-                    return Err(fault_behind(draft.len(), kind));
+                    return Err(fault_after(draft.len(), kind));
                 }
                 let Ok(()) = draft.add(item) else {
                     return Err(Refused::Memory);
@@ -81,7 +81,7 @@ fn next_segment<I: ByteIn>(
                     return Ok(Some(draft.into_segment()));
                 }
                 if last {
-                    return Err(fault_behind(draft.len(), IntcodeKind::Truncated));
+                    return Err(fault_after(draft.len(), IntcodeKind::Truncated));
                 }
             }
         }

@@ -25,11 +25,11 @@ sense_in s.Foreign = n.foreign
 -- names, the nearest first
 abbrev mutual
   pub names_of : Node → List Named
-  names_of (Node' x y outer) = record { name = x.now; sense = sense_in y } ∷ names_behind outer
+  names_of (Node' x y outer) = record { name = x.now; sense = sense_in y } ∷ names_after outer
 
-  pub names_behind : Held-Node-outer → List Named
-  names_behind None' = []
-  names_behind (Some' p n) = names_of n
+  pub names_after : Held-Node-outer → List Named
+  names_after None' = []
+  names_after (Some' p n) = names_of n
 
 abbrev pub names_in : Option (Rc Node Global) → List Named
 names_in None = []

@@ -1,7 +1,7 @@
 //! What names mean at a place.
 ghost use Rattle.std.specs.Prelude.{◌≡◌, ◌+◌, [], length, IfOk};
 ghost use Rattle.std.specs.Option.{option_map};
-ghost use Rattle.bk_meaning.specs.Environment.{bind, sense_of, behind};
+ghost use Rattle.bk_meaning.specs.Environment.{bind, sense_of, following};
 ghost use Rattle.bk_lasting.specs.Views.{sense_in, names_of, names_in, env_in};
 
 use std::alloc::{AllocError, Global};
@@ -125,8 +125,8 @@ impl<'a> Env<'a> {
     }
 
     /// After so many lasting objects.
-    pub fn behind(self, count: u64) -> Result<Env<'a>, AllocError>
-        ensures { IfOk result (λ env. env_in env ≡ behind count (env_in self.entry)) }
+    pub fn following(self, count: u64) -> Result<Env<'a>, AllocError>
+        ensures { IfOk result (λ env. env_in env ≡ following count (env_in self.entry)) }
     {
         let Env { names, next } = self;
         let next = next.checked_add(count).ok_or(AllocError)?;

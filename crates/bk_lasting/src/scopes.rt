@@ -174,7 +174,7 @@ fn bind_procedures<'a>(alloc: Global, defs: &'a [Def], env: Env<'a>) -> Result<E
     let mut env = env;
     for def in defs {
         let more = count_def(def)?;
-        env = bind_procedure(alloc, def, env)?.behind(more)?;
+        env = bind_procedure(alloc, def, env)?.following(more)?;
     }
     Ok(env)
 }
@@ -231,7 +231,7 @@ fn statics<'a>(alloc: Global, items: &'a [ConstItem], env: Env<'a>) -> Result<En
     let mut env = env;
     for ConstItem::Item { letters: name, .. } in items {
         let here = env.next;
-        env = env.bind(alloc, name, Sense::Cell(here, 0))?.behind(1)?;
+        env = env.bind(alloc, name, Sense::Cell(here, 0))?.following(1)?;
     }
     Ok(env)
 }
@@ -314,7 +314,7 @@ pub fn declared<'a>(alloc: Global, decl: &'a Decl, env: Env<'a>) -> Result<Env<'
         Decl::Constants { sort, items, .. } => constants(alloc, *sort, items, env),
         Decl::Let { defs, .. } => {
             let more = count_defs(defs)?;
-            let inside = within_let(alloc, defs, env)?.behind(more)?;
+            let inside = within_let(alloc, defs, env)?.following(more)?;
             hide_all_variables(alloc, defs, inside)
         }
     }
@@ -341,7 +341,7 @@ pub fn past<'a>(env: &Env<'a>, expr: &Expr) -> Result<Env<'a>, AllocError>
     ensures { IfOk result (λ after. env_in after ≡ past (expression expr.now) (env_in env.now)) }
 {
     let more = count(expr)?;
-    env.again()?.behind(more)
+    env.again()?.following(more)
 }
 
 /// What names mean after some expressions.
@@ -349,7 +349,7 @@ pub fn past_each<'a>(env: &Env<'a>, exprs: &[Expr]) -> Result<Env<'a>, AllocErro
     ensures { IfOk result (λ after. env_in after ≡ past_each (expressions_in exprs.now) (env_in env.now)) }
 {
     let more = count_each(exprs)?;
-    env.again()?.behind(more)
+    env.again()?.following(more)
 }
 
 /// What names mean after a command.
@@ -357,7 +357,7 @@ pub fn past_command<'a>(env: &Env<'a>, command: &Command) -> Result<Env<'a>, All
     ensures { IfOk result (λ after. env_in after ≡ past_command (command_in command.now) (env_in env.now)) }
 {
     let more = count_command(command)?;
-    env.again()?.behind(more)
+    env.again()?.following(more)
 }
 
 /// What names mean after a definition.
@@ -365,7 +365,7 @@ pub fn past_def<'a>(env: &Env<'a>, def: &Def) -> Result<Env<'a>, AllocError>
     ensures { IfOk result (λ after. env_in after ≡ past_definition (definition def.now) (env_in env.now)) }
 {
     let more = count_def(def)?;
-    env.again()?.behind(more)
+    env.again()?.following(more)
 }
 
 /// What names mean in the body of a FOR with this variable.
@@ -385,7 +385,7 @@ pub fn in_for<'a>(
 pub fn inside<'a>(alloc: Global, formals: &'a [Name], env: &Env<'a>) -> Result<Env<'a>, AllocError>
     ensures { IfOk result (λ within. env_in within ≡ inside (map mention formals.now) (env_in env.now)) }
 {
-    let env = env.again()?.behind(1)?;
+    let env = env.again()?.following(1)?;
     hide(alloc, formals, env)
 }
 

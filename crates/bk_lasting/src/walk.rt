@@ -54,7 +54,7 @@ fn procedure_here<'a>(
         name,
         formals,
         body,
-        env: env.again()?.behind(1)?,
+        env: env.again()?.following(1)?,
         global: global_named(env.sense(name)),
     }))
 }

@@ -1,5 +1,5 @@
 -- A loop over a text comes to the places of its fault.
-use Rattle.bk_lex.proofs.Terms.{◌≡◌, ℕ, ◌+◌, ◌<◌, ◌≤◌, Bool, true, false, cond, ltb, List, [], ◌∷◌, ◌++◌, get_or, take, drop, suc, length, Option, Some, None, Ok, Err, refl, sym, ap, subst, ◌∙◌, arith, inl, inr, length-append, length-take-le, take_more, append-nil, true≢false, SourceFault, SourceKind, Fault, Mode, Blank, State, Step, Act, next, fresh, end_fault, piece, ended, ended_as, ended_what, start, step_of, finished, told_kind, lexed, is_dot, goes_on_from, then_on, state_behind, Reading, no_tokens, faulty_first, faulty_after, HasFault, IsPlaced, FaultIn, Effect as nexts, Act as acts}
+use Rattle.bk_lex.proofs.Terms.{◌≡◌, ℕ, ◌+◌, ◌<◌, ◌≤◌, Bool, true, false, cond, ltb, List, [], ◌∷◌, ◌++◌, get_or, take, drop, suc, length, Option, Some, None, Ok, Err, refl, sym, ap, subst, ◌∙◌, arith, inl, inr, length-append, length-take-le, take_more, append-nil, true≢false, SourceFault, SourceKind, Fault, Mode, Blank, State, Step, Act, next, fresh, end_fault, piece, ended, ended_as, ended_what, start, step_of, finished, reported_kind, lexed, is_dot, goes_on_from, then_on, state_after, Reading, no_tokens, faulty_first, faulty_after, HasFault, IsPlaced, FaultIn, Effect as nexts, Act as acts}
 use Rattle.std.proofs.Math.Seq.{split_at}
 use Rattle.std.proofs.lemmas.List.{take_all}
 use Rattle.bk_lex.specs.declared.counting.PieceResult.TheVariants.{Nothing}
@@ -14,12 +14,12 @@ use Rattle.bk_lex.proofs.FaultPieces.{Leaves, byte_leaves, end_leaves}
 
 -- after its first `i` bytes: the state, and where the piece begins that is not whole
 pub record Looped (text : List ℕ) (i at : ℕ) (s : State) : Type 0 where
-  pub behind : state_behind (Some start) (take i text) ≡ Some s
+  pub following : state_after (Some start) (take i text) ≡ Some s
   pub held : at + held_behind (Some start) 0 (take i text) ≡ i
 
 pub looped_first : (text : List ℕ) → Looped text 0 0 start
-unfolding state_behind held_behind
-looped_first text = record { behind = refl; held = refl }
+unfolding state_after held_behind
+looped_first text = record { following = refl; held = refl }
 
 abbrev pub piece_after : Act → ℕ → ℕ → ℕ
 piece_after acts.Goes at i = at
@@ -37,9 +37,9 @@ looped_more text i at s t lt l is dotless =
     let b = get_or text i 0 in
     let n = held_behind (Some start) 0 u in
     let longer : take (i + 1) text ≡ u ++ b ∷ [] = take_more text i 0 lt in
-    let held : held_behind (Some start) 0 (take (i + 1) text) ≡ held_after t.act n = ap (λ (x : List ℕ). held_behind (Some start) 0 x) longer ∙ held_more (Some start) 0 u b ∙ ap (λ (o : Option State). held_by o b n) l.behind ∙ ap (λ x. held_on x n) (sym is) in
+    let held : held_behind (Some start) 0 (take (i + 1) text) ≡ held_after t.act n = ap (λ (x : List ℕ). held_behind (Some start) 0 x) longer ∙ held_more (Some start) 0 u b ∙ ap (λ (o : Option State). held_by o b n) l.following ∙ ap (λ x. held_on x n) (sym is) in
     record {
-      behind = ap (λ (x : List ℕ). state_behind (Some start) x) longer ∙ behind_more (Some start) u b ∙ ap (λ (o : Option State). then_on o b) l.behind ∙ ap goes_on_from (sym is) ∙ ap (λ (d : Bool). cond d None (Some t.state)) (sym dotless);
+      following = ap (λ (x : List ℕ). state_after (Some start) x) longer ∙ behind_more (Some start) u b ∙ ap (λ (o : Option State). then_on o b) l.following ∙ ap goes_on_from (sym is) ∙ ap (λ (d : Bool). cond d None (Some t.state)) (sym dotless);
       held = ap (λ (k : ℕ). piece_after t.act at i + k) held ∙ held_to t.act at n i l.held;
     }
 
@@ -69,37 +69,37 @@ blank_after s e = ap (λ (m : Mode). faulty_after (end_fault m) (ended_what s (p
 abbrev pub at_byte : State → ℕ → ℕ → ℕ → ℕ
 at_byte s c i at = cond (faulty_first (next s.mode c) (ltb s.bytes 1) (fresh c) (ended s)) i at
 
-byte_in : (text : List ℕ) (from i at : ℕ) (s : State) (g : Fault) → i < length text → Looped text i at s → step_of s (get_or text i 0) ≡ Err g → FaultIn (told_kind g) from (at_byte s (get_or text i 0) i at) (take (i + 1) text)
+byte_in : (text : List ℕ) (from i at : ℕ) (s : State) (g : Fault) → i < length text → Looped text i at s → step_of s (get_or text i 0) ≡ Err g → FaultIn (reported_kind g) from (at_byte s (get_or text i 0) i at) (take (i + 1) text)
 byte_in text from i at s g lt l e =
     let front = take i text in
     let c = get_or text i 0 in
-    let h : Holding s (held_behind (Some start) 0 front) (no_tokens from) front = holding front from s l.behind in
+    let h : Holding s (held_behind (Some start) 0 front) (no_tokens from) front = holding front from s l.following in
     let r : Reading = h.0.4.0 in
     let same : r.state ≡ s = h.0.4.1 in
     let bytes = ap (λ (x : State). x.bytes) same in
     let size = length-take-le i text (omega (arith, lt)) in
-    let leaves = byte_leaves from front c h.0.0 h.0.1 r (h.0.2 (c ∷ [])) h.0.4.2 h.0.4.3 (omega (arith, bytes, left_bytes front s l.behind)) g (ap (λ (x : State). step_of x c) same ∙ e) in
-    subst (λ (x : State). FaultIn (told_kind g) from (at_byte x c i at) (take (i + 1) text)) same
-    (subst (λ (x : List ℕ). FaultIn (told_kind g) from (at_byte r.state c i at) x) (sym (take_more text i 0 lt))
-    (in_text (told_kind g) from at i (front ++ c ∷ []) h.0.1 (c ∷ []) _ (omega (arith, size, length-append front (c ∷ []))) (held_here h.0.1 r.held r.state.mode h.0.0.get _ at _ i (blank_first r.state c (ltb r.state.bytes 1)) h.0.4.2 h.1 l.held) leaves))
+    let leaves = byte_leaves from front c h.0.0 h.0.1 r (h.0.2 (c ∷ [])) h.0.4.2 h.0.4.3 (omega (arith, bytes, left_bytes front s l.following)) g (ap (λ (x : State). step_of x c) same ∙ e) in
+    subst (λ (x : State). FaultIn (reported_kind g) from (at_byte x c i at) (take (i + 1) text)) same
+    (subst (λ (x : List ℕ). FaultIn (reported_kind g) from (at_byte r.state c i at) x) (sym (take_more text i 0 lt))
+    (in_text (reported_kind g) from at i (front ++ c ∷ []) h.0.1 (c ∷ []) _ (omega (arith, size, length-append front (c ∷ []))) (held_here h.0.1 r.held r.state.mode h.0.0.get _ at _ i (blank_first r.state c (ltb r.state.bytes 1)) h.0.4.2 h.1 l.held) leaves))
 
 -- where it is at the text's end
 abbrev pub at_end : State → ℕ → ℕ → ℕ
 at_end s i at = cond (faulty_after (end_fault s.mode) (ended s)) i at
 
-end_in : (text : List ℕ) (from at : ℕ) (s : State) (g : Fault) → Looped text (length text) at s → finished s ≡ Err g → FaultIn (told_kind g) from (at_end s (length text) at) (take (length text + 1) text)
+end_in : (text : List ℕ) (from at : ℕ) (s : State) (g : Fault) → Looped text (length text) at s → finished s ≡ Err g → FaultIn (reported_kind g) from (at_end s (length text) at) (take (length text + 1) text)
 end_in text from at s g l e =
     let all : take (length text) text ≡ text = take_all (length text) text (omega arith) in
-    let behind : state_behind (Some start) text ≡ Some s = ap (λ (x : List ℕ). state_behind (Some start) x) (sym all) ∙ l.behind in
+    let following : state_after (Some start) text ≡ Some s = ap (λ (x : List ℕ). state_after (Some start) x) (sym all) ∙ l.following in
     let held : at + held_behind (Some start) 0 text ≡ length text = ap (λ (x : List ℕ). at + held_behind (Some start) 0 x) (sym all) ∙ l.held in
-    let h : Holding s (held_behind (Some start) 0 text) (no_tokens from) text = holding text from s behind in
+    let h : Holding s (held_behind (Some start) 0 text) (no_tokens from) text = holding text from s following in
     let r : Reading = h.0.4.0 in
     let same : r.state ≡ s = h.0.4.1 in
     let way = subst (λ (x : List ℕ). Way (no_tokens from) x (h.0.1 ++ []) h.0.0) (append-nil text) (h.0.2 []) in
-    let leaves = end_leaves from text h.0.0 h.0.1 r way h.0.4.2 h.0.4.3 (counted_bytes text s behind) (end_fault r.state.mode) g refl (ap finished same ∙ e) in
-    subst (λ (x : State). FaultIn (told_kind g) from (at_end x (length text) at) (take (length text + 1) text)) same
-    (subst (λ (x : List ℕ). FaultIn (told_kind g) from (at_end r.state (length text) at) x) (sym (take_all (length text + 1) text (omega arith)))
-    (in_text (told_kind g) from at (length text) text h.0.1 [] _ (omega arith) (held_here h.0.1 r.held r.state.mode h.0.0.get _ at _ (length text) (blank_after r.state) h.0.4.2 h.1 held) leaves))
+    let leaves = end_leaves from text h.0.0 h.0.1 r way h.0.4.2 h.0.4.3 (counted_bytes text s following) (end_fault r.state.mode) g refl (ap finished same ∙ e) in
+    subst (λ (x : State). FaultIn (reported_kind g) from (at_end x (length text) at) (take (length text + 1) text)) same
+    (subst (λ (x : List ℕ). FaultIn (reported_kind g) from (at_end r.state (length text) at) x) (sym (take_all (length text + 1) text (omega arith)))
+    (in_text (reported_kind g) from at (length text) text h.0.1 [] _ (omega arith) (held_here h.0.1 r.held r.state.mode h.0.0.get _ at _ (length text) (blank_after r.state) h.0.4.2 h.1 held) leaves))
 
 -- ---- the answer
 
@@ -110,15 +110,15 @@ cond_within : (b : Bool) (i at : ℕ) → at ≤ i → cond b i at ≤ i
 cond_within true i at le = omega arith
 cond_within false i at le = le
 
-pub byte_places : (text : List ℕ) (from i at : ℕ) (s : State) (f : SourceFault) (g : Fault) → i < length text → Looped text i at s → Err g ≡ step_of s (get_or text i 0) → lexed text from ≡ Err f → f.kind ≡ told_kind g → Places from f i (at_byte s (get_or text i 0) i at) text
+pub byte_places : (text : List ℕ) (from i at : ℕ) (s : State) (f : SourceFault) (g : Fault) → i < length text → Looped text i at s → Err g ≡ step_of s (get_or text i 0) → lexed text from ≡ Err f → f.kind ≡ reported_kind g → Places from f i (at_byte s (get_or text i 0) i at) text
 byte_places text from i at s f g lt l e h k =
     let c = get_or text i 0 in
-    let stop : FirstStop start text = (take i text, c, drop (suc i) text, s, split_at text i 0 lt, l.behind, behind_more (Some start) (take i text) c ∙ ap (λ (o : Option State). then_on o c) l.behind ∙ ap goes_on_from (sym e)) in
-    let told = told_at text from f h stop in
-    (lexed_has_fault text from f h, (inl (told.0, told.1 ∙ length-take-le i text (omega (arith, lt))), subst (λ (x : SourceKind). FaultIn x from (at_byte s c i at) (take (i + 1) text)) (sym k) (byte_in text from i at s g lt l (sym e))), cond_within _ i at (omega (arith, l.held)))
+    let stop : FirstStop start text = (take i text, c, drop (suc i) text, s, split_at text i 0 lt, l.following, behind_more (Some start) (take i text) c ∙ ap (λ (o : Option State). then_on o c) l.following ∙ ap goes_on_from (sym e)) in
+    let reported = told_at text from f h stop in
+    (lexed_has_fault text from f h, (inl (reported.0, reported.1 ∙ length-take-le i text (omega (arith, lt))), subst (λ (x : SourceKind). FaultIn x from (at_byte s c i at) (take (i + 1) text)) (sym k) (byte_in text from i at s g lt l (sym e))), cond_within _ i at (omega (arith, l.held)))
 
-pub end_places : (text : List ℕ) (from at : ℕ) (s : State) (f : SourceFault) (g : Fault) → Looped text (length text) at s → Err g ≡ finished s → lexed text from ≡ Err f → f.kind ≡ told_kind g → Places from f (length text) (at_end s (length text) at) text
+pub end_places : (text : List ℕ) (from at : ℕ) (s : State) (f : SourceFault) (g : Fault) → Looped text (length text) at s → Err g ≡ finished s → lexed text from ≡ Err f → f.kind ≡ reported_kind g → Places from f (length text) (at_end s (length text) at) text
 end_places text from at s f g l e h k =
     let all : take (length text) text ≡ text = take_all (length text) text (omega arith) in
-    let behind : state_behind (Some start) text ≡ Some s = ap (λ (x : List ℕ). state_behind (Some start) x) (sym all) ∙ l.behind in
-    (lexed_has_fault text from f h, (inr (told_end text from f s h behind, refl), subst (λ (x : SourceKind). FaultIn x from (at_end s (length text) at) (take (length text + 1) text)) (sym k) (end_in text from at s g l (sym e))), cond_within _ (length text) at (omega (arith, l.held)))
+    let following : state_after (Some start) text ≡ Some s = ap (λ (x : List ℕ). state_after (Some start) x) (sym all) ∙ l.following in
+    (lexed_has_fault text from f h, (inr (told_end text from f s h following, refl), subst (λ (x : SourceKind). FaultIn x from (at_end s (length text) at) (take (length text + 1) text)) (sym k) (end_in text from at s g l (sym e))), cond_within _ (length text) at (omega (arith, l.held)))

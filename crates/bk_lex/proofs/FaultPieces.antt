@@ -1,5 +1,5 @@
 -- Where the machine tells a fault, whole pieces are before the place that it gives, and the fault is in what comes next.
-use Rattle.bk_lex.proofs.Terms.{◌≡◌, ℕ, ◌+◌, ◌≤◌, Bool, true, false, cond, ltb, List, [], ◌∷◌, ◌++◌, length, Option, Some, None, Result, Ok, Err, refl, sym, ap, subst, ◌∙◌, arith, inl, inr, ltb-true, ltb-false, length-append, append-nil, SourceKind, Fault, BadByte, SectionTooLong, HeaderTooLong, BadGet, Mode, Effect, State, Step, Ended, next, fresh, piece, end_fault, moved, within, past, opened_as, begun, named, ended, finished_as, no_get, stepped, ◌>>=◌, Reading, told_kind, faulty_first, faulty_after, Piece, CutsTo, Putting, seen, weight, Begins, PassesNext, AllPast, no_tokens, FaultNext, SourceKind as source_kinds, Effect as nexts, Act as acts, line_behind, ◌⊎◌}
+use Rattle.bk_lex.proofs.Terms.{◌≡◌, ℕ, ◌+◌, ◌≤◌, Bool, true, false, cond, ltb, List, [], ◌∷◌, ◌++◌, length, Option, Some, None, Result, Ok, Err, refl, sym, ap, subst, ◌∙◌, arith, inl, inr, ltb-true, ltb-false, length-append, append-nil, SourceKind, Fault, BadByte, SectionTooLong, HeaderTooLong, BadGet, Mode, Effect, State, Step, Ended, next, fresh, piece, end_fault, moved, within, past, opened_as, begun, named, ended, finished_as, no_get, stepped, ◌>>=◌, Reading, reported_kind, faulty_first, faulty_after, Piece, CutsTo, Putting, seen, weight, Begins, PassesNext, AllPast, no_tokens, FaultNext, SourceKind as source_kinds, Effect as nexts, Act as acts, line_following, ◌⊎◌}
 use Rattle.bk_lex.proofs.SignLemmas.{picks}
 use Rattle.bk_lex.proofs.Modes.{piece_reads}
 use Rattle.bk_lex.proofs.Goings.{reads_piece}
@@ -19,27 +19,27 @@ use Rattle.bk_lex.proofs.BesideGet.{begun_way, end_way}
 abbrev pub Leaves : SourceKind → ℕ → List ℕ → List ℕ → Type 0
 Leaves kind from text rest = (ps : List Piece) × CutsTo text ps rest × FaultNext kind from (length text) ps rest
 
-leaves_begun : (f : Fault) (from : ℕ) (text rest : List ℕ) (ps : List Piece) → CutsTo text ps rest → Begins (told_kind f) rest → Leaves (told_kind f) from text rest
+leaves_begun : (f : Fault) (from : ℕ) (text rest : List ℕ) (ps : List Piece) → CutsTo text ps rest → Begins (reported_kind f) rest → Leaves (reported_kind f) from text rest
 leaves_begun SectionTooLong from text rest ps c h = absurd h
 leaves_begun HeaderTooLong from text rest ps c h = absurd h
 leaves_begun BadGet from text rest ps c h = absurd h
 leaves_begun f from text rest ps c h = (ps, c, h)
 
-leaves_as : (f g : Fault) (from : ℕ) (text rest : List ℕ) → g ≡ f → Leaves (told_kind f) from text rest → Leaves (told_kind g) from text rest
-leaves_as f g from text rest e h = subst (λ (x : Fault). Leaves (told_kind x) from text rest) (sym e) h
+leaves_as : (f g : Fault) (from : ℕ) (text rest : List ℕ) → g ≡ f → Leaves (reported_kind f) from text rest → Leaves (reported_kind g) from text rest
+leaves_as f g from text rest e h = subst (λ (x : Fault). Leaves (reported_kind x) from text rest) (sym e) h
 
-leaves_stuck : (g : Fault) (from line : ℕ) (q : Putting) (text rest : List ℕ) → g ≡ BadGet → Way (no_tokens from) text rest q → q.get ≡ Some line → Stuck rest → Leaves (told_kind g) from text rest
+leaves_stuck : (g : Fault) (from line : ℕ) (q : Putting) (text rest : List ℕ) → g ≡ BadGet → Way (no_tokens from) text rest q → q.get ≡ Some line → Stuck rest → Leaves (reported_kind g) from text rest
 leaves_stuck g from line q text rest e w due s = leaves_as BadGet g from text rest e (w.pieces, w.cut, (q, line, w.tokens, due, s.0, s.1))
 
-leaves_symbols : (g : Fault) (from line : ℕ) (q : Putting) (text rest : List ℕ) → told_kind g ≡ source_kinds.SectionTooLong → length text ≤ 1048576 → Way (no_tokens from) text rest q → weight q ≤ 262144 → PassesNext q line rest → Leaves (told_kind g) from text rest
+leaves_symbols : (g : Fault) (from line : ℕ) (q : Putting) (text rest : List ℕ) → reported_kind g ≡ source_kinds.SectionTooLong → length text ≤ 1048576 → Way (no_tokens from) text rest q → weight q ≤ 262144 → PassesNext q line rest → Leaves (reported_kind g) from text rest
 leaves_symbols g from line q text rest e le w light p = subst (λ (k : SourceKind). Leaves k from text rest) (sym e) (w.pieces, w.cut, inr (le, (q, line, w.tokens, light, p)))
 
-leaves_ended : (g : Fault) (from : ℕ) (q : Putting) (r : Reading) (text rest : List ℕ) → length text ≤ 1048576 → Way (no_tokens from) text rest q → weight q ≤ 262144 → EndedNext q r rest g → Leaves (told_kind g) from text rest
-leaves_ended g from q r text rest le w light (inl p) = leaves_symbols g from _ q text rest (ap told_kind p.0) le w light p.1
+leaves_ended : (g : Fault) (from : ℕ) (q : Putting) (r : Reading) (text rest : List ℕ) → length text ≤ 1048576 → Way (no_tokens from) text rest q → weight q ≤ 262144 → EndedNext q r rest g → Leaves (reported_kind g) from text rest
+leaves_ended g from q r text rest le w light (inl p) = leaves_symbols g from _ q text rest (ap reported_kind p.0) le w light p.1
 leaves_ended g from q r text rest le w light (inr p) = leaves_stuck g from _ q text rest p.0 w p.1 p.2
 
 -- a fault that begins is the same past the bytes
-begun_past : (f : Fault) (text : List ℕ) → Begins (told_kind f) text → past f ≡ f
+begun_past : (f : Fault) (text : List ℕ) → Begins (reported_kind f) text → past f ≡ f
 begun_past SectionTooLong text h = absurd h
 begun_past HeaderTooLong text h = absurd h
 begun_past BadGet text h = absurd h
@@ -51,16 +51,8 @@ FullErr (Ok u) g = g ≡ SectionTooLong
 FullErr (Err f) g = g ≡ past f
 
 step_err : (n : ℕ) (y : Result Step Fault) (g : Fault) → within n y ≡ Err g → ((ltb n 1 ≡ true) × FullErr y g) ⊎ ((ltb n 1 ≡ false) × (y ≡ Err g))
-step_err n (Ok u) g h =
-    elim (picks (ltb n 1) (Err SectionTooLong) (Ok (fewer n u)) (Err g) h) [
-      | inl p ↦ inl (p.0, sym (err_is SectionTooLong g p.1))
-      | inr p ↦ no_err (fewer n u) g p.1
-    ]
-step_err n (Err f) g h =
-    elim (picks (ltb n 1) (Err (past f)) (Err f) (Err g) h) [
-      | inl p ↦ inl (p.0, sym (err_is (past f) g p.1))
-      | inr p ↦ inr p
-    ]
+step_err n (Ok u) g h = grind (arith, picks, fewer, err_is, no_err)
+step_err n (Err f) g h = grind (arith, picks, past, err_is)
 
 -- a byte that begins a piece there shows that the bytes are too many
 full_opened : (s : State) (m : Mode) (c : ℕ) (g : Fault) → FullErr (opened_as s c (Some m)) g → g ≡ SectionTooLong
@@ -83,7 +75,7 @@ module _ (from : ℕ) (front : List ℕ) (c : ℕ) (q : Putting) (t : List ℕ) 
   abbrev text : List ℕ
   text = front ++ c ∷ []
 
-  line : r.place.line ≡ line_behind t q.line
+  line : r.place.line ≡ line_following t q.line
   line = a.line ∙ seen_line q t
 
   light : weight q ≤ 262144
@@ -110,7 +102,7 @@ module _ (from : ℕ) (front : List ℕ) (c : ℕ) (q : Putting) (t : List ℕ) 
       look (inr (inr d)) = absurd (naming_stops t r.state.mode c x d.0)
 
   -- the bytes are too many, by a piece that goes on, or by one that begins
-  bytes_on : (g : Fault) → g ≡ SectionTooLong → ltb r.state.bytes 1 ≡ true → (next r.state.mode c ≡ nexts.Ends → ⊥) → Leaves (told_kind g) from text (t ++ c ∷ [])
+  bytes_on : (g : Fault) → g ≡ SectionTooLong → ltb r.state.bytes 1 ≡ true → (next r.state.mode c ≡ nexts.Ends → ⊥) → Leaves (reported_kind g) from text (t ++ c ∷ [])
   bytes_on g e f n = leaves_as SectionTooLong g from text (t ++ c ∷ []) e (way.pieces, way.cut, inl (omega (arith, full f), omega (arith, full f, length-append t (c ∷ [])), passed here))
     where
       passed : Here t r.state.mode r.held q.get → AllPast (length text) (t ++ c ∷ [])
@@ -118,55 +110,49 @@ module _ (from : ℕ) (front : List ℕ) (c : ℕ) (q : Putting) (t : List ℕ) 
       passed (inr (inl d)) = past_piece (length text) t c [] r.state.mode (full f) d.1 n
       passed (inr (inr d)) = past_naming (length text) t c [] r.state.mode (full f) d.0
 
-  bytes_first : (g : Fault) → g ≡ SectionTooLong → ltb r.state.bytes 1 ≡ true → next r.state.mode c ≡ nexts.Ends → Leaves (told_kind g) from text (c ∷ [])
-  bytes_first g e f x =
-      let p = through x in
-      leaves_as SectionTooLong g from text (c ∷ []) e (p.0, p.1, inl (omega (arith, full f), omega (arith, full f), past_from (length text) c [] (full f)))
+  bytes_first : (g : Fault) → g ≡ SectionTooLong → ltb r.state.bytes 1 ≡ true → next r.state.mode c ≡ nexts.Ends → Leaves (reported_kind g) from text (c ∷ [])
+  bytes_first g e f x = grind (arith, through, leaves_as, full, past_from, length)
 
-  no_byte_leaves : (g : Fault) → next r.state.mode c ≡ nexts.Ends → fresh c ≡ None → g ≡ BadByte → Leaves (told_kind g) from text (c ∷ [])
+  no_byte_leaves : (g : Fault) → next r.state.mode c ≡ nexts.Ends → fresh c ≡ None → g ≡ BadByte → Leaves (reported_kind g) from text (c ∷ [])
   no_byte_leaves g x f e = let p = through x in leaves_as BadByte g from text (c ∷ []) e (p.0, p.1, no_byte c [] f)
 
-  begun_leaves : (m : Mode) (y : Ended) (g : Fault) → next r.state.mode c ≡ nexts.Ends → fresh c ≡ Some m → ltb r.state.bytes 1 ≡ false → ended r.state ≡ Ok y → begun y.state m c ≡ Err g → Leaves (told_kind g) from text (c ∷ [])
+  begun_leaves : (m : Mode) (y : Ended) (g : Fault) → next r.state.mode c ≡ nexts.Ends → fresh c ≡ Some m → ltb r.state.bytes 1 ≡ false → ended r.state ≡ Ok y → begun y.state m c ≡ Err g → Leaves (reported_kind g) from text (c ∷ [])
   begun_leaves m y g x f b o e =
       let after = ended_agrees (piece r.state.mode) (seen q t) r.out r.state r.place r.held y a o in
       let w = way_through (no_tokens from) q after.0 text (t ++ c ∷ []) (c ∷ []) way (begun_way q t r c [] y here x after) in
       elim (begun_err y.state m c g e) [
-        | inl p ↦ leaves_symbols g from _ after.0 text (c ∷ []) (ap told_kind p.0) (with_room b) w (omega (arith, after.2.count)) (passes_begun after.0 _ y.state _ c [] m after.2 f p.1)
+        | inl p ↦ leaves_symbols g from _ after.0 text (c ∷ []) (ap reported_kind p.0) (with_room b) w (omega (arith, after.2.count)) (passes_begun after.0 _ y.state _ c [] m after.2 f p.1)
         | inr p ↦ leaves_stuck g from _ after.0 text (c ∷ []) p.0 w (agreed after.0 _ y.state _ after.2 p.1) (first_stuck c [] m f p.2)
       ]
 
-  ended_leaves : (g : Fault) → next r.state.mode c ≡ nexts.Ends → ltb r.state.bytes 1 ≡ false → ended r.state ≡ Err g → Leaves (told_kind g) from text (t ++ c ∷ [])
+  ended_leaves : (g : Fault) → next r.state.mode c ≡ nexts.Ends → ltb r.state.bytes 1 ≡ false → ended r.state ≡ Err g → Leaves (reported_kind g) from text (t ++ c ∷ [])
   ended_leaves g x b o =
       leaves_ended g from q r text (t ++ c ∷ []) (with_room b) way light
       (ended_next (c ∷ []) q t r g here a (λ d bs w. ap (next r.state.mode) (sym (heads_are c d bs w)) ∙ x) (naming_stops t r.state.mode c x) line (λ w. (whole_at_end r.state.mode c t (piece_reads t r.state.mode w) x, ends_longest r.state.mode t c [] w x)) o)
 
   -- where the byte's piece begins
   abbrev AtByte : Bool → Effect → Fault → Type 0
-  AtByte full x g = Leaves (told_kind g) from text (cond (faulty_first x full (fresh c) (ended r.state)) (c ∷ []) (t ++ c ∷ []))
+  AtByte full x g = Leaves (reported_kind g) from text (cond (faulty_first x full (fresh c) (ended r.state)) (c ∷ []) (t ++ c ∷ []))
 
   room_leaves : (x : Effect) (g : Fault) → ltb r.state.bytes 1 ≡ false → next r.state.mode c ≡ x → moved r.state c x ≡ Err g → AtByte false x g
   room_leaves (nexts.Goes m) g b x e = no_err _ g e
   room_leaves nexts.Ends g b x e = by_mode (fresh c) refl e
     where
-      by_ended : (m : Mode) → fresh c ≡ Some m → (y : Result Ended Fault) → ended r.state ≡ y → (y >>= λ e. (begun e.state m c >>= λ s. Ok (stepped s (acts.Begins e.given)))) ≡ Err g → Leaves (told_kind g) from text (cond (faulty_first nexts.Ends false (Some m) y) (c ∷ []) (t ++ c ∷ []))
+      by_ended : (m : Mode) → fresh c ≡ Some m → (y : Result Ended Fault) → ended r.state ≡ y → (y >>= λ e. (begun e.state m c >>= λ s. Ok (stepped s (acts.Begins e.given)))) ≡ Err g → Leaves (reported_kind g) from text (cond (faulty_first nexts.Ends false (Some m) y) (c ∷ []) (t ++ c ∷ []))
       by_ended m f (Err k) o e = ended_leaves g x b (o ∙ ap lexer_error (err_is k g e))
       by_ended m f (Ok y) o e = begun_leaves m y g x f b o (good_err (begun y.state m c) (λ s. stepped s (acts.Begins y.given)) g e)
 
-      by_mode : (o : Option Mode) → fresh c ≡ o → opened_as r.state c o ≡ Err g → Leaves (told_kind g) from text (cond (faulty_first nexts.Ends false o (ended r.state)) (c ∷ []) (t ++ c ∷ []))
+      by_mode : (o : Option Mode) → fresh c ≡ o → opened_as r.state c o ≡ Err g → Leaves (reported_kind g) from text (cond (faulty_first nexts.Ends false o (ended r.state)) (c ∷ []) (t ++ c ∷ []))
       by_mode None f e = no_byte_leaves g x f (sym (err_is BadByte g e))
       by_mode (Some m) f e = by_ended m f (ended r.state) refl e
-  room_leaves (nexts.Names h) g b x e = let p = named_next c [] q t r h g here a x e in leaves_symbols g from _ q text (t ++ c ∷ []) (ap told_kind p.0) (with_room b) way light p.1
-  room_leaves (nexts.Bad f) g b x e =
-      leaves_as f g from text (t ++ c ∷ []) (sym (err_is f g e)) (elim (bad_next c [] q t r f here a line x) [
-        | inl p ↦ leaves_begun f from text (t ++ c ∷ []) way.pieces way.cut p.0
-        | inr p ↦ leaves_stuck f from _ q text (t ++ c ∷ []) p.0 way p.1 p.2
-      ])
+  room_leaves (nexts.Names h) g b x e = let p = named_next c [] q t r h g here a x e in leaves_symbols g from _ q text (t ++ c ∷ []) (ap reported_kind p.0) (with_room b) way light p.1
+  room_leaves (nexts.Bad f) g b x e = grind (arith, leaves_as, line, leaves_begun, leaves_stuck, (err_is f g e), (bad_next c [] q t r f here a line x))
 
   full_leaves : (x : Effect) (g : Fault) → ltb r.state.bytes 1 ≡ true → next r.state.mode c ≡ x → FullErr (moved r.state c x) g → AtByte true x g
   full_leaves (nexts.Goes m) g b x e = bytes_on g e b (λ y. let z : nexts.Goes m ≡ nexts.Ends = sym x ∙ y in cc)
   full_leaves nexts.Ends g b x e = by_mode (fresh c) refl e
     where
-      by_mode : (o : Option Mode) → fresh c ≡ o → FullErr (opened_as r.state c o) g → Leaves (told_kind g) from text (c ∷ [])
+      by_mode : (o : Option Mode) → fresh c ≡ o → FullErr (opened_as r.state c o) g → Leaves (reported_kind g) from text (c ∷ [])
       by_mode None f e = no_byte_leaves g x f e
       by_mode (Some m) f e = bytes_first g (full_opened r.state m c g e) b x
   full_leaves (nexts.Names h) g b x e = bytes_on g (by_named (named r.state h) refl e) b (λ y. let z : nexts.Names h ≡ nexts.Ends = sym x ∙ y in cc)
@@ -191,7 +177,7 @@ module _ (from : ℕ) (front : List ℕ) (c : ℕ) (q : Putting) (t : List ℕ) 
 -- ---- at the text's end
 
 module _ (from : ℕ) (text : List ℕ) (q : Putting) (t : List ℕ) (r : Reading) (way : Way (no_tokens from) text (t ++ []) q) (here : Here t r.state.mode r.held q.get) (a : Agrees (seen q t) r.out r.state r.place r.used) (count : length text ≤ 1048576) where
-  whole_leaves : (g : Fault) → end_fault r.state.mode ≡ None → ended r.state ≡ Err g → Leaves (told_kind g) from text (t ++ [])
+  whole_leaves : (g : Fault) → end_fault r.state.mode ≡ None → ended r.state ≡ Err g → Leaves (reported_kind g) from text (t ++ [])
   whole_leaves g x o =
       leaves_ended g from q r text (t ++ []) count way (omega (arith, a.count, seen_weight q t))
       (ended_next [] q t r g here a (λ c more z. no_nil z) (naming_ends t r.state.mode x) (a.line ∙ seen_line q t) (λ w. (whole_if_no_fault r.state.mode t (piece_reads t r.state.mode w) x, nothing_longest t)) o)
@@ -199,7 +185,7 @@ module _ (from : ℕ) (text : List ℕ) (q : Putting) (t : List ℕ) (r : Readin
       no_nil : {A : Type 0} {c : ℕ} {more : List ℕ} → [] ≡ c ∷ more → A
       no_nil z = absurd cc
 
-  due_leaves : (y : Ended) (g : Fault) → end_fault r.state.mode ≡ None → ended r.state ≡ Ok y → no_get y ≡ Err g → Leaves (told_kind g) from text []
+  due_leaves : (y : Ended) (g : Fault) → end_fault r.state.mode ≡ None → ended r.state ≡ Ok y → no_get y ≡ Err g → Leaves (reported_kind g) from text []
   due_leaves y g x o e =
       let after = ended_agrees (piece r.state.mode) (seen q t) r.out r.state r.place r.held y a o in
       let w = way_through (no_tokens from) q after.0 text (t ++ []) [] way (end_way q t r y here x after) in
@@ -208,10 +194,10 @@ module _ (from : ℕ) (text : List ℕ) (q : Putting) (t : List ℕ) (r : Readin
         | inr p ↦ no_err y.given g p.1
       ]
 
-  pub end_leaves : (o : Option Fault) (g : Fault) → end_fault r.state.mode ≡ o → finished_as r.state o ≡ Err g → Leaves (told_kind g) from text (cond (faulty_after o (ended r.state)) [] (t ++ []))
-  end_leaves (Some f) g x e = leaves_as f g from text (t ++ []) (sym (err_is f g e)) (leaves_begun f from text (t ++ []) way.pieces way.cut (subst (λ (y : List ℕ). Begins (told_kind f) y) (sym (append-nil t)) (end_next q t r f here (a.line ∙ seen_line q t) x).0))
+  pub end_leaves : (o : Option Fault) (g : Fault) → end_fault r.state.mode ≡ o → finished_as r.state o ≡ Err g → Leaves (reported_kind g) from text (cond (faulty_after o (ended r.state)) [] (t ++ []))
+  end_leaves (Some f) g x e = leaves_as f g from text (t ++ []) (sym (err_is f g e)) (leaves_begun f from text (t ++ []) way.pieces way.cut (subst (λ (y : List ℕ). Begins (reported_kind f) y) (sym (append-nil t)) (end_next q t r f here (a.line ∙ seen_line q t) x).0))
   end_leaves None g x e = look (ended r.state) refl e
     where
-      look : (y : Result Ended Fault) → ended r.state ≡ y → (y >>= λ e. no_get e) ≡ Err g → Leaves (told_kind g) from text (cond (faulty_after None y) [] (t ++ []))
+      look : (y : Result Ended Fault) → ended r.state ≡ y → (y >>= λ e. no_get e) ≡ Err g → Leaves (reported_kind g) from text (cond (faulty_after None y) [] (t ++ []))
       look (Err h) o z = whole_leaves g x (o ∙ ap lexer_error (err_is h g z))
       look (Ok y) o z = due_leaves y g x o z

@@ -8,13 +8,13 @@ use Rattle.bk_base.specs.declared.refused.Refused.TheVariants.{Fault, Memory, De
 use Rattle.bk_lex.specs.Pieces.{Sort, Spelled, NoLonger, Piece, CutsTo}
 use Rattle.bk_lex.specs.Tokens.{Putting, putting, puts}
 use Rattle.bk_lex.specs.TextFault.{Begins, NoGap, NoHeader, weight, PassesByPiece, PassesByHeader, PassesBySign, PassesByByte, HasFault}
-use Rattle.bk_lex.specs.Telling.{ToldByByte, ToldAtEnd}
+use Rattle.bk_lex.specs.Telling.{ReportedByByte, ReportedAtEnd}
 use Rattle.bk_lex.specs.declared.scan.Lexed.{Lexed}
 use Rattle.bk_lex.specs.declared.scan.LexicalFault.{LexicalFault}
 
--- The fault is told at the byte with this number of bytes before it, or at the text's end, which has as many.
-abbrev pub ToldAt : ℕ → SourceFault → ℕ → List ℕ → Type 0
-ToldAt from f byte text = ((t : ToldByByte from f text) × (length t.front ≡ byte)) ⊎ (ToldAtEnd from f text × (length text ≡ byte))
+-- The fault is reported at the byte with this number of bytes before it, or at the text's end, which has as many.
+abbrev pub ReportedAt : ℕ → SourceFault → ℕ → List ℕ → Type 0
+ReportedAt from f byte text = ((t : ReportedByByte from f text) × (length t.front ≡ byte)) ⊎ (ReportedAtEnd from f text × (length text ≡ byte))
 
 -- the tokens before the first piece
 abbrev pub no_tokens : ℕ → Putting
@@ -44,7 +44,7 @@ FaultNext SectionTooLong from total pieces rest = TooLongNext from total pieces 
 FaultNext BadGet from total pieces rest = NoStringNext from pieces rest
 FaultNext kind from total pieces rest = Begins kind rest
 
--- A text that ends with the byte at which a fault is told: whole pieces of so many bytes, and then the piece in which the
+-- A text that ends with the byte at which a fault is reported: whole pieces of so many bytes, and then the piece in which the
 -- fault is.
 pub record FaultIn (kind : SourceKind) (from piece : ℕ) (text : List ℕ) : Type 0 where
   pub pieces : List Piece
@@ -53,9 +53,9 @@ pub record FaultIn (kind : SourceKind) (from piece : ℕ) (text : List ℕ) : Ty
   pub at : piece + length rest ≡ length text
   pub next : FaultNext kind from (length text) pieces rest
 
--- the byte at which a fault is told, and where the piece begins in which it is
+-- the byte at which a fault is reported, and where the piece begins in which it is
 abbrev pub IsPlaced : ℕ → SourceFault → ℕ → ℕ → List ℕ → Type 0
-IsPlaced from f byte piece text = ToldAt from f byte text × FaultIn f.kind from piece (take (byte + 1) text)
+IsPlaced from f byte piece text = ReportedAt from f byte text × FaultIn f.kind from piece (take (byte + 1) text)
 
 -- the fault of a call's answer, and its places
 abbrev pub SaysPlaces : Refused LexicalFault → ℕ → List ℕ → Type 0

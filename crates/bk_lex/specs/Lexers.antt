@@ -2,7 +2,7 @@
 use Rattle.std.specs.Prelude.{ℕ, ◌+◌, ◌≤◌, ◌≡◌, true, List, [], ◌∷◌, ◌++◌, length, slice_range, Some, None, Ok, Err}
 use Rattle.bk_lex.specs.Counting.{start}
 use Rattle.bk_lex.specs.Lexing.{section, reading, run, lexed, placed_fault, place_after}
-use Rattle.bk_lex.specs.Cutting.{state_behind}
+use Rattle.bk_lex.specs.Cutting.{state_after}
 use Rattle.bk_lex.specs.Found.{all_found, found_in, AreWithin}
 use Rattle.bk_lex.specs.declared.machine.Fault.{Fault}
 use Rattle.bk_lex.specs.declared.counting.State.{State}
@@ -44,7 +44,7 @@ parts bytes from m = record { bytes = bytes; from = from; marks = m }
 
 -- The machine goes on: whatever follows, the answer is that of the machine from here.
 pub record Goes (l : Parts) (s : State) : Type 0 where
-  pub state : state_behind (Some start) l.bytes ≡ Some s
+  pub state : state_after (Some start) l.bytes ≡ Some s
   pub counted : s.bytes + length l.bytes ≡ 1048576
   pub within : AreWithin (length l.bytes) l.marks.found
   pub order : l.marks.piece ≤ length l.bytes
@@ -53,13 +53,13 @@ pub record Goes (l : Parts) (s : State) : Type 0 where
 
 -- A `.` ended the section, or a fault. The state has room for no byte.
 pub record HasEnded (l : Parts) (s : State) : Type 0 where
-  pub state : state_behind (Some start) l.bytes ≡ None
+  pub state : state_after (Some start) l.bytes ≡ None
   pub full : s.bytes ≡ 0
   pub within : AreWithin (length l.bytes) l.marks.found
   pub same : lexed l.bytes l.from ≡ Ok (section (all_found l.bytes l.marks.found) (length l.bytes) true l.marks.place.line)
 
 pub record IsRefused (l : Parts) (s : State) (f : Fault) : Type 0 where
-  pub state : state_behind (Some start) l.bytes ≡ None
+  pub state : state_after (Some start) l.bytes ≡ None
   pub full : s.bytes ≡ 0
   pub same : lexed l.bytes l.from ≡ Err (placed_fault s l.marks.place f)
 

@@ -463,7 +463,7 @@ pub fn past(state: State, byte: u8) -> Fault
     }
 }
 
-/// Whether the byte at which a fault is told is the first of the piece in which the fault is. Else that piece begins before it.
+/// Whether the byte at which a fault is reported is the first of the piece in which the fault is. Else that piece begins before it.
 #[cold]
 #[inline(never)]
 pub fn begins_fault(state: State, byte: u8) -> bool

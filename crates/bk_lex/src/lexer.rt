@@ -6,7 +6,7 @@ ghost use Rattle.bk_lex.specs.declared.counting.Act.TheVariants.{Begins};
 ghost use Rattle.bk_lex.specs.Symbol.{symbols_of};
 ghost use Rattle.bk_lex.specs.Cutting.{Means};
 ghost use Rattle.bk_lex.specs.Lexing.{Gives, lexed};
-ghost use Rattle.bk_lex.specs.Found.{symbols_found, all_found, found_in, AreWithin, bytes_of, cut_behind};
+ghost use Rattle.bk_lex.specs.Found.{symbols_found, all_found, found_in, AreWithin, bytes_of, cut_after};
 ghost use Rattle.bk_lex.specs.Lexers.{marks_of, marked};
 
 use crate::adding::add;
@@ -263,12 +263,12 @@ impl Lexer {
     #[inline(always)]
     pub fn step(&mut self, byte: u8) -> Result<Cut, AllocError>
         // It has one byte more.
-        ensures takes { IfOk result (λ _. cut_behind self.old.bytes ≡ More → self.new ≡ bytes_of (self.old.bytes ++ byte ∷ []) self.old.from) }
+        ensures takes { IfOk result (λ _. cut_after self.old.bytes ≡ More → self.new ≡ bytes_of (self.old.bytes ++ byte ∷ []) self.old.from) }
         // It answers as a cutter does.
-        ensures says { IfOk result (λ cut. cut ≡ cut_behind self.new.bytes) }
-        ensures means { IfOk result (λ cut. cut_behind self.old.bytes ≡ More → Means cut self.new.bytes) }
+        ensures says { IfOk result (λ cut. cut ≡ cut_after self.new.bytes) }
+        ensures means { IfOk result (λ cut. cut_after self.old.bytes ≡ More → Means cut self.new.bytes) }
         // After `End` it takes no byte.
-        ensures stays { cut_behind self.old.bytes ≡ End → IfOk result (λ _. self.new ≡ self.old) }
+        ensures stays { cut_after self.old.bytes ≡ End → IfOk result (λ _. self.new ≡ self.old) }
     {
         if self.state.bytes == 0 {
             match self.progress {

@@ -2,7 +2,7 @@
 use Rattle.bk_machine.proofs.Terms.{◌≡◌, ℕ, zero, suc, ◌+◌, ◌-◌, ◌<◌, ◌≤◌, ◌^◌, ◌%◌, ◌==◌, nat_lt, nat_le, arith, Bool, true, false, ◌&&◌, List, [], ◌∷◌, length, drop, Option, Some, None, slice_get, refl, sym, ap, ◌∙◌, subst, if◌then◌else◌, eqb-true, nat_tests, length-drop, ⊤, option_and_then, word_sum, Directive, Text, whole_text, cut_text, text_then, byte_of, string_rest, piece_text, plain, with_argument, aligning, lettered, directive, format_rest, format_text, Piece, Piece as piece}
 use Rattle.std.proofs.Math.Dec.{eqb-suc-zero}
 use Rattle.std.specs.Option.{option_map, option_map_or}
-use Rattle.bk_base.specs.Format.{FormatPart, Byte, Percent, String, Number, Character, Column, capital, is_digit, column_or_percent, directive as part_behind_percent, part_at, further, parts_behind, parts}
+use Rattle.bk_base.specs.Format.{FormatPart, Byte, Percent, String, Number, Character, Column, capital, is_digit, column_or_percent, directive as part_behind_percent, part_at, further, parts_after, parts}
 use Rattle.bk_machine.specs.FormatLaws.{parts_text, FormatIsOfParts}
 
 module _ (store : List ℕ) (f : ℕ) where
@@ -36,17 +36,17 @@ module _ (store : List ℕ) (f : ℕ) where
       ∙ ap (λ t. option_and_then (λ e. if is_digit e then with_argument store a (λ w. piece.Aligned w (e - 48)) 3 else plain 37) t) held.0
       ∙ digit a d (is_digit d)
 
-  by_letter : (a : ℕ) (code : Option Directive) (behind : FormatPart) → code ≡ directive_of a behind → (s n c i p q : Bool) → p ≡ q
+  by_letter : (a : ℕ) (code : Option Directive) (following : FormatPart) → code ≡ directive_of a following → (s n c i p q : Bool) → p ≡ q
       → (if s then with_argument store a (λ w. piece.String w) 2 else
       if n then with_argument store a (λ w. piece.Number w) 2 else
       if c then with_argument store a (λ w. piece.Byte (w % 256)) 2 else
       if i then code else
       if p then Some (record { piece = piece.Byte 37; bytes = 2; arguments = 0 }) else plain 37)
-      ≡ directive_of a (if s then String else if n then Number else if c then Character else if i then behind else if q then Percent else Byte 37)
-  by_letter a code behind is false false false true p q same = is
-  by_letter a code behind is false false false false true false same = cc
-  by_letter a code behind is false false false false false true same = cc
-  by_letter a code behind is x y z u v w same = refl
+      ≡ directive_of a (if s then String else if n then Number else if c then Character else if i then following else if q then Percent else Byte 37)
+  by_letter a code following is false false false true p q same = is
+  by_letter a code following is false false false false true false same = cc
+  by_letter a code following is false false false false false true same = cc
+  by_letter a code following is x y z u v w same = refl
 
   percent_sign : (c : ℕ) → (capital c == 37) ≡ (c == 37)
   percent_sign c = by_case (nat_le 97 c && nat_le c 122) refl
@@ -100,7 +100,7 @@ module _ (store : List ℕ) (f : ℕ) where
       let same : i + 1 + k ≡ i + suc k = omega arith in
       subst (λ j. Held j (drop k rest)) same (held_drop k (i + 1) rest held.1)
 
-  skipped : (k : ℕ) (bytes : List ℕ) → parts_behind k bytes ≡ parts_behind 0 (drop k bytes)
+  skipped : (k : ℕ) (bytes : List ℕ) → parts_after k bytes ≡ parts_after 0 (drop k bytes)
   skipped zero bytes = refl
   skipped (suc k) [] = refl
   skipped (suc k) (b ∷ rest) = skipped k rest
@@ -112,18 +112,18 @@ module _ (store : List ℕ) (f : ℕ) where
 
   module _ (n i a : ℕ) (rest : List ℕ)
       (ih : (k arguments : ℕ) → format_rest n store f (i + suc k) (suc (length rest) - suc k) (word_sum a arguments)
-      ≡ parts_text store (parts_behind k rest) (word_sum a arguments)) (low : word_sum a 0 ≡ a) where
+      ≡ parts_text store (parts_after k rest) (word_sum a arguments)) (low : word_sum a 0 ≡ a) where
     on_argument : (write : ℕ → Piece) (k : ℕ) (word : Option ℕ)
         → told_by n i a rest (option_map (λ w. record { piece = write w; bytes = suc k; arguments = 1 }) word)
-        ≡ option_map_or (λ w. text_then (piece_text store (write w)) (parts_text store (parts_behind k rest) (word_sum a 1))) word cut_text
+        ≡ option_map_or (λ w. text_then (piece_text store (write w)) (parts_text store (parts_after k rest) (word_sum a 1))) word cut_text
     on_argument write k None = refl
     on_argument write k (Some w) = ap (λ t. text_then (piece_text store (write w)) t) (ih k 1)
 
     on_byte : (b k : ℕ) → told_by n i a rest (Some (record { piece = piece.Byte b; bytes = suc k; arguments = 0 }))
-        ≡ text_then (whole_text (b ∷ [])) (parts_text store (parts_behind k rest) a)
-    on_byte b k = ap (λ t. text_then (whole_text (b ∷ [])) t) (ih k 0 ∙ ap (λ w. parts_text store (parts_behind k rest) w) low)
+        ≡ text_then (whole_text (b ∷ [])) (parts_text store (parts_after k rest) a)
+    on_byte b k = ap (λ t. text_then (whole_text (b ∷ [])) t) (ih k 0 ∙ ap (λ w. parts_text store (parts_after k rest) w) low)
 
-    on_part : (part : FormatPart) → told_by n i a rest (directive_of a part) ≡ parts_text store (part ∷ parts_behind (further part) rest) a
+    on_part : (part : FormatPart) → told_by n i a rest (directive_of a part) ≡ parts_text store (part ∷ parts_after (further part) rest) a
     on_part (Byte b) = on_byte b 0
     on_part Percent = on_byte 37 1
     on_part String = on_argument (λ w. piece.String w) 1 (slice_get store a)

@@ -1,5 +1,5 @@
 -- How runs that exchange bytes with devices begin, go on and end.
-use Rattle.bk_machine.proofs.Terms.{append_known, Consumes, Appends, Keeps, Consumes-nil, Appends-nil, Consumes-trans, Appends-trans, Consumes-kept, Appends-kept, Status, DivideByZero, StoreLimit, StepLimit, BadOperation, ReadFault, WriteFault, AppendsPart, Begins, Begins-trans, Text, output_text, Goes, Outputs, Asks, Ends, step, Going, Over, next_byte, behind_next, after, run, Devices, Exchanged, Follows, Leads, NotAsked, SinceAsk, LeadsToAsk, FlushesFirst, Paused, Finished, Waiting, CutShort, FailedOnTheWay, Broken, Went, Ran, IsOwn, AskFails, CameBy, Answered, ◌≡◌, ◌≢◌, ℕ, zero, suc, ◌+◌, ◌-◌, ◌^◌, ◌⊎◌, inl, inr, arith, List, [], ◌∷◌, ◌++◌, Option, None, Some, IsTrue, Bool, true, false, refl, sym, ap, subst, ◌∙◌, append_assoc, append-nil, if◌then◌else◌}
+use Rattle.bk_machine.proofs.Terms.{append_known, Consumes, Appends, Keeps, Consumes-nil, Appends-nil, Consumes-trans, Appends-trans, Consumes-kept, Appends-kept, Status, DivideByZero, StoreLimit, StepLimit, BadOperation, ReadFault, WriteFault, AppendsPart, Begins, Begins-trans, Text, output_text, Goes, Outputs, Asks, Ends, step, Going, Over, next_byte, after_next, after, run, Devices, Exchanged, Follows, Leads, NotAsked, SinceAsk, LeadsToAsk, FlushesFirst, Paused, Finished, Waiting, CutShort, FailedOnTheWay, Broken, Went, Ran, IsOwn, AskFails, CameBy, Answered, ◌≡◌, ◌≢◌, ℕ, zero, suc, ◌+◌, ◌-◌, ◌^◌, ◌⊎◌, inl, inr, arith, List, [], ◌∷◌, ◌++◌, Option, None, Some, IsTrue, Bool, true, false, refl, sym, ap, subst, ◌∙◌, append_assoc, append-nil, if◌then◌else◌}
 use Rattle.bk_base.specs.declared.run_end.End.{End}
 use Rattle.bk_machine.specs.declared.registers.Registers.{Registers}
 use Rattle.bk_machine.specs.declared.output.Output.{Output}
@@ -15,8 +15,8 @@ pub record Still (old new : Devices) : Type 0 where
   pub taken : Keeps old.taken new.taken
   pub passes : Begins old.passed new.passed
 
-pub exchanged_none : (told : Devices) → Exchanged told told [] []
-exchanged_none told = record { delivered = Consumes-nil told.left; took = Appends-nil told.taken; stays = λ ended. (refl, ended) }
+pub exchanged_none : (reported : Devices) → Exchanged reported reported [] []
+exchanged_none reported = record { delivered = Consumes-nil reported.left; took = Appends-nil reported.taken; stays = λ ended. (refl, ended) }
 
 pub exchanged_on : (old mid new : Devices) (r1 w1 r2 w2 : List ℕ) → Exchanged old mid r1 w1 → Exchanged mid new r2 w2 → Exchanged old new (r1 ++ r2) (w1 ++ w2)
 exchanged_on old mid new r1 w1 r2 w2 p q = record {
@@ -105,26 +105,26 @@ module _ (Holds : List ℕ → Type 0) where
 module _ (Holds : List ℕ → Type 0) (old new : Devices) (kept : Keeps old.taken new.taken) where
   pub answered_end : Consumes old.left new.left [] → new.ended ≡ true → new.held ≡ [] → ((byte : ℕ) (rest : List ℕ) → old.held ≡ byte ∷ rest → ⊥)
       → Answered Holds (2 ^ 32 - 1) old new
-  answered_end delivered told none empty = record {
+  answered_end delivered reported none empty = record {
     read = [];
     exchanged = record {
       delivered = delivered;
       took = Appends-kept old.taken old.taken new.taken [] (Appends-nil old.taken) kept;
-      stays = λ ended. (refl, told);
+      stays = λ ended. (refl, reported);
     };
-    word_is = λ rest follows. ap next_byte (follows told);
-    behind_is = λ rest follows. ap behind_next (follows told) ∙ sym (follows told);
+    word_is = λ rest follows. ap next_byte (follows reported);
+    after_is = λ rest follows. ap after_next (follows reported) ∙ sym (follows reported);
     came = by_held old.held old.ended refl refl;
   }
     where
       by_held : (held : List ℕ) (ended : Bool) → old.held ≡ held → old.ended ≡ ended → CameBy Holds old new []
-      by_held [] true e ends = inl (e ∙ sym none, told ∙ sym ends)
+      by_held [] true e ends = inl (e ∙ sym none, reported ∙ sym ends)
       by_held [] false e ends = inr (e, ends, none)
       by_held (byte ∷ rest) ended e ends = absurd (empty byte rest e)
 
   pub answered_byte : (byte : ℕ) → Consumes old.left new.left (byte ∷ []) → new.ended ≡ false → (old.ended ≡ true → ⊥)
       → ((first : ℕ) (rest : List ℕ) → old.held ≡ first ∷ rest → (first ≡ byte) × (new.held ≡ rest)) → Holds new.held → Answered Holds byte old new
-  answered_byte byte delivered told before first holds = record {
+  answered_byte byte delivered reported before first holds = record {
     read = byte ∷ [];
     exchanged = record {
       delivered = delivered;
@@ -132,33 +132,33 @@ module _ (Holds : List ℕ → Type 0) (old new : Devices) (kept : Keeps old.tak
       stays = λ ended. absurd (before ended);
     };
     word_is = λ rest follows. refl;
-    behind_is = λ rest follows. refl;
+    after_is = λ rest follows. refl;
     came = by_held old.held old.ended refl refl;
   }
     where
       by_held : (held : List ℕ) (ended : Bool) → old.held ≡ held → old.ended ≡ ended → CameBy Holds old new (byte ∷ [])
       by_held held true e ends = absurd (before ends)
-      by_held [] false e ends = inr (e, ends, (holds, told))
+      by_held [] false e ends = inr (e, ends, (holds, reported))
       by_held (b ∷ rest) false e ends =
-          let taken = first b rest e in inl (e ∙ ap (λ x. x ∷ rest) taken.0 ∙ ap (λ l. byte ∷ l) (sym taken.1), told ∙ sym ends)
+          let taken = first b rest e in inl (e ∙ ap (λ x. x ∷ rest) taken.0 ∙ ap (λ l. byte ∷ l) (sym taken.1), reported ∙ sym ends)
 
 -- ---- one step
 
 module _ (Holds : List ℕ → Type 0) (store : List ℕ) (r : Registers) where
-  pub paused_none : (told : Devices) → Paused Holds 0 store r store r told told
-  paused_none told = record {
+  pub paused_none : (reported : Devices) → Paused Holds 0 store r store r reported reported
+  paused_none reported = record {
     read = [];
     written = [];
-    exchanged = exchanged_none told;
+    exchanged = exchanged_none reported;
     flushes = inl (refl, refl);
     leads = λ rest before follows. ap (λ o. Going store r rest o) (sym (append-nil before));
   }
 
-  pub paused_goes : (store' : List ℕ) (r' : Registers) (told : Devices) → step store r ≡ Goes store' r' → Paused Holds 1 store r store' r' told told
-  paused_goes store' r' told is = record {
+  pub paused_goes : (store' : List ℕ) (r' : Registers) (reported : Devices) → step store r ≡ Goes store' r' → Paused Holds 1 store r store' r' reported reported
+  paused_goes store' r' reported is = record {
     read = [];
     written = [];
-    exchanged = exchanged_none told;
+    exchanged = exchanged_none reported;
     flushes = inl (refl, refl);
     leads = λ rest before follows. ap (λ t. after (run 0) t rest before) is ∙ ap (λ o. Going store' r' rest o) (sym (append-nil before));
   }
@@ -194,8 +194,8 @@ module _ (Holds : List ℕ → Type 0) (store : List ℕ) (r : Registers) where
     exchanged = answered.exchanged;
     flushes = by_asking answered.came;
     leads = λ rest before follows. ap (λ t. after (run 0) t (answered.read ++ rest) before) is
-        ∙ ap (λ a. Going store' (record r' { a = a }) (behind_next (answered.read ++ rest)) before) (answered.word_is rest follows)
-        ∙ ap (λ i. Going store' (record r' { a = word }) i before) (answered.behind_is rest follows)
+        ∙ ap (λ a. Going store' (record r' { a = a }) (after_next (answered.read ++ rest)) before) (answered.word_is rest follows)
+        ∙ ap (λ i. Going store' (record r' { a = word }) i before) (answered.after_is rest follows)
         ∙ ap (λ o. Going store' (record r' { a = word }) rest o) (sym (append-nil before));
   }
     where
@@ -258,11 +258,11 @@ module _ (Holds : List ℕ → Type 0) (store : List ℕ) (r : Registers) where
       begins = whole;
     }
 
-  pub finished_ends : (e : End) (told : Devices) → step store r ≡ Ends e → Finished Holds e 1 store r told told
-  finished_ends e told is = record {
+  pub finished_ends : (e : End) (reported : Devices) → step store r ≡ Ends e → Finished Holds e 1 store r reported reported
+  finished_ends e reported is = record {
     read = [];
     written = [];
-    exchanged = exchanged_none told;
+    exchanged = exchanged_none reported;
     flushes = inl (refl, refl);
     ends = λ rest before follows. ap (λ t. after (run 0) t rest before) is ∙ ap (λ o. Over e rest o) (sym (append-nil before));
   }
@@ -582,12 +582,12 @@ pub exchanged_took : (left : Option (List ℕ)) (held : List ℕ) (ended : Bool)
 exchanged_took left held ended a b p q bytes appends = record { delivered = Consumes-nil left; took = appends; stays = λ t. (refl, t) }
 
 module _ (Holds : List ℕ → Type 0) (store : List ℕ) (r : Registers) (store' : List ℕ) (r' : Registers) where
-  pub went_own : (e : End) (told : Devices) → IsOwn e → step store r ≡ Ends e → Went Holds e 1 store r store' r' told told
-  went_own (Status v) told own is = finished_ends Holds store r (Status v) told is
-  went_own DivideByZero told own is = finished_ends Holds store r DivideByZero told is
-  went_own StoreLimit told own is = finished_ends Holds store r StoreLimit told is
-  went_own BadOperation told own is = finished_ends Holds store r BadOperation told is
-  went_own x told own is = absurd own
+  pub went_own : (e : End) (reported : Devices) → IsOwn e → step store r ≡ Ends e → Went Holds e 1 store r store' r' reported reported
+  went_own (Status v) reported own is = finished_ends Holds store r (Status v) reported is
+  went_own DivideByZero reported own is = finished_ends Holds store r DivideByZero reported is
+  went_own StoreLimit reported own is = finished_ends Holds store r StoreLimit reported is
+  went_own BadOperation reported own is = finished_ends Holds store r BadOperation reported is
+  went_own x reported own is = absurd own
 
   -- a reader that did not fail before asked its device
   module _ (reads reads' writes' : ℕ) (asked : List ℕ) (s : Registers) (old new : Devices) (is : step store r ≡ Asks asked s) (still : Still old new)

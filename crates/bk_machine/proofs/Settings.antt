@@ -1,6 +1,6 @@
 -- Settings of globals, and segments that are placed one after another.
 use Rattle.bk_machine.specs.Kept.{padded}
-use Rattle.bk_machine.proofs.Terms.{◌≡◌, ℕ, ◌+◌, ◌-◌, ◌<◌, ◌≤◌, List, [], ◌∷◌, ◌++◌, length, get_or, set, take, drop, refl, sym, ap, ◌∙◌, arith, map, length-append, append_assoc, take_more, drop_more, map_more, append-nil, drop_all, take_all, length-set, set-append_left, fold-append, fold_push, Item, Instruction, SetGlobal, IsSegment, items_of, Setting, Growth, SEGMENTS, grown, library_settings, item_settings, segment_settings, all_settings, all_words, with_setting, segment_size, segment_words, label_number, stack_start, loaded_store, placed, AreSegments, AreBounded, settings_joined, items_bounded, segments_bounded, library_bounded, settings_length, below, below_length, stack_more, grown_behind, fold, replicate}
+use Rattle.bk_machine.proofs.Terms.{◌≡◌, ℕ, ◌+◌, ◌-◌, ◌<◌, ◌≤◌, List, [], ◌∷◌, ◌++◌, length, get_or, set, take, drop, refl, sym, ap, ◌∙◌, arith, map, length-append, append_assoc, take_more, drop_more, map_more, append-nil, drop_all, take_all, length-set, set-append_left, fold-append, fold_push, Item, Instruction, SetGlobal, IsSegment, items_of, Setting, Growth, SEGMENTS, grown, library_settings, item_settings, segment_settings, all_settings, all_words, with_setting, segment_size, segment_words, label_number, stack_start, loaded_store, placed, AreSegments, AreBounded, settings_joined, items_bounded, segments_bounded, library_bounded, settings_length, below, below_length, stack_more, grown_after, fold, replicate}
 use Rattle.bk_machine.specs.declared.segment.Intcode.{Intcode}
 use Rattle.bk_machine.specs.SizeLaws.{segment_length}
 use Rattle.bk_machine.specs.SegmentLaws.{segment_whole}
@@ -180,7 +180,7 @@ pub grown-long : (labels : ℕ → ℕ) (store words : List ℕ) (filled : ℕ) 
 grown-long labels store words filled settings items known =
     let base = fold with_setting store settings in
     let parts : words ≡ base ++ segment_words labels items =
-    ap (λ (g : Growth). g.words) (known ∙ grown_behind labels base items) in
+    ap (λ (g : Growth). g.words) (known ∙ grown_after labels base items) in
     omega (arith, ap length parts, length-append base (segment_words labels items), settings_length settings store)
 
 -- an item that sets no global
@@ -201,7 +201,7 @@ grown-set labels store words filled items i number label value d within small lo
     let base = fold with_setting store (segment_settings labels (take i items)) in
     let next = fold with_setting store (segment_settings labels (take (i + 1) items)) in
     let more = take (i + 1) items in
-    let whole = known ∙ grown_behind labels base more in
+    let whole = known ∙ grown_after labels base more in
     let size = settings_length (segment_settings labels (take i items)) store in
     let words_are : set words (16 + number) value ≡ next ++ segment_words labels more =
     ap (λ (g : Growth). set g.words (16 + number) value) whole
@@ -209,4 +209,4 @@ grown-set labels store words filled items i number label value d within small lo
     ∙ ap (λ l. l ++ segment_words labels more) (settings-set labels store base items i number label value d within is refl gives) in
     ap (λ l. growth_of l filled) words_are
     ∙ ap (λ n. growth_of (next ++ segment_words labels more) n) (ap (λ (g : Growth). g.filled) whole)
-    ∙ sym (grown_behind labels next more)
+    ∙ sym (grown_after labels next more)

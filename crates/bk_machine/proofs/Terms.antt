@@ -18,11 +18,11 @@ pub use Rattle.bk_machine.specs.Inner.Packing.{IsFilled}
 pub use Rattle.bk_machine.specs.Inner.Placed.{placed}
 pub use Rattle.bk_machine.specs.Inner.Reach.{reached_all, address_size, operand_size, item_size, reached}
 pub use Rattle.bk_machine.specs.Inner.Telling.{Telling, PutsBytes}
-pub use Rattle.bk_machine.specs.ItemWords.{grown_behind, words_behind}
+pub use Rattle.bk_machine.specs.ItemWords.{grown_after, words_after}
 pub use Rattle.bk_machine.specs.LoadedWords.{AreSegments, AreBounded, settings_joined, items_bounded, segments_bounded, library_bounded, settings_length, below, below_length, stack_more}
 pub use Rattle.bk_machine.specs.Output.{format_rest, string_rest, Text, output_text, whole_text, cut_text, text_then, byte_of, piece_text, plain, with_argument, aligning, lettered, directive, format_text}
 pub use Rattle.bk_machine.specs.Placement.{Growth, segment_size, SEGMENTS, stack_start, library_settings, with_setting, starts, Setting, library_words, routine_words, operation_word, item_words, grown, growth, label_place, label_number, segment_settings, item_settings, all_settings, all_words, segment_words, loaded_store, any_starts, greatest_frame}
-pub use Rattle.bk_machine.specs.Runs.{Going, Over, next_byte, behind_next, after, run, Devices, Exchanged, Follows, Leads, NotAsked, SinceAsk, LeadsToAsk, FlushesFirst, Paused, Finished, Waiting, CutShort, FailedOnTheWay, Broken, Went, Ran, IsOwn, AskFails, CameBy, Answered, HeldBy, Blames, BlamesBefore}
+pub use Rattle.bk_machine.specs.Runs.{Going, Over, next_byte, after_next, after, run, Devices, Exchanged, Follows, Leads, NotAsked, SinceAsk, LeadsToAsk, FlushesFirst, Paused, Finished, Waiting, CutShort, FailedOnTheWay, Broken, Went, Ran, IsOwn, AskFails, CameBy, Answered, HeldBy, Blames, BlamesBefore}
 pub use Rattle.bk_machine.specs.Segment.{frame_of, IsSegment, item_sets, sets}
 pub use Rattle.bk_machine.specs.SegmentItems.{items_of}
 pub use Rattle.bk_machine.specs.Step.{Goes, Outputs, Asks, Ends, step, matched}

@@ -10,7 +10,7 @@ use Rattle.bk_machine.specs.Output.{Text, whole_text, cut_text, text_then, piece
 module _ (store : List ℕ) where
   -- a part that takes the argument at an address, and the text after it, from the next argument on
   abbrev pub argument_text : (ℕ → Piece) → (ℕ → Text) → ℕ → Text
-  argument_text write behind a = option_map_or (λ w. text_then (piece_text store (write w)) (behind (word_sum a 1))) (slice_get store a) cut_text
+  argument_text write following a = option_map_or (λ w. text_then (piece_text store (write w)) (following (word_sum a 1))) (slice_get store a) cut_text
 
   -- what a format writes, with the arguments from an address on
   abbrev pub parts_text : List FormatPart → ℕ → Text

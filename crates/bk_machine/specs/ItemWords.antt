@@ -8,7 +8,7 @@ use Rattle.bk_base.specs.Strings.{packed}
 use Rattle.bk_base.specs.Word.{packed_word}
 use Rattle.bk_machine.specs.declared.item.Item.{Item}
 use Rattle.bk_machine.specs.declared.item.Item.TheVariants.{Instruction, SetLabel, Byte, Word, LabelWord, SetGlobal, Frame, End}
-use Rattle.bk_machine.specs.Inner.Getting.{get_inside, get_behind}
+use Rattle.bk_machine.specs.Inner.Getting.{get_inside, get_after}
 use Rattle.bk_machine.specs.Placement.{Growth, item_words, grown, growth, segment_words, segment_size}
 use Rattle.bk_machine.specs.SizeLaws.{segment_length}
 
@@ -119,27 +119,27 @@ byte_words labels (a ∷ b ∷ c ∷ d ∷ rest) ws =
 
 -- ---- words that come before
 
-index_behind : (ws us : List ℕ) (k : ℕ) → slice_index (ws ++ us) (length ws + k) ≡ slice_index us k
-index_behind [] us k = ap (λ n. slice_index us n) (let z : 0 + k ≡ k = omega arith in z)
-index_behind (w ∷ ws) us k = ap (λ n. slice_index (w ∷ (ws ++ us)) n) (let z : suc (length ws) + k ≡ suc (length ws + k) = omega arith in z) ∙ index_behind ws us k
+index_after : (ws us : List ℕ) (k : ℕ) → slice_index (ws ++ us) (length ws + k) ≡ slice_index us k
+index_after [] us k = ap (λ n. slice_index us n) (let z : 0 + k ≡ k = omega arith in z)
+index_after (w ∷ ws) us k = ap (λ n. slice_index (w ∷ (ws ++ us)) n) (let z : suc (length ws) + k ≡ suc (length ws + k) = omega arith in z) ∙ index_after ws us k
 
-set_behind : (ws us : List ℕ) (k v : ℕ) → slice_set (ws ++ us) (length ws + k) v ≡ ws ++ slice_set us k v
-set_behind [] us k v = ap (λ n. slice_set us n v) (let z : 0 + k ≡ k = omega arith in z)
-set_behind (w ∷ ws) us k v = ap (λ n. slice_set (w ∷ (ws ++ us)) n v) (let z : suc (length ws) + k ≡ suc (length ws + k) = omega arith in z) ∙ ap (λ l. w ∷ l) (set_behind ws us k v)
+set_following : (ws us : List ℕ) (k v : ℕ) → slice_set (ws ++ us) (length ws + k) v ≡ ws ++ slice_set us k v
+set_following [] us k v = ap (λ n. slice_set us n v) (let z : 0 + k ≡ k = omega arith in z)
+set_following (w ∷ ws) us k v = ap (λ n. slice_set (w ∷ (ws ++ us)) n v) (let z : suc (length ws) + k ≡ suc (length ws + k) = omega arith in z) ∙ ap (λ l. w ∷ l) (set_following ws us k v)
 
 -- words before those that grow
-abbrev behind : List ℕ → Growth → Growth
-behind ws g = record { words = ws ++ g.words; filled = g.filled }
+abbrev following : List ℕ → Growth → Growth
+following ws g = record { words = ws ++ g.words; filled = g.filled }
 
 -- a word that is begun is there
 abbrev HasLast : Growth → Type 0
 HasLast g = (g.filled ≡ 0) ⊎ (0 < length g.words)
 
-last_behind : (ws us : List ℕ) → 0 < length us → length (ws ++ us) - 1 ≡ length ws + (length us - 1)
-last_behind ws us some = omega (arith, some, length-append ws us)
+last_after : (ws us : List ℕ) → 0 < length us → length (ws ++ us) - 1 ≡ length ws + (length us - 1)
+last_after ws us some = omega (arith, some, length-append ws us)
 
-byte_behind : (labels : ℕ → ℕ) (ws : List ℕ) (g : Growth) (b : ℕ) → HasLast g → (grown labels (behind ws g) (Byte b) ≡ behind ws (grown labels g (Byte b))) × HasLast (grown labels g (Byte b))
-byte_behind labels ws g b last = by_test (g.filled == 0) refl
+byte_after : (labels : ℕ → ℕ) (ws : List ℕ) (g : Growth) (b : ℕ) → HasLast g → (grown labels (following ws g) (Byte b) ≡ following ws (grown labels g (Byte b))) × HasLast (grown labels g (Byte b))
+byte_after labels ws g b last = by_test (g.filled == 0) refl
   where
     made : Bool → Growth → Growth
     made t h = if t then record { words = h.words ++ b ∷ []; filled = 1 } else record { words = slice_set h.words (length h.words - 1) (slice_index h.words (length h.words - 1) + 2 ^ (8 * h.filled) * b); filled = (h.filled + 1) % 4 }
@@ -148,42 +148,42 @@ byte_behind labels ws g b last = by_test (g.filled == 0) refl
     some (inl z) e = absurd (let h : true ≡ false = sym (eq-eqb g.filled 0 z) ∙ e in cc)
     some (inr h) e = h
 
-    by_test : (t : Bool) → (g.filled == 0) ≡ t → (made t (behind ws g) ≡ behind ws (made t g)) × HasLast (made t g)
+    by_test : (t : Bool) → (g.filled == 0) ≡ t → (made t (following ws g) ≡ following ws (made t g)) × HasLast (made t g)
     by_test true e = (ap (λ (l : List ℕ). let h : Growth = record { words = l; filled = 1 } in h) (append_assoc ws g.words (b ∷ [])), inr (omega (arith, length-append g.words (b ∷ []))))
     by_test false e =
         let there : 0 < length g.words = some last e in
-        let at : length (ws ++ g.words) - 1 ≡ length ws + (length g.words - 1) = last_behind ws g.words there in
-        let old : slice_index (ws ++ g.words) (length (ws ++ g.words) - 1) ≡ slice_index g.words (length g.words - 1) = ap (λ n. slice_index (ws ++ g.words) n) at ∙ index_behind ws g.words (length g.words - 1) in (
+        let at : length (ws ++ g.words) - 1 ≡ length ws + (length g.words - 1) = last_after ws g.words there in
+        let old : slice_index (ws ++ g.words) (length (ws ++ g.words) - 1) ≡ slice_index g.words (length g.words - 1) = ap (λ n. slice_index (ws ++ g.words) n) at ∙ index_after ws g.words (length g.words - 1) in (
           ap (λ (l : List ℕ). let h : Growth = record { words = l; filled = (g.filled + 1) % 4 } in h)
               (ap (λ v. slice_set (ws ++ g.words) (length (ws ++ g.words) - 1) (v + 2 ^ (8 * g.filled) * b)) old
               ∙ ap (λ n. slice_set (ws ++ g.words) n (slice_index g.words (length g.words - 1) + 2 ^ (8 * g.filled) * b)) at
-              ∙ set_behind ws g.words (length g.words - 1) (slice_index g.words (length g.words - 1) + 2 ^ (8 * g.filled) * b)),
+              ∙ set_following ws g.words (length g.words - 1) (slice_index g.words (length g.words - 1) + 2 ^ (8 * g.filled) * b)),
           inr (omega (arith, there, length-set g.words (length g.words - 1) (slice_index g.words (length g.words - 1) + 2 ^ (8 * g.filled) * b))),
         )
 
-plain_behind : (labels : ℕ → ℕ) (ws : List ℕ) (g : Growth) (i : Item) → IsPlain i → (grown labels (behind ws g) i ≡ behind ws (grown labels g i)) × HasLast (grown labels g i)
-plain_behind labels ws g i plain =
+plain_after : (labels : ℕ → ℕ) (ws : List ℕ) (g : Growth) (i : Item) → IsPlain i → (grown labels (following ws g) i ≡ following ws (grown labels g i)) × HasLast (grown labels g i)
+plain_after labels ws g i plain =
     let own = grown_plain labels g i plain in (
-      grown_plain labels (behind ws g) i plain ∙ ap (λ (l : List ℕ). let h : Growth = record { words = l; filled = 0 } in h) (append_assoc ws g.words (item_words labels i)) ∙ sym (ap (λ (h : Growth). behind ws h) own),
+      grown_plain labels (following ws g) i plain ∙ ap (λ (l : List ℕ). let h : Growth = record { words = l; filled = 0 } in h) (append_assoc ws g.words (item_words labels i)) ∙ sym (ap (λ (h : Growth). following ws h) own),
       inl (ap (λ (h : Growth). h.filled) own),
     )
 
-item_behind : (labels : ℕ → ℕ) (ws : List ℕ) (g : Growth) (i : Item) → HasLast g → (grown labels (behind ws g) i ≡ behind ws (grown labels g i)) × HasLast (grown labels g i)
-item_behind labels ws g (Byte b) last = byte_behind labels ws g b last
-item_behind labels ws g (Instruction f d operand) last = plain_behind labels ws g (Instruction f d operand) tt
-item_behind labels ws g (SetLabel l) last = plain_behind labels ws g (SetLabel l) tt
-item_behind labels ws g (Word w) last = plain_behind labels ws g (Word w) tt
-item_behind labels ws g (LabelWord l) last = plain_behind labels ws g (LabelWord l) tt
-item_behind labels ws g (SetGlobal n l) last = plain_behind labels ws g (SetGlobal n l) tt
-item_behind labels ws g (Frame n) last = plain_behind labels ws g (Frame n) tt
-item_behind labels ws g End last = plain_behind labels ws g End tt
+item_after : (labels : ℕ → ℕ) (ws : List ℕ) (g : Growth) (i : Item) → HasLast g → (grown labels (following ws g) i ≡ following ws (grown labels g i)) × HasLast (grown labels g i)
+item_after labels ws g (Byte b) last = byte_after labels ws g b last
+item_after labels ws g (Instruction f d operand) last = plain_after labels ws g (Instruction f d operand) tt
+item_after labels ws g (SetLabel l) last = plain_after labels ws g (SetLabel l) tt
+item_after labels ws g (Word w) last = plain_after labels ws g (Word w) tt
+item_after labels ws g (LabelWord l) last = plain_after labels ws g (LabelWord l) tt
+item_after labels ws g (SetGlobal n l) last = plain_after labels ws g (SetGlobal n l) tt
+item_after labels ws g (Frame n) last = plain_after labels ws g (Frame n) tt
+item_after labels ws g End last = plain_after labels ws g End tt
 
 -- words that come before change nothing
-items_behind : (labels : ℕ → ℕ) (ws : List ℕ) (items : List Item) (g : Growth) → HasLast g → fold (grown labels) (behind ws g) items ≡ behind ws (fold (grown labels) g items)
-items_behind labels ws [] g last = refl
-items_behind labels ws (i ∷ rest) g last =
-    let h = item_behind labels ws g i last in
-    ap (λ (x : Growth). fold (grown labels) x rest) h.0 ∙ items_behind labels ws rest (grown labels g i) h.1
+items_after : (labels : ℕ → ℕ) (ws : List ℕ) (items : List Item) (g : Growth) → HasLast g → fold (grown labels) (following ws g) items ≡ following ws (fold (grown labels) g items)
+items_after labels ws [] g last = refl
+items_after labels ws (i ∷ rest) g last =
+    let h = item_after labels ws g i last in
+    ap (λ (x : Growth). fold (grown labels) x rest) h.0 ∙ items_after labels ws rest (grown labels g i) h.1
 
 abbrev nothing : Growth
 nothing = record { words = []; filled = 0 }
@@ -192,17 +192,17 @@ abbrev fresh : List ℕ → Growth
 fresh ws = record { words = ws; filled = 0 }
 
 -- items after words put theirs after them
-pub grown_behind : (labels : ℕ → ℕ) (ws : List ℕ) (items : List Item) → fold (grown labels) (fresh ws) items ≡ behind ws (growth labels items)
-grown_behind labels ws items =
-    ap (λ (l : List ℕ). fold (grown labels) (fresh l) items) (sym (append-nil ws)) ∙ items_behind labels ws items nothing (inl refl)
+pub grown_after : (labels : ℕ → ℕ) (ws : List ℕ) (items : List Item) → fold (grown labels) (fresh ws) items ≡ following ws (growth labels items)
+grown_after labels ws items =
+    ap (λ (l : List ℕ). fold (grown labels) (fresh l) items) (sym (append-nil ws)) ∙ items_after labels ws items nothing (inl refl)
 
-pub words_behind : (labels : ℕ → ℕ) (ws : List ℕ) (items : List Item) → (fold (grown labels) (fresh ws) items).words ≡ ws ++ segment_words labels items
-words_behind labels ws items = ap (λ (g : Growth). g.words) (grown_behind labels ws items)
+pub words_after : (labels : ℕ → ℕ) (ws : List ℕ) (items : List Item) → (fold (grown labels) (fresh ws) items).words ≡ ws ++ segment_words labels items
+words_after labels ws items = ap (λ (g : Growth). g.words) (grown_after labels ws items)
 
 -- where no byte is first it does not matter how the last word is filled
 first_plain : (labels : ℕ → ℕ) (g : Growth) (i : Item) (rest : List Item) → IsPlain i → (fold (grown labels) g (i ∷ rest)).words ≡ g.words ++ segment_words labels (i ∷ rest)
 first_plain labels g i rest plain =
-    ap (λ (x : Growth). (fold (grown labels) x rest).words) (grown_plain labels g i plain ∙ sym (grown_plain labels (fresh g.words) i plain)) ∙ words_behind labels g.words (i ∷ rest)
+    ap (λ (x : Growth). (fold (grown labels) x rest).words) (grown_plain labels g i plain ∙ sym (grown_plain labels (fresh g.words) i plain)) ∙ words_after labels g.words (i ∷ rest)
 
 from_any : (labels : ℕ → ℕ) (g : Growth) (items : List Item) → begins_with_byte items ≡ false → (fold (grown labels) g items).words ≡ g.words ++ segment_words labels items
 from_any labels g [] e = sym (append-nil g.words)
@@ -221,7 +221,7 @@ pub items_joined : ItemsAreJoined
 items_joined labels front back (inl full) =
     ap (λ (g : Growth). g.words) (fold-append (grown labels) nothing front back)
     ∙ ap (λ n. (fold (grown labels) (let g : Growth = record { words = segment_words labels front; filled = n } in g) back).words) full
-    ∙ words_behind labels (segment_words labels front) back
+    ∙ words_after labels (segment_words labels front) back
 items_joined labels front back (inr other) =
     ap (λ (g : Growth). g.words) (fold-append (grown labels) nothing front back) ∙ from_any labels (growth labels front) back other
 
@@ -236,7 +236,7 @@ between : (labels : ℕ → ℕ) (front own back : List Item) (words : List ℕ)
 between labels front own back words j before after are lt =
     ap (λ (l : List ℕ). slice_get l (segment_size front + j)) (items_joined labels front (own ++ back) before)
     ∙ ap (λ n. slice_get (segment_words labels front ++ segment_words labels (own ++ back)) (n + j)) (sym (segment_length labels front))
-    ∙ get_behind (segment_words labels front) (segment_words labels (own ++ back)) j
+    ∙ get_after (segment_words labels front) (segment_words labels (own ++ back)) j
     ∙ ap (λ (l : List ℕ). slice_get l j) (items_joined labels own back after ∙ ap (λ (l : List ℕ). l ++ segment_words labels back) are)
     ∙ get_inside words (segment_words labels back) j lt
 

@@ -8,7 +8,7 @@ use Rattle.std.proofs.lemmas.Option.{none-some}
 use Rattle.bk_base.specs.declared.limit.TheConstants.{GLOBAL_NUMBER}
 use Rattle.bk_machine.specs.declared.item.Item.{Item}
 use Rattle.bk_machine.specs.declared.item.Item.TheVariants as item
-use Rattle.bk_machine.specs.Inner.Getting.{get_inside, get_behind, get_set_same, get_set_other, get_replicate}
+use Rattle.bk_machine.specs.Inner.Getting.{get_inside, get_after, get_set_same, get_set_other, get_replicate}
 use Rattle.bk_machine.specs.Placement.{GLOBALS, LIBRARY, SEGMENTS, Setting, start_words, library_words, library_settings, item_settings, segment_settings, all_settings, all_words, segment_words, segment_size, stack_start, label_number, with_setting, unset_store, loaded_store}
 use Rattle.bk_machine.specs.Segment.{IsItem, AreItems, IsSegment}
 use Rattle.bk_machine.specs.SizeLaws.{segment_length}
@@ -28,9 +28,9 @@ AreSegments [] = ⊤
 AreSegments (items ∷ rest) = IsSegment items × AreSegments rest
 
 -- what a global holds after settings, one after another
-abbrev pub value_behind : ℕ → List Setting → ℕ → ℕ
-value_behind global [] value = value
-value_behind global (setting ∷ rest) value = value_behind global rest (if setting.global == global then setting.value else value)
+abbrev pub value_after : ℕ → List Setting → ℕ → ℕ
+value_after global [] value = value
+value_after global (setting ∷ rest) value = value_after global rest (if setting.global == global then setting.value else value)
 
 -- Segments are in the order in which they are given, none below the first place, and none where the stack is.
 abbrev pub SegmentsLieInOrder : Type 0
@@ -46,7 +46,7 @@ pub record IsLoaded (words : ℕ) (all : List (List Item)) (store : List ℕ) : 
   pub long : length store ≡ words
   pub start : (place : ℕ) → place < 16 → slice_get store place ≡ slice_get start_words place
   -- the library's settings come first, and then those of the segments
-  pub globals : (global : ℕ) → global ≤ GLOBAL_NUMBER → slice_get store (GLOBALS + global) ≡ Some (value_behind global (library_settings ++ all_settings SEGMENTS all) 0)
+  pub globals : (global : ℕ) → global ≤ GLOBAL_NUMBER → slice_get store (GLOBALS + global) ≡ Some (value_after global (library_settings ++ all_settings SEGMENTS all) 0)
   pub library : (j : ℕ) → j < length library_words → slice_get store (LIBRARY + j) ≡ slice_get library_words j
   -- word j of segment i, with the numbers of its labels there
   pub segments : (i j : ℕ) (x : SegmentAt) → slice_get (segments_at SEGMENTS all) i ≡ Some x → j < segment_size x.items
@@ -137,7 +137,7 @@ kept_word place (x ∷ rest) store h out =
 
 -- and a global's has the last value that is set
 set_word : (global : ℕ) (settings : List Setting) (store : List ℕ) (v : ℕ) → AreBounded settings → 1016 ≤ length store → slice_get store (16 + global) ≡ Some v
-    → slice_get (fold with_setting store settings) (16 + global) ≡ Some (value_behind global settings v)
+    → slice_get (fold with_setting store settings) (16 + global) ≡ Some (value_after global settings v)
 set_word global [] store v h long e = e
 set_word global (x ∷ rest) store v h long e =
     set_word global rest (slice_set store (16 + x.global) x.value) (if x.global == global then x.value else v) h.1 (omega (arith, long, length-set store (16 + x.global) x.value)) (by_test (x.global == global) refl)
@@ -188,7 +188,7 @@ segment_word base (items ∷ rest) (suc i) k x tail e lt =
     let ws = segment_words (label_number base items) items in (
       length ws + h.0,
       sums base (length ws) (segment_size items) h.0 (x.base + k) (segment_length (label_number base items) items) h.1,
-      ap (λ l. slice_get l (length ws + h.0)) (append_assoc ws (all_words (base + segment_size items) rest) tail) ∙ get_behind ws (all_words (base + segment_size items) rest ++ tail) h.0 ∙ h.2,
+      ap (λ l. slice_get l (length ws + h.0)) (append_assoc ws (all_words (base + segment_size items) rest) tail) ∙ get_after ws (all_words (base + segment_size items) rest ++ tail) h.0 ∙ h.2,
     )
   where
     sums : (b u n j y : ℕ) → u ≡ n → (b + n) + j ≡ y → b + (u + j) ≡ y
@@ -251,15 +251,15 @@ module _ (words : ℕ) (all : List (List Item)) (are : AreSegments all) (room : 
 
   unset_global : (global : ℕ) → global ≤ GLOBAL_NUMBER → slice_get unset (16 + global) ≡ Some 0
   unset_global global le =
-      unset_low (16 + global) (omega (arith, le)) ∙ get_inside low library_words (16 + global) (omega (arith, le, low_length)) ∙ get_behind start_words (replicate 1000 0) global ∙ get_replicate 1000 0 global (omega (arith, le))
+      unset_low (16 + global) (omega (arith, le)) ∙ get_inside low library_words (16 + global) (omega (arith, le, low_length)) ∙ get_after start_words (replicate 1000 0) global ∙ get_replicate 1000 0 global (omega (arith, le))
 
-  loaded_global : (global : ℕ) → global ≤ GLOBAL_NUMBER → slice_get loaded (GLOBALS + global) ≡ Some (value_behind global settings 0)
+  loaded_global : (global : ℕ) → global ≤ GLOBAL_NUMBER → slice_get loaded (GLOBALS + global) ≡ Some (value_after global settings 0)
   loaded_global global le = set_word global settings unset 0 bounded (omega (arith, room, unset_length, stack_more SEGMENTS all)) (unset_global global le)
 
   loaded_library : (j : ℕ) → j < length library_words → slice_get loaded (LIBRARY + j) ≡ slice_get library_words j
   loaded_library j lt =
       kept_word (LIBRARY + j) settings unset bounded (inr (let z : 1016 ≤ 1016 + j = omega arith in z)) ∙ unset_low (LIBRARY + j) (let z : 1016 + j < 1034 = omega (arith, lt) in z)
-      ∙ ap (λ n. slice_get below (n + j)) (sym low_length) ∙ get_behind low library_words j
+      ∙ ap (λ n. slice_get below (n + j)) (sym low_length) ∙ get_after low library_words j
 
   -- the words of a segment
   loaded_segment : (i j : ℕ) (x : SegmentAt) → slice_get (segments_at SEGMENTS all) i ≡ Some x → j < segment_size x.items
@@ -268,7 +268,7 @@ module _ (words : ℕ) (all : List (List Item)) (are : AreSegments all) (room : 
       let l = lie_in_order SEGMENTS all i x at in
       let r = segment_word SEGMENTS all i j x tail at lt in
       kept_word (x.base + j) settings unset bounded (inr (up x.base l.0)) ∙ ap (λ n. slice_get unset n) (sym r.1) ∙ ap (λ l. slice_get l (SEGMENTS + r.0)) unset_split
-      ∙ ap (λ n. slice_get (below ++ (all_words SEGMENTS all ++ tail)) (n + r.0)) (sym below_length) ∙ get_behind below (all_words SEGMENTS all ++ tail) r.0 ∙ r.2
+      ∙ ap (λ n. slice_get (below ++ (all_words SEGMENTS all ++ tail)) (n + r.0)) (sym below_length) ∙ get_after below (all_words SEGMENTS all ++ tail) r.0 ∙ r.2
     where
       up : (b : ℕ) → SEGMENTS ≤ b → 1016 ≤ b + j
       up b h = omega arith
@@ -280,7 +280,7 @@ module _ (words : ℕ) (all : List (List Item)) (are : AreSegments all) (room : 
       let up = stack_more SEGMENTS all in
       let size : length front ≡ stack_start SEGMENTS all = length-append below (all_words SEGMENTS all) ∙ ap (λ n. n + length (all_words SEGMENTS all)) below_length ∙ words_length SEGMENTS all in
       kept_word place settings unset bounded (inr (above (stack_start SEGMENTS all) up le))
-      ∙ ap (λ n. slice_get unset n) (back (length front) (stack_start SEGMENTS all) size le) ∙ get_behind front tail (place - stack_start SEGMENTS all)
+      ∙ ap (λ n. slice_get unset n) (back (length front) (stack_start SEGMENTS all) size le) ∙ get_after front tail (place - stack_start SEGMENTS all)
       ∙ get_replicate (words - stack_start SEGMENTS all) 0 (place - stack_start SEGMENTS all) (omega (arith, le, lt))
     where
       above : (s : ℕ) → SEGMENTS ≤ s → s ≤ place → 1016 ≤ place

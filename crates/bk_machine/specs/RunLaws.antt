@@ -7,7 +7,7 @@ use Rattle.bk_machine.specs.declared.registers.Registers.{Registers}
 use Rattle.bk_machine.specs.Output.{Text, output_text}
 use Rattle.bk_machine.specs.Step.{Turn, Goes, Outputs, Asks, Ends, step}
 use Rattle.bk_machine.specs.declared.output.Output.{Output}
-use Rattle.bk_machine.specs.Runs.{Standing, Going, Over, next_byte, behind_next, after, run, output_of, Devices, Exchanged, Follows, Leads, FlushesFirst, Paused, Finished, Waiting, CutShort, Broken}
+use Rattle.bk_machine.specs.Runs.{Standing, Going, Over, next_byte, after_next, after, run, output_of, Devices, Exchanged, Follows, Leads, FlushesFirst, Paused, Finished, Waiting, CutShort, Broken}
 
 -- where a run is after m steps more
 abbrev pub onwards : ℕ → Standing → Standing
@@ -34,7 +34,7 @@ after_on : (k m : ℕ) → AddsAt k m → (turn : Turn) (input written : List �
 unfolding AddsAt
 after_on k m more (Goes store r) input written = more store r input written
 after_on k m more (Outputs what store r) input written = tells_on k m more (output_text store what) store r input written
-after_on k m more (Asks store r) input written = more store (record r { a = next_byte input }) (behind_next input) written
+after_on k m more (Asks store r) input written = more store (record r { a = next_byte input }) (after_next input) written
 after_on k m more (Ends e) input written = refl
 
 adds : (k m : ℕ) → AddsAt k m
@@ -53,8 +53,8 @@ run-add k m store r input written = adds k m store r input written
 BeginsAt : ℕ → Type 0
 BeginsAt n = (store : List ℕ) (r : Registers) (input written : List ℕ) → (more : List ℕ) × (output_of (run n store r input written) ≡ written ++ more)
 
-behind : (written bytes : List ℕ) (s : Standing) → (more : List ℕ) × (output_of s ≡ (written ++ bytes) ++ more) → (more : List ℕ) × (output_of s ≡ written ++ more)
-behind written bytes s grown = (bytes ++ grown.0, grown.1 ∙ append_assoc written bytes grown.0)
+following : (written bytes : List ℕ) (s : Standing) → (more : List ℕ) × (output_of s ≡ (written ++ bytes) ++ more) → (more : List ℕ) × (output_of s ≡ written ++ more)
+following written bytes s grown = (bytes ++ grown.0, grown.1 ∙ append_assoc written bytes grown.0)
 
 tells_begins : (n : ℕ) → BeginsAt n → (text : Text) (store : List ℕ) (r : Registers) (input written : List ℕ)
     → (more : List ℕ) × (output_of (if text.whole then run n store r input (written ++ text.bytes) else Over StoreLimit input (written ++ text.bytes)) ≡ (written ++ text.bytes) ++ more)
@@ -69,9 +69,9 @@ after_begins : (n : ℕ) → BeginsAt n → (turn : Turn) (input written : List 
 unfolding BeginsAt
 after_begins n begins (Goes store r) input written = begins store r input written
 after_begins n begins (Outputs what store r) input written =
-    behind written (output_text store what).bytes (after (run n) (Outputs what store r) input written)
+    following written (output_text store what).bytes (after (run n) (Outputs what store r) input written)
     (tells_begins n begins (output_text store what) store r input written)
-after_begins n begins (Asks store r) input written = begins store (record r { a = next_byte input }) (behind_next input) written
+after_begins n begins (Asks store r) input written = begins store (record r { a = next_byte input }) (after_next input) written
 after_begins n begins (Ends e) input written = ([], sym (append-nil written))
 
 run_begins : (n : ℕ) → BeginsAt n
@@ -106,17 +106,17 @@ tells_shrinks n shrinks text store r input written = by_whole text.whole
     by_whole true = shrinks store r input (written ++ text.bytes)
     by_whole false = omega arith
 
-behind_shorter : (input : List ℕ) → length (behind_next input) ≤ length input
-behind_shorter [] = omega arith
-behind_shorter (b ∷ rest) = omega arith
+after_shorter : (input : List ℕ) → length (after_next input) ≤ length input
+after_shorter [] = omega arith
+after_shorter (b ∷ rest) = omega arith
 
 after_shrinks : (n : ℕ) → ShrinksAt n → (turn : Turn) (input written : List ℕ) → length (input_of (after (run n) turn input written)) ≤ length input
 unfolding ShrinksAt
 after_shrinks n shrinks (Goes store r) input written = shrinks store r input written
 after_shrinks n shrinks (Outputs what store r) input written = tells_shrinks n shrinks (output_text store what) store r input written
 after_shrinks n shrinks (Asks store r) input written =
-    let here = shrinks store (record r { a = next_byte input }) (behind_next input) written in
-    let shorter = behind_shorter input in
+    let here = shrinks store (record r { a = next_byte input }) (after_next input) written in
+    let shorter = after_shorter input in
     omega arith
 after_shrinks n shrinks (Ends e) input written = omega arith
 
@@ -141,9 +141,9 @@ pub record Beginning (Holds : List ℕ → Type 0) (n : ℕ) (store : List ℕ) 
 
 module _ (Holds : List ℕ → Type 0) (n : ℕ) (store : List ℕ) (r : Registers) (old new : Devices) where
   -- after the first steps of n
-  behind_steps : (steps : ℕ) (store' : List ℕ) (r' : Registers) (read written : List ℕ) → steps ≤ n → Leads steps store r store' r' new read written
+  after_steps : (steps : ℕ) (store' : List ℕ) (r' : Registers) (read written : List ℕ) → steps ≤ n → Leads steps store r store' r' new read written
       → (rest before : List ℕ) → Follows new rest → run n store r (read ++ rest) before ≡ run (n - steps) store' r' rest (before ++ written)
-  behind_steps steps store' r' read written within leads rest before follows =
+  after_steps steps store' r' read written within leads rest before follows =
       let count : n ≡ steps + (n - steps) = omega arith in
       ap (λ k. run k store r (read ++ rest) before) count ∙ run-add steps (n - steps) store r (read ++ rest) before
       ∙ ap (λ s. onwards (n - steps) s) (leads rest before follows)
@@ -157,7 +157,7 @@ module _ (Holds : List ℕ → Type 0) (n : ℕ) (store : List ℕ) (r : Registe
     flushes = p.flushes;
     begins = λ rest before follows.
         let within = p.within in
-        let here = behind_steps p.steps p.store' p.r' p.read p.written (omega arith) p.leads rest before follows in
+        let here = after_steps p.steps p.store' p.r' p.read p.written (omega arith) p.leads rest before follows in
         let more = run-begins (n - p.steps) p.store' p.r' rest (before ++ p.written) in
         (more.0, ap output_of here ∙ more.1);
   }
@@ -179,7 +179,7 @@ module _ (Holds : List ℕ → Type 0) (n : ℕ) (store : List ℕ) (r : Registe
     begins = λ rest before follows.
         let within = p.within in
         let one : n - p.steps ≡ suc (n - p.steps - 1) = omega arith in
-        let here = behind_steps p.steps p.store' p.r' p.read p.written (omega arith) p.leads rest before follows in
+        let here = after_steps p.steps p.store' p.r' p.read p.written (omega arith) p.leads rest before follows in
         let more = text_begins (n - p.steps) (n - p.steps - 1) p.store' p.r' p.what p.store'' p.r'' one p.tells rest (before ++ p.written) in (
           p.left ++ more.0,
           ap output_of here ∙ more.1 ∙ ap (λ t. ((before ++ p.written) ++ t) ++ more.0) p.begins ∙ regrouped before p.written p.begun p.left more.0,

@@ -17,7 +17,7 @@ use Rattle.bk_machine.specs.declared.registers.Registers.{Registers}
 use Rattle.bk_machine.specs.Decoding.{form, form_function, operation_by}
 use Rattle.bk_machine.specs.Operations.{operator_word}
 use Rattle.bk_machine.specs.Output.{byte_of, output_text}
-use Rattle.bk_machine.specs.Runs.{Standing, Going, Over, next_byte, behind_next, after, run}
+use Rattle.bk_machine.specs.Runs.{Standing, Going, Over, next_byte, after_next, after, run}
 use Rattle.bk_machine.specs.Step.{Turn, Goes, Outputs, Asks, Ends, loaded, stored, byte_stored, operand, switched, given, called, operated, executed, step}
 
 -- the store of a turn, if it goes on, has so many words
@@ -108,7 +108,7 @@ after_keeps n k go _ i o (tells what s r e) = by_whole (output_text s what).whol
     by_whole : (w : Bool) → SameLength k (if w then run n s r i (o ++ (output_text s what).bytes) else Over StoreLimit i (o ++ (output_text s what).bytes))
     by_whole true = subst (λ m. SameLength m (run n s r i (o ++ (output_text s what).bytes))) e (go s r i (o ++ (output_text s what).bytes))
     by_whole false = tt
-after_keeps n k go _ i o (asks s r e) = subst (λ m. SameLength m (run n s (record r { a = next_byte i }) (behind_next i) o)) e (go s (record r { a = next_byte i }) (behind_next i) o)
+after_keeps n k go _ i o (asks s r e) = subst (λ m. SameLength m (run n s (record r { a = next_byte i }) (after_next i) o)) e (go s (record r { a = next_byte i }) (after_next i) o)
 after_keeps n k go _ i o (ends x) = tt
 
 run_keeps : (n : ℕ) → RunKeeps n

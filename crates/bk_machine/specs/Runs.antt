@@ -21,9 +21,9 @@ abbrev pub next_byte : List ℕ → ℕ
 next_byte [] = 2 ^ 32 - 1
 next_byte (b ∷ rest) = b
 
-abbrev pub behind_next : List ℕ → List ℕ
-behind_next [] = []
-behind_next (b ∷ rest) = rest
+abbrev pub after_next : List ℕ → List ℕ
+after_next [] = []
+after_next (b ∷ rest) = rest
 
 -- Where a run goes on from a turn. What a routine wrote before it led outside the store remains.
 abbrev pub after : (List ℕ → Registers → List ℕ → List ℕ → Standing) → Turn → List ℕ → List ℕ → Standing
@@ -31,7 +31,7 @@ after go (Goes store r) input written = go store r input written
 after go (Outputs what store r) input written =
     let text = output_text store what in
     if text.whole then go store r input (written ++ text.bytes) else Over StoreLimit input (written ++ text.bytes)
-after go (Asks store r) input written = go store (record r { a = next_byte input }) (behind_next input) written
+after go (Asks store r) input written = go store (record r { a = next_byte input }) (after_next input) written
 after go (Ends e) input written = Over e input written
 
 -- n steps, or fewer where the run ends
@@ -183,7 +183,7 @@ pub record Answered (Holds : List ℕ → Type 0) (word : ℕ) (old new : Device
   pub read : List ℕ
   pub exchanged : Exchanged old new read []
   pub word_is : (rest : List ℕ) → Follows new rest → next_byte (read ++ rest) ≡ word
-  pub behind_is : (rest : List ℕ) → Follows new rest → behind_next (read ++ rest) ≡ rest
+  pub after_is : (rest : List ℕ) → Follows new rest → after_next (read ++ rest) ≡ rest
   pub came : CameBy Holds old new read
 
 -- a call that asks fails by the input, or by the flush of the output before it

@@ -21,7 +21,7 @@ use Rattle.bk_machine.specs.Decoding.{form, form_function, form_is_indirect, for
 use Rattle.bk_machine.specs.Operations.{operator_word}
 use Rattle.bk_machine.specs.Output.{Text, whole_text, cut_text, text_then, byte_of, string_rest, piece_text, lettered, directive, format_rest, output_text}
 use Rattle.bk_base.specs.Format.{capital, is_digit}
-use Rattle.bk_machine.specs.Runs.{Standing, Going, Over, next_byte, behind_next, after, run, output_of}
+use Rattle.bk_machine.specs.Runs.{Standing, Going, Over, next_byte, after_next, after, run, output_of}
 use Rattle.bk_machine.specs.RunLaws.{run-begins, input_of}
 use Rattle.bk_machine.specs.Step.{Turn, Goes, Outputs, Asks, Ends, stored, byte_stored, addressed, pointed, operand, matched, switched, given, called, operated, executed, step}
 
@@ -293,11 +293,11 @@ module _ (t : List ℕ) where
           stops = e h.count ∙ h.stops;
         })) (λ h. inr h) (go s1 r1 i1 o1)
 
-    told : (s1 : List ℕ) (r1 : Registers) (u v : Text) → SameText u v
+    reported : (s1 : List ℕ) (r1 : Registers) (u v : Text) → SameText u v
         → ((m : ℕ) → run (suc m) s r i o ≡ (if u.whole then run m s1 r1 i (o ++ u.bytes) else Over StoreLimit i (o ++ u.bytes)))
         → Stopped (suc n) s r i o (if v.whole then run n (s1 ++ t) r1 i (o ++ v.bytes) else Over StoreLimit i (o ++ v.bytes))
         ⊎ IsLonger (if u.whole then run n s1 r1 i (o ++ u.bytes) else Over StoreLimit i (o ++ u.bytes)) (if v.whole then run n (s1 ++ t) r1 i (o ++ v.bytes) else Over StoreLimit i (o ++ v.bytes))
-    told s1 r1 u v (inl q) e =
+    reported s1 r1 u v (inl q) e =
         subst (λ (x : Text). Stopped (suc n) s r i o (if x.whole then run n (s1 ++ t) r1 i (o ++ x.bytes) else Over StoreLimit i (o ++ x.bytes))
         ⊎ IsLonger (if u.whole then run n s1 r1 i (o ++ u.bytes) else Over StoreLimit i (o ++ u.bytes)) (if x.whole then run n (s1 ++ t) r1 i (o ++ x.bytes) else Over StoreLimit i (o ++ x.bytes)))
         (sym q) (by_whole u.whole e)
@@ -307,7 +307,7 @@ module _ (t : List ℕ) where
             ⊎ IsLonger (if w then run n s1 r1 i (o ++ u.bytes) else Over StoreLimit i (o ++ u.bytes)) (if w then run n (s1 ++ t) r1 i (o ++ u.bytes) else Over StoreLimit i (o ++ u.bytes))
         by_whole true e = later s1 r1 i (o ++ u.bytes) e
         by_whole false e = inr refl
-    told s1 r1 u v (inr q) e =
+    reported s1 r1 u v (inr q) e =
         let long = (if v.whole then run n (s1 ++ t) r1 i (o ++ v.bytes) else Over StoreLimit i (o ++ v.bytes)) in
         let w = writes v.whole in
         let x = reads v.whole in
@@ -340,10 +340,10 @@ module _ (t : List ℕ) where
         subst (λ z. Stopped (suc n) s r i o (after (run n) z i o) ⊎ IsLonger (run n s1 r1 i o) (after (run n) z i o)) (sym q) (later s1 r1 i o (λ m. ap (λ z. after (run m) z i o) e))
     turned (Outputs what s1 r1) v e (inr q) =
         subst (λ z. Stopped (suc n) s r i o (after (run n) z i o) ⊎ IsLonger (after (run n) (Outputs what s1 r1) i o) (after (run n) z i o)) (sym q)
-        (told s1 r1 (output_text s1 what) (output_text (s1 ++ t) what) (text_longer s1 what) (λ m. ap (λ z. after (run m) z i o) e))
+        (reported s1 r1 (output_text s1 what) (output_text (s1 ++ t) what) (text_longer s1 what) (λ m. ap (λ z. after (run m) z i o) e))
     turned (Asks s1 r1) v e (inr q) =
         subst (λ z. Stopped (suc n) s r i o (after (run n) z i o) ⊎ IsLonger (after (run n) (Asks s1 r1) i o) (after (run n) z i o)) (sym q)
-        (later s1 (record r1 { a = next_byte i }) (behind_next i) o (λ m. ap (λ z. after (run m) z i o) e))
+        (later s1 (record r1 { a = next_byte i }) (after_next i) o (λ m. ap (λ z. after (run m) z i o) e))
     turned (Ends x) v e (inr q) =
         subst (λ z. Stopped (suc n) s r i o (after (run n) z i o) ⊎ IsLonger (Over x i o) (after (run n) z i o)) (sym q) (inr refl)
 

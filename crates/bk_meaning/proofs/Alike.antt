@@ -1,5 +1,5 @@
 -- Two meanings of the nodes inside that are the same while at most d turns are left give each form the same outcome then.
-use Rattle.bk_meaning.proofs.Terms.{◌≡◌, ℕ, zero, suc, ◌+◌, ◌≤◌, Bool, true, false, List, [], ◌∷◌, length, Option, Some, None, refl, sym, ap, subst, ◌∙◌, arith, Operator as o, Prefix as q, Expression, Expressions, Command, Commands, Declaration, Declarations, Definition, Definitions, Starts, Value, number, address, procedure, routine, unset, holds, World, Exit, break, loop, endcase, goto, result, return, Outcome, gives, leaves, ends, undefined, going, each_way, with, Done, done, given, either, turn, turn_of, making, closing, calling, calls_back, sum, operate, Environment, cell, bind, behind, past, past_each, past_command, past_definition, constant_in, labelled, within_let, objects_of_definitions, Body, command, expression, Procedure, Program, procedure_of, the_label, the_case, the_default, Mode, forwards, seeking, at_place, stands_in, stands_in_one, Meanings}
+use Rattle.bk_meaning.proofs.Terms.{◌≡◌, ℕ, zero, suc, ◌+◌, ◌≤◌, Bool, true, false, List, [], ◌∷◌, length, Option, Some, None, refl, sym, ap, subst, ◌∙◌, arith, Operator as o, Prefix as q, Expression, Expressions, Command, Commands, Declaration, Declarations, Definition, Definitions, Starts, Value, number, address, procedure, routine, unset, holds, World, Exit, break, loop, endcase, goto, result, return, Outcome, gives, leaves, ends, undefined, going, each_way, with, Done, done, given, either, turn, turn_of, making, closing, calling, calls_back, sum, operate, Environment, cell, bind, following, past, past_each, past_command, past_definition, constant_in, labelled, within_let, objects_of_definitions, Body, command, expression, Procedure, Program, procedure_of, the_label, the_case, the_default, Mode, forwards, seeking, at_place, has_place, one_has_place, Meanings}
 use Rattle.bk_tree.specs.Tree as t
 use Rattle.bk_meaning.specs.Scopes
 use Rattle.bk_meaning.specs.Calls
@@ -75,7 +75,7 @@ module _ (d : ℕ) (m n : Meanings) (s : AllSpend d m) (g : AllSame d m n) where
   pub in_order_same : (cs : Commands) (mode : Mode) (env : Environment) → Same d (Scopes.in_order m cs mode env) (Scopes.in_order n cs mode env)
   in_order_same t.no_commands mode env = it d _
   in_order_same (t.also c cs) forwards env = same _ _ _ (λ w le. with_same w d _ _ _ _ le ((s.act c forwards env).at w le) ((g.act c forwards env).at w le) (λ _. in_order_same cs forwards (past_command c env)))
-  in_order_same (t.also c cs) (seeking x) env = same _ _ _ (λ w le. either_same (stands_in x env c) d _ _ _ _ (same _ _ _ (λ w le. with_same w d _ _ _ _ le ((s.act c (seeking x) env).at w le) ((g.act c (seeking x) env).at w le) (λ _. in_order_same cs forwards (past_command c env)))) (in_order_same cs (seeking x) (past_command c env)) w le)
+  in_order_same (t.also c cs) (seeking x) env = same _ _ _ (λ w le. either_same (has_place x env c) d _ _ _ _ (same _ _ _ (λ w le. with_same w d _ _ _ _ le ((s.act c (seeking x) env).at w le) ((g.act c (seeking x) env).at w le) (λ _. in_order_same cs forwards (past_command c env)))) (in_order_same cs (seeking x) (past_command c env)) w le)
 
   landing_same : (cs : Commands) (env : Environment) (go to : List ℕ → World → Outcome Done) → ((x : List ℕ) → Under d (go x) (to x)) → Out d (Scopes.landing cs env go) (Scopes.landing cs env to)
   landing_same cs env go to h = record { at = by }
@@ -85,7 +85,7 @@ module _ (d : ℕ) (m n : Meanings) (s : AllSpend d m) (g : AllSame d m n) where
       chosen false x v lt = refl
 
       by : (x : Exit) (v : World) → v.turns + 1 ≤ d → Scopes.landing cs env go x v ≡ Scopes.landing cs env to x v
-      by (goto x) v lt = chosen (stands_in_one (the_label x) env cs) x v lt
+      by (goto x) v lt = chosen (one_has_place (the_label x) env cs) x v lt
       by _ v lt = refl
 
   pub scope_same : (cs : Commands) (mode : Mode) (env : Environment) → Same d (Scopes.scope_of m cs mode env) (Scopes.scope_of n cs mode env)
@@ -174,7 +174,7 @@ module _ (d : ℕ) (m n : Meanings) (s : AllSpend d m) (g : AllSame d m n) where
   ended_case_same c mode env = same _ _ _ (λ w le. ap commands.ended_case ((g.act c mode env).at w le))
 
   pub choose_case_same : (v : Value) (c : Command) (env : Environment) → Same d (commands.choose_case m v c env) (commands.choose_case n v c env)
-  choose_case_same (number i) c env = same _ _ _ (λ w le. either_same (stands_in (the_case (Some i)) env c) d _ _ _ _ (ended_case_same c (seeking (the_case (Some i))) env) (same _ _ _ (λ w le. either_same (stands_in the_default env c) d _ _ _ _ (ended_case_same c (seeking the_default) env) (it d done) w le)) w le)
+  choose_case_same (number i) c env = same _ _ _ (λ w le. either_same (has_place (the_case (Some i)) env c) d _ _ _ _ (ended_case_same c (seeking (the_case (Some i))) env) (same _ _ _ (λ w le. either_same (has_place the_default env c) d _ _ _ _ (ended_case_same c (seeking the_default) env) (it d done) w le)) w le)
   choose_case_same v c env = it d _
 
   pub starts_same : (is : Starts) (env : Environment) → Same d (Blocks.starts m is env) (Blocks.starts n is env)
@@ -204,7 +204,7 @@ module _ (d : ℕ) (m n : Meanings) (s : AllSpend d m) (g : AllSame d m n) where
   act_of_same p (t.when i b e c) forwards env = where_truth_same b e env _ _ (g.act c forwards (past e env))
   act_of_same p (t.when i b e c) (seeking x) env = g.act c (seeking x) (past e env)
   act_of_same p (t.test i e a b) forwards env = same _ _ _ (λ w le. with_same w d _ _ _ _ le ((s.truth e env).at w le) ((g.truth e env).at w le) (λ x. same _ _ _ (λ w le. either_same x d _ _ _ _ (g.act a forwards (past e env)) (g.act b forwards (past_command a (past e env))) w le)))
-  act_of_same p (t.test i e a b) (seeking x) env = same _ _ _ (λ w le. either_same (stands_in x env a) d _ _ _ _ (g.act a (seeking x) (past e env)) (g.act b (seeking x) (past_command a (past e env))) w le)
+  act_of_same p (t.test i e a b) (seeking x) env = same _ _ _ (λ w le. either_same (has_place x env a) d _ _ _ _ (g.act a (seeking x) (past e env)) (g.act b (seeking x) (past_command a (past e env))) w le)
   act_of_same p (t.while i b e c) forwards env = where_truth_same b e env _ _ (rounds_of_same (t.while i b e c) forwards env)
   act_of_same p (t.while i b e c) (seeking x) env = rounds_of_same (t.while i b e c) (seeking x) env
   act_of_same p (t.for_loop i x a b h c) mode env = same _ _ _ (λ w le. with_same w d _ _ _ _ le ((s.value a env).at w le) ((g.value a env).at w le) (λ u. same _ _ _ (λ w le. with_same w d _ _ _ _ le ((s.value b (past a env)).at w le) ((g.value b (past a env)).at w le) (λ v. same _ _ _ (λ w le. same_with w d _ _ _ le (given_spent (Loops.step_of env h) w) (λ k. for_loop_same x.letters c u v k (past b (past a env))))))))

@@ -1,5 +1,5 @@
 -- How each part of the meaning spends turns, if the nodes inside do so.
-use Rattle.bk_meaning.proofs.Terms.{ℕ, ◌+◌, ◌≤◌, Bool, true, false, not, List, [], ◌∷◌, length, Option, Some, None, arith, Operator, Operator as o, Prefix, Prefix as q, Simple, Simple as k, Mention, Expression, Expressions, Command, Commands, Declaration, Declarations, Definition, Definitions, Starts, divides_by_zero, Routine, stop, rdch, wrch, newline, writes, writen, writed, getbyte, putbyte, writef, Value, number, address, procedure, routine, unset, holds, read, World, status, Exit, break, loop, endcase, goto, result, return, Outcome, gives, leaves, ends, undefined, going, with, Done, done, either, turn, making, calling, sum, truth_of_value, on_numbers, operate, operate_prefix, Environment, Sense, constant, cell, label, foreign, sense_of, bind, behind, past, past_each, past_command, past_definition, constant_in, labelled, within_let, objects_of_definitions, Body, command, expression, Procedure, Program, procedure_of, library, writes_text, takes_byte, the_label, the_case, the_default, Mode, forwards, seeking, at_place, stands_in, stands_in_one, Target, at, byte_at, Meanings, Start}
+use Rattle.bk_meaning.proofs.Terms.{ℕ, ◌+◌, ◌≤◌, Bool, true, false, not, List, [], ◌∷◌, length, Option, Some, None, arith, Operator, Operator as o, Prefix, Prefix as q, Simple, Simple as k, Mention, Expression, Expressions, Command, Commands, Declaration, Declarations, Definition, Definitions, Starts, divides_by_zero, Routine, stop, rdch, wrch, newline, writes, writen, writed, getbyte, putbyte, writef, Value, number, address, procedure, routine, unset, holds, read, World, status, Exit, break, loop, endcase, goto, result, return, Outcome, gives, leaves, ends, undefined, going, with, Done, done, either, turn, making, calling, sum, truth_of_value, on_numbers, operate, operate_prefix, Environment, Sense, constant, cell, label, foreign, sense_of, bind, following, past, past_each, past_command, past_definition, constant_in, labelled, within_let, objects_of_definitions, Body, command, expression, Procedure, Program, procedure_of, library, writes_text, takes_byte, the_label, the_case, the_default, Mode, forwards, seeking, at_place, has_place, one_has_place, Target, at, byte_at, Meanings, Start}
 use Rattle.bk_tree.specs.Tree as t
 use Rattle.bk_meaning.specs.Parts
 use Rattle.bk_meaning.specs.Scopes
@@ -102,7 +102,7 @@ module _ (d : ℕ) (m : Meanings) (g : AllSpend d m) where
   in_order_spends t.no_commands mode env = done_spends
   in_order_spends (t.also c cs) forwards env = then_spends (g.act c forwards env) (λ _. in_order_spends cs forwards (past_command c env))
   in_order_spends (t.also c cs) (seeking s) env =
-      either_spends (stands_in s env c) (then_spends (g.act c (seeking s) env) (λ _. in_order_spends cs forwards (past_command c env)))
+      either_spends (has_place s env c) (then_spends (g.act c (seeking s) env) (λ _. in_order_spends cs forwards (past_command c env)))
       (in_order_spends cs (seeking s) (past_command c env))
 
   pub landing_out : (cs : Commands) (env : Environment) (go : List ℕ → World → Outcome Done) → ((x : List ℕ) → Under d (go x)) → SpendsOut d (Scopes.landing cs env go)
@@ -113,7 +113,7 @@ module _ (d : ℕ) (m : Meanings) (g : AllSpend d m) where
       chosen false x v n lt le = record { is = lt }
 
       by : (x : Exit) (v : World) (n : ℕ) → v.turns + 1 ≤ n → n ≤ d → Spent n (Scopes.landing cs env go x v)
-      by (goto x) v n lt le = chosen (stands_in_one (the_label x) env cs) x v n lt le
+      by (goto x) v n lt le = chosen (one_has_place (the_label x) env cs) x v n lt le
       by _ v n lt le = record { is = lt }
 
   pub scope_spends : (cs : Commands) (mode : Mode) (env : Environment) → Spends d (Scopes.scope_of m cs mode env)
@@ -273,8 +273,8 @@ module _ (d : ℕ) (m : Meanings) (g : AllSpend d m) where
 
   pub choose_case_spends : (v : Value) (c : Command) (env : Environment) → Spends d (commands.choose_case m v c env)
   choose_case_spends (number i) c env =
-      either_spends (stands_in (the_case (Some i)) env c) (ended_case_spends c (seeking (the_case (Some i))) env)
-      (either_spends (stands_in the_default env c) (ended_case_spends c (seeking the_default) env) done_spends)
+      either_spends (has_place (the_case (Some i)) env c) (ended_case_spends c (seeking (the_case (Some i))) env)
+      (either_spends (has_place the_default env c) (ended_case_spends c (seeking the_default) env) done_spends)
   choose_case_spends v c env = spends _ _ (λ w le. undefined_spent w)
 
   pub make_vec_spends : (k : Option ℕ) → Spends d (Blocks.make_vec k)
@@ -302,7 +302,7 @@ module _ (d : ℕ) (m : Meanings) (g : AllSpend d m) where
   pub declare_spends : (x : Declaration) (env : Environment) → Spends d (Blocks.declare m x env)
   declare_spends (t.constants i s is) env = spends _ _ (λ w le. gives_spent _ w)
   declare_spends (t.definitions i ds) env =
-      then_spends (let_values_spends ds (within_let ds env)) (λ ss. bind_variables_spends ss (behind (objects_of_definitions ds) (within_let ds env)))
+      then_spends (let_values_spends ds (within_let ds env)) (λ ss. bind_variables_spends ss (following (objects_of_definitions ds) (within_let ds env)))
 
   pub declare_all_spends : (ds : Declarations) (env : Environment) → Spends d (Blocks.declare_all m ds env)
   declare_all_spends t.no_declarations env = spends _ _ (λ w le. gives_spent env w)
@@ -330,7 +330,7 @@ module _ (d : ℕ) (m : Meanings) (g : AllSpend d m) where
   act_of_kept p (t.test i e a b) forwards env w le =
       kept _ _ ((then_spends (g.truth e env) (λ x. either_spends x (g.act a forwards (past e env)) (g.act b forwards (past_command a (past e env))))).at w le)
   act_of_kept p (t.test i e a b) (seeking s) env w le =
-      kept _ _ ((either_spends (stands_in s env a) (g.act a (seeking s) (past e env)) (g.act b (seeking s) (past_command a (past e env)))).at w le)
+      kept _ _ ((either_spends (has_place s env a) (g.act a (seeking s) (past e env)) (g.act b (seeking s) (past_command a (past e env)))).at w le)
   act_of_kept p (t.while i b e c) forwards env w le = kept _ _ ((where_truth_spends b e env _ (rounds_of_spends (t.while i b e c) forwards env)).at w le)
   act_of_kept p (t.while i b e c) (seeking s) env w le = kept _ _ ((rounds_of_spends (t.while i b e c) (seeking s) env).at w le)
   act_of_kept p (t.for_loop i x a b h c) mode env w le =

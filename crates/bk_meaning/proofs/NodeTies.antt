@@ -1,5 +1,5 @@
 -- Every part of the meaning with fewer turns and with more, if the nodes inside are so.
-use Rattle.bk_meaning.proofs.Terms.{◌≡◌, ℕ, ◌≤◌, Bool, true, false, not, List, [], ◌∷◌, length, Option, Some, None, refl, Operator, Operator as o, Prefix, Prefix as q, Simple, Simple as k, Mention, Expression, Expressions, Command, Commands, Declaration, Declarations, Definition, Definitions, Starts, divides_by_zero, Routine, stop, rdch, wrch, newline, writes, writen, writed, getbyte, putbyte, writef, Value, number, address, procedure, routine, unset, holds, Memory, read, World, given, status, Exit, break, loop, endcase, goto, result, return, Outcome, gives, Done, done, turn, making, calling, writing, sum, truth_of_value, on_numbers, operate, operate_prefix, Environment, Sense, constant, cell, label, foreign, sense_of, bind, behind, past, past_each, past_command, past_definition, constant_in, labelled, within_let, objects_of_definitions, Body, command, expression, Procedure, Program, procedure_of, library, writes_text, takes_byte, the_label, the_case, the_default, Mode, forwards, seeking, at_place, stands_in, stands_in_one, Target, at, byte_at, Meanings, Start, with_turns}
+use Rattle.bk_meaning.proofs.Terms.{◌≡◌, ℕ, ◌≤◌, Bool, true, false, not, List, [], ◌∷◌, length, Option, Some, None, refl, Operator, Operator as o, Prefix, Prefix as q, Simple, Simple as k, Mention, Expression, Expressions, Command, Commands, Declaration, Declarations, Definition, Definitions, Starts, divides_by_zero, Routine, stop, rdch, wrch, newline, writes, writen, writed, getbyte, putbyte, writef, Value, number, address, procedure, routine, unset, holds, Memory, read, World, given, status, Exit, break, loop, endcase, goto, result, return, Outcome, gives, Done, done, turn, making, calling, writing, sum, truth_of_value, on_numbers, operate, operate_prefix, Environment, Sense, constant, cell, label, foreign, sense_of, bind, following, past, past_each, past_command, past_definition, constant_in, labelled, within_let, objects_of_definitions, Body, command, expression, Procedure, Program, procedure_of, library, writes_text, takes_byte, the_label, the_case, the_default, Mode, forwards, seeking, at_place, has_place, one_has_place, Target, at, byte_at, Meanings, Start, with_turns}
 use Rattle.bk_tree.specs.Tree as t
 use Rattle.bk_meaning.specs.Parts
 use Rattle.bk_meaning.specs.Scopes
@@ -110,11 +110,11 @@ module _ (m l : Meanings) (g : AllTied m l) where
   in_order_ties t.no_commands mode env = done_ties
   in_order_ties (t.also c cs) forwards env = then_ties (g.act c forwards env) (λ _. in_order_ties cs forwards (past_command c env))
   in_order_ties (t.also c cs) (seeking s) env =
-      either_ties (stands_in s env c) (then_ties (g.act c (seeking s) env) (λ _. in_order_ties cs forwards (past_command c env)))
+      either_ties (has_place s env c) (then_ties (g.act c (seeking s) env) (λ _. in_order_ties cs forwards (past_command c env)))
       (in_order_ties cs (seeking s) (past_command c env))
 
   pub landing_ties : (cs : Commands) (env : Environment) (go to : List ℕ → World → Outcome Done) → ((x : List ℕ) → Ties (go x) (to x)) → (x : Exit) → Ties (Scopes.landing cs env go x) (Scopes.landing cs env to x)
-  landing_ties cs env go to h (goto x) = either_ties (stands_in_one (the_label x) env cs) (h x) (ties _ _ (λ w n le. leaves_tied (goto x) w n le))
+  landing_ties cs env go to h (goto x) = either_ties (one_has_place (the_label x) env cs) (h x) (ties _ _ (λ w n le. leaves_tied (goto x) w n le))
   landing_ties cs env go to h x = ties _ _ (λ w n le. leaves_tied x w n le)
 
   pub scope_ties : (cs : Commands) (mode : Mode) (env : Environment) → Ties (Scopes.scope_of m cs mode env) (Scopes.scope_of l cs mode env)
@@ -254,8 +254,8 @@ module _ (m l : Meanings) (g : AllTied m l) where
 
   pub choose_case_ties : (v : Value) (c : Command) (env : Environment) → Ties (commands.choose_case m v c env) (commands.choose_case l v c env)
   choose_case_ties (number i) c env =
-      either_ties (stands_in (the_case (Some i)) env c) (ended_case_ties c (seeking (the_case (Some i))) env)
-      (either_ties (stands_in the_default env c) (ended_case_ties c (seeking the_default) env) done_ties)
+      either_ties (has_place (the_case (Some i)) env c) (ended_case_ties c (seeking (the_case (Some i))) env)
+      (either_ties (has_place the_default env c) (ended_case_ties c (seeking the_default) env) done_ties)
   choose_case_ties v c env = ties _ _ (λ w n le. undefined_tied w)
 
   pub make_vec_ties : (k : Option ℕ) → Ties (Blocks.make_vec k) (Blocks.make_vec k)
@@ -284,7 +284,7 @@ module _ (m l : Meanings) (g : AllTied m l) where
   pub declare_ties : (x : Declaration) (env : Environment) → Ties (Blocks.declare m x env) (Blocks.declare l x env)
   declare_ties (t.constants i s is) env = ties _ _ (λ w n le. gives_tied _ w n le)
   declare_ties (t.definitions i ds) env =
-      then_ties (let_values_ties ds (within_let ds env)) (λ ss. bind_variables_ties ss (behind (objects_of_definitions ds) (within_let ds env)))
+      then_ties (let_values_ties ds (within_let ds env)) (λ ss. bind_variables_ties ss (following (objects_of_definitions ds) (within_let ds env)))
 
   pub declare_all_ties : (ds : Declarations) (env : Environment) → Ties (Blocks.declare_all m ds env) (Blocks.declare_all l ds env)
   declare_all_ties t.no_declarations env = ties _ _ (λ w n le. gives_tied env w n le)
@@ -310,7 +310,7 @@ module _ (m l : Meanings) (g : AllTied m l) where
   act_of_ties p (t.test i e a b) forwards env =
       then_ties (g.truth e env) (λ x. either_ties x (g.act a forwards (past e env)) (g.act b forwards (past_command a (past e env))))
   act_of_ties p (t.test i e a b) (seeking s) env =
-      either_ties (stands_in s env a) (g.act a (seeking s) (past e env)) (g.act b (seeking s) (past_command a (past e env)))
+      either_ties (has_place s env a) (g.act a (seeking s) (past e env)) (g.act b (seeking s) (past_command a (past e env)))
   act_of_ties p (t.while i b e c) forwards env = where_truth_ties b e env _ _ (rounds_of_ties (t.while i b e c) forwards env)
   act_of_ties p (t.while i b e c) (seeking s) env = rounds_of_ties (t.while i b e c) (seeking s) env
   act_of_ties p (t.for_loop i x a b h c) mode env =

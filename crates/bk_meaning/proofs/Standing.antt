@@ -1,5 +1,5 @@
 -- What lasts stands at its number.
-use Rattle.bk_meaning.proofs.Terms.{◌≡◌, ℕ, zero, suc, ◌+◌, List, [], ◌∷◌, ◌++◌, length, Some, refl, sym, ap, ◌∙◌, append_assoc, arith, append-nil, length-append, slice_get, Sort, Sort as s, Expression, Expressions, Command, Commands, Declaration, Declarations, Items, Definition, Definitions, Starts, Sense, cell, label, foreign, Environment, bind, bind_each, behind, count, letters, manifests, statics, globals, sense_of_constant, sense_of_global, past, past_each, past_command, past_definition, constant_in, labelled, within_let, objects_of_declaration, objects_of_declarations, objects_of_definitions, Lasting, global_vector, static_words, of_items, variables_hidden, declared, all_declared, inside, in_scope, in_for, of_expression, of_each, of_command, of_commands, of_declaration, of_declarations, of_definition, of_definitions, of_starts, of_sections, Program, program_of, StandsAt, InStatics, InItems, InExpression, InEach, InCommand, InCommands, InDeclaration, InDeclarations, InDefinition, InDefinitions, InStarts, InSections, WhatLastsStandsAtItsNumber}
+use Rattle.bk_meaning.proofs.Terms.{◌≡◌, ℕ, zero, suc, ◌+◌, List, [], ◌∷◌, ◌++◌, length, Some, refl, sym, ap, ◌∙◌, append_assoc, arith, append-nil, length-append, slice_get, Sort, Sort as s, Expression, Expressions, Command, Commands, Declaration, Declarations, Items, Definition, Definitions, Starts, Sense, cell, label, foreign, Environment, bind, bind_each, following, count, letters, manifests, statics, globals, sense_of_constant, sense_of_global, past, past_each, past_command, past_definition, constant_in, labelled, within_let, objects_of_declaration, objects_of_declarations, objects_of_definitions, Lasting, global_vector, static_words, of_items, variables_hidden, declared, all_declared, inside, in_scope, in_for, of_expression, of_each, of_command, of_commands, of_declaration, of_declarations, of_definition, of_definitions, of_starts, of_sections, Program, program_of, IsNumbered, InStatics, InItems, InExpression, InEach, InCommand, InCommands, InDeclaration, InDeclarations, InDefinition, InDefinitions, InStarts, InSections, WhatLastsIsAtItsNumber}
 use Rattle.bk_tree.specs.Tree as t
 use Rattle.bk_scope.specs.Entering.{labels_of_each}
 use Rattle.bk_meaning.proofs.Numbers.{expression_counted, each_counted, command_counted, declaration_counted, declarations_counted, definition_counted}
@@ -35,7 +35,7 @@ at_length [] after x zero is = refl
 at_length (b ∷ before) after x (suc n) is = at_length before after x n (omega (arith, is))
 at_length _ after x _ is = absurd (omega (arith, is))
 
-pub first : (p : Program) (n : ℕ) (x : Lasting) (xs : List Lasting) → Has p n (x ∷ xs) → StandsAt p n x
+pub first : (p : Program) (n : ℕ) (x : Lasting) (xs : List Lasting) → Has p n (x ∷ xs) → IsNumbered p n x
 first p n x xs h = ap (λ z. slice_get z n) (h.is ∙ append_assoc h.before (x ∷ xs) h.after) ∙ at_length h.before (xs ++ h.after) x n h.number
 
 pub behind_first : (p : Program) (n m : ℕ) (x : Lasting) (xs : List Lasting) → n + 1 ≡ m → Has p n (x ∷ xs) → Has p m xs
@@ -73,7 +73,7 @@ globals-next outer (t.item l x e is) env = globals-next outer is (bind x (sense_
 
 statics-next : (is : Items) (env : Environment) → (statics is env).next ≡ env.next + count is
 statics-next t.no_items env = omega arith
-statics-next (t.item l x e is) env = let rest : (statics is (behind 1 (bind x (cell env.next 0) env))).next ≡ env.next + 1 + count is = statics-next is (behind 1 (bind x (cell env.next 0) env)) in omega (arith, rest)
+statics-next (t.item l x e is) env = let rest : (statics is (following 1 (bind x (cell env.next 0) env))).next ≡ env.next + 1 + count is = statics-next is (following 1 (bind x (cell env.next 0) env)) in omega (arith, rest)
 
 hidden-next : (ds : Definitions) (env : Environment) → (variables_hidden ds env).next ≡ env.next
 hidden-next t.no_definitions env = refl
@@ -187,9 +187,9 @@ mutual
 
   pub in_definition : (p : Program) (env : Environment) (d : Definition) → Has p env.next (of_definition env d) → InDefinition p env d
   in_definition p env (t.routine l x fs c) h =
-      (first p env.next _ _ h, in_command p (in_scope c (inside fs env)) c (behind_first p env.next _ _ _ (sym (in_scope-next c (inside fs env) ∙ bound-next (letters fs) foreign (behind 1 env))) h))
+      (first p env.next _ _ h, in_command p (in_scope c (inside fs env)) c (behind_first p env.next _ _ _ (sym (in_scope-next c (inside fs env) ∙ bound-next (letters fs) foreign (following 1 env))) h))
   in_definition p env (t.function l x fs e) h =
-      (first p env.next _ _ h, in_expression p (inside fs env) e (behind_first p env.next _ _ _ (sym (bound-next (letters fs) foreign (behind 1 env))) h))
+      (first p env.next _ _ h, in_expression p (inside fs env) e (behind_first p env.next _ _ _ (sym (bound-next (letters fs) foreign (following 1 env))) h))
   in_definition p env (t.variables l xs is) h = in_starts p env is h
 
   pub in_definitions : (p : Program) (env : Environment) (ds : Definitions) → Has p env.next (of_definitions env ds) → InDefinitions p env ds
@@ -209,6 +209,6 @@ in_sections p n (ds ∷ rest) h =
     let env : Environment = record { names = []; next = n } in
     (in_declarations p env ds (left p n (of_declarations env ds) _ h), in_sections p (n + objects_of_declarations ds) rest (second p n _ (of_declarations env ds) _ (declarations_counted env ds) h))
 
-pub stands_at_its_number : WhatLastsStandsAtItsNumber
+pub stands_at_its_number : WhatLastsIsAtItsNumber
 stands_at_its_number sections =
     in_sections (program_of sections) 1 sections (record { before = global_vector ∷ []; after = []; is = ap (λ z. global_vector ∷ z) (sym (append-nil (of_sections 1 sections))); number = refl })

@@ -4,7 +4,7 @@ use Rattle.bk_tree.specs.Tree as t
 use Rattle.bk_tree.specs.Tree.{Mention, Expression, Expressions, Command, Commands, Declaration, Declarations, Definition, Definitions, Starts}
 use Rattle.bk_meaning.specs.Values.{Value, address, unset, Cell, holds}
 use Rattle.bk_meaning.specs.World.{World, Outcome, gives, undefined, with, turn, making}
-use Rattle.bk_meaning.specs.Environment.{Environment, cell, bind, behind, past, past_definition, constant_in, within_let, constants_declared, letters, objects_of_definitions}
+use Rattle.bk_meaning.specs.Environment.{Environment, cell, bind, following, past, past_definition, constant_in, within_let, constants_declared, letters, objects_of_definitions}
 use Rattle.bk_meaning.specs.Parts.{Meanings}
 
 -- Declarations give the environment after them. Of a LET all values come first, in an environment with its
@@ -44,7 +44,7 @@ bind_variables (s ∷ ss) env w = bind_variables ss (bind s.name (cell (length w
 abbrev pub declare : Meanings → Declaration → Environment → World → Outcome Environment
 declare m (t.constants l s is) env w = gives (constants_declared s is env) w
 declare m (t.definitions l ds) env w =
-    with (let_values m ds (within_let ds env) w) (λ ss w. bind_variables ss (behind (objects_of_definitions ds) (within_let ds env)) w)
+    with (let_values m ds (within_let ds env) w) (λ ss w. bind_variables ss (following (objects_of_definitions ds) (within_let ds env)) w)
 
 abbrev pub declare_all : Meanings → Declarations → Environment → World → Outcome Environment
 declare_all m t.no_declarations env w = gives env w

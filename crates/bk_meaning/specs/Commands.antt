@@ -8,7 +8,7 @@ use Rattle.bk_meaning.specs.Values.{Value, number}
 use Rattle.bk_meaning.specs.World.{World, status, Exit, break, loop, endcase, goto, result, return, Outcome, leaves, ends, undefined, each_way, with, Done, done, given, either, closing}
 use Rattle.bk_meaning.specs.Environment.{Environment, past, past_each, past_command, constant_in}
 use Rattle.bk_meaning.specs.Lasting.{Program}
-use Rattle.bk_meaning.specs.Seeking.{the_label, the_case, the_default, Mode, forwards, seeking, at_place, stands_in}
+use Rattle.bk_meaning.specs.Seeking.{the_label, the_case, the_default, Mode, forwards, seeking, at_place, has_place}
 use Rattle.bk_meaning.specs.Parts.{store, Meanings}
 use Rattle.bk_meaning.specs.Scopes.{in_order, scope_of}
 use Rattle.bk_meaning.specs.Calls.{applied}
@@ -32,8 +32,8 @@ ended_case u = each_way (λ _ w. done w) case_exit u
 
 abbrev pub choose_case : Meanings → Value → Command → Environment → World → Outcome Done
 choose_case m (number n) c env w =
-    either (stands_in (the_case (Some n)) env c) (λ w. ended_case (m.act c (seeking (the_case (Some n))) env w))
-    (λ w. either (stands_in the_default env c) (λ w. ended_case (m.act c (seeking the_default) env w)) done w) w
+    either (has_place (the_case (Some n)) env c) (λ w. ended_case (m.act c (seeking (the_case (Some n))) env w))
+    (λ w. either (has_place the_default env c) (λ w. ended_case (m.act c (seeking the_default) env w)) done w) w
 choose_case m v c env w = undefined
 
 abbrev pub simple_exit : Simple → World → Outcome Done
@@ -57,7 +57,7 @@ act_of p m (t.when l b e c) (seeking s) env w = m.act c (seeking s) (past e env)
 act_of p m (t.test l e a b) forwards env w =
     with (m.truth e env w) (λ x w. either x (λ w. m.act a forwards (past e env) w) (λ w. m.act b forwards (past_command a (past e env)) w) w)
 act_of p m (t.test l e a b) (seeking s) env w =
-    either (stands_in s env a) (λ w. m.act a (seeking s) (past e env) w) (λ w. m.act b (seeking s) (past_command a (past e env)) w) w
+    either (has_place s env a) (λ w. m.act a (seeking s) (past e env) w) (λ w. m.act b (seeking s) (past_command a (past e env)) w) w
 act_of p m (t.while l b e c) forwards env w = where_truth m b e env (λ w. rounds_of m (t.while l b e c) forwards env w) w
 act_of p m (t.while l b e c) (seeking s) env w = rounds_of m (t.while l b e c) (seeking s) env w
 act_of p m (t.for_loop l x a b h c) mode env w =

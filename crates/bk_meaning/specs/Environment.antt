@@ -44,8 +44,8 @@ bind_each [] m env = env
 bind_each (x ∷ xs) m env = bind_each xs m (bind x m env)
 
 -- so many lasting objects further on
-abbrev pub behind : ℕ → Environment → Environment
-behind n env = record env { next = env.next + n }
+abbrev pub following : ℕ → Environment → Environment
+following n env = record env { next = env.next + n }
 
 -- The global vector is object 0; each other object has a number of its own.
 abbrev pub globals_object : ℕ
@@ -118,16 +118,16 @@ abbrev mutual
 
 -- the environment after a part that comes before, in the order of the source
 abbrev pub past : Expression → Environment → Environment
-past e env = behind (objects e) env
+past e env = following (objects e) env
 
 abbrev pub past_each : Expressions → Environment → Environment
-past_each es env = behind (objects_of_each es) env
+past_each es env = following (objects_of_each es) env
 
 abbrev pub past_command : Command → Environment → Environment
-past_command c env = behind (objects_of_command c) env
+past_command c env = following (objects_of_command c) env
 
 abbrev pub past_definition : Definition → Environment → Environment
-past_definition d env = behind (objects_of_definition d) env
+past_definition d env = following (objects_of_definition d) env
 
 -- the words of constants: numbers, TRUE, FALSE, names of MANIFEST and operators on them
 abbrev pub word_named : Option Sense → Option ℕ
@@ -185,7 +185,7 @@ manifests (t.item l x e is) env = manifests is (bind x (sense_of_constant (const
 
 abbrev pub statics : Items → Environment → Environment
 statics t.no_items env = env
-statics (t.item l x e is) env = statics is (behind 1 (bind x (cell env.next 0) env))
+statics (t.item l x e is) env = statics is (following 1 (bind x (cell env.next 0) env))
 
 abbrev pub globals : Environment → Items → Environment → Environment
 globals outer t.no_items env = env

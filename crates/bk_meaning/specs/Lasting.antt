@@ -8,7 +8,7 @@ use Rattle.bk_tree.specs.Tree as t
 use Rattle.bk_tree.specs.Tree.{Mention, Expression, Expressions, Command, Commands, Declaration, Declarations, Items, Definition, Definitions, Starts}
 use Rattle.bk_meaning.specs.Values.{stop, rdch, wrch, newline, writes, writen, writed, getbyte, putbyte, writef, number, procedure, routine, unset, Cell, holds}
 use Rattle.bk_meaning.specs.Memory.{Memory, Object, living}
-use Rattle.bk_meaning.specs.Environment.{Environment, foreign, sense_of, bind, bind_each, behind, past, past_each, past_command, past_definition, constant_in, labelled, global_named, within_let, constants_declared, letters, objects_of_definitions, objects_of_declarations}
+use Rattle.bk_meaning.specs.Environment.{Environment, foreign, sense_of, bind, bind_each, following, past, past_each, past_command, past_definition, constant_in, labelled, global_named, within_let, constants_declared, letters, objects_of_definitions, objects_of_declarations}
 
 -- with BE a command, with `=` an expression
 pub data Body : Type 0 where
@@ -60,10 +60,10 @@ all_declared (t.declare d ds) env = all_declared ds (declared d env)
 
 -- A procedure that is defined in this environment, and what its body sees before the run.
 abbrev pub procedure_here : List ℕ → List Mention → Body → Environment → Lasting
-procedure_here x fs body env = code (record { formals = letters fs; body = body; env = behind 1 env; global = global_named (sense_of x env) })
+procedure_here x fs body env = code (record { formals = letters fs; body = body; env = following 1 env; global = global_named (sense_of x env) })
 
 abbrev pub inside : List Mention → Environment → Environment
-inside fs env = bind_each (letters fs) foreign (behind 1 env)
+inside fs env = bind_each (letters fs) foreign (following 1 env)
 
 -- the environment in a command that is a scope of its own, and in the body of a FOR with this variable
 abbrev pub in_scope : Command → Environment → Environment

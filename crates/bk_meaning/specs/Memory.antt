@@ -1,5 +1,5 @@
 -- Memory: objects, which live and die, each a list of cells. An object's number is its place in the list, and is never
--- given again. None stands for an act that is undefined.
+-- given again. None means an act that is undefined.
 use Rattle.std.specs.Prelude.{ℕ, zero, suc, ◌%◌, Bool, cond, is_some, Option, Some, None, option_and_then, List, [], ◌∷◌, ◌++◌, slice_get, slice_set}
 use Rattle.bk_base.specs.Word.{word_sum, byte_distance, byte_place}
 use Rattle.bk_meaning.specs.Values.{Value, number, address, Cell, holds, value_in, byte_in, with_byte}

@@ -11,12 +11,12 @@ use Rattle.bk_meaning.specs.Lasting.{command, expression, Lasting, words, text_w
 abbrev pub AsManyAsCounted : Type 0
 AsManyAsCounted = (env : Environment) (ds : Declarations) → length (of_declarations env ds) ≡ objects_of_declarations ds
 
-abbrev pub StandsAt : Program → ℕ → Lasting → Type 0
-StandsAt p n x = slice_get p n ≡ Some x
+abbrev pub IsNumbered : Program → ℕ → Lasting → Type 0
+IsNumbered p n x = slice_get p n ≡ Some x
 
 abbrev pub InStatics : Program → ℕ → Environment → Items → Type 0
 InStatics p n env t.no_items = Unit {0}
-InStatics p n env (t.item l x e is) = StandsAt p n (words (unwrap_or (constant_in env e) 0 ∷ [])) × InStatics p (suc n) env is
+InStatics p n env (t.item l x e is) = IsNumbered p n (words (unwrap_or (constant_in env e) 0 ∷ [])) × InStatics p (suc n) env is
 
 abbrev pub InItems : Program → Environment → Sort → Items → Type 0
 InItems p env s.Static is = InStatics p env.next env is
@@ -25,14 +25,14 @@ InItems p env _ is = Unit {0}
 -- all that lasts of a tree is at its number
 abbrev mutual
   pub InExpression : Program → Environment → Expression → Type 0
-  InExpression p env (t.text l x) = StandsAt p env.next (words (text_words x))
+  InExpression p env (t.text l x) = IsNumbered p env.next (words (text_words x))
   InExpression p env (t.parens l e) = InExpression p env e
   InExpression p env (t.unary l q e) = InExpression p env e
   InExpression p env (t.binary l q m a b) = InExpression p env a × InExpression p (past a env) b
   InExpression p env (t.choice l m c a b) = InExpression p env c × InExpression p (past c env) a × InExpression p (past a (past c env)) b
   InExpression p env (t.apply l m f es) = InExpression p env f × InEach p (past f env) es
   InExpression p env (t.valof l c) = InCommand p (in_scope c env) c
-  InExpression p env (t.table l es) = StandsAt p env.next (words (constant_words env es))
+  InExpression p env (t.table l es) = IsNumbered p env.next (words (constant_words env es))
   InExpression p env _ = Unit {0}
 
   pub InEach : Program → Environment → Expressions → Type 0
@@ -71,8 +71,8 @@ abbrev mutual
   InDeclarations p env (t.declare d ds) = InDeclaration p env d × InDeclarations p (declared d env) ds
 
   pub InDefinition : Program → Environment → Definition → Type 0
-  InDefinition p env (t.routine l x fs c) = StandsAt p env.next (procedure_here x fs (command c) env) × InCommand p (in_scope c (inside fs env)) c
-  InDefinition p env (t.function l x fs e) = StandsAt p env.next (procedure_here x fs (expression e) env) × InExpression p (inside fs env) e
+  InDefinition p env (t.routine l x fs c) = IsNumbered p env.next (procedure_here x fs (command c) env) × InCommand p (in_scope c (inside fs env)) c
+  InDefinition p env (t.function l x fs e) = IsNumbered p env.next (procedure_here x fs (expression e) env) × InExpression p (inside fs env) e
   InDefinition p env (t.variables l xs is) = InStarts p env is
 
   pub InDefinitions : Program → Environment → Definitions → Type 0
@@ -88,5 +88,5 @@ abbrev pub InSections : Program → ℕ → List Declarations → Type 0
 InSections p n [] = Unit {0}
 InSections p n (ds ∷ rest) = InDeclarations p (record { names = []; next = n }) ds × InSections p (n + objects_of_declarations ds) rest
 
-abbrev pub WhatLastsStandsAtItsNumber : Type 0
-WhatLastsStandsAtItsNumber = (sections : List Declarations) → InSections (program_of sections) 1 sections
+abbrev pub WhatLastsIsAtItsNumber : Type 0
+WhatLastsIsAtItsNumber = (sections : List Declarations) → InSections (program_of sections) 1 sections

@@ -1,6 +1,6 @@
 -- Operators on values. On numbers they are those of words. An address and a number are added, and a number is taken from an
 -- address, by the offset, which wraps; two addresses of one object are subtracted and compared. Everything else on an address,
--- a procedure or an unset value is undefined, and so is everything on the address of a dead object. None stands for that.
+-- a procedure or an unset value is undefined, and so is everything on the address of a dead object. None means that.
 use Rattle.std.specs.Prelude.{ℕ, ◌==◌, nat_le, Bool, true, false, not, cond, Option, Some, None, List, length}
 use Rattle.std.specs.Option.{option_map}
 use Rattle.bk_base.specs.Word.{truth, word_sum, word_difference}

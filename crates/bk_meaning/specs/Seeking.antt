@@ -39,19 +39,19 @@ is_label _ = false
 -- Whether the place is in a command, where seeking comes to it: a block with declarations, the body of a FOR and of a VALOF
 -- keep their own.
 abbrev mutual
-  pub stands_in : Sought → Environment → Command → Bool
-  stands_in s env (t.label l x c) = same_place s (the_label x) || stands_in s env c
-  stands_in s env (t.case_of l e c) = same_place s (the_case (constant_in env e)) || stands_in s env c
-  stands_in s env (t.default l c) = same_place s the_default || stands_in s env c
-  stands_in s env (t.when l b e c) = stands_in s env c
-  stands_in s env (t.test l e a b) = stands_in s env a || stands_in s env b
-  stands_in s env (t.while l b e c) = stands_in s env c
-  stands_in s env (t.switch l e c) = cond (is_label s) (stands_in s env c) false
-  stands_in s env (t.block l t.no_declarations cs) = stands_in_one s env cs
-  stands_in s env (t.repeat l c) = stands_in s env c
-  stands_in s env (t.repeat_while l b c e) = stands_in s env c
-  stands_in s env _ = false
+  pub has_place : Sought → Environment → Command → Bool
+  has_place s env (t.label l x c) = same_place s (the_label x) || has_place s env c
+  has_place s env (t.case_of l e c) = same_place s (the_case (constant_in env e)) || has_place s env c
+  has_place s env (t.default l c) = same_place s the_default || has_place s env c
+  has_place s env (t.when l b e c) = has_place s env c
+  has_place s env (t.test l e a b) = has_place s env a || has_place s env b
+  has_place s env (t.while l b e c) = has_place s env c
+  has_place s env (t.switch l e c) = cond (is_label s) (has_place s env c) false
+  has_place s env (t.block l t.no_declarations cs) = one_has_place s env cs
+  has_place s env (t.repeat l c) = has_place s env c
+  has_place s env (t.repeat_while l b c e) = has_place s env c
+  has_place s env _ = false
 
-  pub stands_in_one : Sought → Environment → Commands → Bool
-  stands_in_one s env t.no_commands = false
-  stands_in_one s env (t.also c cs) = stands_in s env c || stands_in_one s env cs
+  pub one_has_place : Sought → Environment → Commands → Bool
+  one_has_place s env t.no_commands = false
+  one_has_place s env (t.also c cs) = has_place s env c || one_has_place s env cs

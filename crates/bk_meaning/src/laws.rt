@@ -1,6 +1,6 @@
 //! Laws of the meaning of programs.
 ghost use Rattle.bk_meaning.specs.Growing.{CallsComeBack, MemoryNeverShrinks, OutputOnlyGrows, WhatLastsLives};
-ghost use Rattle.bk_meaning.specs.Numbering.{AsManyAsCounted, WhatLastsStandsAtItsNumber};
+ghost use Rattle.bk_meaning.specs.Numbering.{AsManyAsCounted, WhatLastsIsAtItsNumber};
 ghost use Rattle.bk_meaning.specs.Turns.{CutOnlyWithoutTurns, MoreTurns, ReadsFromTheFront};
 
 /// More turns change nothing of what a program means, but that a run which was cut off goes on.
@@ -47,6 +47,6 @@ pub fn lasting_objects_are_counted()
 
 /// Where a run makes the address of a string, a table or a static word, or comes to a procedure, the list of what lasts has
 /// it at that number.
-pub fn what_lasts_stands_at_its_number()
-    ensures { WhatLastsStandsAtItsNumber }
+pub fn what_lasts_is_at_its_number()
+    ensures { WhatLastsIsAtItsNumber }
 {}

@@ -91,8 +91,8 @@ part-set_at cells start len i c = ap (take len) (drop-set-add start cells i c) �
 part-set_before : (cells : List Cell) (start len i : ℕ) (c : Cell) → i < start → take len (drop start (set cells i c)) ≡ take len (drop start cells)
 part-set_before cells start len i c lt = ap (take len) (drop-set-lt start cells i c lt)
 
-part-set_behind : (cells : List Cell) (start len i : ℕ) (c : Cell) → start + len ≤ i → take len (drop start (set cells i c)) ≡ take len (drop start cells)
-part-set_behind cells start len i c le =
+part-set_following : (cells : List Cell) (start len i : ℕ) (c : Cell) → start + len ≤ i → take len (drop start (set cells i c)) ≡ take len (drop start cells)
+part-set_following cells start len i c le =
     let whole : i ≡ start + (i - start) = omega arith in
     let past : length (take len (drop start cells)) ≤ i - start = rw length-take (omega arith) in
     ap (λ k. take len (drop start (set cells k c))) whole ∙ part-set_at cells start len (i - start) c ∙ set_past (take len (drop start cells)) (i - start) c past
@@ -157,7 +157,7 @@ found-set_other cells n s (l ∷ ls) m e zero d i c o h lt within ne =
 found-set_other cells n s (l ∷ ls) m e (suc p) d i c o h lt within ne =
     let at : p < length ls = omega (arith, lt) in
     let from : l.start + l.len ≤ (get_or ls p d).start = starts_from (l.number + 1) (l.start + l.len) ls m e p d h.2 at in
-    ap₂ (λ x y. cond (l.number == o) x y) (ap (λ xs. living (map cell_in xs)) (part-set_behind cells l.start l.len ((get_or ls p d).start + i) c (omega arith)))
+    ap₂ (λ x y. cond (l.number == o) x y) (ap (λ xs. living (map cell_in xs)) (part-set_following cells l.start l.len ((get_or ls p d).start + i) c (omega arith)))
     (found-set_other cells (l.number + 1) (l.start + l.len) ls m e p d i c o h.2 at within ne)
 
 -- What a binary search among the objects finds.

@@ -5,7 +5,7 @@ pub use Rattle.std.proofs.lemmas.List.{length-replicate, map-set, length-map, le
 pub use Rattle.std.proofs.lemmas.Option.{slice_get-map, gets, slice_get_past, slice_get-get_or}
 pub use Rattle.std.specs.List.{HoldsAt, All, AllWithin}
 pub use Rattle.std.specs.Option.{option_map}
-pub use Rattle.bk_base.specs.Format.{parts, FormatPart, further, part_at, parts_behind}
+pub use Rattle.bk_base.specs.Format.{parts, FormatPart, further, part_at, parts_after}
 pub use Rattle.bk_meaning.specs.Library.{bytes_from, written}
 pub use Rattle.bk_meaning.specs.Memory.{cells_of, Object, living, dead, Memory, cells_at, made, dead_from, with_cell, read_byte}
 pub use Rattle.bk_meaning.specs.Values.{address, Value, number}

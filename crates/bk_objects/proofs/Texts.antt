@@ -1,5 +1,5 @@
 -- Texts that grow.
-use Rattle.bk_objects.proofs.Terms.{◌≡◌, ℕ, zero, suc, ◌+◌, ◌-◌, Option, Some, None, List, [], ◌∷◌, ◌++◌, length, take, drop, min, refl, ap, sym, append_assoc, option_map, take_rest, drop_min, FormatPart, further, part_at, parts_behind, parts, Value, number, Memory, read_byte, bytes_from}
+use Rattle.bk_objects.proofs.Terms.{◌≡◌, ℕ, zero, suc, ◌+◌, ◌-◌, Option, Some, None, List, [], ◌∷◌, ◌++◌, length, take, drop, min, refl, ap, sym, append_assoc, option_map, take_rest, drop_min, FormatPart, further, part_at, parts_after, parts, Value, number, Memory, read_byte, bytes_from}
 
 -- a text that grew, and what is still to come
 pub behind_byte : (text : List ℕ) (b : ℕ) (rest : Option (List ℕ)) → option_map (λ bs. text ++ bs) (option_map (λ bs. b ∷ bs) rest) ≡ option_map (λ bs. (text ++ b ∷ []) ++ bs) rest
@@ -14,12 +14,12 @@ pub bytes_cut : (n k : ℕ) (m : Memory) (a : Value) (i : ℕ) (text : List ℕ)
 bytes_cut n k m a i text e is = rw (e, ← is) refl
 
 -- the parts of a format
-pub parts_skipped : (n : ℕ) (bytes : List ℕ) → parts_behind n bytes ≡ parts (drop n bytes)
+pub parts_skipped : (n : ℕ) (bytes : List ℕ) → parts_after n bytes ≡ parts (drop n bytes)
 parts_skipped zero bytes = refl
 parts_skipped (suc n) [] = refl
 parts_skipped (suc n) (b ∷ rest) = parts_skipped n rest
 
 -- the part that a byte begins, and the bytes after it
-pub parts_more : (b : ℕ) (behind rest : List ℕ) (q : FormatPart) (n k : ℕ) → rest ≡ b ∷ behind → q ≡ part_at b behind → n ≡ further q → k ≡ min n (length behind) → parts rest ≡ q ∷ parts (take (length behind - k) (drop k behind))
-parts_more b behind rest q n k is part more least =
-    rw (is, take_rest behind k, least, drop_min n behind, more, part) (ap (λ ps. part_at b behind ∷ ps) (parts_skipped (further (part_at b behind)) behind))
+pub parts_more : (b : ℕ) (following rest : List ℕ) (q : FormatPart) (n k : ℕ) → rest ≡ b ∷ following → q ≡ part_at b following → n ≡ further q → k ≡ min n (length following) → parts rest ≡ q ∷ parts (take (length following - k) (drop k following))
+parts_more b following rest q n k is part more least =
+    rw (is, take_rest following k, least, drop_min n following, more, part) (ap (λ ps. part_at b following ∷ ps) (parts_skipped (further (part_at b following)) following))

@@ -6,7 +6,7 @@ ghost use Rattle.bk_objects.specs.Texts.{part_in};
 /// A part of a format.
 #[derive(Clone, Copy, Debug, PartialEq, Eq)]
 pub enum Part {
-    /// A byte that stands for itself.
+    /// A byte that means itself.
     Byte(u8),
     /// `%%`
     Percent,
@@ -39,20 +39,20 @@ fn is_digit(byte: u8) -> bool
 }
 
 /// The part that `%I` and the bytes after it begin.
-fn column(behind: &[u8]) -> Part
-    ensures { part_in result ≡ f.column_or_percent behind.now }
+fn column(following: &[u8]) -> Part
+    ensures { part_in result ≡ f.column_or_percent following.now }
 {
-    match behind {
+    match following {
         [digit, ..] if is_digit(*digit) => Part::Column(*digit - 48),
         _ => Part::Byte(b'%'),
     }
 }
 
 /// The part that `%` and the bytes after it begin.
-fn directive(behind: &[u8]) -> Part
-    ensures { part_in result ≡ f.directive behind.now }
+fn directive(following: &[u8]) -> Part
+    ensures { part_in result ≡ f.directive following.now }
 {
-    let [letter, rest @ ..] = behind else {
+    let [letter, rest @ ..] = following else {
         return Part::Byte(b'%');
     };
     match capital(*letter) {
@@ -66,11 +66,11 @@ fn directive(behind: &[u8]) -> Part
 }
 
 /// The part that a byte and the bytes after it begin.
-pub fn part_at(byte: u8, behind: &[u8]) -> Part
-    ensures { part_in result ≡ f.part_at byte behind.now }
+pub fn part_at(byte: u8, following: &[u8]) -> Part
+    ensures { part_in result ≡ f.part_at byte following.now }
 {
     if byte == b'%' {
-        directive(behind)
+        directive(following)
     } else {
         Part::Byte(byte)
     }

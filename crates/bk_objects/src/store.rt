@@ -91,8 +91,8 @@ fn cells_of<'a>(lives: &[Life], cells: &'a [Cell], object: u64) -> Option<&'a [C
     ensures { option_map (λ part. map cell_in part.now) result ≡ m.cells_of (Some (found cells.now lives.now object)) }
 {
     let life = lives[place(lives, object)?];
-    let (_, behind) = cells.split_at(whole(life.start));
-    let (own, _) = behind.split_at(whole(life.len));
+    let (_, following) = cells.split_at(whole(life.start));
+    let (own, _) = following.split_at(whole(life.len));
     Some(own)
 }
 

@@ -154,8 +154,8 @@ pub fn add_format(
 {
     let mut rest = format;
     let mut left = arguments;
-    while let Some((byte, behind)) = rest.split_first() {
-        let part = part_at(*byte, behind);
+    while let Some((byte, following)) = rest.split_first() {
+        let part = part_at(*byte, following);
         match add_part(store, part, left, text)? {
             Ok(others) => left = others,
             Err(reason) => {
@@ -166,7 +166,7 @@ pub fn add_format(
                 }));
             }
         }
-        rest = &behind[further(part).min(behind.len())..];
+        rest = &following[further(part).min(following.len())..];
     }
     Ok(Ok(()))
 }

@@ -1,13 +1,13 @@
 -- Depths on the way through a section.
-use Rattle.bk_ocode.proofs.Terms.{◌≡◌, ℕ, ◌+◌, ◌<◌, ◌≤◌, max, Bool, true, false, ◌||◌, nat_lt, nat_le, List, [], ◌∷◌, ◌++◌, Option, Some, None, length, take, slice_get, get_or, refl, ◌∙◌, ap, subst, arith, ltb-false, leb-false, zero, suc, if◌then◌else◌, take_more, slice_get-get_or, FRAME_WORDS, OCODE_STATEMENTS, OCODE_WORDS, OcodeKind, stmt_words, next_depth, depth_behind, largest_behind, least_depth, Context, at_start, after, after_all, context_of, misplaced, label_not_set, label_set_twice, depths_disagree, slot_above, too_long, fault_in, AreFaultless, DepthsSuffice, SectionIsShort, Stmt, or_parts}
+use Rattle.bk_ocode.proofs.Terms.{◌≡◌, ℕ, ◌+◌, ◌<◌, ◌≤◌, max, Bool, true, false, ◌||◌, nat_lt, nat_le, List, [], ◌∷◌, ◌++◌, Option, Some, None, length, take, slice_get, get_or, refl, ◌∙◌, ap, subst, arith, ltb-false, leb-false, zero, suc, if◌then◌else◌, take_more, slice_get-get_or, FRAME_WORDS, OCODE_STATEMENTS, OCODE_WORDS, OcodeKind, stmt_words, next_depth, depth_after, largest_after, least_depth, Context, at_start, after, after_all, context_of, misplaced, label_not_set, label_set_twice, depths_disagree, slot_above, too_long, fault_in, AreFaultless, DepthsSuffice, SectionIsShort, Stmt, or_parts}
 
-pub depth_behind-append : (k : ℕ) (a b : List Stmt) → depth_behind k (a ++ b) ≡ depth_behind (depth_behind k a) b
-depth_behind-append k [] b = refl
-depth_behind-append k (s ∷ a) b = depth_behind-append (next_depth k s) a b
+pub depth_after-append : (k : ℕ) (a b : List Stmt) → depth_after k (a ++ b) ≡ depth_after (depth_after k a) b
+depth_after-append k [] b = refl
+depth_after-append k (s ∷ a) b = depth_after-append (next_depth k s) a b
 
-pub depth_behind-more : (k : ℕ) (stmts : List Stmt) (i : ℕ) (d : Stmt) → i < length stmts →
-    depth_behind k (take (i + 1) stmts) ≡ next_depth (depth_behind k (take i stmts)) (get_or stmts i d)
-depth_behind-more k stmts i d low = ap (λ (t : List Stmt). depth_behind k t) (take_more stmts i d low) ∙ depth_behind-append k (take i stmts) (get_or stmts i d ∷ [])
+pub depth_after-more : (k : ℕ) (stmts : List Stmt) (i : ℕ) (d : Stmt) → i < length stmts →
+    depth_after k (take (i + 1) stmts) ≡ next_depth (depth_after k (take i stmts)) (get_or stmts i d)
+depth_after-more k stmts i d low = ap (λ (t : List Stmt). depth_after k t) (take_more stmts i d low) ∙ depth_after-append k (take i stmts) (get_or stmts i d ∷ [])
 
 max_assoc : (a b c : ℕ) → max a (max b c) ≡ max (max a b) c
 max_assoc a b c = omega arith
@@ -15,22 +15,22 @@ max_assoc a b c = omega arith
 max_zero : (a : ℕ) → max a 0 ≡ max 0 a
 max_zero a = omega arith
 
-largest_behind-one : (k : ℕ) (a : List Stmt) (s : Stmt) → largest_behind k (a ++ s ∷ []) ≡ max (largest_behind k a) (next_depth (depth_behind k a) s)
-largest_behind-one k [] s = max_zero (next_depth k s)
-largest_behind-one k (t ∷ a) s =
-    ap (λ (n : ℕ). max (next_depth k t) n) (largest_behind-one (next_depth k t) a s)
-    ∙ max_assoc (next_depth k t) (largest_behind (next_depth k t) a) (next_depth (depth_behind (next_depth k t) a) s)
+largest_after-one : (k : ℕ) (a : List Stmt) (s : Stmt) → largest_after k (a ++ s ∷ []) ≡ max (largest_after k a) (next_depth (depth_after k a) s)
+largest_after-one k [] s = max_zero (next_depth k s)
+largest_after-one k (t ∷ a) s =
+    ap (λ (n : ℕ). max (next_depth k t) n) (largest_after-one (next_depth k t) a s)
+    ∙ max_assoc (next_depth k t) (largest_after (next_depth k t) a) (next_depth (depth_after (next_depth k t) a) s)
 
-pub largest_behind-more : (k : ℕ) (stmts : List Stmt) (i : ℕ) (d : Stmt) → i < length stmts →
-    largest_behind k (take (i + 1) stmts) ≡ max (largest_behind k (take i stmts)) (next_depth (depth_behind k (take i stmts)) (get_or stmts i d))
-largest_behind-more k stmts i d low = ap (λ (t : List Stmt). largest_behind k t) (take_more stmts i d low) ∙ largest_behind-one k (take i stmts) (get_or stmts i d)
+pub largest_after-more : (k : ℕ) (stmts : List Stmt) (i : ℕ) (d : Stmt) → i < length stmts →
+    largest_after k (take (i + 1) stmts) ≡ max (largest_after k (take i stmts)) (next_depth (depth_after k (take i stmts)) (get_or stmts i d))
+largest_after-more k stmts i d low = ap (λ (t : List Stmt). largest_after k t) (take_more stmts i d low) ∙ largest_after-one k (take i stmts) (get_or stmts i d)
 
 -- the depth of the context is that of the text
-after_all-depth : (c : Context) (stmts : List Stmt) → (after_all c stmts).depth ≡ depth_behind c.depth stmts
+after_all-depth : (c : Context) (stmts : List Stmt) → (after_all c stmts).depth ≡ depth_after c.depth stmts
 after_all-depth c [] = refl
 after_all-depth c (s ∷ rest) = after_all-depth (after c s) rest
 
-pub context-depth : (stmts : List Stmt) → (context_of stmts).depth ≡ depth_behind 0 stmts
+pub context-depth : (stmts : List Stmt) → (context_of stmts).depth ≡ depth_after 0 stmts
 context-depth stmts = after_all-depth at_start stmts
 
 -- what a statement without a fault keeps
@@ -50,7 +50,7 @@ pub keeps_in : (before : List Stmt) (c : Context) (s : Stmt) → fault_in before
 keeps_in before c s none = grind (arith, none_if, too_long)
 
 -- the depth behind a statement of a section is within the limit of frames
-pub depth_within : (stmts : List Stmt) → AreFaultless stmts → (i : ℕ) (s : Stmt) → slice_get stmts i ≡ Some s → next_depth (depth_behind 0 (take i stmts)) s ≤ FRAME_WORDS
+pub depth_within : (stmts : List Stmt) → AreFaultless stmts → (i : ℕ) (s : Stmt) → slice_get stmts i ≡ Some s → next_depth (depth_after 0 (take i stmts)) s ≤ FRAME_WORDS
 depth_within stmts are i s is =
     let c = context_of (take i stmts) in
     let k = keeps_in (take i stmts) c s (are.faultless i s is) in
@@ -58,7 +58,7 @@ depth_within stmts are i s is =
     let low = (or_parts long (nat_lt FRAME_WORDS (next_depth c.depth s)) (or_parts (nat_le OCODE_STATEMENTS c.count) (long || nat_lt FRAME_WORDS (next_depth c.depth s)) k.short).1).1 in
     subst (λ (d : ℕ). next_depth d s ≤ FRAME_WORDS) (context-depth (take i stmts)) (ltb-false FRAME_WORDS (next_depth c.depth s) low)
 
-pub depth_within-at : (stmts : List Stmt) → AreFaultless stmts → (i : ℕ) (d : Stmt) → i < length stmts → next_depth (depth_behind 0 (take i stmts)) (get_or stmts i d) ≤ FRAME_WORDS
+pub depth_within-at : (stmts : List Stmt) → AreFaultless stmts → (i : ℕ) (d : Stmt) → i < length stmts → next_depth (depth_after 0 (take i stmts)) (get_or stmts i d) ≤ FRAME_WORDS
 depth_within-at stmts are i d low = depth_within stmts are i (get_or stmts i d) (slice_get-get_or stmts i d low)
 
 -- each statement has the depth that it needs

@@ -1,5 +1,5 @@
 -- Labels of a switch and of globals, and the context of statements, one statement more.
-use Rattle.bk_ocode.proofs.Terms.{◌≡◌, ℕ, ◌+◌, ◌-◌, ◌<◌, ◌≤◌, ◌++◌, ◌||◌, ◌&&◌, Bool, true, false, is_some, get_or, take, not, nat_lt, nat_le, List, [], ◌∷◌, None, length, map, arith, refl, sym, ap, ◌∙◌, ltb-false, leb-false, list_all, list_any, map-append, take_more, FRAME_WORDS, OCODE_STATEMENTS, OCODE_WORDS, stmt_words, next_depth, position_behind, Context, at_start, changed, all_changed, label_followed, labels_named, start_from, start_behind, after, after_all, context_of, is_lab_from, is_other_lab, jumps_set, result_named, own_disagrees, is_entry, data_set, label_not_set, fault_in, Position, LabelUse, Case, GlobalEntry, Stmt, Entry, Switch, Globals, or_parts}
+use Rattle.bk_ocode.proofs.Terms.{◌≡◌, ℕ, ◌+◌, ◌-◌, ◌<◌, ◌≤◌, ◌++◌, ◌||◌, ◌&&◌, Bool, true, false, is_some, get_or, take, not, nat_lt, nat_le, List, [], ◌∷◌, None, length, map, arith, refl, sym, ap, ◌∙◌, ltb-false, leb-false, list_all, list_any, map-append, take_more, FRAME_WORDS, OCODE_STATEMENTS, OCODE_WORDS, stmt_words, next_depth, position_after, Context, at_start, changed, all_changed, label_followed, labels_named, start_from, start_after, after, after_all, context_of, is_lab_from, is_other_lab, jumps_set, result_named, own_disagrees, is_entry, data_set, label_not_set, fault_in, Position, LabelUse, Case, GlobalEntry, Stmt, Entry, Switch, Globals, or_parts}
 use Rattle.bk_ocode.proofs.Depths.{keeps_in}
 
 all-map : {X : Type 0} (f : ℕ → Bool) (g : X → ℕ) (xs : List X) → list_all (λ x. f (g x)) xs ≡ list_all f (map g xs ++ [])
@@ -77,7 +77,7 @@ start_from-low count start (Entry label name) low = omega arith
 start_from-low count start _ low = low
 
 pub context-push : (old : Context) (before all : List Stmt) (s : Stmt) (count words : ℕ) (position : Position) (depth start : ℕ) (uses : ℕ → LabelUse) → old ≡ context_of before → all ≡ before ++ s ∷ [] →
-    count ≡ old.count + 1 → words ≡ old.words + length (stmt_words s) → position ≡ position_behind s → depth ≡ next_depth old.depth s → start ≡ start_behind old s →
+    count ≡ old.count + 1 → words ≡ old.words + length (stmt_words s) → position ≡ position_after s → depth ≡ next_depth old.depth s → start ≡ start_after old s →
     uses ≡ labels_named old.depth old.count s (label_followed old.position s old.uses) →
     record { count = count; words = words; position = position; depth = depth; start = start; uses = uses } ≡ context_of all
 context-push old before all s count words position depth start uses is whole a b c d e f = grind (arith, context_of-push)

@@ -102,7 +102,7 @@ words_tally k stmts is = ap (λ (c : Context). c.words) is ∙ omega (arith, aft
 -- the words so far are within the limit
 pub words_within : (k : Context) (stmts : List Stmt) (part : List (List ℕ)) (m : ℕ) (filled : Bool) → k ≡ context_of stmts → m ≡ length part → filled ≡ nat_lt OCODE_WORDS (k.words + m) → filled ≡ false →
     length (section_words stmts) + length part ≤ OCODE_WORDS
-words_within k stmts part m filled is own told none = omega (arith, words_tally k stmts is, own, ltb-false OCODE_WORDS (k.words + m) (sym told ∙ none))
+words_within k stmts part m filled is own reported none = omega (arith, words_tally k stmts is, own, ltb-false OCODE_WORDS (k.words + m) (sym reported ∙ none))
 
 begins_some : (stmts : List Stmt) (part : List (List ℕ)) → (part ≡ []) ⊎ BeginsStmt stmts part → 0 < length part → BeginsStmt stmts part
 begins_some stmts part (inl none) some = absurd (omega (arith, some, ap (λ (l : List (List ℕ)). length l) none))

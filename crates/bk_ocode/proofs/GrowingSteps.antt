@@ -1,5 +1,5 @@
 -- What steps write goes behind what was written, and what they read comes from the front; and each comes nearer to a rest.
-use Rattle.bk_ocode.proofs.Terms.{◌≡◌, ℕ, List, [], ◌∷◌, ◌++◌, Option, None, refl, sym, ◌∙◌, ap, subst, append-nil, ⊤, word_sum, byte_distance, Content, Variable, Held, write, byte_at, word_with_byte_at, string_at, Callables, Routine, Stop, Rdch, Wrch, Newline, Writes, Writen, Writed, Getbyte, Putbyte, Writef, Control, Inside, Behind, At, State, Next, Goes, Ends, Wild, slot, return, tells, read_byte, routine_step, step_in, step_from, KeepsNext, Grown, StepsGrow, EndsKeepBytes}
+use Rattle.bk_ocode.proofs.Terms.{◌≡◌, ℕ, List, [], ◌∷◌, ◌++◌, Option, None, refl, sym, ◌∙◌, ap, subst, append-nil, ⊤, word_sum, byte_distance, Content, Variable, Held, write, byte_at, word_with_byte_at, string_at, Callables, Routine, Stop, Rdch, Wrch, Newline, Writes, Writen, Writed, Getbyte, Putbyte, Writef, Control, Inside, Following, At, State, Next, Goes, Ends, Wild, slot, return, tells, read_byte, routine_step, step_in, step_from, KeepsNext, Grown, StepsGrow, EndsKeepBytes}
 use Rattle.bk_ocode.proofs.Chosen.{on_number-holds, on_some-holds}
 use Rattle.bk_ocode.proofs.StepKeeps.{step_keeps_below}
 
@@ -51,7 +51,7 @@ routine_grows s Writef =
 
 step_grows : (callables : Callables) (s : State) (c : Control) → GrowsNext s (step_from callables s c)
 step_grows callables s (Inside own k rest) = kept_grows s (step_in callables s own k rest) (step_keeps_below callables s own k rest)
-step_grows callables s (Behind own l) = tt
+step_grows callables s (Following own l) = tt
 step_grows callables s (At n) = on_some-holds (GrowsNext s) tt (callables.routine n) _ (λ r e. routine_grows s r)
 
 pub steps_grow : StepsGrow

@@ -1,5 +1,5 @@
 -- A jump finds its label with the depth that it has.
-use Rattle.bk_ocode.proofs.Terms.{◌≡◌, ◌≢◌, ℕ, zero, suc, ◌+◌, ◌-◌, ◌<◌, ◌==◌, Bool, true, false, not, ◌||◌, List, [], ◌∷◌, Some, None, take, slice_get, refl, sym, ◌∙◌, ap, subst, arith, if◌then◌else◌, inl, inr, eq-eqb, eqb-true, next_depth, depth_behind, label_set, jump_labels, Context, at_start, changed, all_changed, with_depth, jumped, set_by, label_followed, after, after_all, context_of, AreFaultless, Setting, JumpDepths, LabelUse, Stmt, Jump, JumpIf, Label, Switch, is_other_lab, are_other_jumps, jumps_disagree, result_named, follows_badly, own_disagrees, fault_in, jump_depth, IsAmong, JumpHasItsLabelsDepth, Setting as setting, JumpDepths as jumps, not-false, or_parts}
+use Rattle.bk_ocode.proofs.Terms.{◌≡◌, ◌≢◌, ℕ, zero, suc, ◌+◌, ◌-◌, ◌<◌, ◌==◌, Bool, true, false, not, ◌||◌, List, [], ◌∷◌, Some, None, take, slice_get, refl, sym, ◌∙◌, ap, subst, arith, if◌then◌else◌, inl, inr, eq-eqb, eqb-true, next_depth, depth_after, label_set, jump_labels, Context, at_start, changed, all_changed, with_depth, jumped, set_by, label_followed, after, after_all, context_of, AreFaultless, Setting, JumpDepths, LabelUse, Stmt, Jump, JumpIf, Label, Switch, is_other_lab, are_other_jumps, jumps_disagree, result_named, follows_badly, own_disagrees, fault_in, jump_depth, IsAmong, JumpHasItsLabelsDepth, Setting as setting, JumpDepths as jumps, not-false, or_parts}
 use Rattle.bk_ocode.proofs.Depths.{keeps_in, context-depth}
 use Rattle.bk_ocode.proofs.LabelsOnce.{order, slice_get-take, not_before, Preserves, all_changed_keeps, after_keeps}
 
@@ -84,7 +84,7 @@ now_came c (Switch default cases) l among =
 now_came c _ l among = absurd among
 
 came_behind : (c : Context) (stmts : List Stmt) (i : ℕ) (s : Stmt) (l : ℕ) → slice_get stmts i ≡ Some s → IsAmong l (jump_labels s) →
-    Came (jump_depth (depth_behind c.depth (take i stmts)) s) ((after_all c stmts).uses l)
+    Came (jump_depth (depth_after c.depth (take i stmts)) s) ((after_all c stmts).uses l)
 came_behind c [] i s l at among = absurd (let h : None ≡ Some s = at in cc)
 came_behind c (t ∷ rest) zero s l at among =
     let same : t ≡ s = (let h : Some t ≡ Some s = at in cc) in
@@ -94,7 +94,7 @@ came_behind c (t ∷ rest) (suc i) s l at among = came_behind (after c t) rest i
 
 -- a label behind its LAB
 lab_behind : (c : Context) (stmts : List Stmt) (j l : ℕ) → slice_get stmts j ≡ Some (Label l) → ((k : ℕ) (t : Stmt) → j < k → slice_get stmts k ≡ Some t → label_set t ≢ Some l) →
-    ((after_all c stmts).uses l).setting ≡ setting.Lab (depth_behind c.depth (take j stmts)) (c.count + j)
+    ((after_all c stmts).uses l).setting ≡ setting.Lab (depth_after c.depth (take j stmts)) (c.count + j)
 lab_behind c [] j l at apart = absurd (let h : None ≡ Some (Label l) = at in cc)
 lab_behind c (t ∷ rest) zero l at apart =
     let same : t ≡ Label l = (let h : Some t ≡ Some (Label l) = at in cc) in
@@ -102,7 +102,7 @@ lab_behind c (t ∷ rest) zero l at apart =
     ∙ ap (λ (x : Stmt). ((after c x).uses l).setting) same ∙ after-label c l ∙ ap (λ (n : ℕ). setting.Lab c.depth n) (let z : c.count ≡ c.count + 0 = omega arith in z)
 lab_behind c (t ∷ rest) (suc j) l at apart =
     lab_behind (after c t) rest j l at (λ k u low is. apart (suc k) u (omega (arith, low)) is)
-    ∙ ap (λ (n : ℕ). setting.Lab (depth_behind (next_depth c.depth t) (take j rest)) n) (let z : c.count + 1 + j ≡ c.count + suc j = omega arith in z)
+    ∙ ap (λ (n : ℕ). setting.Lab (depth_after (next_depth c.depth t) (take j rest)) n) (let z : c.count + 1 + j ≡ c.count + suc j = omega arith in z)
 
 take-of-take : (stmts : List Stmt) (j i : ℕ) → i < j → take i (take j stmts) ≡ take i stmts
 take-of-take stmts zero i low = absurd (omega (arith, low))
@@ -137,13 +137,13 @@ own_of before c s none =
     (or_parts (follows_badly c c.position s) (result_named c s || own_disagrees c s) (keeps_in before c s none).agree).1).1
 
 forwards : (stmts : List Stmt) (i j l : ℕ) (s : Stmt) → AreFaultless stmts → slice_get stmts i ≡ Some s → IsAmong l (jump_labels s) → slice_get stmts j ≡ Some (Label l) → i < j →
-    jump_depth (depth_behind 0 (take i stmts)) s ≡ depth_behind 0 (take j stmts)
+    jump_depth (depth_after 0 (take i stmts)) s ≡ depth_after 0 (take j stmts)
 forwards stmts i j l s are at_i among at_j low =
     let c = context_of (take j stmts) in
     let came = came_behind at_start (take j stmts) i s l (slice_get-take stmts j i low ∙ at_i) among in
     let none = own_of (take j stmts) c (Label l) (are.faultless j (Label l) at_j) in
-    ap (λ (t : List Stmt). jump_depth (depth_behind 0 t) s) (sym (take-of-take stmts j i low))
-    ∙ agreed (jump_depth (depth_behind 0 (take i (take j stmts))) s) c.depth (c.uses l).jumps came none
+    ap (λ (t : List Stmt). jump_depth (depth_after 0 t) s) (sym (take-of-take stmts j i low))
+    ∙ agreed (jump_depth (depth_after 0 (take i (take j stmts))) s) c.depth (c.uses l).jumps came none
     ∙ context-depth (take j stmts)
 
 lab_agrees : (k depth place : ℕ) (g : Setting) → g ≡ setting.Lab depth place → is_other_lab k g ≡ false → k ≡ depth
@@ -158,15 +158,15 @@ taken_from (x ∷ rest) (suc i) zero t is = is
 taken_from (x ∷ rest) (suc i) (suc k) t is = taken_from rest i k t is
 
 backwards : (stmts : List Stmt) (i j l : ℕ) (s : Stmt) → AreFaultless stmts → slice_get stmts i ≡ Some s → IsAmong l (jump_labels s) → slice_get stmts j ≡ Some (Label l) → j < i →
-    jump_depth (depth_behind 0 (take i stmts)) s ≡ depth_behind 0 (take j stmts)
+    jump_depth (depth_after 0 (take i stmts)) s ≡ depth_after 0 (take j stmts)
 backwards stmts i j l s are at_i among at_j low =
     let c = context_of (take i stmts) in
     let lab = lab_behind at_start (take i stmts) j l (slice_get-take stmts i j low ∙ at_j)
     (λ k t later at_k sets_k. not_before stmts j k l (Label l) t are at_j (taken_from stmts i k t at_k) refl sets_k later) in
     let none = own_of (take i stmts) c s (are.faultless i s at_i) in
     ap (λ (d : ℕ). jump_depth d s) (sym (context-depth (take i stmts)))
-    ∙ lab_agrees (jump_depth c.depth s) (depth_behind 0 (take j (take i stmts))) (0 + j) (c.uses l).setting lab (own_agrees c s l none among)
-    ∙ ap (λ (t : List Stmt). depth_behind 0 t) (take-of-take stmts i j low)
+    ∙ lab_agrees (jump_depth c.depth s) (depth_after 0 (take j (take i stmts))) (0 + j) (c.uses l).setting lab (own_agrees c s l none among)
+    ∙ ap (λ (t : List Stmt). depth_after 0 t) (take-of-take stmts i j low)
 
 same_place : (stmts : List Stmt) (i l : ℕ) (s : Stmt) → slice_get stmts i ≡ Some s → IsAmong l (jump_labels s) → slice_get stmts i ≡ Some (Label l) → ⊥
 same_place stmts i l s at among label =

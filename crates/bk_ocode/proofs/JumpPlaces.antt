@@ -1,5 +1,5 @@
 -- A jump finds a LAB of its label in the section.
-use Rattle.bk_ocode.proofs.Terms.{◌≡◌, ◌≢◌, ℕ, zero, suc, ◌+◌, ◌<◌, ◌≤◌, ◌==◌, Bool, true, false, not, List, [], ◌∷◌, ◌++◌, Some, None, take, drop, slice_get, refl, sym, ◌∙◌, ap, subst, arith, inl, inr, ◌⊎◌, eqb-true, eq-eqb, list_all, jump_labels, result_label, may_stand, position_behind, Context, at_start, start_behind, changed, mentioned, set_by, label_followed, after, after_all, context_of, misplaced, is_lab_from, jumps_set, label_not_set, IsSection, IsAmong, JumpFindsItsLabel, ResultFindsItsLabel, Position, Outer, Datum, Setting, Stmt, Jump, JumpIf, Label, GiveResult, Entry, EndProcedure, Switch, DataLabel, DataNumber, DataAddress, Globals, Position as position, Setting as setting, and_parts, not-false}
+use Rattle.bk_ocode.proofs.Terms.{◌≡◌, ◌≢◌, ℕ, zero, suc, ◌+◌, ◌<◌, ◌≤◌, ◌==◌, Bool, true, false, not, List, [], ◌∷◌, ◌++◌, Some, None, take, drop, slice_get, refl, sym, ◌∙◌, ap, subst, arith, inl, inr, ◌⊎◌, eqb-true, eq-eqb, list_all, jump_labels, result_label, may_stand, position_after, Context, at_start, start_after, changed, mentioned, set_by, label_followed, after, after_all, context_of, misplaced, is_lab_from, jumps_set, label_not_set, IsSection, IsAmong, JumpFindsItsLabel, ResultFindsItsLabel, Position, Outer, Datum, Setting, Stmt, Jump, JumpIf, Label, GiveResult, Entry, EndProcedure, Switch, DataLabel, DataNumber, DataAddress, Globals, Position as position, Setting as setting, and_parts, not-false}
 use Rattle.bk_ocode.proofs.Depths.{keeps_in}
 use Rattle.bk_ocode.proofs.LabelsOnce.{slice_get-take}
 use Rattle.bk_ocode.proofs.JumpDepths.{after-same, chosen, taken_from}
@@ -25,7 +25,7 @@ not_datum x w e = let h : true ≡ false = e in cc
 
 -- a statement in a procedure ends it, or the next is in it too
 abbrev GoesOn : Context → Stmt → Type 0
-GoesOn c s = (s ≡ EndProcedure) ⊎ ((Within (position_behind s) ≡ true) × (start_behind c s ≡ c.start))
+GoesOn c s = (s ≡ EndProcedure) ⊎ ((Within (position_after s) ≡ true) × (start_after c s ≡ c.start))
 
 goes_on : (c : Context) (s : Stmt) → Within c.position ≡ true → misplaced c s ≡ false → GoesOn c s
 goes_on c EndProcedure w e = inl refl
@@ -61,11 +61,11 @@ record ClosesBehind (c : Context) (stmts : List Stmt) (i : ℕ) : Type 0 where
   later : i < place
   begins : (after_all c (take place stmts)).start ≤ c.count + i
 
-start_before : (c : Context) (s : Stmt) → c.start ≤ c.count → start_behind c s ≤ c.count + 1
+start_before : (c : Context) (s : Stmt) → c.start ≤ c.count → start_after c s ≤ c.count + 1
 start_before c (Entry l name) low = omega arith
 start_before c _ low = omega (arith, low)
 
-jump_goes_on : (c : Context) (s : Stmt) (l : ℕ) → IsAmong l (jump_labels s ++ result_label s) → (Within (position_behind s) ≡ true) × (start_behind c s ≡ c.start)
+jump_goes_on : (c : Context) (s : Stmt) (l : ℕ) → IsAmong l (jump_labels s ++ result_label s) → (Within (position_after s) ≡ true) × (start_after c s ≡ c.start)
 jump_goes_on c (Jump m) l among = (refl, refl)
 jump_goes_on c (JumpIf truth m) l among = (refl, refl)
 jump_goes_on c (Switch default cases) l among = (refl, refl)

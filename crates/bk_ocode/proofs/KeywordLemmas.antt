@@ -92,6 +92,6 @@ begins_none word none s is = none (keyword_of_stmt s) (sym (begins_so s) ∙ is)
 
 -- a statement that begins with the word stands where its keyword says
 pub placed_so : (c : Context) (k : Keyword) (word : List ℕ) (s : Stmt) (b : Bool) → keyword_text k ≡ word → keyword s ≡ word → may_stand c.position (keyword_role k) ≡ b → misplaced c s ≡ not b
-placed_so c k word s b text is stands =
+placed_so c k word s b text is applies =
     let same : keyword_of_stmt s ≡ k = same_keyword (keyword_of_stmt s) k (sym (begins_so s) ∙ is ∙ sym text) in
-    ap (λ (r : StmtPlace). not (may_stand c.position r)) (stands_so s ∙ ap keyword_role same) ∙ ap not stands
+    ap (λ (r : StmtPlace). not (may_stand c.position r)) (stands_so s ∙ ap keyword_role same) ∙ ap not applies

@@ -1,5 +1,5 @@
 -- Each label that is used is set, by the right kind of statement; and texts are short.
-use Rattle.bk_ocode.proofs.Terms.{◌≡◌, ◌⊎◌, inl, inr, ℕ, zero, suc, ◌+◌, ◌≤◌, nat_le, nat_lt, Bool, true, false, not, ◌||◌, ◌==◌, List, [], ◌∷◌, ◌++◌, length, take, slice_get, Some, None, refl, sym, ◌∙◌, ap, subst, arith, leb-false, ltb-false, list_all, FRAME_WORDS, OCODE_STATEMENTS, OCODE_WORDS, stmt_words, next_depth, data_labels, item_label, global_labels, role, may_stand, position_behind, Context, at_start, after, after_all, context_of, is_data, is_entry, data_set, label_not_set, too_long, AreFaultless, IsSection, text_size, IsAmong, DataFindsItsLabel, ItemFindsItsLabel, GlobalFindsItsEntry, GlobalStandsLast, TextIsShort, StmtPlace, Outer, Setting, GlobalEntry, Stmt, Label, Entry, DataLabel, DataAddress, Globals, Position as position, Setting as setting, same_Some, and_parts, not-false, or_cases, or_parts}
+use Rattle.bk_ocode.proofs.Terms.{◌≡◌, ◌⊎◌, inl, inr, ℕ, zero, suc, ◌+◌, ◌≤◌, nat_le, nat_lt, Bool, true, false, not, ◌||◌, ◌==◌, List, [], ◌∷◌, ◌++◌, length, take, slice_get, Some, None, refl, sym, ◌∙◌, ap, subst, arith, leb-false, ltb-false, list_all, FRAME_WORDS, OCODE_STATEMENTS, OCODE_WORDS, stmt_words, next_depth, data_labels, item_label, global_labels, role, may_stand, position_after, Context, at_start, after, after_all, context_of, is_data, is_entry, data_set, label_not_set, too_long, AreFaultless, IsSection, text_size, IsAmong, DataFindsItsLabel, ItemFindsItsLabel, GlobalFindsItsEntry, GlobalIsLast, TextIsShort, StmtPlace, Outer, Setting, GlobalEntry, Stmt, Label, Entry, DataLabel, DataAddress, Globals, Position as position, Setting as setting, same_Some, and_parts, not-false, or_cases, or_parts}
 use Rattle.bk_ocode.proofs.CaseLemmas.{at_push}
 use Rattle.bk_ocode.proofs.Depths.{keeps_in}
 use Rattle.bk_ocode.proofs.JumpDepths.{after-same, after-label}
@@ -10,15 +10,15 @@ use Rattle.bk_ocode.proofs.SoundSteps.{at_front, front_of}
 last_is : (c : Context) (s : Stmt) (rest : List Stmt) → (after_all c (s ∷ rest)).position ≡ position.Ended → (front : List Stmt) × (entries : List GlobalEntry) × (s ∷ rest ≡ front ++ Globals entries ∷ [])
 last_is c (Globals entries) [] e = ([], entries, refl)
 last_is c (Entry l name) [] e = absurd (let h : position.Opened ≡ position.Ended = e in cc)
-last_is c (Label l) [] e = absurd (let h : position.BehindLabel l ≡ position.Ended = e in cc)
+last_is c (Label l) [] e = absurd (let h : position.AfterLabel l ≡ position.Ended = e in cc)
 last_is c (DataLabel l) [] e = absurd (let h : position.InData ≡ position.Ended = e in cc)
 last_is c (DataAddress l) [] e = absurd (let h : position.InData ≡ position.Ended = e in cc)
 last_is c s [] e = absurd (cc)
 last_is c s (t ∷ rest) e = let more = last_is (after c s) t rest e in (s ∷ more.0, more.1, ap (λ (l : List Stmt). s ∷ l) more.2)
 
-pub global_stands_last : GlobalStandsLast
-global_stands_last [] are = absurd (let h : position.Outside ≡ position.Ended = are.ended in cc)
-global_stands_last (s ∷ rest) are = last_is at_start s rest are.ended
+pub global_is_last : GlobalIsLast
+global_is_last [] are = absurd (let h : position.Outside ≡ position.Ended = are.ended in cc)
+global_is_last (s ∷ rest) are = last_is at_start s rest are.ended
 
 -- what set a label
 data_from : (c : Context) (s : Stmt) (l : ℕ) → ((after c s).uses l).setting ≡ setting.Data → (s ≡ DataLabel l) ⊎ ((c.uses l).setting ≡ setting.Data)
@@ -69,7 +69,7 @@ record Checked (stmts : List Stmt) : Type 0 where
 
 checked : (stmts : List Stmt) → IsSection stmts → Checked stmts
 checked stmts are =
-    let last = global_stands_last stmts are in
+    let last = global_is_last stmts are in
     let at : slice_get stmts (length last.0) ≡ Some (Globals last.1) = ap (λ (l : List Stmt). slice_get l (length last.0)) last.2 ∙ at_front last.0 [] (Globals last.1) in
     let same : take (length last.0) stmts ≡ last.0 = ap (take (length last.0)) last.2 ∙ front_of last.0 (Globals last.1 ∷ []) in
     let keeps = keeps_in (take (length last.0) stmts) (context_of (take (length last.0) stmts)) (Globals last.1) (are.are_faultless.faultless (length last.0) (Globals last.1) at) in
@@ -128,9 +128,9 @@ no_role : (r : StmtPlace) → may_stand position.Ended r ≡ false
 no_role Outer = refl
 no_role _ = refl
 
-position_at : (c : Context) (stmts : List Stmt) (j : ℕ) (s : Stmt) → slice_get stmts j ≡ Some s → (after_all c (take (suc j) stmts)).position ≡ position_behind s
+position_at : (c : Context) (stmts : List Stmt) (j : ℕ) (s : Stmt) → slice_get stmts j ≡ Some s → (after_all c (take (suc j) stmts)).position ≡ position_after s
 position_at c [] j s at = absurd (let h : None ≡ Some s = at in cc)
-position_at c (t ∷ rest) zero s at = let same : t ≡ s = (let h : Some t ≡ Some s = at in cc) in ap position_behind same
+position_at c (t ∷ rest) zero s at = let same : t ≡ s = (let h : Some t ≡ Some s = at in cc) in ap position_after same
 position_at c (t ∷ rest) (suc j) s at = position_at (after c t) rest j s at
 
 next_there : (front : List Stmt) (g s : Stmt) (j : ℕ) → slice_get front j ≡ Some s → (t : Stmt) × (slice_get (front ++ g ∷ []) (suc j) ≡ Some t)

@@ -1,6 +1,6 @@
 -- Labels are set once.
-use Rattle.bk_ocode.proofs.Terms.{◌≡◌, ◌≢◌, ℕ, zero, suc, ◌-◌, ◌<◌, ◌==◌, Bool, true, false, List, [], ◌∷◌, Some, None, take, drop, slice_get, refl, sym, ◌∙◌, ap, subst, arith, if◌then◌else◌, ◌⊎◌, eq-eqb, ne_eqb, label_set, jump_labels, other_labels, Context, at_start, changed, all_changed, jumped, given, mentioned, set_by, followed, what_stands, label_followed, labels_named, after, after_all, context_of, is_set, set_again, AreFaultless, is_label, from_label, LabelsAreSetOnce, LabelHasOnePlace, Position, LabelUse, Stmt, Load, Address, Assign, Jump, JumpIf, Label, GiveResult, Entry, Switch, DataLabel, DataAddress, Position as position, Setting as setting, Setting, eqb-true}
-use Rattle.bk_ocode.specs.declared.standing.Behind.{Behind}
+use Rattle.bk_ocode.proofs.Terms.{◌≡◌, ◌≢◌, ℕ, zero, suc, ◌-◌, ◌<◌, ◌==◌, Bool, true, false, List, [], ◌∷◌, Some, None, take, drop, slice_get, refl, sym, ◌∙◌, ap, subst, arith, if◌then◌else◌, ◌⊎◌, eq-eqb, ne_eqb, label_set, jump_labels, other_labels, Context, at_start, changed, all_changed, jumped, given, mentioned, set_by, followed, what_follows, label_followed, labels_named, after, after_all, context_of, is_set, set_again, AreFaultless, is_label, from_label, LabelsAreSetOnce, LabelHasOnePlace, Position, LabelUse, Stmt, Load, Address, Assign, Jump, JumpIf, Label, GiveResult, Entry, Switch, DataLabel, DataAddress, Position as position, Setting as setting, Setting, eqb-true}
+use Rattle.bk_ocode.specs.declared.standing.Following.{Following}
 use Rattle.bk_ocode.proofs.Depths.{keeps_in}
 
 -- a property of one label's use that a change keeps
@@ -9,7 +9,7 @@ Preserves P change = (known : LabelUse) → P known → P (change known)
 
 -- Each change keeps it, but perhaps not the one that sets the label.
 pub record Kept (P : LabelUse → Type 0) : Type 0 where
-  pub follows : (b : Behind) → Preserves P (followed b)
+  pub follows : (b : Following) → Preserves P (followed b)
   pub mentions : Preserves P mentioned
   pub gives : (d : ℕ) → Preserves P (given d)
   pub jumps : (d : ℕ) → Preserves P (jumped d)
@@ -32,7 +32,7 @@ module _ (P : LabelUse → Type 0) where
 
   module _ (h : Kept P) where
     followed_keeps : (p : Position) (s : Stmt) (uses : ℕ → LabelUse) (m : ℕ) → P (uses m) → P (label_followed p s uses m)
-    followed_keeps (position.BehindLabel l) s uses m is = changed_keeps l (followed (what_stands s)) uses m (λ e. h.follows (what_stands s)) is
+    followed_keeps (position.AfterLabel l) s uses m is = changed_keeps l (followed (what_follows s)) uses m (λ e. h.follows (what_follows s)) is
     followed_keeps p s uses m is = is
 
     named_keeps : (k count : ℕ) (s : Stmt) (uses : ℕ → LabelUse) (m : ℕ) → Sets s m → P (uses m) → P (labels_named k count s uses m)
@@ -81,12 +81,12 @@ sets c (Entry m name) l is = let same : m ≡ l = cc in subst (λ x. IsSetIn (af
 sets c (DataLabel m) l is = let same : m ≡ l = cc in subst (λ x. IsSetIn (after c (DataLabel m)).uses x) same (now_set m (set_by setting.Data) (changed m mentioned (label_followed c.position (DataLabel m) c.uses)) (λ known. refl))
 sets c _ l is = absurd (let h : None ≡ Some l = is in cc)
 
-set_behind : (c : Context) (stmts : List Stmt) (i : ℕ) (s : Stmt) (l : ℕ) → slice_get stmts i ≡ Some s → label_set s ≡ Some l → IsSetIn (after_all c stmts).uses l
-set_behind c [] i s l at is = absurd (let h : None ≡ Some s = at in cc)
-set_behind c (t ∷ rest) zero s l at is =
+set_following : (c : Context) (stmts : List Stmt) (i : ℕ) (s : Stmt) (l : ℕ) → slice_get stmts i ≡ Some s → label_set s ≡ Some l → IsSetIn (after_all c stmts).uses l
+set_following c [] i s l at is = absurd (let h : None ≡ Some s = at in cc)
+set_following c (t ∷ rest) zero s l at is =
     let same : t ≡ s = (let h : Some t ≡ Some s = at in cc) in
     after_all-keeps (after c t) rest l (sets c t l (ap label_set same ∙ is))
-set_behind c (t ∷ rest) (suc i) s l at is = set_behind (after c t) rest i s l at is
+set_following c (t ∷ rest) (suc i) s l at is = set_following (after c t) rest i s l at is
 
 pub slice_get-take : (stmts : List Stmt) (j i : ℕ) → i < j → slice_get (take j stmts) i ≡ slice_get stmts i
 slice_get-take stmts zero i low = absurd (omega (arith, low))
@@ -98,7 +98,7 @@ pub not_before : (stmts : List Stmt) (i j l : ℕ) (s t : Stmt) → AreFaultless
 not_before stmts i j l s t are at_i at_j sets_s sets_t low =
     let c = context_of (take j stmts) in
     let k = keeps_in (take j stmts) c t (are.faultless j t at_j) in
-    let is : IsSetIn c.uses l = set_behind at_start (take j stmts) i s l (slice_get-take stmts j i low ∙ at_i) sets_s in
+    let is : IsSetIn c.uses l = set_following at_start (take j stmts) i s l (slice_get-take stmts j i low ∙ at_i) sets_s in
     let once : set_again c (Some l) ≡ false = ap (set_again c) (sym sets_t) ∙ k.once in
     let h : true ≡ false = sym is ∙ once in cc
 

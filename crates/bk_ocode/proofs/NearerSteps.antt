@@ -1,5 +1,5 @@
 -- Each step comes to a rest, or nearer to one.
-use Rattle.bk_ocode.proofs.Terms.{◌≡◌, ◌⊎◌, inl, inr, ℕ, suc, ◌+◌, ◌-◌, ◌<◌, ◌≤◌, ◌^◌, ◌==◌, nat_lt, Bool, true, false, List, [], ◌∷◌, length, Option, Some, None, refl, sym, ◌∙◌, ap, subst, arith, if◌then◌else◌, ⊤, Content, variable_at, byte_at, word_with_byte_at, Placed, Callables, Routine, Control, Inside, Behind, At, State, Next, Goes, Ends, Wild, is_label, slot, on_some, operated, named_place, has_word, from_label, jump, jump_with, case_label, can_be_called, call, return, dyadic_word, routine_step, step_by, step_in, step_from, IsAtRest, statements_left, steps_left, StepsComeNearer, Contents, Negate, Not, Stmt, Number, True, False, Query, Load, Address, Text, Monadic, Dyadic, LoadByte, Assign, AssignAt, AssignByte, Jump, JumpIf, Label, GiveResult, TakeResult, Stack, Store, Entry, Save, CallFunction, CallRoutine, ReturnItem, Return, Switch, Finish}
+use Rattle.bk_ocode.proofs.Terms.{◌≡◌, ◌⊎◌, inl, inr, ℕ, suc, ◌+◌, ◌-◌, ◌<◌, ◌≤◌, ◌^◌, ◌==◌, nat_lt, Bool, true, false, List, [], ◌∷◌, length, Option, Some, None, refl, sym, ◌∙◌, ap, subst, arith, if◌then◌else◌, ⊤, Content, variable_at, byte_at, word_with_byte_at, Placed, Callables, Routine, Control, Inside, Following, At, State, Next, Goes, Ends, Wild, is_label, slot, on_some, operated, named_place, has_word, from_label, jump, jump_with, case_label, can_be_called, call, return, dyadic_word, routine_step, step_by, step_in, step_from, IsAtRest, statements_left, steps_left, StepsComeNearer, Contents, Negate, Not, Stmt, Number, True, False, Query, Load, Address, Text, Monadic, Dyadic, LoadByte, Assign, AssignAt, AssignByte, Jump, JumpIf, Label, GiveResult, TakeResult, Stack, Store, Entry, Save, CallFunction, CallRoutine, ReturnItem, Return, Switch, Finish}
 use Rattle.bk_ocode.proofs.Chosen.{on_number-holds, on_some-holds, if-holds}
 use Rattle.bk_ocode.proofs.SoundRests.{steps_are_sound}
 
@@ -103,5 +103,5 @@ steps_come_nearer program first F s t is sound goes = by_control s.control refl
     by_control : (c : Control) → s.control ≡ c → IsAtRest program.callables t.control ⊎ (steps_left t.control < steps_left s.control)
     by_control (Inside own k rest) e =
         inr (subst (λ x. steps_left t.control < steps_left x) (sym e) (subst (Nearer (statements_left rest)) (sym (ap (λ x. step_from program.callables s x) e) ∙ goes) (step_in-near program.callables s own k rest)))
-    by_control (Behind own l) e = absurd (let h : Wild ≡ Goes t = sym (ap (λ x. step_from program.callables s x) e) ∙ goes in cc)
+    by_control (Following own l) e = absurd (let h : Wild ≡ Goes t = sym (ap (λ x. step_from program.callables s x) e) ∙ goes in cc)
     by_control (At n) e = inl (at_routine n e (program.callables.routine n) refl)

@@ -122,11 +122,11 @@ form before part TooLong (inr f) = past_limit f refl
 
 -- where some words have a fault no statement without one stands
 clash : (before : List Stmt) (part rest z : List (List ℕ)) (kind : OcodeKind) (t : Stmt) → Form before part kind → IsStmt t → stmt_fault before t ≡ None → part ++ rest ≡ stmt_words t ++ z → ⊥
-clash before part rest z kind t (bad_word f told) own none is =
+clash before part rest z kind t (bad_word f reported) own none is =
     let h : true ≡ false = sym (word_of before part rest z t f is) ∙ (keeps_in before (context_of before) t none).place in cc
-clash before part rest z kind t (bad_number f told) own none is = no_stmt before part rest z t f own is
+clash before part rest z kind t (bad_number f reported) own none is = no_stmt before part rest z t f own is
 clash before part rest z kind t (broken f other) own none is = some_kind before t kind (rule_of before part rest z kind t f own is) none
-clash before part rest z kind t (past_limit f told) own none is = no_within before part rest z t f own (omega (arith, fits_words before t none)) is
+clash before part rest z kind t (past_limit f reported) own none is = no_within before part rest z t f own (omega (arith, fits_words before t none)) is
 
 some_words : (s : Stmt) (part : List (List ℕ)) → part ≡ stmt_words s → 0 < length part
 some_words s part is = omega (arith, ap (λ (l : List (List ℕ)). length l) is)
@@ -135,10 +135,10 @@ passes_some : (before : List Stmt) (part : List (List ℕ)) → AreFaultless bef
 passes_some before part are f = omega (arith, f.past, words_fit before are, length-append (section_words before) part)
 
 part_some : (before : List Stmt) (part : List (List ℕ)) (kind : OcodeKind) → AreFaultless before → Form before part kind → 0 < length part
-part_some before part kind are (bad_word f told) = omega (arith, ap (λ (l : List (List ℕ)). length l) f.first)
-part_some before part kind are (bad_number f told) = omega (arith, ap (λ (l : List (List ℕ)). length l) f.last, length-append f.front (f.word ∷ []))
+part_some before part kind are (bad_word f reported) = omega (arith, ap (λ (l : List (List ℕ)). length l) f.first)
+part_some before part kind are (bad_number f reported) = omega (arith, ap (λ (l : List (List ℕ)). length l) f.last, length-append f.front (f.word ∷ []))
 part_some before part kind are (broken f other) = some_words f.stmt part f.words
-part_some before part kind are (past_limit f told) = passes_some before part are f
+part_some before part kind are (past_limit f reported) = passes_some before part are f
 
 no_word_number : (before : List Stmt) (p x q y : List (List ℕ)) → IsBadWord before p → IsBadNumber before q → p ++ x ≡ q ++ y → ⊥
 no_word_number before p x q y f g is =
@@ -198,12 +198,12 @@ kinds_same before p x q y j k are (past_limit f a) (past_limit g b) is = a ∙ s
 
 -- where a text is cut no fault was before
 no_cut : (before : List Stmt) (part rest p : List (List ℕ)) (kind : OcodeKind) → AreFaultless before → Form before part kind → BeginsStmt before p → length (section_words before ++ p) ≤ OCODE_WORDS → part ++ rest ≡ p → ⊥
-no_cut before part rest p kind are (bad_word f told) b few is =
+no_cut before part rest p kind are (bad_word f reported) b few is =
     no_partial before part rest p [] f b (omega (arith, ap (λ (l : List (List ℕ)). length l) f.first, ap (λ (l : List (List ℕ)). length l) is, length-append part rest)) (is ∙ sym (append-nil p))
-no_cut before part rest p kind are (bad_number f told) b few is =
+no_cut before part rest p kind are (bad_number f reported) b few is =
     f.none b.stmt (rest ++ b.word ∷ b.rest) b.is_stmt (b.begins ∙ ap (λ (l : List (List ℕ)). l ++ b.word ∷ b.rest) (sym is) ∙ append_assoc part rest (b.word ∷ b.rest))
 no_cut before part rest p kind are (broken f other) b few is = no_whole before p rest f.stmt b f.is_stmt (sym is ∙ ap (λ (l : List (List ℕ)). l ++ rest) f.words)
-no_cut before part rest p kind are (past_limit f told) b few is =
+no_cut before part rest p kind are (past_limit f reported) b few is =
     omega (arith, few, f.past, length-append (section_words before) part, length-append (section_words before) p, ap (λ (l : List (List ℕ)). length l) is, length-append part rest)
 
 -- what is cut has no whole statement

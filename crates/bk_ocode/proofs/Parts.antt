@@ -1,5 +1,5 @@
 -- Answers by cases, from what holds of their values.
-use Rattle.bk_ocode.proofs.Terms.{◌≡◌, refl, None, Some, IfSome, ℕ, List, ◌++◌, Option, Result, Ok, Err, OnErr, Appends, AppendsPart, AppendsPart-behind}
+use Rattle.bk_ocode.proofs.Terms.{◌≡◌, refl, None, Some, IfSome, ℕ, List, ◌++◌, Option, Result, Ok, Err, OnErr, Appends, AppendsPart, AppendsPart-after}
 
 pub on_err : {T E P : Type 0} (r : Result T E) → P → OnErr r P
 on_err (Ok x) p = tt
@@ -8,4 +8,4 @@ on_err (Err e) p = p
 -- what is behind other bytes, by the answer of a call
 pub part_behind : {T E : Type 0} (r : Result T E) (a b c : Option (List ℕ)) (x y all : List ℕ) → all ≡ x ++ y → Appends a b x → OnErr r (AppendsPart b c y) → OnErr r (AppendsPart a c all)
 part_behind (Ok v) a b c x y all is p q = tt
-part_behind (Err e) a b c x y all is p q = AppendsPart-behind a b c x y all is p q
+part_behind (Err e) a b c x y all is p q = AppendsPart-after a b c x y all is p q

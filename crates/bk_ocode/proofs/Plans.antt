@@ -1,8 +1,8 @@
 -- What a plan says of labels stays true of what is known of them, statement by statement.
-use Rattle.bk_ocode.proofs.Terms.{arith, ◌≡◌, ℕ, ◌-◌, ◌≤◌, false, Option, Some, None, List, [], ◌∷◌, refl, sym, subst, if◌then◌else◌, eqb-true, eq-eqb, JumpDepths, LabelUse, Position, Outer, Body, Datum, Setting, Static, Stmt, Load, Address, Assign, Jump, JumpIf, Label, GiveResult, Entry, Switch, DataLabel, DataAddress, changed, all_changed, with_depth, jumped, given, least_result, mentioned, followed, what_stands, label_followed, labels_named, jump_labels, role, Use, unused, jumps, results, word, entry, AllJump, Agrees, JumpDepths as came, Position as position, Setting as setting}
+use Rattle.bk_ocode.proofs.Terms.{arith, ◌≡◌, ℕ, ◌-◌, ◌≤◌, false, Option, Some, None, List, [], ◌∷◌, refl, sym, subst, if◌then◌else◌, eqb-true, eq-eqb, JumpDepths, LabelUse, Position, Outer, Body, Datum, Setting, Static, Stmt, Load, Address, Assign, Jump, JumpIf, Label, GiveResult, Entry, Switch, DataLabel, DataAddress, changed, all_changed, with_depth, jumped, given, least_result, mentioned, followed, what_follows, label_followed, labels_named, jump_labels, role, Use, unused, jumps, results, word, entry, AllJump, Agrees, JumpDepths as came, Position as position, Setting as setting}
 use Rattle.std.specs.Bool.{⊤}
-use Rattle.bk_ocode.specs.declared.standing.Behind.{Behind}
-use Rattle.bk_ocode.specs.declared.standing.Behind.TheVariants as behind
+use Rattle.bk_ocode.specs.declared.standing.Following.{Following}
+use Rattle.bk_ocode.specs.declared.standing.Following.TheVariants as following
 
 -- the labels of the procedure with this entry
 abbrev pub Of : ℕ → Use → Type 0
@@ -21,9 +21,9 @@ OneDepth d came.Unused = ⊤
 OneDepth d (came.One k) = k ≡ d
 OneDepth d came.Several = ⊥
 
-abbrev pub Taken : ℕ → Setting → Behind → Type 0
+abbrev pub Taken : ℕ → Setting → Following → Type 0
 Taken n setting.Unset b = ⊤
-Taken n (setting.Lab k place) b = b ≡ behind.Takes n
+Taken n (setting.Lab k place) b = b ≡ following.Takes n
 Taken n setting.Entry b = ⊥
 Taken n setting.Data b = ⊥
 
@@ -47,7 +47,7 @@ OnlyEntry (setting.Lab k place) = ⊥
 abbrev pub Matches : Use → LabelUse → Type 0
 Matches unused u = u.setting ≡ setting.Unset
 Matches (jumps p d) u = LabAt d u.setting × OneDepth d u.jumps × (u.result ≡ None)
-Matches (results p n) u = Taken n u.setting u.behind × (u.jumps ≡ came.Unused) × (u.named ≡ false) × AtLeast n u.result
+Matches (results p n) u = Taken n u.setting u.following × (u.jumps ≡ came.Unused) × (u.named ≡ false) × AtLeast n u.result
 Matches word u = OnlyData u.setting × (u.result ≡ None)
 Matches entry u = OnlyEntry u.setting × (u.result ≡ None)
 
@@ -114,18 +114,18 @@ named_matches plan p k count _ uses r h all = all
 -- Where a statement of a procedure may follow, and where it may follow as far as labels go: not behind the LAB of a result.
 abbrev pub Free : (ℕ → Use) → Position → Type 0
 Free plan position.Inside = ⊤
-Free plan position.BehindReturn = ⊤
-Free plan (position.BehindLabel l) = (p : ℕ) × (d : ℕ) × (plan l ≡ jumps p d)
+Free plan position.AfterReturn = ⊤
+Free plan (position.AfterLabel l) = (p : ℕ) × (d : ℕ) × (plan l ≡ jumps p d)
 Free plan x = ⊥
 
 abbrev pub Clear : (ℕ → Use) → Position → Type 0
-Clear plan (position.BehindLabel l) = (p : ℕ) × (d : ℕ) × (plan l ≡ jumps p d)
+Clear plan (position.AfterLabel l) = (p : ℕ) × (d : ℕ) × (plan l ≡ jumps p d)
 Clear plan _ = ⊤
 
 pub free_clear : (plan : ℕ → Use) (q : Position) → Free plan q → Clear plan q
-free_clear plan (position.BehindLabel l) h = h
+free_clear plan (position.AfterLabel l) h = h
 free_clear plan _ h = tt
 
 pub followed_matches : (plan : ℕ → Use) (q : Position) (s : Stmt) (uses : ℕ → LabelUse) → Clear plan q → AllMatch plan uses → AllMatch plan (label_followed q s uses)
-followed_matches plan (position.BehindLabel l) s uses free all = use_matches plan l (jumps free.0 free.1) (followed (what_stands s)) uses free.2 (λ h. h) all
+followed_matches plan (position.AfterLabel l) s uses free all = use_matches plan l (jumps free.0 free.1) (followed (what_follows s)) uses free.2 (λ h. h) all
 followed_matches plan _ s uses free all = all

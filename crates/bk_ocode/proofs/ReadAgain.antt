@@ -36,7 +36,7 @@ read_again printed more (Ok (Some read)) says =
     stmts_same (stmts_of read) (stmts_of printed) (one_saying (words_of (section_text (stmts_of printed) ++ more)) (section (stmts_of read)) (section (stmts_of printed)) says (printed_again printed more))
 read_again printed more (Ok None) says =
     section_nothing (stmts_of printed) (one_saying (words_of (section_text (stmts_of printed) ++ more)) (section (stmts_of printed)) nothing (printed_again printed more) says)
-read_again printed more (Err (Fault told)) says =
-    section_fault (stmts_of printed) told.statement told.kind (one_saying (words_of (section_text (stmts_of printed) ++ more)) (section (stmts_of printed)) (fault told.statement told.kind) (printed_again printed more) says)
+read_again printed more (Err (Fault reported)) says =
+    section_fault (stmts_of printed) reported.statement reported.kind (one_saying (words_of (section_text (stmts_of printed) ++ more)) (section (stmts_of printed)) (fault reported.statement reported.kind) (printed_again printed more) says)
 read_again printed more (Err Memory) says = tt
 read_again printed more (Err Device) says = tt

@@ -18,13 +18,13 @@ word_read old a b e f m k words held reads goes_on comes within =
 pub grows : (b c : Option (List ℕ)) (m k : ℕ) (ended : Bool) (held : Gathered) → Comes b c m k ended (Some held) → m < k
 grows b c m k ended held n =
     let t = n.3.0 in
-    omega (arith, n.2, ap (λ (l : List ℕ). length l) t.whole, length-append t.blanks ((t.first ∷ t.rest) ++ t.behind), length-append t.rest t.behind)
+    omega (arith, n.2, ap (λ (l : List ℕ). length l) t.whole, length-append t.blanks ((t.first ∷ t.rest) ++ t.following), length-append t.rest t.following)
 
 -- the words of the text are all read
 pub all_read : (old a b : Option (List ℕ)) (e f : Bool) (m k : ℕ) (words : List (List ℕ)) → Reads old a e m words → Comes a b m k f None → k ≤ INPUT_BYTES → (IsTrue e → k ≡ m) → ReadsAll old b f k words
-all_read old a b e f m k words reads comes within told =
+all_read old a b e f m k words reads comes within reported =
     Reads-end old a b e f m k words comes.0 reads comes.3.0 comes.3.1 comes.1 comes.2 (λ at. elim at [
-      | inl t ↦ none comes.0 (omega (arith, told t, comes.2))
+      | inl t ↦ none comes.0 (omega (arith, reported t, comes.2))
       | inr full ↦ none comes.0 (omega (arith, full, comes.2, within))
     ])
   where

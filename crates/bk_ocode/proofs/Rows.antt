@@ -1,5 +1,5 @@
 -- Texts of lists that are written one part after another.
-use Rattle.bk_ocode.proofs.Terms.{◌≡◌, ℕ, ◌+◌, ◌<◌, List, [], ◌∷◌, ◌++◌, length, take, drop, get_or, refl, sym, ◌∙◌, ap, append_assoc, subst, Option, Appends, take_more, take-append-drop, AppendsPart, spelling, joined, natural_word, label_word, spaced, byte_words, case_words, global_words, stmt_text, section_text, Case, GlobalEntry, Stmt, Appends-trans, AppendsPart-behind, AppendsPart-front}
+use Rattle.bk_ocode.proofs.Terms.{◌≡◌, ℕ, ◌+◌, ◌<◌, List, [], ◌∷◌, ◌++◌, length, take, drop, get_or, refl, sym, ◌∙◌, ap, append_assoc, subst, Option, Appends, take_more, take-append-drop, AppendsPart, spelling, joined, natural_word, label_word, spaced, byte_words, case_words, global_words, stmt_text, section_text, Case, GlobalEntry, Stmt, Appends-trans, AppendsPart-after, AppendsPart-front}
 
 pub joined-append : {A B : Type 0} → (f : A → List B) (a b : List A) → joined f (a ++ b) ≡ joined f a ++ joined f b
 joined-append f [] b = refl
@@ -28,7 +28,7 @@ text-more A T is xs k d low = ap T (take_more xs k d low) ∙ is (take k xs) (ge
 pub AppendsPart-row : (A : Type 0) (T : List A → List ℕ) → IsText A T → (a b c : Option (List ℕ)) (xs : List A) (k : ℕ) (d : A) (one : List ℕ) → k < length xs →
     T (get_or xs k d ∷ []) ≡ one → Appends a b (T (take k xs)) → AppendsPart b c one → AppendsPart a c (T xs)
 AppendsPart-row A T is a b c xs k d one low same taken part =
-    AppendsPart-behind a b c (T (take k xs)) (one ++ T (drop (k + 1) xs)) (T xs)
+    AppendsPart-after a b c (T (take k xs)) (one ++ T (drop (k + 1) xs)) (T xs)
     (text-at A T is xs k d low ∙ ap (λ (t : List ℕ). T (take k xs) ++ (t ++ T (drop (k + 1) xs))) same) taken
     (AppendsPart-front b c one (T (drop (k + 1) xs)) (one ++ T (drop (k + 1) xs)) refl part)
 

@@ -1,7 +1,7 @@
 -- Each step keeps what the states of a run keep, and so does going on from a rest.
-use Rattle.bk_ocode.proofs.Terms.{◌≡◌, ◌⊎◌, inl, inr, ℕ, zero, suc, ◌+◌, ◌≤◌, Bool, true, false, not, List, [], ◌∷◌, ◌++◌, length, take, slice_get, Option, Some, None, refl, sym, ◌∙◌, ap, subst, arith, append_assoc, word_sum, byte_distance, next_depth, depth_behind, least_depth, InRange, may_stand, Context, at_start, after, after_all, context_of, misplaced, AreFaultless, Content, Variable, Temporary, Held, write, byte_at, word_with_byte_at, string_at, Placement, Placed, Routine, Stop, Rdch, Wrch, Newline, Writes, Writen, Writed, Getbyte, Putbyte, Writef, Control, Inside, Behind, At, State, Next, Goes, Wild, rest_place, slot, on_some, return, tells, read_byte, routine_step, step_in, step_from, step, Rest, rest_of, or_rest, rests, rests_of, in_hand, kept, resumed_by, resumed, Program, HasFrames, IsProgram, Stands, IsOwn, IsControl, Sound, SoundStep, StepsAreSound, ResumingIsSound, Position, Body, Local, Stmt, Number, True, False, Query, Load, Address, Text, Assign, Jump, JumpIf, Label, TakeResult, Stack, Store, Entry, Save, CallFunction, CallRoutine, Return, EndProcedure, Switch, Finish, DataLabel, DataNumber, DataAddress, Globals, Position as position, same_Some, not-false}
+use Rattle.bk_ocode.proofs.Terms.{◌≡◌, ◌⊎◌, inl, inr, ℕ, zero, suc, ◌+◌, ◌≤◌, Bool, true, false, not, List, [], ◌∷◌, ◌++◌, length, take, slice_get, Option, Some, None, refl, sym, ◌∙◌, ap, subst, arith, append_assoc, word_sum, byte_distance, next_depth, depth_after, least_depth, InRange, may_stand, Context, at_start, after, after_all, context_of, misplaced, AreFaultless, Content, Variable, Temporary, Held, write, byte_at, word_with_byte_at, string_at, Placement, Placed, Routine, Stop, Rdch, Wrch, Newline, Writes, Writen, Writed, Getbyte, Putbyte, Writef, Control, Inside, Following, At, State, Next, Goes, Wild, rest_place, slot, on_some, return, tells, read_byte, routine_step, step_in, step_from, step, Rest, rest_of, or_rest, rests, rests_of, in_hand, kept, resumed_by, resumed, Program, HasFrames, IsProgram, Applies, IsOwn, IsControl, Sound, SoundStep, StepsAreSound, ResumingIsSound, Position, Body, Local, Stmt, Number, True, False, Query, Load, Address, Text, Assign, Jump, JumpIf, Label, TakeResult, Stack, Store, Entry, Save, CallFunction, CallRoutine, Return, EndProcedure, Switch, Finish, DataLabel, DataNumber, DataAddress, Globals, Position as position, same_Some, not-false}
 use Rattle.bk_ocode.proofs.Chosen.{on_number-holds, on_some-holds}
-use Rattle.bk_ocode.proofs.Depths.{keeps_in, context-depth, depth_behind-append, depths_suffice}
+use Rattle.bk_ocode.proofs.Depths.{keeps_in, context-depth, depth_after-append, depths_suffice}
 use Rattle.bk_ocode.proofs.JumpPlaces.{Within}
 use Rattle.bk_ocode.proofs.SoundSteps.{at_front, front_of, byte_there, Running, changed, slot-changes, variable-changes, inside, StaysNext, ReturnsNext, return-returns, step-stays}
 
@@ -80,7 +80,7 @@ take_front (s ∷ before) rest zero t at = refl
 take_front (s ∷ before) rest (suc k) t at = ap (λ (l : List Stmt). s ∷ l) (take_front before rest k t at)
 
 -- the depth at a LAB
-label_deep : (stmts before rest : List Stmt) (l : ℕ) → AreFaultless stmts → stmts ≡ before ++ Label l ∷ rest → 2 ≤ depth_behind 0 before
+label_deep : (stmts before rest : List Stmt) (l : ℕ) → AreFaultless stmts → stmts ≡ before ++ Label l ∷ rest → 2 ≤ depth_after 0 before
 label_deep stmts before rest l are whole =
     let fine : (k : ℕ) (t : Stmt) → slice_get (before ++ Label l ∷ rest) k ≡ Some t → IsFine (context_of (take k (before ++ Label l ∷ rest))) t =
     subst (λ (x : List Stmt). (k : ℕ) (t : Stmt) → slice_get x k ≡ Some t → IsFine (context_of (take k x)) t) whole (fine_in stmts are) in
@@ -97,40 +97,40 @@ taken_depth false depth = depth
 
 record IsFit (stmts : List Stmt) (r : Rest) : Type 0 where
   deep : 2 ≤ r.depth
-  stands : Stands stmts (taken_depth r.takes r.depth) r.behind
+  applies : Applies stmts (taken_depth r.takes r.depth) r.following
 
 module _ (places : Placement) (stmts : List Stmt) (are : AreFaultless stmts) where
   range_at : (before rest : List Stmt) (c : Stmt) → stmts ≡ before ++ c ∷ rest → InRange c
   range_at before rest c whole = are.in_range (length before) c (ap (λ (l : List Stmt). slice_get l (length before)) whole ∙ at_front before rest c)
 
   -- the statements behind one in its place
-  behind : (before rest : List Stmt) (c : Stmt) → stmts ≡ before ++ c ∷ rest → Stands stmts (next_depth (depth_behind 0 before) c) rest
-  behind before rest c whole = record {
+  following : (before rest : List Stmt) (c : Stmt) → stmts ≡ before ++ c ∷ rest → Applies stmts (next_depth (depth_after 0 before) c) rest
+  following before rest c whole = record {
     before = before ++ c ∷ [];
     whole = whole ∙ sym (append_assoc before (c ∷ []) rest);
-    same_depth = inl (sym (depth_behind-append 0 before (c ∷ [])));
+    same_depth = inl (sym (depth_after-append 0 before (c ∷ [])));
   }
 
-  rest_fits : (before rest : List Stmt) (c : Stmt) (r : Rest) → stmts ≡ before ++ c ∷ rest → rest_of places (depth_behind 0 before) c rest ≡ Some r → IsFit stmts r
+  rest_fits : (before rest : List Stmt) (c : Stmt) (r : Rest) → stmts ≡ before ++ c ∷ rest → rest_of places (depth_after 0 before) c rest ≡ Some r → IsFit stmts r
   rest_fits before rest (Entry l name) r whole is =
       subst (IsFit stmts) (same_Some _ r is)
-      (record { deep = omega arith; stands = record { before = before; whole = whole; same_depth = inr tt } })
+      (record { deep = omega arith; applies = record { before = before; whole = whole; same_depth = inr tt } })
   rest_fits before rest (Label l) r whole is =
-      subst (IsFit stmts) (same_Some _ r is) (record { deep = label_deep stmts before rest l are whole; stands = behind before rest (Label l) whole })
+      subst (IsFit stmts) (same_Some _ r is) (record { deep = label_deep stmts before rest l are whole; applies = following before rest (Label l) whole })
   rest_fits before rest (CallFunction n) r whole is =
-      subst (IsFit stmts) (same_Some _ r is) (record { deep = (range_at before rest (CallFunction n) whole).0; stands = behind before rest (CallFunction n) whole })
+      subst (IsFit stmts) (same_Some _ r is) (record { deep = (range_at before rest (CallFunction n) whole).0; applies = following before rest (CallFunction n) whole })
   rest_fits before rest (CallRoutine n) r whole is =
-      subst (IsFit stmts) (same_Some _ r is) (record { deep = (range_at before rest (CallRoutine n) whole).0; stands = behind before rest (CallRoutine n) whole })
+      subst (IsFit stmts) (same_Some _ r is) (record { deep = (range_at before rest (CallRoutine n) whole).0; applies = following before rest (CallRoutine n) whole })
   rest_fits before rest c r whole is = absurd (let h : None ≡ Some r = is in cc)
 
-  rests_fit : (rest before : List Stmt) (j : ℕ) (r : Rest) → stmts ≡ before ++ rest → slice_get (rests places (depth_behind 0 before) rest) j ≡ Some r → IsFit stmts r
+  rests_fit : (rest before : List Stmt) (j : ℕ) (r : Rest) → stmts ≡ before ++ rest → slice_get (rests places (depth_after 0 before) rest) j ≡ Some r → IsFit stmts r
   rests_fit [] before j r whole at = absurd (let h : None ≡ Some r = at in cc)
-  rests_fit (c ∷ rest) before j r whole at = by_rest (rest_of places (depth_behind 0 before) c rest) refl j at
+  rests_fit (c ∷ rest) before j r whole at = by_rest (rest_of places (depth_after 0 before) c rest) refl j at
       (λ i z. rests_fit rest (before ++ c ∷ []) i r (whole ∙ sym (append_assoc before (c ∷ []) rest))
-      (subst (λ n. slice_get (rests places n rest) i ≡ Some r) (sym (depth_behind-append 0 before (c ∷ []))) z))
+      (subst (λ n. slice_get (rests places n rest) i ≡ Some r) (sym (depth_after-append 0 before (c ∷ []))) z))
     where
-      by_rest : (o : Option Rest) → rest_of places (depth_behind 0 before) c rest ≡ o → (j : ℕ) → slice_get (or_rest o (rests places (next_depth (depth_behind 0 before) c) rest)) j ≡ Some r →
-          ((i : ℕ) → slice_get (rests places (next_depth (depth_behind 0 before) c) rest) i ≡ Some r → IsFit stmts r) → IsFit stmts r
+      by_rest : (o : Option Rest) → rest_of places (depth_after 0 before) c rest ≡ o → (j : ℕ) → slice_get (or_rest o (rests places (next_depth (depth_after 0 before) c) rest)) j ≡ Some r →
+          ((i : ℕ) → slice_get (rests places (next_depth (depth_after 0 before) c) rest) i ≡ Some r → IsFit stmts r) → IsFit stmts r
       by_rest None is j at go = go j at
       by_rest (Some q) is zero at go = rest_fits before rest c r whole (is ∙ at)
       by_rest (Some q) is (suc j) at go = go j at
@@ -184,10 +184,10 @@ module _ (program : Program) (first F : ℕ) (is : IsProgram program first F) wh
     abbrev Kept : Next → Type 0
     Kept x = StaysNext program first F s.frame x
 
-    step_in-kept : (own : Placed) (k : ℕ) (rest : List Stmt) → IsOwn program own → 2 ≤ k → Stands own.stmts k rest → Kept (step_in program.callables s own k rest)
-    step_in-kept own k [] is_own deep stands = tt
-    step_in-kept own k (c ∷ rest) is_own deep stands =
-        step-stays program first F is.accepted is.depths routine_apart is.home_apart is.above_globals s run own is_own k c rest deep stands
+    step_in-kept : (own : Placed) (k : ℕ) (rest : List Stmt) → IsOwn program own → 2 ≤ k → Applies own.stmts k rest → Kept (step_in program.callables s own k rest)
+    step_in-kept own k [] is_own deep applies = tt
+    step_in-kept own k (c ∷ rest) is_own deep applies =
+        step-stays program first F is.accepted is.depths routine_apart is.home_apart is.above_globals s run own is_own k c rest deep applies
 
   step-sound : (s t : State) → Sound program first F s → step program.callables s ≡ Goes t → SoundStep program first F s t
   step-sound s t sound goes = by_control s.control refl sound.control sound.active
@@ -208,25 +208,25 @@ module _ (program : Program) (first F : ℕ) (is : IsProgram program first F) wh
           let z : step_in program.callables s own k rest ≡ Goes t = sym (ap (λ x. step_from program.callables s x) e) ∙ goes in
           let h = subst (λ x. StaysNext program first F s.frame x) z (step_in-kept s run own k rest control.0 control.1 control.2) in
           record { sound = h.sound; near = h.near; same_frame = h.same_frame; returns = λ place routine at found. absurd (let h : Inside own k rest ≡ At place = sym e ∙ at in cc) }
-      by_control (Behind own l) e control (inl live) = absurd (let h : Wild ≡ Goes t = sym (ap (λ x. step_from program.callables s x) e) ∙ goes in cc)
+      by_control (Following own l) e control (inl live) = absurd (let h : Wild ≡ Goes t = sym (ap (λ x. step_from program.callables s x) e) ∙ goes in cc)
       by_control (At n) e control (inl live) = at_routine n e live.0 live.1 (program.callables.routine n) refl
 
   resumed-sound : (s : State) (own : Placed) (i j : ℕ) (r : Rest) → Sound program first F s → slice_get program.sections i ≡ Some own → slice_get (rests_of own) j ≡ Some r →
       rest_place s.control ≡ Some r.place → Sound program first F (resumed own r s)
   resumed-sound s own i j r sound at in_rests place = by_active sound.active
     where
-      by_takes : (run : Running program first F s.cells s.frame s.written) (b : Bool) → Stands own.stmts (taken_depth b r.depth) r.behind → 2 ≤ r.depth → Sound program first F (resumed_by b own r s)
-      by_takes run true stands deep =
-          (inside program first F s.frame (resumed_by true own r s) own (r.depth + 1) r.behind (i, at) (omega (arith, deep)) stands
+      by_takes : (run : Running program first F s.cells s.frame s.written) (b : Bool) → Applies own.stmts (taken_depth b r.depth) r.following → 2 ≤ r.depth → Sound program first F (resumed_by b own r s)
+      by_takes run true applies deep =
+          (inside program first F s.frame (resumed_by true own r s) own (r.depth + 1) r.following (i, at) (omega (arith, deep)) applies
           (changed program first F s.cells (write s.cells (s.frame + r.depth) (Held Temporary (in_hand s.hand))) s.frame s.written ((s.frame + r.depth) ∷ []) run
           (slot-changes program first F s.cells s.frame s.written run r.depth (Held Temporary (in_hand s.hand)) deep)) refl refl).sound
-      by_takes run false stands deep =
-          (inside program first F s.frame (resumed_by false own r s) own r.depth r.behind (i, at) deep stands run refl refl).sound
+      by_takes run false applies deep =
+          (inside program first F s.frame (resumed_by false own r s) own r.depth r.following (i, at) deep applies run refl refl).sound
 
       by_active : ((d : ℕ) × HasFrames program first F s.cells s.frame d) ⊎ ((s.control ≡ At program.home) × (s.frame ≡ first)) → Sound program first F (resumed own r s)
       by_active (inl live) =
           let fit = rests_fit own.places own.stmts (is.accepted i own at) own.stmts [] j r refl in_rests in
-          by_takes (running s sound live.0 live.1) r.takes fit.stands fit.deep
+          by_takes (running s sound live.0 live.1) r.takes fit.applies fit.deep
       by_active (inr over) = absurd ((is.rests_apart i j own r at in_rests).1 (let h : Some program.home ≡ Some r.place = sym (ap rest_place over.0) ∙ place in cc))
 
 pub steps_are_sound : StepsAreSound

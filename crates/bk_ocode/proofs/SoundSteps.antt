@@ -1,8 +1,8 @@
 -- What the states of a run keep is kept by each step, and by going on from a rest.
-use Rattle.bk_ocode.proofs.Terms.{◌≡◌, ◌⊎◌, inl, inr, ℕ, zero, suc, ◌+◌, ◌-◌, ◌<◌, ◌≤◌, ◌^◌, ◌==◌, nat_lt, Bool, true, false, List, [], ◌∷◌, ◌++◌, length, take, slice_get, Option, Some, None, refl, sym, ◌∙◌, ap, subst, arith, eqb-true, eq-eqb, le-leb, nat_le, ◌&&◌, ◌||◌, if◌then◌else◌, append_assoc, ⊤, ◌%◌, option_map, word_sum, byte_distance, byte_place, FRAME_WORDS, GLOBAL_NUMBER, next_depth, depth_behind, largest_behind, largest_depth, least_depth, assign_depth, InRange, AreFaultless, Content, Word, Variable, Temporary, Link, Cell, Held, content_of, with_byte, write, below, settle, variable_in, variable_at, number_in, byte_at, word_with_byte_at, Placement, Placed, Inside, At, State, Next, Goes, Ends, Wild, global_place, is_label, slot, on, push, operated, named_place, has_word, from_label, jump, jump_with, case_label, can_be_called, call, return, dyadic_word, step_by, Rest, rest_of, or_rest, rests, rests_of, IsAtRest, Program, is_datum, all_data, HasFrames, start, called, IsHeld, is_usable, IsOpening, Stands, IsOwn, IsControl, Sound, Local, Global, Static, Contents, Negate, Not, Stmt, Number, True, False, Query, Load, Address, Text, Monadic, Dyadic, LoadByte, Assign, AssignAt, AssignByte, Jump, JumpIf, Label, GiveResult, TakeResult, Stack, Store, Entry, Save, CallFunction, CallRoutine, ReturnItem, Return, Switch, Finish}
+use Rattle.bk_ocode.proofs.Terms.{◌≡◌, ◌⊎◌, inl, inr, ℕ, zero, suc, ◌+◌, ◌-◌, ◌<◌, ◌≤◌, ◌^◌, ◌==◌, nat_lt, Bool, true, false, List, [], ◌∷◌, ◌++◌, length, take, slice_get, Option, Some, None, refl, sym, ◌∙◌, ap, subst, arith, eqb-true, eq-eqb, le-leb, nat_le, ◌&&◌, ◌||◌, if◌then◌else◌, append_assoc, ⊤, ◌%◌, option_map, word_sum, byte_distance, byte_place, FRAME_WORDS, GLOBAL_NUMBER, next_depth, depth_after, largest_after, largest_depth, least_depth, assign_depth, InRange, AreFaultless, Content, Word, Variable, Temporary, Link, Cell, Held, content_of, with_byte, write, below, settle, variable_in, variable_at, number_in, byte_at, word_with_byte_at, Placement, Placed, Inside, At, State, Next, Goes, Ends, Wild, global_place, is_label, slot, on, push, operated, named_place, has_word, from_label, jump, jump_with, case_label, can_be_called, call, return, dyadic_word, step_by, Rest, rest_of, or_rest, rests, rests_of, IsAtRest, Program, is_datum, all_data, HasFrames, start, called, IsHeld, is_usable, IsOpening, Applies, IsOwn, IsControl, Sound, Local, Global, Static, Contents, Negate, Not, Stmt, Number, True, False, Query, Load, Address, Text, Monadic, Dyadic, LoadByte, Assign, AssignAt, AssignByte, Jump, JumpIf, Label, GiveResult, TakeResult, Stack, Store, Entry, Save, CallFunction, CallRoutine, ReturnItem, Return, Switch, Finish}
 use Rattle.bk_ocode.specs.declared.stmt.Variable.{Variable as Named}
 use Rattle.bk_ocode.proofs.Chosen.{below-kept, write-kept, write-there, settle-kept, on_number-holds, on_some-holds, if-holds}
-use Rattle.bk_ocode.proofs.Depths.{depth_behind-append, depths_suffice}
+use Rattle.bk_ocode.proofs.Depths.{depth_after-append, depths_suffice}
 
 -- ---- a statement in its place
 
@@ -14,7 +14,7 @@ pub front_of : (before rest : List Stmt) → take (length before) (before ++ res
 front_of [] rest = refl
 front_of (t ∷ before) rest = ap (λ (l : List Stmt). t ∷ l) (front_of before rest)
 
-largest_at : (k : ℕ) (before rest : List Stmt) (s : Stmt) → next_depth (depth_behind k before) s ≤ largest_behind k (before ++ s ∷ rest)
+largest_at : (k : ℕ) (before rest : List Stmt) (s : Stmt) → next_depth (depth_after k before) s ≤ largest_after k (before ++ s ∷ rest)
 largest_at k [] rest s = omega arith
 largest_at k (t ∷ before) rest s = omega (arith, largest_at (next_depth k t) before rest s)
 
@@ -23,35 +23,35 @@ pub record Here (stmts : List Stmt) (k : ℕ) (s : Stmt) (rest : List Stmt) : Ty
   pub least : least_depth s ≤ k
   pub most : next_depth k s ≤ FRAME_WORDS
   pub largest : next_depth k s ≤ largest_depth stmts
-  pub next : Stands stmts (next_depth k s) rest
+  pub next : Applies stmts (next_depth k s) rest
   pub before : List Stmt
   pub whole : stmts ≡ before ++ s ∷ rest
-  pub depth : k ≡ depth_behind 0 before
+  pub depth : k ≡ depth_after 0 before
 
-here : (stmts : List Stmt) (k : ℕ) (s : Stmt) (rest : List Stmt) → AreFaultless stmts → Stands stmts k (s ∷ rest) → (IsOpening (s ∷ rest) → ⊥) → Here stmts k s rest
-here stmts k s rest are stands other =
-    let before = stands.before in
-    let depth : k ≡ depth_behind 0 before = by_depth stands.same_depth in
-    let at : slice_get stmts (length before) ≡ Some s = ap (λ (l : List Stmt). slice_get l (length before)) stands.whole ∙ at_front before rest s in
+here : (stmts : List Stmt) (k : ℕ) (s : Stmt) (rest : List Stmt) → AreFaultless stmts → Applies stmts k (s ∷ rest) → (IsOpening (s ∷ rest) → ⊥) → Here stmts k s rest
+here stmts k s rest are applies other =
+    let before = applies.before in
+    let depth : k ≡ depth_after 0 before = by_depth applies.same_depth in
+    let at : slice_get stmts (length before) ≡ Some s = ap (λ (l : List Stmt). slice_get l (length before)) applies.whole ∙ at_front before rest s in
     let d = depths_suffice stmts (length before) s are at in
-    let same : depth_behind 0 (take (length before) stmts) ≡ k =
-    ap (depth_behind 0) (ap (take (length before)) stands.whole ∙ front_of before (s ∷ rest)) ∙ sym depth in
+    let same : depth_after 0 (take (length before) stmts) ≡ k =
+    ap (depth_after 0) (ap (take (length before)) applies.whole ∙ front_of before (s ∷ rest)) ∙ sym depth in
     record {
       range = are.in_range (length before) s at;
       least = subst (λ n. least_depth s ≤ n) same d.0;
       most = subst (λ n. next_depth n s ≤ FRAME_WORDS) same d.1;
-      largest = subst (λ n. next_depth n s ≤ largest_depth stmts) (sym depth) (subst (λ (l : List Stmt). next_depth (depth_behind 0 before) s ≤ largest_depth l) (sym stands.whole) (largest_at 0 before rest s));
+      largest = subst (λ n. next_depth n s ≤ largest_depth stmts) (sym depth) (subst (λ (l : List Stmt). next_depth (depth_after 0 before) s ≤ largest_depth l) (sym applies.whole) (largest_at 0 before rest s));
       next = record {
         before = before ++ s ∷ [];
-        whole = stands.whole ∙ sym (append_assoc before (s ∷ []) rest);
-        same_depth = inl (ap (λ n. next_depth n s) depth ∙ sym (depth_behind-append 0 before (s ∷ [])));
+        whole = applies.whole ∙ sym (append_assoc before (s ∷ []) rest);
+        same_depth = inl (ap (λ n. next_depth n s) depth ∙ sym (depth_after-append 0 before (s ∷ [])));
       };
       before = before;
-      whole = stands.whole;
+      whole = applies.whole;
       depth = depth;
     }
   where
-    by_depth : (k ≡ depth_behind 0 stands.before) ⊎ IsOpening (s ∷ rest) → k ≡ depth_behind 0 stands.before
+    by_depth : (k ≡ depth_after 0 applies.before) ⊎ IsOpening (s ∷ rest) → k ≡ depth_after 0 applies.before
     by_depth (inl e) = e
     by_depth (inr o) = absurd (other o)
 
@@ -79,7 +79,7 @@ more_rests : (o : Option Rest) (rs : List Rest) (j : ℕ) (r : Rest) → slice_g
 more_rests None rs j r at = (j, at)
 more_rests (Some q) rs j r at = (suc j, at)
 
-rest_at : (places : Placement) (k : ℕ) (before rest : List Stmt) (s : Stmt) (r : Rest) → rest_of places (depth_behind k before) s rest ≡ Some r →
+rest_at : (places : Placement) (k : ℕ) (before rest : List Stmt) (s : Stmt) (r : Rest) → rest_of places (depth_after k before) s rest ≡ Some r →
     (i : ℕ) × (slice_get (rests places k (before ++ s ∷ rest)) i ≡ Some r)
 rest_at places k [] rest s r is = (0, ap (λ o. slice_get (or_rest o (rests places (next_depth k s) rest)) 0) is)
 rest_at places k (t ∷ before) rest s r is =
@@ -255,12 +255,12 @@ module _ (program : Program) (first F : ℕ) where
   static_word l x e = absurd (let h : false ≡ true = e in cc)
 
   -- a step in a procedure that goes on in it
-  pub inside : (frame : ℕ) (t : State) (own : Placed) (k : ℕ) (rest : List Stmt) → IsOwn program own → 2 ≤ k → Stands own.stmts k rest →
+  pub inside : (frame : ℕ) (t : State) (own : Placed) (k : ℕ) (rest : List Stmt) → IsOwn program own → 2 ≤ k → Applies own.stmts k rest →
       Running t.cells t.frame t.written → t.control ≡ Inside own k rest → t.frame ≡ frame → Stays frame t
-  inside frame t own k rest is_own deep stands run at same = record {
+  inside frame t own k rest is_own deep applies run at same = record {
     sound = record {
       from_first = frames-from t.cells t.frame run.count run.frames;
-      control = subst (IsControl program) (sym at) (is_own, deep, stands);
+      control = subst (IsControl program) (sym at) (is_own, deep, applies);
       active = inl (run.count, run.frames);
       held = run.held;
       written = run.stored;
@@ -275,15 +275,15 @@ module _ (program : Program) (first F : ℕ) where
       (home_apart : program.callables.routine program.home ≡ None) (above : global_place GLOBAL_NUMBER < first)
       (s : State) (run : Running s.cells s.frame s.written) where
     module _ (own : Placed) (is_own : IsOwn program own) where
-      on-stays : (k : ℕ) (rest : List Stmt) (new : ℕ → Cell) (places : List ℕ) → 2 ≤ k → Stands own.stmts k rest → Changes s.cells new (s.frame + 2) places →
+      on-stays : (k : ℕ) (rest : List Stmt) (new : ℕ → Cell) (places : List ℕ) → 2 ≤ k → Applies own.stmts k rest → Changes s.cells new (s.frame + 2) places →
           StaysNext s.frame (on s own k rest new places)
-      on-stays k rest new places deep stands c =
-          inside s.frame (record s { control = Inside own k rest; cells = below (s.frame + k) new; hand = None; written = places ++ s.written }) own k rest is_own deep stands
+      on-stays k rest new places deep applies c =
+          inside s.frame (record s { control = Inside own k rest; cells = below (s.frame + k) new; hand = None; written = places ++ s.written }) own k rest is_own deep applies
           (changed s.cells (below (s.frame + k) new) s.frame s.written places run (below-changes s.cells s.frame s.written run new places k deep c)) refl refl
 
-      push-stays : (k : ℕ) (rest : List Stmt) (content : Content) → 2 ≤ k → Stands own.stmts (k + 1) rest → StaysNext s.frame (push s own k rest content)
-      push-stays k rest content deep stands =
-          on-stays (k + 1) rest (write s.cells (s.frame + k) (Held Temporary content)) ((s.frame + k) ∷ []) (omega (arith, deep)) stands
+      push-stays : (k : ℕ) (rest : List Stmt) (content : Content) → 2 ≤ k → Applies own.stmts (k + 1) rest → StaysNext s.frame (push s own k rest content)
+      push-stays k rest content deep applies =
+          on-stays (k + 1) rest (write s.cells (s.frame + k) (Held Temporary content)) ((s.frame + k) ∷ []) (omega (arith, deep)) applies
           (slot-changes s.cells s.frame s.written run k (Held Temporary content) deep)
 
       -- a jump
@@ -299,21 +299,21 @@ module _ (program : Program) (first F : ℕ) where
           (record { before = f.before; whole = f.whole; same_depth = inr f.opening })
           (changed s.cells (below (s.frame + k) s.cells) s.frame s.written [] run (below-changes s.cells s.frame s.written run s.cells [] k deep (same-changes s.cells s.frame s.written run))) refl refl)
 
-      operated-stays : (n : ℕ) (rest : List Stmt) (w : Option ℕ) → 2 ≤ n → Stands own.stmts (n + 1) rest → StaysNext s.frame (operated s own n rest w)
-      operated-stays n rest (Some w) deep stands = push-stays n rest (Word w) deep stands
-      operated-stays n rest None deep stands = tt
+      operated-stays : (n : ℕ) (rest : List Stmt) (w : Option ℕ) → 2 ≤ n → Applies own.stmts (n + 1) rest → StaysNext s.frame (operated s own n rest w)
+      operated-stays n rest (Some w) deep applies = push-stays n rest (Word w) deep applies
+      operated-stays n rest None deep applies = tt
 
       -- an assignment
-      assign-stays : (to : Named) (k : ℕ) (rest : List Stmt) (cell : Cell) → 2 ≤ k → InRange (Assign to) → Stands own.stmts k rest →
+      assign-stays : (to : Named) (k : ℕ) (rest : List Stmt) (cell : Cell) → 2 ≤ k → InRange (Assign to) → Applies own.stmts k rest →
           has_word to (s.cells (named_place s own to)) ≡ true → StaysNext s.frame (on s own k rest (write s.cells (named_place s own to) cell) (named_place s own to ∷ []))
-      assign-stays (Local n) k rest cell deep range stands word =
-          on-stays k rest (write s.cells (s.frame + n) cell) ((s.frame + n) ∷ []) deep stands (slot-changes s.cells s.frame s.written run n cell range.0)
-      assign-stays (Global n) k rest cell deep range stands word =
-          on-stays k rest (write s.cells (global_place n) cell) (global_place n ∷ []) deep stands
+      assign-stays (Local n) k rest cell deep range applies word =
+          on-stays k rest (write s.cells (s.frame + n) cell) ((s.frame + n) ∷ []) deep applies (slot-changes s.cells s.frame s.written run n cell range.0)
+      assign-stays (Global n) k rest cell deep range applies word =
+          on-stays k rest (write s.cells (global_place n) cell) (global_place n ∷ []) deep applies
           (global-changes s.cells s.frame s.written run (global_place n) cell (omega (arith, range, above)) (global_usable n range))
-      assign-stays (Static l) k rest cell deep range stands word =
+      assign-stays (Static l) k rest cell deep range applies word =
           let old = static_word l (s.cells (own.places.label l)) word in
-          on-stays k rest (write s.cells (own.places.label l) cell) (own.places.label l ∷ []) deep stands
+          on-stays k rest (write s.cells (own.places.label l) cell) (own.places.label l ∷ []) deep applies
           (variable-changes s.cells s.frame s.written run (own.places.label l) cell old.0 old.1)
 
       -- a call
@@ -431,19 +431,19 @@ module _ (program : Program) (first F : ℕ) where
       most_F : (n : ℕ) → n ≤ largest_depth own.stmts → n ≤ F
       most_F n le = omega (arith, le, depths is_own.0 own is_own.1)
 
-      hereof : (k : ℕ) (c : Stmt) (rest : List Stmt) → Stands own.stmts k (c ∷ rest) → (IsOpening (c ∷ rest) → ⊥) → Here own.stmts k c rest
-      hereof k c rest stands other = here own.stmts k c rest (accepted is_own.0 own is_own.1) stands other
+      hereof : (k : ℕ) (c : Stmt) (rest : List Stmt) → Applies own.stmts k (c ∷ rest) → (IsOpening (c ∷ rest) → ⊥) → Here own.stmts k c rest
+      hereof k c rest applies other = here own.stmts k c rest (accepted is_own.0 own is_own.1) applies other
 
-      again : (n m : ℕ) (rest : List Stmt) → n ≡ m → Stands own.stmts n rest → Stands own.stmts m rest
-      again n m rest same stands = subst (λ x. Stands own.stmts x rest) same stands
+      again : (n m : ℕ) (rest : List Stmt) → n ≡ m → Applies own.stmts n rest → Applies own.stmts m rest
+      again n m rest same applies = subst (λ x. Applies own.stmts x rest) same applies
 
       assign_deep : (k : ℕ) (to : Named) → InRange (Assign to) → assign_depth to ≤ k → 2 ≤ k - 1
       assign_deep k (Local n) range least = omega (arith, range.0, least)
       assign_deep k (Global n) range least = omega (arith, least)
       assign_deep k (Static l) range least = omega (arith, least)
 
-      pub step-stays : (k : ℕ) (c : Stmt) (rest : List Stmt) → 2 ≤ k → Stands own.stmts k (c ∷ rest) → StaysNext s.frame (step_by program.callables s own k c rest)
-      step-stays k (Label l) rest deep stands = record {
+      pub step-stays : (k : ℕ) (c : Stmt) (rest : List Stmt) → 2 ≤ k → Applies own.stmts k (c ∷ rest) → StaysNext s.frame (step_by program.callables s own k c rest)
+      step-stays k (Label l) rest deep applies = record {
         sound = record {
           from_first = frames-from s.cells s.frame run.count run.frames;
           control = is_own;
@@ -454,94 +454,94 @@ module _ (program : Program) (first F : ℕ) where
         near = omega arith;
         same_frame = λ own2 depth rest2 z. refl;
       }
-      step-stays k (Entry l name) rest deep stands =
+      step-stays k (Entry l name) rest deep applies =
           inside s.frame (record s { control = Inside own 2 rest; hand = None }) own 2 rest is_own (omega arith) (record {
-            before = stands.before ++ Entry l name ∷ [];
-            whole = stands.whole ∙ sym (append_assoc stands.before (Entry l name ∷ []) rest);
-            same_depth = inl (sym (depth_behind-append 0 stands.before (Entry l name ∷ [])));
+            before = applies.before ++ Entry l name ∷ [];
+            whole = applies.whole ∙ sym (append_assoc applies.before (Entry l name ∷ []) rest);
+            same_depth = inl (sym (depth_after-append 0 applies.before (Entry l name ∷ [])));
           }) run refl refl
-      step-stays k True rest deep stands = push-stays own is_own k rest _ deep (hereof k True rest stands (λ o. o)).next
-      step-stays k False rest deep stands = push-stays own is_own k rest _ deep (hereof k False rest stands (λ o. o)).next
-      step-stays k Query rest deep stands = push-stays own is_own k rest _ deep (hereof k Query rest stands (λ o. o)).next
-      step-stays k (Number value) rest deep stands = push-stays own is_own k rest _ deep (hereof k (Number value) rest stands (λ o. o)).next
-      step-stays k (Load from) rest deep stands = push-stays own is_own k rest _ deep (hereof k (Load from) rest stands (λ o. o)).next
-      step-stays k (Address of) rest deep stands = push-stays own is_own k rest _ deep (hereof k (Address of) rest stands (λ o. o)).next
-      step-stays k (Text bytes) rest deep stands = push-stays own is_own k rest _ deep (hereof k (Text bytes) rest stands (λ o. o)).next
-      step-stays k (Monadic Contents) rest deep stands =
-          let h = hereof k (Monadic Contents) rest stands (λ o. o) in
+      step-stays k True rest deep applies = push-stays own is_own k rest _ deep (hereof k True rest applies (λ o. o)).next
+      step-stays k False rest deep applies = push-stays own is_own k rest _ deep (hereof k False rest applies (λ o. o)).next
+      step-stays k Query rest deep applies = push-stays own is_own k rest _ deep (hereof k Query rest applies (λ o. o)).next
+      step-stays k (Number value) rest deep applies = push-stays own is_own k rest _ deep (hereof k (Number value) rest applies (λ o. o)).next
+      step-stays k (Load from) rest deep applies = push-stays own is_own k rest _ deep (hereof k (Load from) rest applies (λ o. o)).next
+      step-stays k (Address of) rest deep applies = push-stays own is_own k rest _ deep (hereof k (Address of) rest applies (λ o. o)).next
+      step-stays k (Text bytes) rest deep applies = push-stays own is_own k rest _ deep (hereof k (Text bytes) rest applies (λ o. o)).next
+      step-stays k (Monadic Contents) rest deep applies =
+          let h = hereof k (Monadic Contents) rest applies (λ o. o) in
           on_number-holds (StaysNext s.frame) tt (slot s (k - 1)) _ (λ a ea. on_some-holds (StaysNext s.frame) tt (variable_at (s.frame + k) s.cells a) _ (λ content ec.
           push-stays own is_own (k - 1) rest content (omega (arith, h.least)) (again k (k - 1 + 1) rest (omega (arith, h.least)) h.next)))
-      step-stays k (Monadic Negate) rest deep stands =
-          let h = hereof k (Monadic Negate) rest stands (λ o. o) in
+      step-stays k (Monadic Negate) rest deep applies =
+          let h = hereof k (Monadic Negate) rest applies (λ o. o) in
           on_number-holds (StaysNext s.frame) tt (slot s (k - 1)) _ (λ w ew.
           push-stays own is_own (k - 1) rest _ (omega (arith, h.least)) (again k (k - 1 + 1) rest (omega (arith, h.least)) h.next))
-      step-stays k (Monadic Not) rest deep stands =
-          let h = hereof k (Monadic Not) rest stands (λ o. o) in
+      step-stays k (Monadic Not) rest deep applies =
+          let h = hereof k (Monadic Not) rest applies (λ o. o) in
           on_number-holds (StaysNext s.frame) tt (slot s (k - 1)) _ (λ w ew.
           push-stays own is_own (k - 1) rest _ (omega (arith, h.least)) (again k (k - 1 + 1) rest (omega (arith, h.least)) h.next))
-      step-stays k (Dyadic operator) rest deep stands =
-          let h = hereof k (Dyadic operator) rest stands (λ o. o) in
+      step-stays k (Dyadic operator) rest deep applies =
+          let h = hereof k (Dyadic operator) rest applies (λ o. o) in
           on_number-holds (StaysNext s.frame) tt (slot s (k - 2)) _ (λ v ev. on_number-holds (StaysNext s.frame) tt (slot s (k - 1)) _ (λ w ew.
           operated-stays own is_own (k - 2) rest (dyadic_word operator v w) (omega (arith, h.least)) (again (k - 1) (k - 2 + 1) rest (omega (arith, h.least)) h.next)))
-      step-stays k LoadByte rest deep stands =
-          let h = hereof k LoadByte rest stands (λ o. o) in
+      step-stays k LoadByte rest deep applies =
+          let h = hereof k LoadByte rest applies (λ o. o) in
           on_number-holds (StaysNext s.frame) tt (slot s (k - 2)) _ (λ a ea. on_number-holds (StaysNext s.frame) tt (slot s (k - 1)) _ (λ i ei.
           on_some-holds (StaysNext s.frame) tt (byte_at (s.frame + k) s.cells a i) _ (λ b eb.
           push-stays own is_own (k - 2) rest _ (omega (arith, h.least)) (again (k - 1) (k - 2 + 1) rest (omega (arith, h.least)) h.next))))
-      step-stays k (Assign to) rest deep stands =
-          let h = hereof k (Assign to) rest stands (λ o. o) in
+      step-stays k (Assign to) rest deep applies =
+          let h = hereof k (Assign to) rest applies (λ o. o) in
           if-holds (StaysNext s.frame) (has_word to (s.cells (named_place s own to))) _ Wild
           (λ e. assign-stays own is_own to (k - 1) rest _ (assign_deep k to h.range h.least) h.range h.next e) (λ _. tt)
-      step-stays k AssignAt rest deep stands =
-          let h = hereof k AssignAt rest stands (λ o. o) in
+      step-stays k AssignAt rest deep applies =
+          let h = hereof k AssignAt rest applies (λ o. o) in
           on_number-holds (StaysNext s.frame) tt (slot s (k - 1)) _ (λ a ea. on_some-holds (StaysNext s.frame) tt (variable_at (s.frame + k) s.cells a) _ (λ old eo.
           on-stays own is_own (k - 2) rest _ (a ∷ []) (omega (arith, h.least)) h.next
           (variable-changes s.cells s.frame s.written run a _ old (variable_there (s.frame + k) s.cells a old eo))))
-      step-stays k AssignByte rest deep stands =
-          let h = hereof k AssignByte rest stands (λ o. o) in
+      step-stays k AssignByte rest deep applies =
+          let h = hereof k AssignByte rest applies (λ o. o) in
           on_number-holds (StaysNext s.frame) tt (slot s (k - 3)) _ (λ b eb. on_number-holds (StaysNext s.frame) tt (slot s (k - 2)) _ (λ a ea.
           on_number-holds (StaysNext s.frame) tt (slot s (k - 1)) _ (λ i ei. on_some-holds (StaysNext s.frame) tt (word_with_byte_at (s.frame + k) s.cells a i b) _ (λ content ec.
           let old = byte_there (s.frame + k) s.cells a i b content ec in
           on-stays own is_own (k - 3) rest _ (word_sum a (byte_distance i) ∷ []) (omega (arith, h.least)) h.next
           (variable-changes s.cells s.frame s.written run (word_sum a (byte_distance i)) _ old.0 old.1)))))
-      step-stays k (Jump l) rest deep stands = jump-stays own is_own k l deep
-      step-stays k (JumpIf true l) rest deep stands =
-          let h = hereof k (JumpIf true l) rest stands (λ o. o) in
+      step-stays k (Jump l) rest deep applies = jump-stays own is_own k l deep
+      step-stays k (JumpIf true l) rest deep applies =
+          let h = hereof k (JumpIf true l) rest applies (λ o. o) in
           on_number-holds (StaysNext s.frame) tt (slot s (k - 1)) _ (λ w ew. if-holds (StaysNext s.frame) (w == 0) _ _
           (λ _. on-stays own is_own (k - 1) rest s.cells [] (omega (arith, h.least)) h.next (same-changes s.cells s.frame s.written run))
           (λ _. jump-stays own is_own (k - 1) l (omega (arith, h.least))))
-      step-stays k (JumpIf false l) rest deep stands =
-          let h = hereof k (JumpIf false l) rest stands (λ o. o) in
+      step-stays k (JumpIf false l) rest deep applies =
+          let h = hereof k (JumpIf false l) rest applies (λ o. o) in
           on_number-holds (StaysNext s.frame) tt (slot s (k - 1)) _ (λ w ew. if-holds (StaysNext s.frame) (w == 0) _ _
           (λ _. jump-stays own is_own (k - 1) l (omega (arith, h.least)))
           (λ _. on-stays own is_own (k - 1) rest s.cells [] (omega (arith, h.least)) h.next (same-changes s.cells s.frame s.written run)))
-      step-stays k (GiveResult l) rest deep stands =
-          let h = hereof k (GiveResult l) rest stands (λ o. o) in
+      step-stays k (GiveResult l) rest deep applies =
+          let h = hereof k (GiveResult l) rest applies (λ o. o) in
           jump_with-stays own is_own (k - 1) l _ (omega (arith, h.least))
-      step-stays k (TakeResult n) rest deep stands =
-          let h = hereof k (TakeResult n) rest stands (λ o. o) in
+      step-stays k (TakeResult n) rest deep applies =
+          let h = hereof k (TakeResult n) rest applies (λ o. o) in
           push-stays own is_own n rest _ h.range.0 h.next
-      step-stays k (Stack n) rest deep stands =
-          let h = hereof k (Stack n) rest stands (λ o. o) in
+      step-stays k (Stack n) rest deep applies =
+          let h = hereof k (Stack n) rest applies (λ o. o) in
           on-stays own is_own n rest _ [] h.range.0 h.next (settle-changes s.cells s.frame s.written run k (s.frame + n) deep)
-      step-stays k Store rest deep stands =
-          let h = hereof k Store rest stands (λ o. o) in
+      step-stays k Store rest deep applies =
+          let h = hereof k Store rest applies (λ o. o) in
           on-stays own is_own k rest _ [] deep h.next (settle-changes s.cells s.frame s.written run 2 (s.frame + k) (omega arith))
-      step-stays k (Save n) rest deep stands =
-          let h = hereof k (Save n) rest stands (λ o. o) in
+      step-stays k (Save n) rest deep applies =
+          let h = hereof k (Save n) rest applies (λ o. o) in
           on-stays own is_own n rest _ [] h.range.0 h.next (settle-changes s.cells s.frame s.written run 2 (s.frame + n) (omega arith))
-      step-stays k (CallFunction n) rest deep stands =
-          let h = hereof k (CallFunction n) rest stands (λ o. o) in
+      step-stays k (CallFunction n) rest deep applies =
+          let h = hereof k (CallFunction n) rest applies (λ o. o) in
           on_number-holds (StaysNext s.frame) tt (slot s (k - 1)) _ (λ e ee.
           call-stays own is_own k n e rest h.range.0 h.least (most_F n (omega (arith, h.largest))) (omega (arith, h.most)) (back_apart k (CallFunction n) rest _ h refl))
-      step-stays k (CallRoutine n) rest deep stands =
-          let h = hereof k (CallRoutine n) rest stands (λ o. o) in
+      step-stays k (CallRoutine n) rest deep applies =
+          let h = hereof k (CallRoutine n) rest applies (λ o. o) in
           on_number-holds (StaysNext s.frame) tt (slot s (k - 1)) _ (λ e ee.
           call-stays own is_own k n e rest h.range.0 h.least (most_F n h.largest) h.most (back_apart k (CallRoutine n) rest _ h refl))
-      step-stays k ReturnItem rest deep stands = return-stays _
-      step-stays k Return rest deep stands = return-stays None
-      step-stays k (Switch default cases) rest deep stands =
-          let h = hereof k (Switch default cases) rest stands (λ o. o) in
+      step-stays k ReturnItem rest deep applies = return-stays _
+      step-stays k Return rest deep applies = return-stays None
+      step-stays k (Switch default cases) rest deep applies =
+          let h = hereof k (Switch default cases) rest applies (λ o. o) in
           on_number-holds (StaysNext s.frame) tt (slot s (k - 1)) _ (λ w ew. jump-stays own is_own (k - 1) (case_label cases default w) (omega (arith, h.least)))
-      step-stays k Finish rest deep stands = tt
-      step-stays k _ rest deep stands = tt
+      step-stays k Finish rest deep applies = tt
+      step-stays k _ rest deep applies = tt

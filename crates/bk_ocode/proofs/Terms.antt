@@ -15,7 +15,7 @@ pub use Rattle.std.specs.Option.{option_map, option_map_or}
 pub use Rattle.std.specs.Ordering.{int_eq, nat_cmp}
 pub use Rattle.std.specs.Prelude.{⊤, ◌%◌}
 pub use Rattle.bk_base.specs.Decimal.{spelling}
-pub use Rattle.bk_base.specs.DeviceLaws.{AppendsPart-front, AppendsPart-behind, Begins-trans, Appends-trans}
+pub use Rattle.bk_base.specs.DeviceLaws.{AppendsPart-front, AppendsPart-after, Begins-trans, Appends-trans}
 pub use Rattle.bk_base.specs.Devices.{AppendsPart, Begins, NothingLeft}
 pub use Rattle.bk_base.specs.Word.{word_sum, byte_distance, byte_place, packed_word}
 pub use Rattle.bk_base.specs.declared.limit.TheConstants.{NAME_BYTES, FRAME_WORDS, GLOBAL_NUMBER, OCODE_WORDS, INPUT_BYTES, OCODE_STATEMENTS}
@@ -34,10 +34,10 @@ pub use Rattle.bk_words.specs.WordLaws.{words_of-front, Reads-word, Reads-end, R
 pub use Rattle.bk_words.specs.Words.{is_blank, words_of, AreInWord}
 pub use Rattle.bk_ocode.specs.Access.{byte_at, word_with_byte_at, string_at, number_in, variable_in, variable_at}
 pub use Rattle.bk_ocode.specs.Cells.{Content, Variable, Held, write, Unset, Word, Link, Cell, Free, content_of, Temporary, with_byte, below, settle, Partly}
-pub use Rattle.bk_ocode.specs.Context.{changed, all_changed, with_depth, jumped, given, least_result, mentioned, followed, what_stands, label_followed, labels_named, Context, fresh, at_start, after, after_all, context_of, set_by, start_behind, start_from}
-pub use Rattle.bk_ocode.specs.Depth.{depth_behind, largest_behind, next_depth, least_depth, largest_depth, assign_depth}
+pub use Rattle.bk_ocode.specs.Context.{changed, all_changed, with_depth, jumped, given, least_result, mentioned, followed, what_follows, label_followed, labels_named, Context, fresh, at_start, after, after_all, context_of, set_by, start_after, start_from}
+pub use Rattle.bk_ocode.specs.Depth.{depth_after, largest_after, next_depth, least_depth, largest_depth, assign_depth}
 pub use Rattle.bk_ocode.specs.Drafts.{context_in, IsDraft}
-pub use Rattle.bk_ocode.specs.Faults.{misplaced, is_lab_from, is_other_lab, are_other_jumps, jumps_disagree, result_named, follows_badly, own_disagrees, fault_in, stmt_fault, is_entry, data_set, is_set, set_again, jumps_set, label_not_set, is_data, too_long, label_set_twice, depths_disagree, slot_above, over, left_behind, is_badly_followed, not_followed}
+pub use Rattle.bk_ocode.specs.Faults.{misplaced, is_lab_from, is_other_lab, are_other_jumps, jumps_disagree, result_named, follows_badly, own_disagrees, fault_in, stmt_fault, is_entry, data_set, is_set, set_again, jumps_set, label_not_set, is_data, too_long, label_set_twice, depths_disagree, slot_above, over, left_after, is_badly_followed, not_followed}
 pub use Rattle.bk_ocode.specs.FirstFault.{IsStmt, IsPartial, BeginsStmt, IsBadWord, IsBadNumber, BreaksRule, PassesWords, FaultOf, FaultAt, CutAt, section, nothing, fault, Says, SayOneThing, Saying}
 pub use Rattle.bk_ocode.specs.Frames.{start, HasFrames, called}
 pub use Rattle.bk_ocode.specs.Keywords.{kind_of, keyword_text, keyword_of_stmt, two, three, four, five, six, seven, eight, keywords_of_length, find_keyword, keyword_role}
@@ -46,18 +46,18 @@ unfoldable pub use Rattle.bk_ocode.specs.KnownUses.{uses_of}
 pub use Rattle.bk_ocode.specs.Labels.{jump_labels, label_set, other_labels, result_label, data_labels, item_label, global_labels}
 pub use Rattle.bk_ocode.specs.Lists.{joined}
 pub use Rattle.bk_ocode.specs.OcodeRun.{Program, Rest, rest_of, or_rest, rests, rests_of, in_hand, kept, resumed_by, resumed, IsAtRest, run, label_rest, program_step_from}
-pub use Rattle.bk_ocode.specs.OcodeState.{Callables, Routine, Stop, Rdch, Wrch, Newline, Writes, Writen, Writed, Getbyte, Putbyte, Writef, Control, Inside, Behind, At, State, Next, Goes, Ends, Wild, Placement, Placed, global_place, rest_place}
+pub use Rattle.bk_ocode.specs.OcodeState.{Callables, Routine, Stop, Rdch, Wrch, Newline, Writes, Writen, Writed, Getbyte, Putbyte, Writef, Control, Inside, Following, At, State, Next, Goes, Ends, Wild, Placement, Placed, global_place, rest_place}
 pub use Rattle.bk_ocode.specs.OcodeStep.{slot, return, tells, read_byte, routine_step, step_in, step_from, on_some, step, is_label, on, push, operated, named_place, has_word, from_label, jump, jump_with, case_label, can_be_called, call, dyadic_word, step_by, on_number}
 pub use Rattle.bk_ocode.specs.PartialStmts.{has_value, owner_words, partial_words, is_short, IsPartialStmt, NoNatural, NoLabel, NoVariable, NoArgument, IsUnfit, BeginNone, part_words, IsStep, refusal, IsPartialPart, IsOwner, switch_words, entries_words, ArePartialCases, ArePartialEntries}
-pub use Rattle.bk_ocode.specs.Places.{role, may_stand, position_behind}
+pub use Rattle.bk_ocode.specs.Places.{role, may_stand, position_after}
 pub use Rattle.bk_ocode.specs.ProgramStart.{all_data, all_globals, is_global, unset_cells, with_global, first_cells}
 pub use Rattle.bk_ocode.specs.Section.{AreFaultless, IsSection}
 pub use Rattle.bk_ocode.specs.SectionAnswer.{Takes, GivesSection, GivesNothing, StopsAtDevice, NoSectionPassed, GivesFault, StopsAtWord, Answers, texts_of, words_of_all, PrintedIsParted, PrintedAreParted, PrintedSaysAgain, PrintedIsReadAgain}
 pub use Rattle.bk_ocode.specs.SectionData.{is_datum, text_size}
-pub use Rattle.bk_ocode.specs.SectionLaws.{jump_depth, IsAmong, JumpHasItsLabelsDepth, LabelsAreSetOnce, LabelHasOnePlace, JumpFindsItsLabel, ResultFindsItsLabel, DataFindsItsLabel, ItemFindsItsLabel, GlobalFindsItsEntry, GlobalStandsLast, TextIsShort, DepthsSuffice, SectionIsShort}
+pub use Rattle.bk_ocode.specs.SectionLaws.{jump_depth, IsAmong, JumpHasItsLabelsDepth, LabelsAreSetOnce, LabelHasOnePlace, JumpFindsItsLabel, ResultFindsItsLabel, DataFindsItsLabel, ItemFindsItsLabel, GlobalFindsItsEntry, GlobalIsLast, TextIsShort, DepthsSuffice, SectionIsShort}
 pub use Rattle.bk_ocode.specs.SectionStmts.{stmts_of}
 pub use Rattle.bk_ocode.specs.SectionText.{section_text, section_words}
-pub use Rattle.bk_ocode.specs.SoundRuns.{Grown, StepsGrow, EndsKeepBytes, IsHeld, is_usable, Sound, FirstStateIsSound, IsProgram, Stands, IsOwn, IsControl, SoundStep, StepsAreSound, ResumingIsSound, IsOpening, statements_left, steps_left, StepsComeNearer}
+pub use Rattle.bk_ocode.specs.SoundRuns.{Grown, StepsGrow, EndsKeepBytes, IsHeld, is_usable, Sound, FirstStateIsSound, IsProgram, Applies, IsOwn, IsControl, SoundStep, StepsAreSound, ResumingIsSound, IsOpening, statements_left, steps_left, StepsComeNearer}
 pub use Rattle.bk_ocode.specs.StepLaws.{KeepsNext, IsNotAmong, StepKeepsBelow}
 pub use Rattle.bk_ocode.specs.StmtRange.{IsLabel, IsVariable, AreCases, InRange, AreTyped, IsGlobal, IsTyped, AreEntries, IsDepth, AreBytes}
 pub use Rattle.bk_ocode.specs.StmtText.{keyword, argument_words, stmt_words, natural_word, label_word, variable_word, byte_words, case_words, global_words, stmt_text, spaced}

@@ -1,16 +1,16 @@
 -- Statements that agree with a plan of labels are a section.
-use Rattle.bk_ocode.proofs.Terms.{arith, ◌≡◌, ◌≢◌, ◌⊎◌, inl, inr, ℕ, zero, suc, ◌+◌, ◌-◌, ◌≤◌, Bool, true, false, not, cond, ◌||◌, Option, Some, None, List, [], ◌∷◌, ◌++◌, length, take, drop, slice_get, is_some, refl, sym, ap, subst, ◌∙◌, if◌then◌else◌, eqb-true, eq-eqb, ne_eqb, append_assoc, append-nil, length-append, ℤ, list_all, list_any, drop-append_seam, FRAME_WORDS, OCODE_STATEMENTS, OCODE_WORDS, OcodeKind, JumpDepths, LabelUse, Position, Outer, Body, Taker, Last, Datum, Setting, GlobalEntry, Static, Stmt, Load, Address, Assign, Jump, JumpIf, Label, GiveResult, TakeResult, Entry, Save, ReturnItem, Return, EndProcedure, Switch, DataLabel, DataNumber, DataAddress, Globals, stmt_words, next_depth, least_depth, Context, at_start, changed, set_by, mentioned, followed, label_followed, start_behind, after, after_all, label_set, jump_labels, result_label, data_labels, item_label, global_labels, role, may_stand, position_behind, IsDepth, InRange, misplaced, is_lab_from, is_data, is_entry, jumps_set, data_set, label_not_set, is_set, is_other_lab, are_other_jumps, jumps_disagree, result_named, over, left_behind, follows_badly, is_badly_followed, not_followed, own_disagrees, depths_disagree, too_long, fault_in, text_size, IsAmong, Use, unused, jumps, results, word, entry, Standing, outside, body, ended, AllJump, AllEntries, Agrees, Fits, Typed, done, enters, goes, lands, takes, returns, gives, begins, holds, points, ends, sets, times_set, TypedIsSection, JumpDepths as came, Position as position, Setting as setting, le-ltb, lt-leb, le-leb, and_from, or_from}
+use Rattle.bk_ocode.proofs.Terms.{arith, ◌≡◌, ◌≢◌, ◌⊎◌, inl, inr, ℕ, zero, suc, ◌+◌, ◌-◌, ◌≤◌, Bool, true, false, not, cond, ◌||◌, Option, Some, None, List, [], ◌∷◌, ◌++◌, length, take, drop, slice_get, is_some, refl, sym, ap, subst, ◌∙◌, if◌then◌else◌, eqb-true, eq-eqb, ne_eqb, append_assoc, append-nil, length-append, ℤ, list_all, list_any, drop-append_seam, FRAME_WORDS, OCODE_STATEMENTS, OCODE_WORDS, OcodeKind, JumpDepths, LabelUse, Position, Outer, Body, Taker, Last, Datum, Setting, GlobalEntry, Static, Stmt, Load, Address, Assign, Jump, JumpIf, Label, GiveResult, TakeResult, Entry, Save, ReturnItem, Return, EndProcedure, Switch, DataLabel, DataNumber, DataAddress, Globals, stmt_words, next_depth, least_depth, Context, at_start, changed, set_by, mentioned, followed, label_followed, start_after, after, after_all, label_set, jump_labels, result_label, data_labels, item_label, global_labels, role, may_stand, position_after, IsDepth, InRange, misplaced, is_lab_from, is_data, is_entry, jumps_set, data_set, label_not_set, is_set, is_other_lab, are_other_jumps, jumps_disagree, result_named, over, left_after, follows_badly, is_badly_followed, not_followed, own_disagrees, depths_disagree, too_long, fault_in, text_size, IsAmong, Use, unused, jumps, results, word, entry, Standing, outside, body, ended, AllJump, AllEntries, Agrees, Fits, Typed, done, enters, goes, lands, takes, returns, gives, begins, holds, points, ends, sets, times_set, TypedIsSection, JumpDepths as came, Position as position, Setting as setting, le-ltb, lt-leb, le-leb, and_from, or_from}
 use Rattle.std.specs.Bool.{⊤}
-use Rattle.bk_ocode.specs.declared.standing.Behind.TheVariants as behind
+use Rattle.bk_ocode.specs.declared.standing.Following.TheVariants as following
 use Rattle.bk_ocode.proofs.Depths.{Keeps}
 use Rattle.bk_ocode.proofs.JumpDepths.{after-same, after-label}
 use Rattle.bk_ocode.proofs.JumpPlaces.{after-entry, after-data}
 use Rattle.bk_ocode.proofs.Plans.{Of, LabAt, OneDepth, Taken, AtLeast, Matches, AllMatch, changed_matches, changed_twice, word_matches, entry_matches, named_matches, Free, Clear, free_clear, followed_matches}
 
 -- counting
-set_behind : (l : ℕ) (xs : List Stmt) (s : Stmt) → times_set l (xs ++ s ∷ []) ≡ times_set l xs + sets l (label_set s)
-set_behind l [] s = omega arith
-set_behind l (x ∷ xs) s = let h = set_behind l xs s in omega (arith, h)
+set_following : (l : ℕ) (xs : List Stmt) (s : Stmt) → times_set l (xs ++ s ∷ []) ≡ times_set l xs + sets l (label_set s)
+set_following l [] s = omega arith
+set_following l (x ∷ xs) s = let h = set_following l xs s in omega (arith, h)
 
 size_behind : (xs : List Stmt) (s : Stmt) → text_size (xs ++ s ∷ []) ≡ text_size xs + length (stmt_words s)
 size_behind [] s = omega arith
@@ -34,7 +34,7 @@ record Whole (plan : ℕ → Use) (before rest : List Stmt) : Type 0 where
   small : text_size before + text_size rest ≤ OCODE_WORDS
 
 whole_behind : (plan : ℕ → Use) (before : List Stmt) (s : Stmt) (rest : List Stmt) → Whole plan before (s ∷ rest) → Whole plan (before ++ s ∷ []) rest
-whole_behind plan before s rest w = grind (arith, set_behind, length_behind, size_behind)
+whole_behind plan before s rest w = grind (arith, set_following, length_behind, size_behind)
 
 -- how often a label is set, by what is known
 abbrev times : Setting → ℕ
@@ -79,7 +79,7 @@ set_after c s before (Some m) e known once l = grind (arith, sets, eqb-true, now
 read_behind : (plan : ℕ → Use) (before : List Stmt) (c : Context) (s : Stmt) (rest : List Stmt) → Whole plan before (s ∷ rest) → Read plan before c
     → ((l q : ℕ) → Of q (plan l) → times_set l before + sets l (label_set s) ≤ times_set q before + sets q (label_set s)) → NamesData plan s
     → Read plan (before ++ s ∷ []) (after c s)
-read_behind plan before c s rest w r entered names = grind (arith, length_behind, size_behind, set_behind, set_after, label_set, all_data_behind)
+read_behind plan before c s rest w r entered names = grind (arith, length_behind, size_behind, set_following, set_after, label_set, all_data_behind)
 
 -- A statement that keeps each rule has no fault.
 next_none : (b : Bool) (x : OcodeKind) (r : Option OcodeKind) → b ≡ false → r ≡ None → (if b then Some x else r) ≡ None
@@ -126,17 +126,17 @@ record InBody (plan : ℕ → Use) (p : ℕ) (before : List Stmt) (c : Context) 
   since : (l : ℕ) → Of p (plan l) → FromStart c.start (c.uses l).setting
   opened : 1 ≤ times_set p before
 
-abbrev Stands : (ℕ → Use) → Standing → List Stmt → Context → Type 0
-Stands plan (outside true k) before c = (c.depth ≡ k) × (c.position ≡ position.InData)
-Stands plan (outside false k) before c = (c.depth ≡ k) × (c.position ≡ position.Outside)
-Stands plan (body p k) before c = (c.depth ≡ k) × Free plan c.position × InBody plan p before c
-Stands plan ended before c = c.position ≡ position.Ended
+abbrev Applies : (ℕ → Use) → Standing → List Stmt → Context → Type 0
+Applies plan (outside true k) before c = (c.depth ≡ k) × (c.position ≡ position.InData)
+Applies plan (outside false k) before c = (c.depth ≡ k) × (c.position ≡ position.Outside)
+Applies plan (body p k) before c = (c.depth ≡ k) × Free plan c.position × InBody plan p before c
+Applies plan ended before c = c.position ≡ position.Ended
 
 record State (plan : ℕ → Use) (a : Standing) (before : List Stmt) (c : Context) : Type 0 where
   read : Read plan before c
   matches : AllMatch plan c.uses
   shallow : c.depth ≤ FRAME_WORDS
-  stands : Stands plan a before c
+  applies : Applies plan a before c
 
 -- A statement has no fault here, and leads on.
 abbrev Step : (ℕ → Use) → Standing → List Stmt → Context → Stmt → Type 0
@@ -145,8 +145,8 @@ Step plan b before c s = (fault_in before c s ≡ None) × State plan b (before 
 -- Rules that a statement in a procedure keeps.
 may_body : (plan : ℕ → Use) (q : Position) → Free plan q → may_stand q Body ≡ true
 may_body plan position.Inside h = refl
-may_body plan position.BehindReturn h = refl
-may_body plan (position.BehindLabel l) h = refl
+may_body plan position.AfterReturn h = refl
+may_body plan (position.AfterLabel l) h = refl
 may_body plan x h = elim h [ ]
 
 body_placed : (plan : ℕ → Use) (c : Context) (s : Stmt) → Free plan c.position → role s ≡ Body → misplaced c s ≡ false
@@ -157,14 +157,14 @@ body_unset before c EndProcedure r = absurd (let e : Last ≡ Body = r in cc)
 body_unset before c (Globals entries) r = absurd (let e : Outer ≡ Body = r in cc)
 body_unset before c _ r = refl
 
-left_none : (s : Stmt) → left_behind None s ≡ false
+left_none : (s : Stmt) → left_after None s ≡ false
 left_none (TakeResult n) = refl
 left_none _ = refl
 
 follows_clear : (plan : ℕ → Use) (c : Context) (q : Position) (s : Stmt) → Clear plan q → AllMatch plan c.uses → follows_badly c q s ≡ false
-follows_clear plan c (position.BehindLabel l) s clear all =
+follows_clear plan c (position.AfterLabel l) s clear all =
     let h : Matches (jumps clear.0 clear.1) (c.uses l) = subst (λ (u : Use). Matches u (c.uses l)) clear.2 (all l) in
-    ap (λ (y : Option ℕ). left_behind y s) h.2 ∙ left_none s
+    ap (λ (y : Option ℕ). left_after y s) h.2 ∙ left_none s
 follows_clear plan c _ s clear all = refl
 
 -- no result goes to a label of another use
@@ -202,7 +202,7 @@ jumps_land plan c p k (l ∷ ls) h all =
     let m : Matches (jumps p k) (c.uses l) = subst (λ (u : Use). Matches u (c.uses l)) h.0 (all l) in
     or_from _ _ (same_lab k (c.uses l).setting m.0) (jumps_land plan c p k ls h.1 all)
 
-taken_well : (k n : ℕ) (u : LabelUse) (g : Setting) → n ≤ k → Taken n g u.behind → not_followed k u g ≡ false
+taken_well : (k n : ℕ) (u : LabelUse) (g : Setting) → n ≤ k → Taken n g u.following → not_followed k u g ≡ false
 taken_well k n u (setting.Lab d place) low h = ap (is_badly_followed k) h ∙ le-ltb k n low
 taken_well k n u x low h = refl
 
@@ -229,7 +229,7 @@ body_sets plan p k (Entry l name) r h = absurd (let e : Outer ≡ Body = r in cc
 body_sets plan p k (DataLabel l) r h = absurd (let e : Outer ≡ Body = r in cc)
 body_sets plan p k _ r h = refl
 
-body_free : (plan : ℕ → Use) (p k : ℕ) (s : Stmt) → role s ≡ Body → Agrees plan p k s → Free plan (position_behind s)
+body_free : (plan : ℕ → Use) (p k : ℕ) (s : Stmt) → role s ≡ Body → Agrees plan p k s → Free plan (position_after s)
 body_free plan p k (Label l) r h = elim h [ ]
 body_free plan p k (Entry l name) r h = absurd (let e : Outer ≡ Body = r in cc)
 body_free plan p k EndProcedure r h = absurd (let e : Last ≡ Body = r in cc)
@@ -239,7 +239,7 @@ body_free plan p k (DataAddress l) r h = absurd (let e : Datum ≡ Body = r in c
 body_free plan p k (Globals entries) r h = absurd (let e : Outer ≡ Body = r in cc)
 body_free plan p k _ r h = tt
 
-body_starts : (c : Context) (s : Stmt) → role s ≡ Body → start_behind c s ≡ c.start
+body_starts : (c : Context) (s : Stmt) → role s ≡ Body → start_after c s ≡ c.start
 body_starts c (Entry l name) r = absurd (let e : Outer ≡ Body = r in cc)
 body_starts c _ r = refl
 
@@ -263,7 +263,7 @@ body_jumps plan p k (Label l) h = tt
 body_jumps plan p k _ h = tt
 
 -- the procedure goes on
-in_body_behind : (plan : ℕ → Use) (p : ℕ) (before : List Stmt) (c : Context) (s : Stmt) → InBody plan p before c → start_behind c s ≡ c.start
+in_body_behind : (plan : ℕ → Use) (p : ℕ) (before : List Stmt) (c : Context) (s : Stmt) → InBody plan p before c → start_after c s ≡ c.start
     → ((l : ℕ) → Of p (plan l) → FromStart c.start ((after c s).uses l).setting) → AllOf plan p (jump_labels s ++ result_label s)
     → InBody plan p (before ++ s ∷ []) (after c s)
 in_body_behind plan p before c s i same since jumping = record {
@@ -273,7 +273,7 @@ in_body_behind plan p before c s i same since jumping = record {
   starts = same ∙ i.starts;
   jumping = all_jump_behind plan p i.inner s i.jumping jumping;
   since = λ l of. subst (λ (x : ℕ). FromStart x ((after c s).uses l).setting) (sym same) (since l of);
-  opened = let h = set_behind p before s in let o = i.opened in omega (arith, h, o);
+  opened = let h = set_following p before s in let o = i.opened in omega (arith, h, o);
 }
 
 -- behind a statement of a procedure that sets no label
@@ -283,21 +283,21 @@ none_apart s l e h = let n : None ≡ Some l = sym e ∙ h in cc
 body_step : (plan : ℕ → Use) (p k : ℕ) (before : List Stmt) (c : Context) (s : Stmt) (rest : List Stmt) → Whole plan before (s ∷ rest) → State plan (body p k) before c
     → Fits plan p k s → Step plan (body p (next_depth k s)) before c s
 body_step plan p k before c s rest w a fits =
-    let f : Fits plan p c.depth s = subst (λ (x : ℕ). Fits plan p x s) (sym a.stands.0) fits in
+    let f : Fits plan p c.depth s = subst (λ (x : ℕ). Fits plan p x s) (sym a.applies.0) fits in
     let none = body_sets plan p c.depth s f.placed f.agrees in (
-      faultless before c s (keeps plan before c s rest w a.read (body_placed plan c s a.stands.1 f.placed) (body_unset before c s f.placed)
-          (body_agrees plan p c s a.stands.1 f.placed f.agrees a.matches) f.deep f.shallow),
+      faultless before c s (keeps plan before c s rest w a.read (body_placed plan c s a.applies.1 f.placed) (body_unset before c s f.placed)
+          (body_agrees plan p c s a.applies.1 f.placed f.agrees a.matches) f.deep f.shallow),
       record {
         read = read_behind plan before c s rest w a.read (λ l q of. let h = a.read.entered l q of in let i = ap (sets l) none in let j = ap (sets q) none in omega (arith, h, i, j))
             (body_data plan p c.depth s f.placed f.agrees);
-        matches = named_matches plan p c.depth c.count s _ f.placed f.agrees (followed_matches plan c.position s c.uses (free_clear plan c.position a.stands.1) a.matches);
+        matches = named_matches plan p c.depth c.count s _ f.placed f.agrees (followed_matches plan c.position s c.uses (free_clear plan c.position a.applies.1) a.matches);
         shallow = f.shallow;
-        stands = (
-          ap (λ (x : ℕ). next_depth x s) a.stands.0,
+        applies = (
+          ap (λ (x : ℕ). next_depth x s) a.applies.0,
           body_free plan p c.depth s f.placed f.agrees,
-          in_body_behind plan p before c s a.stands.2
+          in_body_behind plan p before c s a.applies.2
               (body_starts c s f.placed)
-              (λ l of. subst (λ (g : Setting). FromStart c.start g) (sym (after-same c s l (none_apart s l none))) (a.stands.2.since l of)) (body_jumps plan p c.depth s f.agrees),
+              (λ l of. subst (λ (g : Setting). FromStart c.start g) (sym (after-same c s l (none_apart s l none))) (a.applies.2.since l of)) (body_jumps plan p c.depth s f.agrees),
         );
       },
     )
@@ -334,8 +334,8 @@ lab_body plan p l before c r i = in_body_behind plan p before c (Label l) i refl
 lab_fault : (plan : ℕ → Use) (p k l : ℕ) (before : List Stmt) (c : Context) (rest : List Stmt) → Whole plan before (Label l ∷ rest) → State plan (body p k) before c
     → are_other_jumps c.depth (c.uses l).jumps ≡ false → fault_in before c (Label l) ≡ None
 lab_fault plan p k l before c rest w a own =
-    faultless before c (Label l) (keeps plan before c (Label l) rest w a.read (body_placed plan c (Label l) a.stands.1 refl) refl
-    (or_from _ _ (follows_clear plan c c.position (Label l) (free_clear plan c.position a.stands.1) a.matches) own) (omega arith) a.shallow)
+    faultless before c (Label l) (keeps plan before c (Label l) rest w a.read (body_placed plan c (Label l) a.applies.1 refl) refl
+    (or_from _ _ (follows_clear plan c c.position (Label l) (free_clear plan c.position a.applies.1) a.matches) own) (omega arith) a.shallow)
 
 one_came : (d : ℕ) (j : JumpDepths) → OneDepth d j → are_other_jumps d j ≡ false
 one_came d came.Unused h = refl
@@ -346,15 +346,15 @@ lands_step : (plan : ℕ → Use) (p k l : ℕ) (before : List Stmt) (c : Contex
     → plan l ≡ jumps p k → Step plan (body p k) before c (Label l)
 lands_step plan p k l before c rest w a e =
     let n : Matches (jumps p k) (c.uses l) = subst (λ (u : Use). Matches u (c.uses l)) e (a.matches l) in
-    let all = followed_matches plan c.position (Label l) c.uses (free_clear plan c.position a.stands.1) a.matches in
+    let all = followed_matches plan c.position (Label l) c.uses (free_clear plan c.position a.applies.1) a.matches in
     let m : Matches (jumps p k) (label_followed c.position (Label l) c.uses l) = subst (λ (u : Use). Matches u (label_followed c.position (Label l) c.uses l)) e (all l) in (
-      lab_fault plan p k l before c rest w a (one_came c.depth (c.uses l).jumps (subst (λ (x : ℕ). OneDepth x (c.uses l).jumps) (sym a.stands.0) n.1)),
+      lab_fault plan p k l before c rest w a (one_came c.depth (c.uses l).jumps (subst (λ (x : ℕ). OneDepth x (c.uses l).jumps) (sym a.applies.0) n.1)),
       record {
-        read = lab_read plan p l (jumps p k) before c rest e refl w a.read a.stands.2;
+        read = lab_read plan p l (jumps p k) before c rest e refl w a.read a.applies.2;
         matches = changed_matches plan l (set_by (setting.Lab c.depth c.count)) (label_followed c.position (Label l) c.uses)
-            (subst (λ (u : Use). Matches u (set_by (setting.Lab c.depth c.count) (label_followed c.position (Label l) c.uses l))) (sym e) (a.stands.0, m.1, m.2)) all;
+            (subst (λ (u : Use). Matches u (set_by (setting.Lab c.depth c.count) (label_followed c.position (Label l) c.uses l))) (sym e) (a.applies.0, m.1, m.2)) all;
         shallow = a.shallow;
-        stands = (a.stands.0, (p, k, e), lab_body plan p l before c a.read a.stands.2);
+        applies = (a.applies.0, (p, k, e), lab_body plan p l before c a.read a.applies.2);
       },
     )
 
@@ -373,7 +373,7 @@ over_none n None h = refl
 over_none n (Some d) h = le-ltb d n h
 
 taker_fault : (plan : ℕ → Use) (p k l n : ℕ) (before : List Stmt) (c : Context) (rest : List Stmt) → Whole plan before (TakeResult n ∷ rest) → Read plan before c
-    → c.position ≡ position.BehindLabel l → c.depth ≡ k → n ≤ k → n + 1 ≤ FRAME_WORDS → AtLeast n (c.uses l).result → fault_in before c (TakeResult n) ≡ None
+    → c.position ≡ position.AfterLabel l → c.depth ≡ k → n ≤ k → n + 1 ≤ FRAME_WORDS → AtLeast n (c.uses l).result → fault_in before c (TakeResult n) ≡ None
 taker_fault plan p k l n before c rest w r at depth low high least = grind (arith, over_none, faultless, keeps, le-ltb)
 
 takes_state : (plan : ℕ → Use) (p k l n : ℕ) (before : List Stmt) (c : Context) (rest : List Stmt) → Whole plan before (Label l ∷ TakeResult n ∷ rest) → State plan (body p k) before c
@@ -382,21 +382,21 @@ takes_state : (plan : ℕ → Use) (p k l n : ℕ) (before : List Stmt) (c : Con
     × State plan (body p (n + 1)) ((before ++ Label l ∷ []) ++ TakeResult n ∷ []) (after (after c (Label l)) (TakeResult n))
 takes_state plan p k l n before c rest w a e low high =
     let u : ℕ → LabelUse = label_followed c.position (Label l) c.uses in
-    let all : AllMatch plan u = followed_matches plan c.position (Label l) c.uses (free_clear plan c.position a.stands.1) a.matches in
+    let all : AllMatch plan u = followed_matches plan c.position (Label l) c.uses (free_clear plan c.position a.applies.1) a.matches in
     let m : Matches (results p n) (u l) = subst (λ (x : Use). Matches x (u l)) e (all l) in
     let b : Context = after c (Label l) in
     let more : List Stmt = before ++ Label l ∷ [] in
     let v = whole_behind plan before (Label l) (TakeResult n ∷ rest) w in
-    let read = lab_read plan p l (results p n) before c (TakeResult n ∷ rest) e refl w a.read a.stands.2 in
-    let inside = lab_body plan p l before c a.read a.stands.2 in
+    let read = lab_read plan p l (results p n) before c (TakeResult n ∷ rest) e refl w a.read a.applies.2 in
+    let inside = lab_body plan p l before c a.read a.applies.2 in
     let least : AtLeast n (b.uses l).result = subst (λ (x : LabelUse). AtLeast n x.result) (sym (changed_here l (set_by (setting.Lab c.depth c.count)) u)) m.3 in (
-      taker_fault plan p k l n more b rest v read refl a.stands.0 low high least,
+      taker_fault plan p k l n more b rest v read refl a.applies.0 low high least,
       record {
         read = read_behind plan more b (TakeResult n) rest v read (λ x q of. let h = read.entered x q of in omega (arith, h)) (λ x i. elim i [ ], λ x i. elim i [ ]);
-        matches = changed_twice plan l (followed (behind.Takes n)) (set_by (setting.Lab c.depth c.count)) u
-            (subst (λ (x : Use). Matches x (followed (behind.Takes n) (set_by (setting.Lab c.depth c.count) (u l)))) (sym e) (refl, m.1, m.2, m.3)) all;
+        matches = changed_twice plan l (followed (following.Takes n)) (set_by (setting.Lab c.depth c.count)) u
+            (subst (λ (x : Use). Matches x (followed (following.Takes n) (set_by (setting.Lab c.depth c.count) (u l)))) (sym e) (refl, m.1, m.2, m.3)) all;
         shallow = high;
-        stands = (
+        applies = (
           refl,
           tt,
           in_body_behind plan p more b (TakeResult n) inside refl
@@ -412,7 +412,7 @@ lab_set start d (setting.Lab k place) h many low = le-leb start place low
 lab_set start d setting.Entry h many low = elim h [ ]
 lab_set start d setting.Data h many low = elim h [ ]
 
-taken_set : (start n : ℕ) (g : Setting) (known : LabelUse) → Taken n g known.behind → 1 ≤ times g → FromStart start g → is_lab_from start g ≡ true
+taken_set : (start n : ℕ) (g : Setting) (known : LabelUse) → Taken n g known.following → 1 ≤ times g → FromStart start g → is_lab_from start g ≡ true
 taken_set start n setting.Unset known h many low = absurd (omega (arith, many))
 taken_set start n (setting.Lab k place) known h many low = le-leb start place low
 taken_set start n setting.Entry known h many low = elim h [ ]
@@ -466,9 +466,9 @@ unset_later p l (points e range more) away of none = let h = unset_later p l mor
 unset_later p l (ends range entries more) away of none = let h = unset_later p l more tt of (omega (arith, none)) in omega (arith, h)
 
 end_step : (plan : ℕ → Use) (p k d : ℕ) (b : Standing) (before : List Stmt) (c : Context) (rest : List Stmt) → Whole plan before (EndProcedure ∷ rest) → State plan (body p k) before c
-    → c.position ≡ position.BehindReturn → Typed plan (outside false d) rest b → Step plan (outside false k) before c EndProcedure
+    → c.position ≡ position.AfterReturn → Typed plan (outside false d) rest b → Step plan (outside false k) before c EndProcedure
 end_step plan p k d b before c rest w a at more =
-    let i = a.stands.2 in
+    let i = a.applies.2 in
     let is : (l : ℕ) → Of p (plan l) → is_lab_from c.start (c.uses l).setting ≡ true = λ l of.
     let once = w.once p in let opened = i.opened in
     let later = unset_later p l more tt of (omega (arith, once, opened)) in
@@ -482,22 +482,22 @@ end_step plan p k d b before c rest w a at more =
       faultless before c EndProcedure (keeps plan before c EndProcedure rest w a.read placed set (or_from _ _ follows refl) (omega arith) a.shallow),
       record {
         read = read_behind plan before c EndProcedure rest w a.read (λ x q of. let h = a.read.entered x q of in omega (arith, h)) (λ x i. elim i [ ], λ x i. elim i [ ]);
-        matches = followed_matches plan c.position EndProcedure c.uses (free_clear plan c.position a.stands.1) a.matches;
+        matches = followed_matches plan c.position EndProcedure c.uses (free_clear plan c.position a.applies.1) a.matches;
         shallow = a.shallow;
-        stands = (a.stands.0, refl);
+        applies = (a.applies.0, refl);
       },
     )
 
 -- Outside of procedures.
-outer_placed : (plan : ℕ → Use) (x : Bool) (k : ℕ) (before : List Stmt) (c : Context) → Stands plan (outside x k) before c → may_stand c.position Outer ≡ true
+outer_placed : (plan : ℕ → Use) (x : Bool) (k : ℕ) (before : List Stmt) (c : Context) → Applies plan (outside x k) before c → may_stand c.position Outer ≡ true
 outer_placed plan true k before c h = ap (λ (q : Position). may_stand q Outer) h.1
 outer_placed plan false k before c h = ap (λ (q : Position). may_stand q Outer) h.1
 
-outer_clear : (plan : ℕ → Use) (x : Bool) (k : ℕ) (before : List Stmt) (c : Context) → Stands plan (outside x k) before c → Clear plan c.position
+outer_clear : (plan : ℕ → Use) (x : Bool) (k : ℕ) (before : List Stmt) (c : Context) → Applies plan (outside x k) before c → Clear plan c.position
 outer_clear plan true k before c h = subst (λ (q : Position). Clear plan q) (sym h.1) tt
 outer_clear plan false k before c h = subst (λ (q : Position). Clear plan q) (sym h.1) tt
 
-outer_depth : (plan : ℕ → Use) (x : Bool) (k : ℕ) (before : List Stmt) (c : Context) → Stands plan (outside x k) before c → c.depth ≡ k
+outer_depth : (plan : ℕ → Use) (x : Bool) (k : ℕ) (before : List Stmt) (c : Context) → Applies plan (outside x k) before c → c.depth ≡ k
 outer_depth plan true k before c h = h.0
 outer_depth plan false k before c h = h.0
 
@@ -522,7 +522,7 @@ enters_state : (plan : ℕ → Use) (x : Bool) (k p d : ℕ) (name : List ℕ) (
 enters_state plan x k p d name before c rest w a e depth =
     let s : Stmt = Entry p name in
     let u : ℕ → LabelUse = label_followed c.position s c.uses in
-    let all : AllMatch plan u = followed_matches plan c.position s c.uses (outer_clear plan x k before c a.stands) a.matches in
+    let all : AllMatch plan u = followed_matches plan c.position s c.uses (outer_clear plan x k before c a.applies) a.matches in
     let m : Matches entry (u p) = subst (λ (y : Use). Matches y (u p)) e (all p) in
     let b : Context = after c s in
     let more : List Stmt = before ++ s ∷ [] in
@@ -537,14 +537,14 @@ enters_state plan x k p d name before c rest w a e depth =
     let low = a.read.entered l p of in
     let known = a.read.set l in
     subst (λ (g : Setting). FromStart b.start g) (sym same) (never_set b.start (c.uses l).setting (omega (arith, once, own, low, known))) in
-    let opened = set_behind p before s in
-    let again = set_behind p more (Save d) in (
+    let opened = set_following p before s in
+    let again = set_following p more (Save d) in (
       faultless more b (Save d) (keeps plan more b (Save d) rest v read refl refl refl (omega arith) depth.1),
       record {
         read = read_behind plan more b (Save d) rest v read (λ y q of. let h = read.entered y q of in omega (arith, h)) (λ y i. elim i [ ], λ y i. elim i [ ]);
         matches = all_b;
         shallow = depth.1;
-        stands = (
+        applies = (
           refl,
           tt,
           record {
@@ -566,16 +566,16 @@ begins_step : (plan : ℕ → Use) (x : Bool) (k l : ℕ) (before : List Stmt) (
 begins_step plan x k l before c rest w a e =
     let s : Stmt = DataLabel l in
     let u : ℕ → LabelUse = label_followed c.position s c.uses in
-    let all : AllMatch plan u = followed_matches plan c.position s c.uses (outer_clear plan x k before c a.stands) a.matches in
+    let all : AllMatch plan u = followed_matches plan c.position s c.uses (outer_clear plan x k before c a.applies) a.matches in
     let m : Matches word (u l) = subst (λ (y : Use). Matches y (u l)) e (all l) in (
-      faultless before c (DataLabel l) (keeps plan before c (DataLabel l) rest w a.read (ap not (outer_placed plan x k before c a.stands)) refl
-          (or_from _ _ (follows_clear plan c c.position (DataLabel l) (outer_clear plan x k before c a.stands) a.matches)
+      faultless before c (DataLabel l) (keeps plan before c (DataLabel l) rest w a.read (ap not (outer_placed plan x k before c a.applies)) refl
+          (or_from _ _ (follows_clear plan c c.position (DataLabel l) (outer_clear plan x k before c a.applies) a.matches)
           (or_from _ _ (or_from _ _ (unresulted plan c l word e (λ m. m.1) a.matches) refl) refl)) (omega arith) a.shallow),
       record {
         read = read_behind plan before c s rest w a.read (outer_entered plan l word before e (λ q h. h) a.read.entered) (λ y i. elim i [ ], λ y i. elim i [ ]);
         matches = changed_twice plan l (set_by setting.Data) mentioned u (subst (λ (y : Use). Matches y (set_by setting.Data (mentioned (u l)))) (sym e) (tt, m.1)) all;
         shallow = a.shallow;
-        stands = (outer_depth plan x k before c a.stands, refl);
+        applies = (outer_depth plan x k before c a.applies, refl);
       },
     )
 
@@ -585,13 +585,13 @@ datum_placed c s at r = ap (λ (y : Position). not (may_stand y (role s))) at �
 holds_step : (plan : ℕ → Use) (k : ℕ) (v : ℤ) (before : List Stmt) (c : Context) (rest : List Stmt) → Whole plan before (DataNumber v ∷ rest) → State plan (outside true k) before c
     → Step plan (outside true k) before c (DataNumber v)
 holds_step plan k v before c rest w a = (
-  faultless before c (DataNumber v) (keeps plan before c (DataNumber v) rest w a.read (datum_placed c (DataNumber v) a.stands.1 refl) refl
-      (or_from _ _ (follows_clear plan c c.position (DataNumber v) (outer_clear plan true k before c a.stands) a.matches) refl) (omega arith) a.shallow),
+  faultless before c (DataNumber v) (keeps plan before c (DataNumber v) rest w a.read (datum_placed c (DataNumber v) a.applies.1 refl) refl
+      (or_from _ _ (follows_clear plan c c.position (DataNumber v) (outer_clear plan true k before c a.applies) a.matches) refl) (omega arith) a.shallow),
   record {
     read = read_behind plan before c (DataNumber v) rest w a.read (λ x q of. let h = a.read.entered x q of in omega (arith, h)) (λ x i. elim i [ ], λ x i. elim i [ ]);
-    matches = followed_matches plan c.position (DataNumber v) c.uses (outer_clear plan true k before c a.stands) a.matches;
+    matches = followed_matches plan c.position (DataNumber v) c.uses (outer_clear plan true k before c a.applies) a.matches;
     shallow = a.shallow;
-    stands = (a.stands.0, refl);
+    applies = (a.applies.0, refl);
   },
 )
 
@@ -606,16 +606,16 @@ points_match plan l uses (inr e) all = entry_matches plan l uses e all
 points_step : (plan : ℕ → Use) (k l : ℕ) (before : List Stmt) (c : Context) (rest : List Stmt) → Whole plan before (DataAddress l ∷ rest) → State plan (outside true k) before c
     → (plan l ≡ word) ⊎ (plan l ≡ entry) → Step plan (outside true k) before c (DataAddress l)
 points_step plan k l before c rest w a e = (
-  faultless before c (DataAddress l) (keeps plan before c (DataAddress l) rest w a.read (datum_placed c (DataAddress l) a.stands.1 refl) refl
-      (or_from _ _ (follows_clear plan c c.position (DataAddress l) (outer_clear plan true k before c a.stands) a.matches)
+  faultless before c (DataAddress l) (keeps plan before c (DataAddress l) rest w a.read (datum_placed c (DataAddress l) a.applies.1 refl) refl
+      (or_from _ _ (follows_clear plan c c.position (DataAddress l) (outer_clear plan true k before c a.applies) a.matches)
       (or_from _ _ (or_from _ _ (points_unresulted plan c l e a.matches) refl) refl)) (omega arith) a.shallow),
   record {
     read = read_behind plan before c (DataAddress l) rest w a.read (λ x q of. let h = a.read.entered x q of in omega (arith, h))
         (λ x i. elim i [ ], λ x i. elim i [ inl same ↦ subst (λ (y : ℕ). (plan y ≡ word) ⊎ (plan y ≡ entry)) same e | inr n ↦ elim n [ ] ]);
     matches = points_match plan l (label_followed c.position (DataAddress l) c.uses) e
-        (followed_matches plan c.position (DataAddress l) c.uses (outer_clear plan true k before c a.stands) a.matches);
+        (followed_matches plan c.position (DataAddress l) c.uses (outer_clear plan true k before c a.applies) a.matches);
     shallow = a.shallow;
-    stands = (a.stands.0, refl);
+    applies = (a.applies.0, refl);
   },
 )
 
@@ -668,14 +668,14 @@ ends_step plan x k entries b before c rest w a own more =
     entry_is (plan l) (c.uses l) e (a.matches l) (many l (λ h. let n : entry ≡ unused = sym e ∙ h in cc)) in
     let set : label_not_set before c (Globals entries) ≡ false = ap not (and_from _ _ (data_all_set plan c before a.read.naming words entered)
     (all_entries_set plan c (global_labels (Globals entries)) own entered)) in (
-      faultless before c (Globals entries) (keeps plan before c (Globals entries) rest w a.read (ap not (outer_placed plan x k before c a.stands)) set
-          (or_from _ _ (follows_clear plan c c.position (Globals entries) (outer_clear plan x k before c a.stands) a.matches)
+      faultless before c (Globals entries) (keeps plan before c (Globals entries) rest w a.read (ap not (outer_placed plan x k before c a.applies)) set
+          (or_from _ _ (follows_clear plan c c.position (Globals entries) (outer_clear plan x k before c a.applies) a.matches)
           (or_from _ _ (entries_unresulted plan c (global_labels (Globals entries)) own a.matches) refl)) (omega arith) a.shallow),
       record {
         read = read_behind plan before c (Globals entries) rest w a.read (λ y q of. let h = a.read.entered y q of in omega (arith, h)) (λ y i. elim i [ ], λ y i. elim i [ ]);
-        matches = followed_matches plan c.position (Globals entries) c.uses (outer_clear plan x k before c a.stands) a.matches;
+        matches = followed_matches plan c.position (Globals entries) c.uses (outer_clear plan x k before c a.applies) a.matches;
         shallow = a.shallow;
-        stands = refl;
+        applies = refl;
       },
     )
 
@@ -690,7 +690,7 @@ Reached (outside x k) c = ⊤
 Reached (body p k) c = ⊤
 
 reached : (plan : ℕ → Use) (a : Standing) (before : List Stmt) (c : Context) → State plan a before c → Reached a c
-reached plan ended before c h = h.stands
+reached plan ended before c h = h.applies
 reached plan (outside x k) before c h = tt
 reached plan (body p k) before c h = tt
 
@@ -725,12 +725,12 @@ walk {plan} before c (takes {p = p} {k = k} {l = l} {n = n} {rest = rest} e rang
     let h = walk ((before ++ Label l ∷ []) ++ TakeResult n ∷ []) (after (after c (Label l)) (TakeResult n)) more (whole_behind plan (before ++ Label l ∷ []) (TakeResult n) rest v) both.1 in
     ((first, (both.0, h.0)), h.1)
 walk {plan} {b = b} before c (returns {p = p} {k = k} {rest = rest} more) w s =
-    let fits = return_fits plan p k (let d = s.stands.0 in let f = s.shallow in omega (arith, d, f)) in
+    let fits = return_fits plan p k (let d = s.applies.0 in let f = s.shallow in omega (arith, d, f)) in
     let v = whole_behind plan before Return (EndProcedure ∷ rest) w in
     walk_on plan _ _ before c Return (EndProcedure ∷ rest) (body_step plan p k before c Return (EndProcedure ∷ rest) w s fits) (λ t. walk_on plan _ _ (before ++ Return ∷ []) (after c Return) EndProcedure rest (end_step plan p k k b (before ++ Return ∷ []) (after c Return) rest v t refl more)
     (walk ((before ++ Return ∷ []) ++ EndProcedure ∷ []) (after (after c Return) EndProcedure) more (whole_behind plan (before ++ Return ∷ []) EndProcedure rest v)))
 walk {plan} {b = b} before c (gives {p = p} {k = k} {rest = rest} deep more) w s =
-    let fits = item_fits plan p k deep (let d = s.stands.0 in let f = s.shallow in omega (arith, d, f)) in
+    let fits = item_fits plan p k deep (let d = s.applies.0 in let f = s.shallow in omega (arith, d, f)) in
     let v = whole_behind plan before ReturnItem (EndProcedure ∷ rest) w in
     walk_on plan _ _ before c ReturnItem (EndProcedure ∷ rest) (body_step plan p k before c ReturnItem (EndProcedure ∷ rest) w s fits)
     (λ t. walk_on plan _ _ (before ++ ReturnItem ∷ []) (after c ReturnItem) EndProcedure rest (end_step plan p (k - 1) (k - 1) b (before ++ ReturnItem ∷ []) (after c ReturnItem) rest v t refl more)
@@ -775,7 +775,7 @@ ranged_at [] all k s at = absurd (let h : None ≡ Some s = at in cc)
 ranged_at (t ∷ rest) all zero s at = let same : t ≡ s = (let h : Some t ≡ Some s = at in cc) in subst (λ (x : Stmt). InRange x) same all.0
 ranged_at (t ∷ rest) all (suc k) s at = ranged_at rest all.1 k s at
 
-nothing_matches : (u : Use) → Matches u (record { setting = setting.Unset; behind = behind.Nothing; jumps = came.Unused; result = None; named = false })
+nothing_matches : (u : Use) → Matches u (record { setting = setting.Unset; following = following.Nothing; jumps = came.Unused; result = None; named = false })
 nothing_matches unused = refl
 nothing_matches (jumps p d) = (tt, tt, refl)
 nothing_matches (results p n) = (tt, refl, refl, tt)

@@ -3,13 +3,13 @@ use Rattle.std.specs.Prelude.{ℕ, ◌+◌, ◌-◌, ◌==◌, min, true, false,
 use Rattle.bk_ocode.specs.StmtText.{stmt_words}
 use Rattle.bk_ocode.specs.Depth.{next_depth}
 use Rattle.bk_ocode.specs.Labels.{jump_labels, other_labels}
-use Rattle.bk_ocode.specs.Places.{position_behind}
+use Rattle.bk_ocode.specs.Places.{position_after}
 use Rattle.bk_ocode.specs.declared.standing.Position.{Position}
 use Rattle.bk_ocode.specs.declared.standing.Position.TheVariants as position
 use Rattle.bk_ocode.specs.declared.standing.Setting.{Setting}
 use Rattle.bk_ocode.specs.declared.standing.Setting.TheVariants as setting
-use Rattle.bk_ocode.specs.declared.standing.Behind.{Behind}
-use Rattle.bk_ocode.specs.declared.standing.Behind.TheVariants as behind
+use Rattle.bk_ocode.specs.declared.standing.Following.{Following}
+use Rattle.bk_ocode.specs.declared.standing.Following.TheVariants as following
 use Rattle.bk_ocode.specs.declared.standing.JumpDepths.{JumpDepths}
 use Rattle.bk_ocode.specs.declared.standing.JumpDepths.TheVariants as jumps
 use Rattle.bk_ocode.specs.declared.standing.LabelUse.{LabelUse}
@@ -30,7 +30,7 @@ pub record Context : Type 0 where
 
 -- nothing is known of a label
 abbrev pub fresh : LabelUse
-fresh = record { setting = setting.Unset; behind = behind.Nothing; jumps = jumps.Unused; result = None; named = false }
+fresh = record { setting = setting.Unset; following = following.Nothing; jumps = jumps.Unused; result = None; named = false }
 
 -- where a section begins
 abbrev pub at_start : Context
@@ -69,15 +69,15 @@ abbrev pub set_by : Setting → LabelUse → LabelUse
 set_by what known = record known { setting = what }
 
 -- a statement follows the label's LAB
-abbrev pub what_stands : Stmt → Behind
-what_stands (TakeResult depth) = behind.Takes depth
-what_stands _ = behind.Other
+abbrev pub what_follows : Stmt → Following
+what_follows (TakeResult depth) = following.Takes depth
+what_follows _ = following.Other
 
-abbrev pub followed : Behind → LabelUse → LabelUse
-followed what known = record known { behind = what }
+abbrev pub followed : Following → LabelUse → LabelUse
+followed what known = record known { following = what }
 
 abbrev pub label_followed : Position → Stmt → (ℕ → LabelUse) → ℕ → LabelUse
-label_followed (position.BehindLabel label) s uses = changed label (followed (what_stands s)) uses
+label_followed (position.AfterLabel label) s uses = changed label (followed (what_follows s)) uses
 label_followed _ s uses = uses
 
 -- the labels that a statement names and sets, with depth k before it and so many statements
@@ -100,17 +100,17 @@ abbrev pub start_from : ℕ → ℕ → Stmt → ℕ
 start_from count start (Entry label name) = count
 start_from count start _ = start
 
-abbrev pub start_behind : Context → Stmt → ℕ
-start_behind c s = start_from c.count c.start s
+abbrev pub start_after : Context → Stmt → ℕ
+start_after c s = start_from c.count c.start s
 
 -- what is left after one statement more
 abbrev pub after : Context → Stmt → Context
 after c s = record {
   count = c.count + 1;
   words = c.words + length (stmt_words s);
-  position = position_behind s;
+  position = position_after s;
   depth = next_depth c.depth s;
-  start = start_behind c s;
+  start = start_after c s;
   uses = labels_named c.depth c.count s (label_followed c.position s c.uses);
 }
 

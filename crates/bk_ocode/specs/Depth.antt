@@ -72,14 +72,14 @@ least_depth (Switch default cases) = 3
 least_depth _ = 0
 
 -- the depth after statements, and the largest on the way
-abbrev pub depth_behind : ℕ → List Stmt → ℕ
-depth_behind k [] = k
-depth_behind k (s ∷ rest) = depth_behind (next_depth k s) rest
+abbrev pub depth_after : ℕ → List Stmt → ℕ
+depth_after k [] = k
+depth_after k (s ∷ rest) = depth_after (next_depth k s) rest
 
-abbrev pub largest_behind : ℕ → List Stmt → ℕ
-largest_behind k [] = 0
-largest_behind k (s ∷ rest) = max (next_depth k s) (largest_behind (next_depth k s) rest)
+abbrev pub largest_after : ℕ → List Stmt → ℕ
+largest_after k [] = 0
+largest_after k (s ∷ rest) = max (next_depth k s) (largest_after (next_depth k s) rest)
 
 -- the largest depth of a section: 0 where there is no procedure
 abbrev pub largest_depth : List Stmt → ℕ
-largest_depth stmts = largest_behind 0 stmts
+largest_depth stmts = largest_after 0 stmts

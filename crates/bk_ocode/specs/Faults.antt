@@ -13,8 +13,8 @@ use Rattle.bk_ocode.specs.declared.standing.Position.{Position}
 use Rattle.bk_ocode.specs.declared.standing.Position.TheVariants as position
 use Rattle.bk_ocode.specs.declared.standing.Setting.{Setting}
 use Rattle.bk_ocode.specs.declared.standing.Setting.TheVariants as setting
-use Rattle.bk_ocode.specs.declared.standing.Behind.{Behind}
-use Rattle.bk_ocode.specs.declared.standing.Behind.TheVariants as behind
+use Rattle.bk_ocode.specs.declared.standing.Following.{Following}
+use Rattle.bk_ocode.specs.declared.standing.Following.TheVariants as following
 use Rattle.bk_ocode.specs.declared.standing.JumpDepths.{JumpDepths}
 use Rattle.bk_ocode.specs.declared.standing.JumpDepths.TheVariants as jumps
 use Rattle.bk_ocode.specs.declared.standing.LabelUse.{LabelUse}
@@ -98,25 +98,25 @@ abbrev pub over : ℕ → Option ℕ → Bool
 over n None = false
 over n (Some depth) = nat_lt depth n
 
-abbrev pub left_behind : Option ℕ → Stmt → Bool
-left_behind least (TakeResult n) = over n least
-left_behind least _ = is_some least
+abbrev pub left_after : Option ℕ → Stmt → Bool
+left_after least (TakeResult n) = over n least
+left_after least _ = is_some least
 
 abbrev pub result_not_taken : Context → ℕ → Stmt → Bool
-result_not_taken c label s = left_behind (c.uses label).result s
+result_not_taken c label s = left_after (c.uses label).result s
 
 abbrev pub follows_badly : Context → Position → Stmt → Bool
-follows_badly c (position.BehindLabel label) s = result_not_taken c label s
+follows_badly c (position.AfterLabel label) s = result_not_taken c label s
 follows_badly c _ s = false
 
 -- a RES that comes after its LAB
-abbrev pub is_badly_followed : ℕ → Behind → Bool
-is_badly_followed depth (behind.Takes n) = nat_lt depth n
-is_badly_followed depth behind.Nothing = true
-is_badly_followed depth behind.Other = true
+abbrev pub is_badly_followed : ℕ → Following → Bool
+is_badly_followed depth (following.Takes n) = nat_lt depth n
+is_badly_followed depth following.Nothing = true
+is_badly_followed depth following.Other = true
 
 abbrev pub not_followed : ℕ → LabelUse → Setting → Bool
-not_followed depth known (setting.Lab d place) = is_badly_followed depth known.behind
+not_followed depth known (setting.Lab d place) = is_badly_followed depth known.following
 not_followed depth known setting.Unset = false
 not_followed depth known setting.Entry = false
 not_followed depth known setting.Data = false

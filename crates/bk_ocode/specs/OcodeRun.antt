@@ -5,7 +5,7 @@ use Rattle.bk_base.specs.declared.run_end.End.{End}
 use Rattle.bk_base.specs.declared.run_end.End.TheVariants.{Status}
 use Rattle.bk_ocode.specs.Depth.{next_depth}
 use Rattle.bk_ocode.specs.Cells.{Content, Unset, Temporary, Held, write}
-use Rattle.bk_ocode.specs.OcodeState.{Placement, Placed, Callables, Control, Inside, Behind, At, State, Next, Goes, Ends, Wild}
+use Rattle.bk_ocode.specs.OcodeState.{Placement, Placed, Callables, Control, Inside, Following, At, State, Next, Goes, Ends, Wild}
 use Rattle.bk_ocode.specs.OcodeStep.{is_label, step}
 use Rattle.bk_ocode.specs.declared.stmt.Stmt.{Stmt}
 use Rattle.bk_ocode.specs.declared.stmt.Stmt.TheVariants.{Entry, Label, CallFunction, CallRoutine}
@@ -17,17 +17,17 @@ pub record Rest : Type 0 where
   pub depth : ℕ
   pub takes : Bool
   pub keeps : Bool
-  pub behind : List Stmt
+  pub following : List Stmt
 
 -- the rest at a statement that has depth k before it
 abbrev pub rest_of : Placement → ℕ → Stmt → List Stmt → Option Rest
 rest_of places k (Entry l name) rest =
-    Some (record { place = places.label l; depth = 2; takes = false; keeps = false; behind = Entry l name ∷ rest })
-rest_of places k (Label l) rest = Some (record { place = places.label l; depth = k; takes = false; keeps = true; behind = rest })
+    Some (record { place = places.label l; depth = 2; takes = false; keeps = false; following = Entry l name ∷ rest })
+rest_of places k (Label l) rest = Some (record { place = places.label l; depth = k; takes = false; keeps = true; following = rest })
 rest_of places k (CallFunction n) rest =
-    Some (record { place = places.call (length rest); depth = n; takes = true; keeps = false; behind = rest })
+    Some (record { place = places.call (length rest); depth = n; takes = true; keeps = false; following = rest })
 rest_of places k (CallRoutine n) rest =
-    Some (record { place = places.call (length rest); depth = n; takes = false; keeps = false; behind = rest })
+    Some (record { place = places.call (length rest); depth = n; takes = false; keeps = false; following = rest })
 rest_of places k s rest = None
 
 abbrev pub or_rest : Option Rest → List Rest → List Rest
@@ -54,12 +54,12 @@ kept false hand = None
 
 abbrev pub resumed_by : Bool → Placed → Rest → State → State
 resumed_by true own r s = record s {
-  control = Inside own (r.depth + 1) r.behind;
+  control = Inside own (r.depth + 1) r.following;
   cells = write s.cells (s.frame + r.depth) (Held Temporary (in_hand s.hand));
   hand = None;
   written = (s.frame + r.depth) ∷ s.written;
 }
-resumed_by false own r s = record s { control = Inside own r.depth r.behind; hand = kept r.keeps s.hand }
+resumed_by false own r s = record s { control = Inside own r.depth r.following; hand = kept r.keeps s.hand }
 
 abbrev pub resumed : Placed → Rest → State → State
 resumed own r s = resumed_by r.takes own r s
@@ -67,7 +67,7 @@ resumed own r s = resumed_by r.takes own r s
 -- at a rest: after a LAB, or at a number that is none of a routine
 abbrev pub IsAtRest : Callables → Control → Type 0
 IsAtRest callables (Inside own depth rest) = ⊥
-IsAtRest callables (Behind own label) = ⊤
+IsAtRest callables (Following own label) = ⊤
 IsAtRest callables (At n) = callables.routine n ≡ None
 
 -- A stretch: n steps to the next rest, a call of an entry, or a return taken. A routine of the library is a step on the way.
@@ -112,7 +112,7 @@ at_number program n s =
 
 abbrev pub program_step_from : Program → State → Control → Next
 program_step_from program s (Inside own k rest) = step program.callables s
-program_step_from program s (Behind own l) =
+program_step_from program s (Following own l) =
     option_map_or (λ r. step program.callables (resumed own r s)) (label_rest own.places 0 own.stmts l) Wild
 program_step_from program s (At n) = at_number program n s
 

@@ -39,13 +39,13 @@ pub record Callables : Type 0 where
 -- several rests may have one number, as those of two LABs that come one after the other.
 pub data Control : Type 0 where
   Inside : (own : Placed) (depth : ℕ) (rest : List Stmt) → Control
-  Behind : (own : Placed) (label : ℕ) → Control
+  Following : (own : Placed) (label : ℕ) → Control
   At : (place : ℕ) → Control
 
 -- the number of a rest
 abbrev pub rest_place : Control → Option ℕ
 rest_place (Inside own depth rest) = None
-rest_place (Behind own label) = Some (own.places.label label)
+rest_place (Following own label) = Some (own.places.label label)
 rest_place (At place) = Some place
 
 pub record State : Type 0 where

@@ -24,22 +24,22 @@ may_stand position.Outside Outer = true
 may_stand position.InData Outer = true
 may_stand position.InData Datum = true
 may_stand position.Opened First = true
-may_stand (position.BehindLabel label) Body = true
-may_stand (position.BehindLabel label) Taker = true
-may_stand position.BehindReturn Body = true
-may_stand position.BehindReturn Last = true
+may_stand (position.AfterLabel label) Body = true
+may_stand (position.AfterLabel label) Taker = true
+may_stand position.AfterReturn Body = true
+may_stand position.AfterReturn Last = true
 may_stand position.Inside Body = true
 may_stand _ _ = false
 
 -- where the next statement is
-abbrev pub position_behind : Stmt → Position
-position_behind (Entry label name) = position.Opened
-position_behind (Label label) = position.BehindLabel label
-position_behind ReturnItem = position.BehindReturn
-position_behind Return = position.BehindReturn
-position_behind EndProcedure = position.Outside
-position_behind (DataLabel label) = position.InData
-position_behind (DataNumber value) = position.InData
-position_behind (DataAddress label) = position.InData
-position_behind (Globals entries) = position.Ended
-position_behind _ = position.Inside
+abbrev pub position_after : Stmt → Position
+position_after (Entry label name) = position.Opened
+position_after (Label label) = position.AfterLabel label
+position_after ReturnItem = position.AfterReturn
+position_after Return = position.AfterReturn
+position_after EndProcedure = position.Outside
+position_after (DataLabel label) = position.InData
+position_after (DataNumber value) = position.InData
+position_after (DataAddress label) = position.InData
+position_after (Globals entries) = position.Ended
+position_after _ = position.Inside

@@ -70,30 +70,30 @@ pub record StopsAtDevice (taken : List ℕ) : Type 0 where
 abbrev pub Answers : Result (Option Ocode) (Refused OcodeFault) → Option (List ℕ) → Option (List ℕ) → Bool → Type 0
 Answers (Ok (Some read)) old new ended = Takes old new ended (λ taken end. GivesSection taken end (stmts_of read))
 Answers (Ok None) old new ended = Takes old new ended GivesNothing
-Answers (Err (Fault told)) old new ended = Takes old new ended (λ taken end. GivesFault taken end told.statement told.kind)
+Answers (Err (Fault reported)) old new ended = Takes old new ended (λ taken end. GivesFault taken end reported.statement reported.kind)
 Answers (Err Memory) old new ended = Takes old new ended StopsAtWord
 Answers (Err Device) old new ended = Takes old new ended (λ taken end. StopsAtDevice taken)
 
 -- What the answer says of a text that begins with these bytes, which were taken, unless memory was refused or the device
 -- failed.
-abbrev pub Stands : Result (Option Ocode) (Refused OcodeFault) → List ℕ → List ℕ → Type 0
-Stands (Ok (Some read)) taken more = words_of (taken ++ more) ≡ section_words (stmts_of read) ++ words_of more
-Stands (Ok None) taken more = words_of (taken ++ more) ≡ []
-Stands (Err (Fault told)) taken more = Says (fault told.statement told.kind) (words_of (taken ++ more))
-Stands (Err Memory) taken more = ⊤
-Stands (Err Device) taken more = ⊤
+abbrev pub Applies : Result (Option Ocode) (Refused OcodeFault) → List ℕ → List ℕ → Type 0
+Applies (Ok (Some read)) taken more = words_of (taken ++ more) ≡ section_words (stmts_of read) ++ words_of more
+Applies (Ok None) taken more = words_of (taken ++ more) ≡ []
+Applies (Err (Fault reported)) taken more = Says (fault reported.statement reported.kind) (words_of (taken ++ more))
+Applies (Err Memory) taken more = ⊤
+Applies (Err Device) taken more = ⊤
 
 -- This holds whatever follows: nothing, where the text ends.
-abbrev pub StandsWhateverFollows : Result (Option Ocode) (Refused OcodeFault) → Option (List ℕ) → Option (List ℕ) → Bool → Type 0
-StandsWhateverFollows (Err Memory) old new ended = ⊤
-StandsWhateverFollows (Err Device) old new ended = ⊤
-StandsWhateverFollows answer old new ended = Takes old new ended (λ taken end. (more : List ℕ) → (end → more ≡ []) → Stands answer taken more)
+abbrev pub AppliesWhateverFollows : Result (Option Ocode) (Refused OcodeFault) → Option (List ℕ) → Option (List ℕ) → Bool → Type 0
+AppliesWhateverFollows (Err Memory) old new ended = ⊤
+AppliesWhateverFollows (Err Device) old new ended = ⊤
+AppliesWhateverFollows answer old new ended = Takes old new ended (λ taken end. (more : List ℕ) → (end → more ≡ []) → Applies answer taken more)
 
 -- The answer is what these words say, unless memory was refused or the device failed.
 abbrev pub AnswersWords : Result (Option Ocode) (Refused OcodeFault) → List (List ℕ) → Type 0
 AnswersWords (Ok (Some read)) words = Says (section (stmts_of read)) words
 AnswersWords (Ok None) words = Says nothing words
-AnswersWords (Err (Fault told)) words = Says (fault told.statement told.kind) words
+AnswersWords (Err (Fault reported)) words = Says (fault reported.statement reported.kind) words
 AnswersWords (Err Memory) words = ⊤
 AnswersWords (Err Device) words = ⊤
 
@@ -101,7 +101,7 @@ AnswersWords (Err Device) words = ⊤
 abbrev pub ReadsAgain : Result (Option Ocode) (Refused OcodeFault) → List Stmt → Type 0
 ReadsAgain (Ok (Some read)) stmts = stmts_of read ≡ stmts
 ReadsAgain (Ok None) stmts = ⊥
-ReadsAgain (Err (Fault told)) stmts = ⊥
+ReadsAgain (Err (Fault reported)) stmts = ⊥
 ReadsAgain (Err Memory) stmts = ⊤
 ReadsAgain (Err Device) stmts = ⊤
 
@@ -134,6 +134,6 @@ NoSectionPassed = (taken : List ℕ) (stops : StopsAtDevice taken) (stmts : List
 
 abbrev pub is_device : Result (Option Ocode) (Refused OcodeFault) → Bool
 is_device (Ok read) = false
-is_device (Err (Fault told)) = false
+is_device (Err (Fault reported)) = false
 is_device (Err Memory) = false
 is_device (Err Device) = true

@@ -1,7 +1,7 @@
 -- Laws of accepted sections, for the layers above.
 use Rattle.std.specs.Prelude.{◌≡◌, ◌⊎◌, ℕ, ◌-◌, ◌<◌, ◌≤◌, List, [], ◌∷◌, ◌++◌, length, Some, slice_get, take, drop}
 use Rattle.bk_base.specs.declared.limit.TheConstants.{FRAME_WORDS, OCODE_STATEMENTS, OCODE_WORDS}
-use Rattle.bk_ocode.specs.Depth.{next_depth, depth_behind, least_depth}
+use Rattle.bk_ocode.specs.Depth.{next_depth, depth_after, least_depth}
 use Rattle.bk_ocode.specs.Labels.{label_set, jump_labels, data_labels, global_labels}
 use Rattle.bk_ocode.specs.Section.{AreFaultless, IsSection}
 use Rattle.bk_ocode.specs.OcodeStep.{from_label}
@@ -33,7 +33,7 @@ IsAmong label (l ∷ rest) = (l ≡ label) ⊎ IsAmong label rest
 -- A jump and the LAB of one of its labels have one depth, whichever comes first.
 abbrev pub JumpHasItsLabelsDepth : Type 0
 JumpHasItsLabelsDepth = (stmts : List Stmt) (i j label : ℕ) (s : Stmt) → AreFaultless stmts → slice_get stmts i ≡ Some s → IsAmong label (jump_labels s) →
-    slice_get stmts j ≡ Some (Label label) → jump_depth (depth_behind 0 (take i stmts)) s ≡ depth_behind 0 (take j stmts)
+    slice_get stmts j ≡ Some (Label label) → jump_depth (depth_after 0 (take i stmts)) s ≡ depth_after 0 (take j stmts)
 
 -- Each label of a jump is set by a LAB of the section.
 abbrev pub JumpFindsItsLabel : Type 0
@@ -43,7 +43,7 @@ JumpFindsItsLabel = (stmts : List Stmt) (i label : ℕ) (s : Stmt) → IsSection
 -- Each statement has the depth that it needs, and no depth passes the limit of frames.
 abbrev pub DepthsSuffice : Type 0
 DepthsSuffice = (stmts : List Stmt) (i : ℕ) (s : Stmt) → AreFaultless stmts → slice_get stmts i ≡ Some s →
-    (least_depth s ≤ depth_behind 0 (take i stmts)) × (next_depth (depth_behind 0 (take i stmts)) s ≤ FRAME_WORDS)
+    (least_depth s ≤ depth_after 0 (take i stmts)) × (next_depth (depth_after 0 (take i stmts)) s ≤ FRAME_WORDS)
 
 -- There are no more statements than the limit.
 abbrev pub SectionIsShort : Type 0
@@ -70,8 +70,8 @@ GlobalFindsItsEntry = (stmts : List Stmt) (i label : ℕ) (entries : List Global
     IsAmong label (global_labels (Globals entries)) → (place : ℕ) × (name : List ℕ) × (slice_get stmts place ≡ Some (Entry label name))
 
 -- GLOBAL is last.
-abbrev pub GlobalStandsLast : Type 0
-GlobalStandsLast = (stmts : List Stmt) → IsSection stmts → (front : List Stmt) × (entries : List GlobalEntry) × (stmts ≡ front ++ Globals entries ∷ [])
+abbrev pub GlobalIsLast : Type 0
+GlobalIsLast = (stmts : List Stmt) → IsSection stmts → (front : List Stmt) × (entries : List GlobalEntry) × (stmts ≡ front ++ Globals entries ∷ [])
 
 -- The text has no more statements and no more words than their limits.
 abbrev pub TextIsShort : Type 0

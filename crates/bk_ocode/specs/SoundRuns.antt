@@ -3,10 +3,10 @@
 use Rattle.std.specs.Prelude.{◌≡◌, ◌≢◌, ◌⊎◌, ℕ, ◌+◌, ◌<◌, ◌≤◌, Bool, true, ◌||◌, List, [], ◌∷◌, ◌++◌, length, slice_get, Some, None, ⊤}
 use Rattle.bk_base.specs.declared.limit.TheConstants.{FRAME_WORDS, GLOBAL_NUMBER}
 use Rattle.bk_base.specs.declared.run_end.End.{End}
-use Rattle.bk_ocode.specs.Depth.{depth_behind, largest_depth}
+use Rattle.bk_ocode.specs.Depth.{depth_after, largest_depth}
 use Rattle.bk_ocode.specs.Section.{AreFaultless}
 use Rattle.bk_ocode.specs.Cells.{Cell, Free, Held}
-use Rattle.bk_ocode.specs.OcodeState.{Placed, Callables, Routine, Control, Inside, Behind, At, State, Goes, Ends, rest_place, global_place}
+use Rattle.bk_ocode.specs.OcodeState.{Placed, Callables, Routine, Control, Inside, Following, At, State, Goes, Ends, rest_place, global_place}
 use Rattle.bk_ocode.specs.OcodeStep.{step}
 use Rattle.bk_ocode.specs.OcodeRun.{Rest, rests_of, resumed, IsAtRest, Program}
 use Rattle.bk_ocode.specs.SectionData.{is_datum}
@@ -42,18 +42,18 @@ IsOpening (Entry label name ∷ rest) = ⊤
 IsOpening (s ∷ rest) = ⊥
 
 -- The statements left are those of the text from some place on, and the depth is the text's there.
-pub record Stands (stmts : List Stmt) (depth : ℕ) (rest : List Stmt) : Type 0 where
+pub record Applies (stmts : List Stmt) (depth : ℕ) (rest : List Stmt) : Type 0 where
   pub before : List Stmt
   pub whole : stmts ≡ before ++ rest
-  pub same_depth : (depth ≡ depth_behind 0 before) ⊎ IsOpening rest
+  pub same_depth : (depth ≡ depth_after 0 before) ⊎ IsOpening rest
 
 abbrev pub IsOwn : Program → Placed → Type 0
 IsOwn program own = (i : ℕ) × (slice_get program.sections i ≡ Some own)
 
 -- Control is in a section of the program, above the links, or at some number.
 abbrev pub IsControl : Program → Control → Type 0
-IsControl program (Inside own depth rest) = IsOwn program own × (2 ≤ depth) × Stands own.stmts depth rest
-IsControl program (Behind own label) = IsOwn program own
+IsControl program (Inside own depth rest) = IsOwn program own × (2 ≤ depth) × Applies own.stmts depth rest
+IsControl program (Following own label) = IsOwn program own
 IsControl program (At place) = ⊤
 
 -- What each state keeps. START's return frees its frame.
@@ -110,7 +110,7 @@ statements_left rest = length rest + 2
 
 abbrev pub steps_left : Control → ℕ
 steps_left (Inside own depth rest) = statements_left rest
-steps_left (Behind own label) = 0
+steps_left (Following own label) = 0
 steps_left (At place) = 1
 
 -- A stretch comes to its end: each step comes to a rest, or nearer to one.

@@ -7,7 +7,7 @@ use Rattle.bk_base.specs.Format.{FormatPart, Byte, Percent, String, Number, Char
 
 -- bytes, and more after them, where both are known
 abbrev pub in_front : Option (List ℕ) → Option (List ℕ) → Option (List ℕ)
-in_front told more = option_and_then (λ t. option_map (λ m. t ++ m) more) told
+in_front reported more = option_and_then (λ t. option_map (λ m. t ++ m) more) reported
 
 -- the arguments by their places, the bytes of a string by its address, and the place of the next argument
 module _ (argument : ℕ → Option ℕ) (string : ℕ → Option (List ℕ)) where

@@ -5,7 +5,7 @@ ghost use Rattle.bk_ocode.specs.Depth.{next_depth};
 use crate::stmt::Stmt;
 
 /// The depth after a statement that has this depth before it.
-pub fn depth_behind(depth: u32, stmt: &Stmt) -> u32
+pub fn depth_after(depth: u32, stmt: &Stmt) -> u32
     requires { next_depth depth stmt.now < 2 ^ 32 }
     ensures { result ≡ next_depth depth stmt.now }
 {

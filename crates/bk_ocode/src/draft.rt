@@ -7,18 +7,18 @@ ghost use Rattle.bk_ocode.specs.Depth.{next_depth};
 ghost use Rattle.bk_ocode.specs.StmtRange.{InRange, AreTyped};
 ghost use Rattle.bk_ocode.specs.Context.{start_from};
 ghost use Rattle.bk_ocode.specs.KnownUses.{uses_of};
-ghost use Rattle.bk_ocode.specs.Faults.{misplaced, is_lab_from, is_data, is_entry, is_set, jumps_set, data_set, label_not_set, label_set_twice, is_other_lab, are_other_jumps, result_named, follows_badly, left_behind, is_badly_followed, not_followed, result_disagrees, own_disagrees, depths_disagree, slot_above, too_long, stmt_fault};
+ghost use Rattle.bk_ocode.specs.Faults.{misplaced, is_lab_from, is_data, is_entry, is_set, jumps_set, data_set, label_not_set, label_set_twice, is_other_lab, are_other_jumps, result_named, follows_badly, left_after, is_badly_followed, not_followed, result_disagrees, own_disagrees, depths_disagree, slot_above, too_long, stmt_fault};
 ghost use Rattle.bk_ocode.specs.Labels.{static_label};
 ghost use Rattle.bk_ocode.specs.Places.{may_stand};
 ghost use Rattle.bk_ocode.specs.Section.{IsSection};
 ghost use Rattle.bk_ocode.specs.SectionStmts.{stmts_of};
 ghost use Rattle.bk_ocode.specs.Drafts.{IsDraft, context_in};
 
-use crate::depth::depth_behind;
+use crate::depth::depth_after;
 use crate::label_uses::LabelUses;
-use crate::places::{behind, depth_needed, fits, role_of, set_label};
+use crate::places::{depth_needed, fits, following, role_of, set_label};
 use crate::section::Ocode;
-use crate::standing::{Behind, JumpDepths, LabelUse, Position, Setting, StmtPlace};
+use crate::standing::{Following, JumpDepths, LabelUse, Position, Setting, StmtPlace};
 use crate::stmt::{Case, GlobalEntry, Stmt, Variable};
 use bk_base::OcodeKind;
 use bk_base::limit::{FRAME_WORDS, OCODE_STATEMENTS, OCODE_WORDS};
@@ -36,7 +36,7 @@ pub(crate) struct Draft {
 }
 
 /// Whether a LAB of the procedure that begins after so many statements set the label.
-fn is_lab_behind(start: usize, setting: Setting) -> bool
+fn is_lab_after(start: usize, setting: Setting) -> bool
     ensures { result ≡ is_lab_from start setting }
 {
     match setting {
@@ -67,11 +67,11 @@ fn is_jumped_elsewhere(depth: u32, jumps: JumpDepths) -> bool
 }
 
 /// Whether the LAB of a label is followed by no RSTACK for a RES with this depth after it.
-fn is_followed_badly(depth: u32, behind: Behind) -> bool
-    ensures { result ≡ is_badly_followed depth behind }
+fn is_followed_badly(depth: u32, following: Following) -> bool
+    ensures { result ≡ is_badly_followed depth following }
 {
-    match behind {
-        Behind::Takes(least) => depth < least,
+    match following {
+        Following::Takes(least) => depth < least,
         _ => true,
     }
 }
@@ -84,14 +84,14 @@ fn is_result_misplaced(depth: u32, known: LabelUse) -> bool
         return true;
     }
     match known.setting {
-        Setting::Lab { .. } => is_followed_badly(depth, known.behind),
+        Setting::Lab { .. } => is_followed_badly(depth, known.following),
         _ => false,
     }
 }
 
 /// Whether a statement after the LAB of a label of RES does not take the result up.
 fn is_left(least: Option<u32>, stmt: &Stmt) -> bool
-    ensures { result ≡ left_behind least stmt.now }
+    ensures { result ≡ left_after least stmt.now }
 {
     match (least, stmt) {
         (None, _) => false,
@@ -137,7 +137,7 @@ impl Draft {
     fn is_lab(&self, label: u32) -> bool
         ensures { result ≡ is_lab_from self.now.start (uses_of self.now.uses label).setting }
     {
-        is_lab_behind(self.start, self.uses.of(label).setting)
+        is_lab_after(self.start, self.uses.of(label).setting)
     }
 
     /// Whether they set the labels of all cases.
@@ -357,7 +357,7 @@ impl Draft {
         ensures { result ≡ follows_badly (context_in self.now) self.now.position stmt.now }
     {
         match self.position {
-            Position::BehindLabel(label) => is_left(self.uses.of(label).result, stmt),
+            Position::AfterLabel(label) => is_left(self.uses.of(label).result, stmt),
             _ => false,
         }
     }
@@ -397,7 +397,7 @@ impl Draft {
     {
         self.stmts.len() >= OCODE_STATEMENTS as usize
             || self.words + words > OCODE_WORDS
-            || depth_behind(self.depth, stmt) > FRAME_WORDS
+            || depth_after(self.depth, stmt) > FRAME_WORDS
     }
 
     /// The fault that is reported of a statement of so many words after these.
@@ -480,8 +480,8 @@ impl Draft {
         self.uses.stand(self.position, &stmt)?;
         self.uses.name(self.depth, count, &stmt)?;
         self.words += words;
-        self.position = behind(&stmt);
-        self.depth = depth_behind(self.depth, &stmt);
+        self.position = following(&stmt);
+        self.depth = depth_after(self.depth, &stmt);
         self.start = start_with(count, self.start, &stmt);
         self.stmts.push(stmt)?;
         Ok(())

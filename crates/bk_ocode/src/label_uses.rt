@@ -4,9 +4,9 @@ ghost use Rattle.std.specs.BTreeMap.{get};
 ghost use Rattle.std.specs.Ordering.{nat_cmp};
 ghost use Rattle.bk_ocode.specs.Labels.{static_label};
 ghost use Rattle.bk_ocode.specs.KnownUses.{use_or, uses_of};
-ghost use Rattle.bk_ocode.specs.Context.{fresh, changed, all_changed, what_stands, label_followed, labels_named, with_depth, least_result, set_by, followed, jumped, given, mentioned};
+ghost use Rattle.bk_ocode.specs.Context.{fresh, changed, all_changed, what_follows, label_followed, labels_named, with_depth, least_result, set_by, followed, jumped, given, mentioned};
 
-use crate::standing::{Behind, JumpDepths, LabelUse, Position, Setting};
+use crate::standing::{Following, JumpDepths, LabelUse, Position, Setting};
 use crate::stmt::{Case, Stmt, Variable};
 use std::alloc::{AllocError, Global};
 use std::collections::BTreeMap;
@@ -26,12 +26,12 @@ pub(crate) struct LabelUses {
 const AHEAD: usize = 32;
 
 /// What a statement is to the LAB right before it.
-fn behind_label(stmt: &Stmt) -> Behind
-    ensures { result ≡ what_stands stmt.now }
+fn after_label(stmt: &Stmt) -> Following
+    ensures { result ≡ what_follows stmt.now }
 {
     match stmt {
-        Stmt::TakeResult { depth } => Behind::Takes(*depth),
-        _ => Behind::Other,
+        Stmt::TakeResult { depth } => Following::Takes(*depth),
+        _ => Following::Other,
     }
 }
 
@@ -41,7 +41,7 @@ fn unknown() -> LabelUse
 {
     LabelUse {
         setting: Setting::Unset,
-        behind: Behind::Nothing,
+        following: Following::Nothing,
         jumps: JumpDepths::Unused,
         result: None,
         named: false,
@@ -153,11 +153,11 @@ impl LabelUses {
     }
 
     /// A statement follows the label's LAB.
-    pub(crate) fn follow(&mut self, label: u32, behind: Behind) -> Result<(), AllocError>
-        ensures { OnOk result (uses_of self.new ≡ changed label (followed behind) (uses_of self.old)) }
+    pub(crate) fn follow(&mut self, label: u32, following: Following) -> Result<(), AllocError>
+        ensures { OnOk result (uses_of self.new ≡ changed label (followed following) (uses_of self.old)) }
     {
         let known = self.of(label);
-        self.put(label, LabelUse { behind, ..known })
+        self.put(label, LabelUse { following, ..known })
     }
 
     /// A jump goes to the label with this depth.
@@ -224,7 +224,7 @@ impl LabelUses {
         ensures { OnOk result (uses_of self.new ≡ label_followed position stmt.now (uses_of self.old)) }
     {
         match position {
-            Position::BehindLabel(label) => self.follow(label, behind_label(stmt)),
+            Position::AfterLabel(label) => self.follow(label, after_label(stmt)),
             _ => Ok(()),
         }
     }

@@ -1,11 +1,11 @@
 //! Laws of sections and of the step, which the crates above rest on.
 ghost use Rattle.bk_ocode.specs.StepLaws.{StepKeepsBelow};
-ghost use Rattle.bk_ocode.specs.RunLaws.{GoesOnBehindLabel};
+ghost use Rattle.bk_ocode.specs.RunLaws.{GoesOnAfterLabel};
 ghost use Rattle.bk_ocode.specs.SoundRuns.{FirstStateIsSound, StepsAreSound, ResumingIsSound, StepsComeNearer, StepsGrow, EndsKeepBytes};
 ghost use Rattle.bk_ocode.specs.FirstFault.{SayOneThing};
 ghost use Rattle.bk_ocode.specs.SectionAnswer.{PrintedIsParted, PrintedAreParted, PrintedSaysAgain, PrintedIsReadAgain, NoSectionPassed};
 ghost use Rattle.bk_ocode.specs.Typing.{TypedIsSection};
-ghost use Rattle.bk_ocode.specs.SectionLaws.{LabelsAreSetOnce, LabelHasOnePlace, JumpFindsItsLabel, JumpHasItsLabelsDepth, DepthsSuffice, SectionIsShort, ResultFindsItsLabel, DataFindsItsLabel, ItemFindsItsLabel, GlobalFindsItsEntry, GlobalStandsLast, TextIsShort};
+ghost use Rattle.bk_ocode.specs.SectionLaws.{LabelsAreSetOnce, LabelHasOnePlace, JumpFindsItsLabel, JumpHasItsLabelsDepth, DepthsSuffice, SectionIsShort, ResultFindsItsLabel, DataFindsItsLabel, ItemFindsItsLabel, GlobalFindsItsEntry, GlobalIsLast, TextIsShort};
 
 /// No label of a section is set twice.
 #[tactic(auto, using(crate::proofs::LabelsOnce::labels_are_set_once))]
@@ -74,9 +74,9 @@ pub fn section_is_short()
 {}
 
 /// After a LAB a program goes on with what follows that LAB, whatever numbers the labels have.
-#[tactic(auto, using(crate::proofs::LabelRests::goes_on_behind_label))]
-pub fn goes_on_behind_label()
-    ensures { GoesOnBehindLabel }
+#[tactic(auto, using(crate::proofs::LabelRests::goes_on_after_label))]
+pub fn goes_on_after_label()
+    ensures { GoesOnAfterLabel }
 {}
 
 /// The words of a printed section with a text after it are its words, and then those of that text.
@@ -147,9 +147,9 @@ pub fn global_finds_its_entry()
 {}
 
 /// GLOBAL is the last statement of a section.
-#[tactic(auto, using(crate::proofs::LabelKinds::global_stands_last))]
-pub fn global_stands_last()
-    ensures { GlobalStandsLast }
+#[tactic(auto, using(crate::proofs::LabelKinds::global_is_last))]
+pub fn global_is_last()
+    ensures { GlobalIsLast }
 {}
 
 /// The text of a section has no more statements and words than their limits.

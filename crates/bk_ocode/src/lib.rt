@@ -20,11 +20,11 @@ mod stmt;
 
 pub use byte_string::ByteString;
 pub use case_list::CaseList;
-pub use depth::depth_behind;
+pub use depth::depth_after;
 pub use global_list::GlobalList;
 pub use laws::{
     data_finds_its_label, depths_suffice, ends_keep_bytes, first_state_is_sound,
-    global_finds_its_entry, global_stands_last, goes_on_behind_label, item_finds_its_label,
+    global_finds_its_entry, global_is_last, goes_on_after_label, item_finds_its_label,
     jump_finds_its_label, jump_has_its_labels_depth, label_has_one_place, labels_are_set_once,
     no_section_passed, one_saying, printed_again, printed_are_parted, printed_is_parted,
     read_again, result_finds_its_label, resuming_is_sound, section_is_short, step_keeps_below,

@@ -2,7 +2,7 @@
 ghost use Rattle.std.specs.Prelude.{◌≡◌};
 ghost use Rattle.bk_ocode.specs.Depth.{load_depth, assign_depth, least_depth};
 ghost use Rattle.bk_ocode.specs.Labels.{label_set};
-ghost use Rattle.bk_ocode.specs.Places.{role, may_stand, position_behind};
+ghost use Rattle.bk_ocode.specs.Places.{role, may_stand, position_after};
 ghost use Rattle.bk_ocode.specs.StmtRange.{InRange, IsVariable};
 
 use crate::standing::{Position, StmtPlace};
@@ -30,21 +30,21 @@ pub(crate) fn fits(position: Position, role: StmtPlace) -> bool
         Position::Outside => role == StmtPlace::Outer,
         Position::InData => role == StmtPlace::Outer || role == StmtPlace::Datum,
         Position::Opened => role == StmtPlace::First,
-        Position::BehindLabel(_) => role == StmtPlace::Body || role == StmtPlace::Taker,
-        Position::BehindReturn => role == StmtPlace::Body || role == StmtPlace::Last,
+        Position::AfterLabel(_) => role == StmtPlace::Body || role == StmtPlace::Taker,
+        Position::AfterReturn => role == StmtPlace::Body || role == StmtPlace::Last,
         Position::Inside => role == StmtPlace::Body,
         Position::Ended => false,
     }
 }
 
 /// Where the statement after this one is.
-pub(crate) fn behind(stmt: &Stmt) -> Position
-    ensures { result ≡ position_behind stmt.now }
+pub(crate) fn following(stmt: &Stmt) -> Position
+    ensures { result ≡ position_after stmt.now }
 {
     match stmt {
         Stmt::Entry { .. } => Position::Opened,
-        Stmt::Label { label } => Position::BehindLabel(*label),
-        Stmt::ReturnItem | Stmt::Return => Position::BehindReturn,
+        Stmt::Label { label } => Position::AfterLabel(*label),
+        Stmt::ReturnItem | Stmt::Return => Position::AfterReturn,
         Stmt::EndProcedure => Position::Outside,
         Stmt::DataLabel { .. } | Stmt::DataNumber { .. } | Stmt::DataAddress { .. } => {
             Position::InData

@@ -10,7 +10,7 @@ ghost use Rattle.bk_ocode.specs.Faults.{misplaced};
 ghost use Rattle.bk_ocode.specs.Drafts.{context_in};
 ghost use Rattle.bk_ocode.specs.declared.stmt.Stmt.{Stmt};
 ghost use Rattle.bk_ocode.specs.declared.partial.Unfit.TheVariants.{BadWord, BadNumber};
-ghost use Rattle.bk_ocode.specs.SectionAnswer.{Answers, StandsWhateverFollows, AnswersWords, is_device};
+ghost use Rattle.bk_ocode.specs.SectionAnswer.{Answers, AppliesWhateverFollows, AnswersWords, is_device};
 ghost use Rattle.bk_ocode.specs.PartialStmts.{IsStep, IsPartialPart, part_words, BeginNone, refusal};
 
 use crate::draft::Draft;
@@ -22,7 +22,7 @@ use bk_words::{Gathered, next_word};
 use std::alloc::Global;
 
 /// A fault at the statement after so many others.
-fn fault_behind(count: usize, kind: OcodeKind) -> Refused<OcodeFault>
+fn fault_after(count: usize, kind: OcodeKind) -> Refused<OcodeFault>
     requires { count ≤ OCODE_STATEMENTS }
     ensures { result ≡ Refused.Fault (record { statement = count + 1; kind = kind }) }
 {
@@ -77,12 +77,12 @@ fn step_of(
 /// What is answered where a word does not fit.
 fn refused(count: usize, unfit: Unfit) -> Refused<OcodeFault>
     requires { count ≤ OCODE_STATEMENTS }
-    ensures told { result ≡ refusal count unfit }
+    ensures reported { result ≡ refusal count unfit }
     ensures no_device { is_device (Err result) ≡ false }
 {
     match unfit {
-        Unfit::BadWord => fault_behind(count, OcodeKind::BadWord),
-        Unfit::BadNumber => fault_behind(count, OcodeKind::BadNumber),
+        Unfit::BadWord => fault_after(count, OcodeKind::BadWord),
+        Unfit::BadNumber => fault_after(count, OcodeKind::BadNumber),
         Unfit::Memory => Refused::Memory,
     }
 }
@@ -97,7 +97,7 @@ fn at_end(count: usize, words: u32) -> Result<Option<Ocode>, Refused<OcodeFault>
     if count == 0 && words == 0 {
         return Ok(None);
     }
-    Err(fault_behind(count, OcodeKind::Truncated))
+    Err(fault_after(count, OcodeKind::Truncated))
 }
 
 /// Reads the next section of a text.
@@ -116,7 +116,7 @@ fn next_section<I: ByteIn>(
     let mut words = 0;
     loop {
         if draft.is_filled_by(words) {
-            return Err(fault_behind(draft.len(), OcodeKind::TooLong));
+            return Err(fault_after(draft.len(), OcodeKind::TooLong));
         }
         let Ok(found) = next_word(input, &mut taken) else {
             return Err(Refused::Device);
@@ -130,7 +130,7 @@ fn next_section<I: ByteIn>(
             Ok(Progress::More(more)) => begun = Some(more),
             Ok(Progress::Done(stmt)) => {
                 if let Some(kind) = draft.fault_of(&stmt, words) {
-                    return Err(fault_behind(draft.len(), kind));
+                    return Err(fault_after(draft.len(), kind));
                 }
                 let Ok(()) = draft.add(stmt, words) else {
                     return Err(Refused::Memory);
@@ -157,7 +157,7 @@ pub fn read_section<I: ByteIn>(
     // refused, or some words of a section that did not end and the first bytes of the next word, where the device failed.
     ensures answers { Answers result (I.left input.old) (I.left input.new) (I.ended input.new) }
     // This holds whatever follows the bytes taken.
-    ensures stands { StandsWhateverFollows result (I.left input.old) (I.left input.new) (I.ended input.new) }
+    ensures applies { AppliesWhateverFollows result (I.left input.old) (I.left input.new) (I.ended input.new) }
     // The same of the whole text, whose words say one thing.
     ensures says { (all : List ℕ) → I.left input.old ≡ Some all → length all < INPUT_BYTES → AnswersWords result (words_of all) }
     // It fails exactly where the device does, and at once where that failed before. Where the end was reported, nothing is left.

@@ -3,7 +3,7 @@ ghost use Rattle.std.specs.Prelude.{◌≡◌};
 ghost use Rattle.bk_ocode.specs.StmtRange.{AreTyped};
 ghost use Rattle.bk_ocode.specs.Section.{IsSection};
 
-use crate::depth::{depth_behind, larger};
+use crate::depth::{depth_after, larger};
 use crate::stmt::Stmt;
 
 /// A section: a list of statements that keeps the rules of accepted sections and the limits of statements, words of text,
@@ -47,7 +47,7 @@ impl Ocode {
         let mut depth = 0;
         let mut largest = 0;
         for stmt in self.stmts() {
-            depth = depth_behind(depth, stmt);
+            depth = depth_after(depth, stmt);
             largest = larger(largest, depth);
         }
         largest

@@ -10,9 +10,9 @@ pub(crate) enum Position {
     /// Right after an ENTRY.
     Opened,
     /// In a procedure, right after the LAB of a label.
-    BehindLabel(u32),
+    AfterLabel(u32),
     /// In a procedure, right after RTRN or FNRN.
-    BehindReturn,
+    AfterReturn,
     /// Elsewhere in a procedure.
     Inside,
     /// After the end of the section.
@@ -51,7 +51,7 @@ pub(crate) enum Setting {
 
 /// What comes right after the LAB of a label.
 #[derive(Clone, Copy, Debug, PartialEq, Eq)]
-pub(crate) enum Behind {
+pub(crate) enum Following {
     /// Nothing so far.
     Nothing,
     /// RSTACK of this depth.
@@ -77,7 +77,7 @@ pub(crate) struct LabelUse {
     /// What set it.
     pub(crate) setting: Setting,
     /// What follows its LAB.
-    pub(crate) behind: Behind,
+    pub(crate) following: Following,
     /// The depths of jumps to it.
     pub(crate) jumps: JumpDepths,
     /// The least depth after a RES of it, if there was one.

@@ -149,7 +149,7 @@ pub enum Stmt {
     DataLabel { label: u32 },
     /// ITEMN: a word of data.
     DataNumber { value: i32 },
-    /// ITEML: a word of data that holds what a label stands for.
+    /// ITEML: a word of data that holds what a label means.
     DataAddress { label: u32 },
     /// GLOBAL: globals hold entries; the end of the section.
     Globals { entries: GlobalList },

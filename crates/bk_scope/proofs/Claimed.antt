@@ -39,12 +39,12 @@ had c ks =
     any-claimed c ks ∙ list_any-IsPermutation (same_claim (claim_of c)) (map claim_of ks) (claims_in ks) (IsPermutation-reverse (map claim_of ks))
     ∙ claimed-any (claim_of c) (claims_in ks)
 
-claims_in-behind : (c : Claim) (ks : List Claim) → claims_in (ks ++ c ∷ []) ≡ claim_of c ∷ claims_in ks
-claims_in-behind c ks = ap reverse (map-append claim_of ks (c ∷ [])) ∙ reverse-append (map claim_of ks) (claim_of c ∷ [])
+claims_in-following : (c : Claim) (ks : List Claim) → claims_in (ks ++ c ∷ []) ≡ claim_of c ∷ claims_in ks
+claims_in-following c ks = ap reverse (map-append claim_of ks (c ∷ [])) ∙ reverse-append (map claim_of ks) (claim_of c ∷ [])
 
 inserted : (b : Bool) (c : Claim) (ks : List Claim) → claims_in (cond b ks (ks ++ c ∷ [])) ≡ cond (not b) (claim_of c ∷ claims_in ks) (claims_in ks)
 inserted true c ks = refl
-inserted false c ks = claims_in-behind c ks
+inserted false c ks = claims_in-following c ks
 
 -- one claim more, if it is new
 pub claims_in-insert : (c : Claim) (ks : List Claim) (new : Bool) → new ≡ not (list_any (eq-value.it c) ks)

@@ -1,5 +1,5 @@
 -- The pass and what is told: commands.
-use Rattle.bk_scope.proofs.Terms.{◌≡◌, ℕ, ◌+◌, ◌==◌, Bool, true, false, cond, Option, Some, None, List, [], ◌∷◌, ◌++◌, length, refl, sym, ap, ◌∙◌, subst, arith, append-nil, Simple, Simple as w, Mention, Expression, Expressions, Command, Commands, empty, assign, call, goto, label, case_of, default, when, test, while, for_loop, result, simple, block, repeat, repeat_while, no_commands, also, no_declarations, size, Bound, Constant, Global, Static, Variable, Label, Enclosing, Value, Truth, Binding, bound_in, bind, Wrong, text_of, case_repeated, default_repeated, dynamic_name, label_not_here, no_loop, no_switchon, no_result_or_return, constant_word, wrongs, Found, choosing, defaulting, is_claimed, else_first, first_of, breaks_first, breaks, claims_new, holds, reaches, deeper, looping, labelled, Stage, labels_of, evaluated, destinations, done, reached, listed, named_as, switched, chosen, defaulted, single, constant_found, constants_found, Spot, onward, past, numbered, behind, behind_each, behind_done, behind_constant, symbols_each, numbers, numbers_each, numbers_done, at, word, claim, in_order, first_told, labels_in_scope, unless, gone_to, chosen_at, defaulted_at, single_at, its_meaning, one_of, its_word, constant, each_constant, pushed, told, told_destinations, told_done}
+use Rattle.bk_scope.proofs.Terms.{◌≡◌, ℕ, ◌+◌, ◌==◌, Bool, true, false, cond, Option, Some, None, List, [], ◌∷◌, ◌++◌, length, refl, sym, ap, ◌∙◌, subst, arith, append-nil, Simple, Simple as w, Mention, Expression, Expressions, Command, Commands, empty, assign, call, goto, label, case_of, default, when, test, while, for_loop, result, simple, block, repeat, repeat_while, no_commands, also, no_declarations, size, Bound, Constant, Global, Static, Variable, Label, Enclosing, Value, Truth, Binding, bound_in, bind, Wrong, text_of, case_repeated, default_repeated, dynamic_name, label_not_here, no_loop, no_switchon, no_result_or_return, constant_word, wrongs, Found, choosing, defaulting, is_claimed, else_first, first_of, breaks_first, breaks, claims_new, holds, reaches, deeper, looping, labelled, Stage, labels_of, evaluated, destinations, done, reached, listed, named_as, switched, chosen, defaulted, single, constant_found, constants_found, Spot, onward, past, numbered, following, after_each, after_done, after_constant, symbols_each, numbers, numbers_each, numbers_done, at, word, claim, in_order, first_reported, labels_in_scope, unless, gone_to, chosen_at, defaulted_at, single_at, its_meaning, one_of, its_word, constant, each_constant, pushed, reported, reported_destinations, reported_done}
 use Rattle.bk_scope.proofs.Worded.{no_wrong}
 use Rattle.bk_scope.proofs.Tied.{Tied, Spans, broken, both, wider, behind_it, else_none, nothing_told}
 use Rattle.bk_scope.proofs.Operators.{ETied, EsTied, CTied}
@@ -52,7 +52,7 @@ chosen_or_repeated : (q : Bool) (n l m v : ℕ) (f : Found) → is_claimed (choo
 chosen_or_repeated true n l m v f e = rw-claimed where
   rw-claimed : Tied (claim (choosing m v) (record { place = n; at = l; wrong = case_repeated }) ∷ word v ∷ []) 0 f (breaks l case_repeated (holds (Some v) (breaks_first None f)))
   rw-claimed = record {
-    first = ap (λ c. else_first c (Some (record { at = l; wrong = case_repeated }))) (else_none f.first) ∙ ap (λ c. else_first f.first (first_told (in_order (cond c (record { place = n; at = l; wrong = case_repeated } ∷ []) [] ++ [])))) (sym e);
+    first = ap (λ c. else_first c (Some (record { at = l; wrong = case_repeated }))) (else_none f.first) ∙ ap (λ c. else_first f.first (first_reported (in_order (cond c (record { place = n; at = l; wrong = case_repeated } ∷ []) [] ++ [])))) (sym e);
     claims = ap (λ c. cond c f.claims (choosing m v ∷ f.claims)) (sym e);
     meanings = sym (append-nil f.meanings);
     words = refl;
@@ -60,7 +60,7 @@ chosen_or_repeated true n l m v f e = rw-claimed where
     deepest = refl;
   }
 chosen_or_repeated false n l m v f e = record {
-  first = ap (λ c. else_first f.first (first_told (in_order (cond c (record { place = n; at = l; wrong = case_repeated } ∷ []) [] ++ [])))) (sym e);
+  first = ap (λ c. else_first f.first (first_reported (in_order (cond c (record { place = n; at = l; wrong = case_repeated } ∷ []) [] ++ [])))) (sym e);
   claims = ap (λ c. cond c f.claims (choosing m v ∷ f.claims)) (sym e);
   meanings = sym (append-nil f.meanings);
   words = refl;
@@ -85,15 +85,15 @@ empty_tied bs p s f e fits = nothing_told f
 
 pub assign_tied : (l : ℕ) (xs es : Expressions) → DestinationsTied xs → EsTied es → CTied (assign l xs es)
 assign_tied l xs es t u bs p s f e fits =
-    let one : Tied (told_destinations bs (deeper 1 p) s xs) (numbers_each xs) f (destinations bs (deeper 1 p) xs f) = t bs (deeper 1 p) s f e (omega (arith, fits)) in
-    behind_it (destinations_inside xs bs (deeper 1 p) s) (each_inside es 0 bs p (behind_each xs s)) (omega arith) one (u 0 bs p (behind_each xs s) (destinations bs (deeper 1 p) xs f) (omega (arith, one.next, e)) (omega (arith, fits)))
+    let one : Tied (reported_destinations bs (deeper 1 p) s xs) (numbers_each xs) f (destinations bs (deeper 1 p) xs f) = t bs (deeper 1 p) s f e (omega (arith, fits)) in
+    behind_it (destinations_inside xs bs (deeper 1 p) s) (each_inside es 0 bs p (after_each xs s)) (omega arith) one (u 0 bs p (after_each xs s) (destinations bs (deeper 1 p) xs f) (omega (arith, one.next, e)) (omega (arith, fits)))
 
 pub routine_call_tied : (l : ℕ) (e : Expression) (es : Expressions) → ETied e → EsTied es → CTied (call l e es)
 routine_call_tied l e es t u bs p s f a fits =
     let w : Enclosing = deeper (size es + 2) p in
     let g : Found = evaluated Value bs w e f in
-    let one : Tied (told Value bs w s e) (numbers e) f g = t Value tt bs w s f a (omega (arith, fits)) in
-    behind_it (inside e Value bs w s) (each_inside es 1 bs (deeper 2 p) (behind e s)) (omega arith) one (u 1 bs (deeper 2 p) (behind e s) g (omega (arith, one.next, a)) (omega (arith, fits)))
+    let one : Tied (reported Value bs w s e) (numbers e) f g = t Value tt bs w s f a (omega (arith, fits)) in
+    behind_it (inside e Value bs w s) (each_inside es 1 bs (deeper 2 p) (following e s)) (omega arith) one (u 1 bs (deeper 2 p) (following e s) g (omega (arith, one.next, a)) (omega (arith, fits)))
 
 pub goto_tied : (l : ℕ) (x : Mention) → CTied (goto l x)
 goto_tied l x bs p s f e fits = gone_tied p.procedure s.place x.at x.letters (bound_in bs x.letters) f
@@ -109,7 +109,7 @@ pub case_tied : (l : ℕ) (e : Expression) (c : Command) → CTied c → CTied (
 case_tied l e c t bs p s f a fits =
     let h : Found = chosen p.switch l (constant_word bs e) (constant_found bs p.procedure e (switched p.switch l f)) in
     let head : Tied (chosen_at p.switch s.place l (constant_word bs e) ++ constant bs p.procedure (past 1 s) e) 0 f h = case_head e p.switch (constant_word bs e) l bs p.procedure s f refl in
-    let u : Spot = behind_constant e (past 1 s) in
+    let u : Spot = after_constant e (past 1 s) in
     recount (numbers_done c) (behind_it (both (chosen_spans p.switch s.place l (constant_word bs e)) (whole_spans e bs p.procedure (past 1 s)) (omega arith) (omega arith)) (done_inside c bs p u) (omega arith) head (t bs p u h (omega (arith, head.next, a)) (omega (arith, fits)))) (omega arith)
 
 pub default_tied : (l : ℕ) (c : Command) → CTied c → CTied (default l c)
@@ -120,23 +120,23 @@ default_tied l c t bs p s f e fits =
 
 pub when_tied : (l : ℕ) (b : Bool) (e : Expression) (c : Command) → ETied e → CTied c → CTied (when l b e c)
 when_tied l b e c t u bs p s f a fits =
-    let one : Tied (told Truth bs p s e) (numbers e) f (evaluated Truth bs p e f) = t Truth tt bs p s f a (omega (arith, fits)) in
-    behind_it (inside e Truth bs p s) (done_inside c bs p (behind e s)) (omega arith) one (u bs p (behind e s) (evaluated Truth bs p e f) (omega (arith, one.next, a)) (omega (arith, fits)))
+    let one : Tied (reported Truth bs p s e) (numbers e) f (evaluated Truth bs p e f) = t Truth tt bs p s f a (omega (arith, fits)) in
+    behind_it (inside e Truth bs p s) (done_inside c bs p (following e s)) (omega arith) one (u bs p (following e s) (evaluated Truth bs p e f) (omega (arith, one.next, a)) (omega (arith, fits)))
 
 pub test_tied : (l : ℕ) (e : Expression) (c d : Command) → ETied e → CTied c → CTied d → CTied (test l e c d)
 test_tied l e c d t u v bs p s f a fits =
     let g : Found = evaluated Truth bs p e f in
     let h : Found = done bs p c g in
-    let i : Spot = behind_done c (behind e s) in
-    let one : Tied (told Truth bs p s e) (numbers e) f g = t Truth tt bs p s f a (omega (arith, fits)) in
-    let two : Tied (told_done bs p (behind e s) c) (numbers_done c) g h = u bs p (behind e s) g (omega (arith, one.next, a)) (omega (arith, fits)) in
-    recount _ (behind_it (both (inside e Truth bs p s) (done_inside c bs p (behind e s)) (omega arith) (omega arith)) (done_inside d bs p i) (omega arith)
-    (behind_it (inside e Truth bs p s) (done_inside c bs p (behind e s)) (omega arith) one two) (v bs p i h (omega (arith, one.next, two.next, a)) (omega (arith, fits)))) (omega arith)
+    let i : Spot = after_done c (following e s) in
+    let one : Tied (reported Truth bs p s e) (numbers e) f g = t Truth tt bs p s f a (omega (arith, fits)) in
+    let two : Tied (reported_done bs p (following e s) c) (numbers_done c) g h = u bs p (following e s) g (omega (arith, one.next, a)) (omega (arith, fits)) in
+    recount _ (behind_it (both (inside e Truth bs p s) (done_inside c bs p (following e s)) (omega arith) (omega arith)) (done_inside d bs p i) (omega arith)
+    (behind_it (inside e Truth bs p s) (done_inside c bs p (following e s)) (omega arith) one two) (v bs p i h (omega (arith, one.next, two.next, a)) (omega (arith, fits)))) (omega arith)
 
 pub while_tied : (l : ℕ) (b : Bool) (e : Expression) (c : Command) → ETied e → CTied c → CTied (while l b e c)
 while_tied l b e c t u bs p s f a fits =
-    let one : Tied (told Truth bs p s e) (numbers e) f (evaluated Truth bs p e f) = t Truth tt bs p s f a (omega (arith, fits)) in
-    behind_it (inside e Truth bs p s) (done_inside c bs (looping p) (behind e s)) (omega arith) one (u bs (looping p) (behind e s) (evaluated Truth bs p e f) (omega (arith, one.next, a)) (omega (arith, fits)))
+    let one : Tied (reported Truth bs p s e) (numbers e) f (evaluated Truth bs p e f) = t Truth tt bs p s f a (omega (arith, fits)) in
+    behind_it (inside e Truth bs p s) (done_inside c bs (looping p) (following e s)) (omega arith) one (u bs (looping p) (following e s) (evaluated Truth bs p e f) (omega (arith, one.next, a)) (omega (arith, fits)))
 
 pub for_tied : (l : ℕ) (x : Mention) (a b : Expression) (h : Expressions) (c : Command) → ETied a → ETied b → CTied c → CTied (for_loop l x a b h c)
 for_tied l x a b h c ta tb tc bs p s f e fits =
@@ -144,16 +144,16 @@ for_tied l x a b h c ta tb tc bs p s f e fits =
     let f2 : Found = evaluated Value bs (deeper 1 p) b f1 in
     let f3 : Found = constants_found bs p.procedure h f2 in
     let g : Found = reaches (p.depth + 4) f3 in
-    let v : Spot = behind b (behind a s) in
+    let v : Spot = following b (following a s) in
     let u : Spot = onward (symbols_each h) 0 v in
     let L : ℕ = length (labels_of c) in
     let zs : List Binding = bind x.letters (Variable p.procedure p.depth) bs in
-    let one : Tied (told Value bs p s a) (numbers a) f f1 = ta Value tt bs p s f e (omega (arith, fits)) in
-    let two : Tied (told Value bs (deeper 1 p) (behind a s) b) (numbers b) f1 f2 = tb Value tt bs (deeper 1 p) (behind a s) f1 (omega (arith, one.next, e)) (omega (arith, fits)) in
-    let head : Tied (told Value bs p s a ++ told Value bs (deeper 1 p) (behind a s) b) (numbers a + numbers b) f f2 = behind_it (inside a Value bs p s) (inside b Value bs (deeper 1 p) (behind a s)) (omega arith) one two in
-    let head_spans : Spans s.place v.place (told Value bs p s a ++ told Value bs (deeper 1 p) (behind a s) b) = wider _ _ (both (inside a Value bs p s) (inside b Value bs (deeper 1 p) (behind a s)) (omega arith) (omega arith)) (omega arith) (omega arith) in
+    let one : Tied (reported Value bs p s a) (numbers a) f f1 = ta Value tt bs p s f e (omega (arith, fits)) in
+    let two : Tied (reported Value bs (deeper 1 p) (following a s) b) (numbers b) f1 f2 = tb Value tt bs (deeper 1 p) (following a s) f1 (omega (arith, one.next, e)) (omega (arith, fits)) in
+    let head : Tied (reported Value bs p s a ++ reported Value bs (deeper 1 p) (following a s) b) (numbers a + numbers b) f f2 = behind_it (inside a Value bs p s) (inside b Value bs (deeper 1 p) (following a s)) (omega arith) one two in
+    let head_spans : Spans s.place v.place (reported Value bs p s a ++ reported Value bs (deeper 1 p) (following a s) b) = wider _ _ (both (inside a Value bs p s) (inside b Value bs (deeper 1 p) (following a s)) (omega arith) (omega arith)) (omega arith) (omega arith) in
     let step_spans : Spans v.place u.place (each_constant bs p.procedure v h) = each_constant_spans h bs p.procedure v in
-    let start : Tied (told Value bs p s a ++ told Value bs (deeper 1 p) (behind a s) b ++ each_constant bs p.procedure v h ++ pushed p 4) (((numbers a + numbers b) + 0) + 0) f g =
+    let start : Tied (reported Value bs p s a ++ reported Value bs (deeper 1 p) (following a s) b ++ each_constant bs p.procedure v h ++ pushed p 4) (((numbers a + numbers b) + 0) + 0) f g =
     behind_it (both head_spans step_spans (omega arith) (omega arith)) (pushed_spans u.place p 4) (omega arith)
     (behind_it head_spans step_spans (omega arith) head (each_constant_tied h bs p.procedure v f2)) (pushed_tied p 4 f3) in
     let same : g.next ≡ u.number = omega (arith, start.next, e) in
@@ -161,11 +161,11 @@ for_tied l x a b h c ta tb tc bs p s f e fits =
     let xs : List Binding = labels_in_scope p.procedure (u.number + 1) (labels_of c) zs in
     let g' : Found = moved ((g.next + 1) + L) g in
     let i : Spot = numbered (1 + L) u in
-    let body : Tied (told_done xs q i c) (numbers_done c) g' (done xs q c g') = tc xs q i g' (omega (arith, same)) (omega (arith, fits)) in
-    let start_spans : Spans s.place u.place (told Value bs p s a ++ told Value bs (deeper 1 p) (behind a s) b ++ each_constant bs p.procedure v h ++ pushed p 4) = both (both head_spans step_spans (omega arith) (omega arith)) (pushed_spans u.place p 4) (omega arith) (omega arith) in
-    let all : Tied (told_done bs p s (for_loop l x a b h c)) (numbers_done (for_loop l x a b h c)) f (done xs q c g') =
+    let body : Tied (reported_done xs q i c) (numbers_done c) g' (done xs q c g') = tc xs q i g' (omega (arith, same)) (omega (arith, fits)) in
+    let start_spans : Spans s.place u.place (reported Value bs p s a ++ reported Value bs (deeper 1 p) (following a s) b ++ each_constant bs p.procedure v h ++ pushed p 4) = both (both head_spans step_spans (omega arith) (omega arith)) (pushed_spans u.place p 4) (omega arith) (omega arith) in
+    let all : Tied (reported_done bs p s (for_loop l x a b h c)) (numbers_done (for_loop l x a b h c)) f (done xs q c g') =
     recount _ (behind_it start_spans (done_inside c xs q i) (omega arith) start (behind_it (no_span u.place) (done_inside c xs q i) (omega arith) (moved_tied (1 + L) g'.next g (omega arith)) body)) (omega arith) in
-    let T : Found → Type 0 = Tied (told_done bs p s (for_loop l x a b h c)) (numbers_done (for_loop l x a b h c)) f in
+    let T : Found → Type 0 = Tied (reported_done bs p s (for_loop l x a b h c)) (numbers_done (for_loop l x a b h c)) f in
     subst (λ (t : Stage). T (done t.scope (labelled g.next (looping (deeper 2 p))) c t.found)) (sym (labels_taken p.procedure (labels_of c) zs g (omega (arith, same, fits))))
     (subst (λ n. T (done (labels_in_scope p.procedure (n + 1) (labels_of c) zs) (labelled n (looping (deeper 2 p))) c g')) (sym same) all)
 
@@ -187,13 +187,13 @@ repeat_tied l c t bs p s f e fits = t bs (looping p) s f e fits
 pub repeat_while_tied : (l : ℕ) (b : Bool) (c : Command) (e : Expression) → CTied c → ETied e → CTied (repeat_while l b c e)
 repeat_while_tied l b c e t u bs p s f a fits =
     let g : Found = done bs (looping p) c f in
-    let one : Tied (told_done bs (looping p) s c) (numbers_done c) f g = t bs (looping p) s f a (omega (arith, fits)) in
-    behind_it (done_inside c bs (looping p) s) (inside e Truth bs p (behind_done c s)) (omega arith) one (u Truth tt bs p (behind_done c s) g (omega (arith, one.next, a)) (omega (arith, fits)))
+    let one : Tied (reported_done bs (looping p) s c) (numbers_done c) f g = t bs (looping p) s f a (omega (arith, fits)) in
+    behind_it (done_inside c bs (looping p) s) (inside e Truth bs p (after_done c s)) (omega arith) one (u Truth tt bs p (after_done c s) g (omega (arith, one.next, a)) (omega (arith, fits)))
 
 pub no_commands_tied : CsTied no_commands
 no_commands_tied bs p s f e fits = nothing_told f
 
 pub also_tied : (c : Command) (cs : Commands) → CTied c → CsTied cs → CsTied (also c cs)
 also_tied c cs t u bs p s f e fits =
-    let one : Tied (told_done bs p s c) (numbers_done c) f (done bs p c f) = t bs p s f e (omega (arith, fits)) in
-    behind_it (done_inside c bs p s) (each_done_inside cs bs p (behind_done c s)) (omega arith) one (u bs p (behind_done c s) (done bs p c f) (omega (arith, one.next, e)) (omega (arith, fits)))
+    let one : Tied (reported_done bs p s c) (numbers_done c) f (done bs p c f) = t bs p s f e (omega (arith, fits)) in
+    behind_it (done_inside c bs p s) (each_done_inside cs bs p (after_done c s)) (omega arith) one (u bs p (after_done c s) (done bs p c f) (omega (arith, one.next, e)) (omega (arith, fits)))

@@ -1,5 +1,5 @@
 -- The pass and what is told, where a constant is asked for.
-use Rattle.bk_scope.proofs.Terms.{◌≡◌, ℕ, ◌+◌, ◌*◌, ◌≤◌, ◌==◌, Bool, true, false, cond, Option, Some, None, List, [], ◌∷◌, ◌++◌, refl, sym, ap, ◌∙◌, append_assoc, subst, arith, nat_lt, append-nil, none-some, eq-eqb, false≢true, le-ltb, ltb-true, Operator, Operator as o, Expression, Expressions, name, number, text, truth, query, parens, unary, binary, choice, apply, valof, table, none, more, Bound, Constant, Global, Static, Variable, Label, Binding, bound_in, Wrong, Breach, dynamic_name, not_constant, divided_by_zero, label_not_here, text_of, named_word, constant_word, is_prefix_of_constants, is_infix_of_constants, divides, divides_by_zero, wrong_name, wrongs, Found, Claim, first_of, else_first, breaks_first, holds, constant_found, constants_found, Spot, past, behind_constant, symbols, symbols_each, Point, meaning, word, depth, wrong, claim, at, claims_behind, judged, in_order, first_told, meanings_of, words_of, deepest, number_of, unless, constant_name, constant_wrongs, constant_wrongs_each, its_word, constant, each_constant}
+use Rattle.bk_scope.proofs.Terms.{◌≡◌, ℕ, ◌+◌, ◌*◌, ◌≤◌, ◌==◌, Bool, true, false, cond, Option, Some, None, List, [], ◌∷◌, ◌++◌, refl, sym, ap, ◌∙◌, append_assoc, subst, arith, nat_lt, append-nil, none-some, eq-eqb, false≢true, le-ltb, ltb-true, Operator, Operator as o, Expression, Expressions, name, number, text, truth, query, parens, unary, binary, choice, apply, valof, table, none, more, Bound, Constant, Global, Static, Variable, Label, Binding, bound_in, Wrong, Breach, dynamic_name, not_constant, divided_by_zero, label_not_here, text_of, named_word, constant_word, is_prefix_of_constants, is_infix_of_constants, divides, divides_by_zero, wrong_name, wrongs, Found, Claim, first_of, else_first, breaks_first, holds, constant_found, constants_found, Spot, past, after_constant, symbols, symbols_each, Point, meaning, word, depth, wrong, claim, at, claims_after, judged, in_order, first_reported, meanings_of, words_of, deepest, number_of, unless, constant_name, constant_wrongs, constant_wrongs_each, its_word, constant, each_constant}
 use Rattle.bk_scope.proofs.Firsts.{first_of-append}
 use Rattle.bk_scope.proofs.Worded.{prefix_right, infix_right}
 use Rattle.bk_scope.proofs.Lists.{below_32, inside_wider, first_of_both, claims_append, meanings_append, words_append, deepest_append}
@@ -8,14 +8,14 @@ use Rattle.bk_scope.proofs.Scopes.{recount, no_span}
 
 -- these points say only what is wrong
 pub record Silent (xs : List Point) : Type 0 where
-  claims_so : (cs : List Claim) → claims_behind cs xs ≡ cs
+  claims_so : (cs : List Claim) → claims_after cs xs ≡ cs
   meanings_so : meanings_of xs ≡ []
   words_so : words_of xs ≡ []
   deepest_so : (d : ℕ) → deepest d xs ≡ d
 
 silent_both : {xs ys : List Point} → Silent xs → Silent ys → Silent (xs ++ ys)
 silent_both {xs} {ys} h g = record {
-  claims_so = λ cs. claims_append xs ys cs ∙ ap (λ c. claims_behind c ys) (h.claims_so cs) ∙ g.claims_so cs;
+  claims_so = λ cs. claims_append xs ys cs ∙ ap (λ c. claims_after c ys) (h.claims_so cs) ∙ g.claims_so cs;
   meanings_so = meanings_append xs ys ∙ ap (λ c. c ++ meanings_of ys) h.meanings_so ∙ g.meanings_so;
   words_so = words_append xs ys ∙ ap (λ c. c ++ words_of ys) h.words_so ∙ g.words_so;
   deepest_so = λ d. deepest_append xs ys d ∙ ap (λ c. deepest c ys) (h.deepest_so d) ∙ g.deepest_so d;
@@ -48,18 +48,18 @@ mutual
   constant_silent (unary l r e) bs k s = silent_both (unless_silent (is_prefix_of_constants r) s.place l not_constant) (constant_silent e bs k (past 1 s))
   constant_silent (binary l r m a b) bs k s =
       silent_both (silent_both (silent_both (when_silent (divides_by_zero r (constant_word bs a) (constant_word bs b)) s.place l divided_by_zero) (constant_silent a bs k s))
-      (unless_silent (is_infix_of_constants r) (behind_constant a s).place m not_constant)) (constant_silent b bs k (past 1 (behind_constant a s)))
+      (unless_silent (is_infix_of_constants r) (after_constant a s).place m not_constant)) (constant_silent b bs k (past 1 (after_constant a s)))
   constant_silent (choice l m c a b) bs k s =
-      let t : Spot = past 1 (behind_constant c s) in
-      silent_both (silent_both (silent_both (constant_silent c bs k s) (at_silent _ m _)) (constant_silent a bs k t)) (constant_silent b bs k (behind_constant a t))
-  constant_silent (apply l m f es) bs k s = silent_both (silent_both (constant_silent f bs k s) (at_silent _ m _)) (constants_silent es bs k (past 1 (behind_constant f s)))
+      let t : Spot = past 1 (after_constant c s) in
+      silent_both (silent_both (silent_both (constant_silent c bs k s) (at_silent _ m _)) (constant_silent a bs k t)) (constant_silent b bs k (after_constant a t))
+  constant_silent (apply l m f es) bs k s = silent_both (silent_both (constant_silent f bs k s) (at_silent _ m _)) (constants_silent es bs k (past 1 (after_constant f s)))
   constant_silent (number l n) bs k s = none_silent
   constant_silent (truth l b) bs k s = none_silent
   constant_silent _ bs k s = at_silent _ _ _
 
   pub constants_silent : (es : Expressions) (bs : List Binding) (k : ℕ) (s : Spot) → Silent (constant_wrongs_each bs k s es)
   constants_silent none bs k s = none_silent
-  constants_silent (more e es) bs k s = silent_both (constant_silent e bs k s) (constants_silent es bs k (behind_constant e s))
+  constants_silent (more e es) bs k s = silent_both (constant_silent e bs k s) (constants_silent es bs k (after_constant e s))
 
 -- where they stand
 pub at_spans : (n l : ℕ) (w : Wrong) → Spans n (n + 1) (at n l w)
@@ -86,7 +86,7 @@ mutual
   constant_spans (unary l r e) bs k s = wider _ _ (both (unless_spans (is_prefix_of_constants r) s.place l not_constant) (constant_spans e bs k (past 1 s)) (omega arith) (omega arith)) (omega arith) (omega arith)
   constant_spans (binary l r m a b) bs k s =
       let d : Bool = divides_by_zero r (constant_word bs a) (constant_word bs b) in
-      let t : Spot = behind_constant a s in
+      let t : Spot = after_constant a s in
       let u : Spans s.place (s.place + 1) (cond d (at s.place l divided_by_zero) []) = when_spans d s.place l divided_by_zero in
       let v : Spans s.place (s.place + symbols a) (constant_wrongs bs k s a) = constant_spans a bs k s in
       let w : Spans t.place (t.place + 1) (unless (is_infix_of_constants r) (at t.place m not_constant)) = unless_spans (is_infix_of_constants r) t.place m not_constant in
@@ -94,12 +94,12 @@ mutual
       let end : ℕ = s.place + (symbols a + (1 + symbols b)) in
       among (among (among (wider s.place end u (omega arith) (omega arith)) (wider s.place end v (omega arith) (omega arith))) (wider s.place end w (omega arith) (omega arith))) (wider s.place end z (omega arith) (omega arith))
   constant_spans (choice l m c a b) bs k s =
-      let t : Spot = behind_constant c s in
+      let t : Spot = after_constant c s in
       let end : ℕ = s.place + (symbols c + (1 + (symbols a + symbols b))) in
       among (among (among (wider s.place end (constant_spans c bs k s) (omega arith) (omega arith)) (wider s.place end (at_spans t.place m not_constant) (omega arith) (omega arith)))
-      (wider s.place end (constant_spans a bs k (past 1 t)) (omega arith) (omega arith))) (wider s.place end (constant_spans b bs k (behind_constant a (past 1 t))) (omega arith) (omega arith))
+      (wider s.place end (constant_spans a bs k (past 1 t)) (omega arith) (omega arith))) (wider s.place end (constant_spans b bs k (after_constant a (past 1 t))) (omega arith) (omega arith))
   constant_spans (apply l m f es) bs k s =
-      let t : Spot = behind_constant f s in
+      let t : Spot = after_constant f s in
       let end : ℕ = s.place + (symbols f + (1 + symbols_each es)) in
       among (among (wider s.place end (constant_spans f bs k s) (omega arith) (omega arith)) (wider s.place end (at_spans t.place m not_constant) (omega arith) (omega arith)))
       (wider s.place end (constants_spans es bs k (past 1 t)) (omega arith) (omega arith))
@@ -111,7 +111,7 @@ mutual
 
   pub constants_spans : (es : Expressions) (bs : List Binding) (k : ℕ) (s : Spot) → Spans s.place (s.place + symbols_each es) (constant_wrongs_each bs k s es)
   constants_spans none bs k s = wider _ _ (no_span s.place) (omega arith) (omega arith)
-  constants_spans (more e es) bs k s = wider _ _ (both (constant_spans e bs k s) (constants_spans es bs k (behind_constant e s)) (omega arith) (omega arith)) (omega arith) (omega arith)
+  constants_spans (more e es) bs k s = wider _ _ (both (constant_spans e bs k s) (constants_spans es bs k (after_constant e s)) (omega arith) (omega arith)) (omega arith) (omega arith)
 
 -- what has a word as a constant is not wrong
 named_right : (k n l : ℕ) (x : List ℕ) (y : Option Bound) (w : ℕ) → named_word y ≡ Some w → constant_name k n l x y ≡ []
@@ -128,17 +128,17 @@ constant_right (unary l p x) bs k s w e =
     rw h.0 (constant_right x bs k (past 1 s) h.1 h.2)
 constant_right (binary l o m a b) bs k s w e =
     let h : (is_infix_of_constants o ≡ true) × (divides_by_zero o (constant_word bs a) (constant_word bs b) ≡ false) × ((x : ℕ) × (constant_word bs a ≡ Some x)) × (y : ℕ) × (constant_word bs b ≡ Some y) = infix_right o (constant_word bs a) (constant_word bs b) w e in
-    rw h.0 (rw h.1 (rw (constant_right a bs k s h.2.0 h.2.1) (constant_right b bs k (past 1 (behind_constant a s)) h.3 h.4)))
+    rw h.0 (rw h.1 (rw (constant_right a bs k s h.2.0 h.2.1) (constant_right b bs k (past 1 (after_constant a s)) h.3 h.4)))
 constant_right _ bs k s w e = absurd (none-some w e)
 
 -- the first of what is wrong, whatever was claimed
 abbrev FirstIs : List Point → Option Breach → Type 0
-FirstIs xs b = (cs : List Claim) → first_told (in_order (judged cs xs)) ≡ b
+FirstIs xs b = (cs : List Claim) → first_reported (in_order (judged cs xs)) ≡ b
 
 joined : {n m u v : ℕ} {xs ys : List Point} (a b : Option Breach) → Spans n m xs → Spans u v ys → m ≤ u → FirstIs xs a → FirstIs ys b → FirstIs (xs ++ ys) (else_first a b)
 joined {n = n} {m = m} {u = u} {v = v} {xs = xs} {ys = ys} a b s t le f g cs =
     first_of_both (32 * n) (32 * m) (32 * v) xs ys cs s.inside (inside_wider (32 * u) (32 * v) (32 * m) (32 * v) ys (omega (arith, le)) (omega arith) t.inside)
-    ∙ ap (λ c. else_first c (first_told (in_order (judged (claims_behind cs xs) ys)))) (f cs) ∙ ap (else_first a) (g (claims_behind cs xs))
+    ∙ ap (λ c. else_first c (first_reported (in_order (judged (claims_after cs xs) ys)))) (f cs) ∙ ap (else_first a) (g (claims_after cs xs))
 
 else_some : (a : Option Breach) (x : Breach) (b : Option Breach) → else_first (else_first a (Some x)) b ≡ else_first a (Some x)
 else_some None x b = refl
@@ -148,7 +148,7 @@ not_lower : (v w : Wrong) → nat_lt (number_of v) (number_of w) ≡ true → na
 not_lower v w h = le-ltb (number_of w) (number_of v) (omega (arith, ltb-true (number_of v) (number_of w) h))
 
 -- two faults at one place
-pub lower_one : (n l m : ℕ) (v w : Wrong) (cs : List Claim) → nat_lt (number_of v) (number_of w) ≡ true → first_told (in_order (judged cs (at n m v ++ at n l w))) ≡ Some (record { at = m; wrong = v })
+pub lower_one : (n l m : ℕ) (v w : Wrong) (cs : List Claim) → nat_lt (number_of v) (number_of w) ≡ true → first_reported (in_order (judged cs (at n m v ++ at n l w))) ≡ Some (record { at = m; wrong = v })
 lower_one n l m v w cs h = rw (eq-eqb n n refl) (rw (not_lower v w h) refl)
 
 variable_first : (b : Bool) (n l : ℕ) (x : List ℕ) → FirstIs (unless b (at n l (dynamic_name (text_of x))) ++ at n l not_constant) (first_of (cond b (record { at = l; wrong = not_constant } ∷ []) (record { at = l; wrong = dynamic_name (text_of x) } ∷ [])))
@@ -167,15 +167,11 @@ prefix_first false n l i xs ws a h cs = joined (Some (record { at = l; wrong = n
 infix_first : (q d : Bool) (n l t m i : ℕ) (xs ys : List Point) (us ws : List Breach) → n ≤ t → Spans n t xs → Spans (t + 1) i ys → FirstIs xs (first_of us) → FirstIs ys (first_of ws) → (d ≡ true → (q ≡ true) × (xs ≡ []) × (ys ≡ []))
     → FirstIs (cond d (at n l divided_by_zero) [] ++ xs ++ unless q (at t m not_constant) ++ ys)
     (first_of (cond q (cond d (record { at = l; wrong = divided_by_zero } ∷ []) (us ++ ws)) (us ++ (record { at = m; wrong = not_constant } ∷ []))))
-infix_first true true n l t m i xs ys us ws le a b f g h cs =
-    let r : (true ≡ true) × (xs ≡ []) × (ys ≡ []) = h refl in
-    rw r.1 (rw r.2 refl)
+infix_first true true n l t m i xs ys us ws le a b f g h cs = grind arith
 infix_first true false n l t m i xs ys us ws le a b f g h cs =
     joined (else_first (first_of us) None) (first_of ws) (wider n t (both a (no_span t) (omega arith) (omega arith)) (omega arith) (omega arith)) b (omega arith) (joined (first_of us) None a (no_span t) (omega arith) f (λ ds. refl)) g cs
     ∙ ap (λ c. else_first c (first_of ws)) (else_none (first_of us)) ∙ sym (first_of-append us ws)
-infix_first false true n l t m i xs ys us ws le a b f g h cs =
-    let r : (false ≡ true) × (xs ≡ []) × (ys ≡ []) = h refl in
-    absurd (false≢true r.0)
+infix_first false true n l t m i xs ys us ws le a b f g h cs = grind arith
 infix_first false false n l t m i xs ys us ws le a b f g h cs =
     joined (else_first (first_of us) (Some (record { at = m; wrong = not_constant }))) (first_of ws) (both a (at_spans t m not_constant) (omega arith) (omega arith)) b (omega arith)
     (joined (first_of us) (Some (record { at = m; wrong = not_constant })) a (at_spans t m not_constant) (omega arith) f (λ ds. refl)) g cs
@@ -207,21 +203,21 @@ mutual
   constant_first (parens l e) bs k s cs = constant_first e bs k (past 1 s) cs
   constant_first (unary l r e) bs k s cs = prefix_first (is_prefix_of_constants r) s.place l (s.place + 1 + symbols e) (constant_wrongs bs k (past 1 s) e) (wrongs bs k e) (constant_spans e bs k (past 1 s)) (constant_first e bs k (past 1 s)) cs
   constant_first (binary l r m a b) bs k s cs =
-      let t : Spot = behind_constant a s in
+      let t : Spot = after_constant a s in
       infix_first (is_infix_of_constants r) (divides_by_zero r (constant_word bs a) (constant_word bs b)) s.place l t.place m (t.place + 1 + symbols b) (constant_wrongs bs k s a) (constant_wrongs bs k (past 1 t) b) (wrongs bs k a) (wrongs bs k b) (omega arith)
       (constant_spans a bs k s) (constant_spans b bs k (past 1 t)) (constant_first a bs k s) (constant_first b bs k (past 1 t))
       (λ d. let z : (is_infix_of_constants r ≡ true) × ((v : ℕ) × (constant_word bs a ≡ Some v)) × (w : ℕ) × (constant_word bs b ≡ Some w) = zero_between r (constant_word bs a) (constant_word bs b) d in
       (z.0, constant_right a bs k s z.1.0 z.1.1, constant_right b bs k (past 1 t) z.2 z.3)) cs
   constant_first (choice l m c a b) bs k s cs =
-      let t : Spot = behind_constant c s in
-      let u : Spot = behind_constant a (past 1 t) in
-      subst (λ zs. first_told (in_order (judged cs zs)) ≡ first_of (wrongs bs k c ++ (record { at = m; wrong = not_constant } ∷ [])))
+      let t : Spot = after_constant c s in
+      let u : Spot = after_constant a (past 1 t) in
+      subst (λ zs. first_reported (in_order (judged cs zs)) ≡ first_of (wrongs bs k c ++ (record { at = m; wrong = not_constant } ∷ [])))
       (sym (append_assoc (constant_wrongs bs k s c ++ at t.place m not_constant) (constant_wrongs bs k (past 1 t) a) (constant_wrongs bs k u b)))
       (operator_first s.place t.place m (u.place + symbols b) (constant_wrongs bs k s c) (constant_wrongs bs k (past 1 t) a ++ constant_wrongs bs k u b) (wrongs bs k c) (else_first (first_of (wrongs bs k a)) (first_of (wrongs bs k b))) (omega arith)
       (constant_spans c bs k s) (both (constant_spans a bs k (past 1 t)) (constant_spans b bs k u) (omega arith) (omega arith))
       (constant_first c bs k s) (joined (first_of (wrongs bs k a)) (first_of (wrongs bs k b)) (constant_spans a bs k (past 1 t)) (constant_spans b bs k u) (omega arith) (constant_first a bs k (past 1 t)) (constant_first b bs k u)) cs)
   constant_first (apply l m f es) bs k s cs =
-      let t : Spot = behind_constant f s in
+      let t : Spot = after_constant f s in
       let r : (c : Option Breach) × FirstIs (constant_wrongs_each bs k (past 1 t) es) c = constants_first es bs k (past 1 t) in
       operator_first s.place t.place m (t.place + 1 + symbols_each es) (constant_wrongs bs k s f) (constant_wrongs_each bs k (past 1 t) es) (wrongs bs k f) r.0 (omega arith)
       (constant_spans f bs k s) (constants_spans es bs k (past 1 t)) (constant_first f bs k s) r.1 cs
@@ -230,8 +226,8 @@ mutual
   constants_first : (es : Expressions) (bs : List Binding) (k : ℕ) (s : Spot) → (c : Option Breach) × FirstIs (constant_wrongs_each bs k s es) c
   constants_first none bs k s = (None, λ cs. refl)
   constants_first (more e es) bs k s =
-      let r : (c : Option Breach) × FirstIs (constant_wrongs_each bs k (behind_constant e s) es) c = constants_first es bs k (behind_constant e s) in
-      (else_first (first_of (wrongs bs k e)) r.0, joined (first_of (wrongs bs k e)) r.0 (constant_spans e bs k s) (constants_spans es bs k (behind_constant e s)) (omega arith) (constant_first e bs k s) r.1)
+      let r : (c : Option Breach) × FirstIs (constant_wrongs_each bs k (after_constant e s) es) c = constants_first es bs k (after_constant e s) in
+      (else_first (first_of (wrongs bs k e)) r.0, joined (first_of (wrongs bs k e)) r.0 (constant_spans e bs k s) (constants_spans es bs k (after_constant e s)) (omega arith) (constant_first e bs k s) r.1)
 
 -- A CONSTANT
 pub wrongs_tied : (e : Expression) (bs : List Binding) (k : ℕ) (s : Spot) (f : Found) → Tied (constant_wrongs bs k s e) 0 f (breaks_first (first_of (wrongs bs k e)) f)
@@ -263,9 +259,9 @@ whole_spans e bs k s = both (constant_spans e bs k s) (word_spans (constant_word
 
 pub each_constant_spans : (es : Expressions) (bs : List Binding) (k : ℕ) (s : Spot) → Spans s.place (s.place + symbols_each es) (each_constant bs k s es)
 each_constant_spans none bs k s = wider _ _ (no_span s.place) (omega arith) (omega arith)
-each_constant_spans (more e es) bs k s = wider _ _ (both (whole_spans e bs k s) (each_constant_spans es bs k (behind_constant e s)) (omega arith) (omega arith)) (omega arith) (omega arith)
+each_constant_spans (more e es) bs k s = wider _ _ (both (whole_spans e bs k s) (each_constant_spans es bs k (after_constant e s)) (omega arith) (omega arith)) (omega arith) (omega arith)
 
 pub each_constant_tied : (es : Expressions) (bs : List Binding) (k : ℕ) (s : Spot) (f : Found) → Tied (each_constant bs k s es) 0 f (constants_found bs k es f)
 each_constant_tied none bs k s f = nothing_told f
 each_constant_tied (more e es) bs k s f =
-    recount 0 (behind_it (whole_spans e bs k s) (each_constant_spans es bs k (behind_constant e s)) (omega arith) (constant_tied e bs k s f) (each_constant_tied es bs k (behind_constant e s) (constant_found bs k e f))) (omega arith)
+    recount 0 (behind_it (whole_spans e bs k s) (each_constant_spans es bs k (after_constant e s)) (omega arith) (constant_tied e bs k s f) (each_constant_tied es bs k (after_constant e s) (constant_found bs k e f))) (omega arith)

@@ -1,5 +1,5 @@
 -- The pass and what is told: items, what variables begin with, declarations.
-use Rattle.bk_scope.proofs.Terms.{◌≡◌, ℕ, ◌+◌, ◌^◌, ◌<◌, Bool, true, false, cond, Option, Some, None, List, [], ◌∷◌, ◌++◌, length, refl, sym, ap, ◌∙◌, append_assoc, subst, arith, nat_lt, append-nil, GLOBAL_NUMBER, VEC_NUMBER, Sort as sort, Mention, Expression, Declaration, Declarations, Items, Definitions, Starts, constants, definitions, no_declarations, declare, no_items, item, no_definitions, define, variables, no_starts, value, vector, at_expression, Constant, Global, Static, Enclosing, Value, Binding, bind, Wrong, global_out_of_range, vec_out_of_range, constant_word, Found, breaks, means, takes, reaches, deeper, Stage, AfterDeclarations, evaluated, listed, all_listed, constant_found, bounded, within, words_of_start, manifests, statics, globals, started, declared, one_declared, Spot, past, numbered, behind, behind_constant, behind_one_declared, symbols, numbers, numbers_items, numbers_declared, numbers_one_declared, numbers_started, Point, at, meaning, word, manifests_in_scope, statics_in_scope, globals_in_scope, scope_behind_one, place_behind_one, scope_behind, place_behind_all, at_most, one_of, each_of, its_word, constant, pushed, manifest_items, static_items, global_items, told, told_declared, told_one_declared, told_started}
+use Rattle.bk_scope.proofs.Terms.{◌≡◌, ℕ, ◌+◌, ◌^◌, ◌<◌, Bool, true, false, cond, Option, Some, None, List, [], ◌∷◌, ◌++◌, length, refl, sym, ap, ◌∙◌, append_assoc, subst, arith, nat_lt, append-nil, GLOBAL_NUMBER, VEC_NUMBER, Sort as sort, Mention, Expression, Declaration, Declarations, Items, Definitions, Starts, constants, definitions, no_declarations, declare, no_items, item, no_definitions, define, variables, no_starts, value, vector, at_expression, Constant, Global, Static, Enclosing, Value, Binding, bind, Wrong, global_out_of_range, vec_out_of_range, constant_word, Found, breaks, means, takes, reaches, deeper, Stage, AfterDeclarations, evaluated, listed, all_listed, constant_found, bounded, within, words_of_start, manifests, statics, globals, started, declared, one_declared, Spot, past, numbered, following, after_constant, after_one_declared, symbols, numbers, numbers_items, numbers_declared, numbers_one_declared, numbers_started, Point, at, meaning, word, manifests_in_scope, statics_in_scope, globals_in_scope, scope_after_one, place_after_one, scope_after, place_after_all, at_most, one_of, each_of, its_word, constant, pushed, manifest_items, static_items, global_items, reported, reported_declared, reported_one_declared, reported_started}
 use Rattle.bk_scope.proofs.Tied.{Tied, Spans, broken, both, among, wider, behind_it, nothing_told}
 use Rattle.bk_scope.proofs.Operators.{ETied}
 use Rattle.bk_scope.proofs.Scopes.{DsTied, moved_tied, recount, no_span, pushed_tied, pushed_spans}
@@ -47,7 +47,7 @@ manifest_tied no_items m bs k s f = (nothing_told f, refl)
 manifest_tied (item l x e is) m bs k s f =
     let g : Found = constant_found bs k e (listed m l x f) in
     let cs : List Binding = bind x (Constant (constant_word bs e)) bs in
-    let u : Spot = behind_constant e (past 1 s) in
+    let u : Spot = after_constant e (past 1 s) in
     let r : Tied (manifest_items m cs k u is) 0 g (manifests m k is (stage cs g)).found × ((manifests m k is (stage cs g)).scope ≡ manifests_in_scope cs is) = manifest_tied is m cs k u g in
     (recount 0 (behind_it (item_spans m l x e bs k s) (manifest_spans is m cs k u) (omega arith) (item_tied m l x e bs k s f) r.0) (omega arith), r.1)
 
@@ -61,7 +61,7 @@ static_tied (item l x e is) m bs k s cs f a fits =
     let same : g.next ≡ s.number = omega (arith, one.next, a) in
     let h : Found = means (Static s.number) g in
     let ds : List Binding = bind x (Static s.number) cs in
-    let u : Spot = numbered 1 (behind_constant e (past 1 s)) in
+    let u : Spot = numbered 1 (after_constant e (past 1 s)) in
     let z : Spans (s.place + 1 + symbols e) (s.place + 1 + symbols e) (meaning (Static s.number) ∷ []) = meaning_spans (s.place + 1 + symbols e) (Some (Static s.number)) in
     let r : Tied (static_items m bs k u is) (numbers_items sort.Static is) (takes h) (statics bs m k is (stage ds (takes h))).found × ((statics bs m k is (stage ds (takes h))).scope ≡ statics_in_scope u.number is ds) = static_tied is m bs k u ds (takes h) (omega (arith, same, fits)) (omega (arith, fits)) in
     let head : Tied (one_of m s.place l x ++ constant bs k (past 1 s) e ++ (meaning (Static s.number) ∷ [])) 0 f h = recount 0 (behind_it (item_spans m l x e bs k s) z (omega arith) one (meant (Static s.number) g)) (omega arith) in
@@ -80,7 +80,7 @@ global_tied (item l x e is) m bs k s cs f =
     let i : Found = listed m l x f in
     let g : Found = bounded GLOBAL_NUMBER (at_expression e) global_out_of_range w (constant_found bs k e i) in
     let ds : List Binding = bind x (Global (within GLOBAL_NUMBER w)) cs in
-    let u : Spot = behind_constant e v in
+    let u : Spot = after_constant e v in
     let xs : List Point = constant bs k v e ++ at_most GLOBAL_NUMBER v.place (at_expression e) global_out_of_range w in
     let r : Tied (global_items m bs k u is) 0 g (globals bs m k is (stage ds g)).found × ((globals bs m k is (stage ds g)).scope ≡ globals_in_scope bs is ds) = global_tied is m bs k u ds g in
     let z : Spans s.place u.place (one_of m s.place l x ++ xs) = both (one_spans m s.place l x) (bounded_spans GLOBAL_NUMBER global_out_of_range e bs k v) (omega arith) (omega arith) in
@@ -92,9 +92,9 @@ global_tied (item l x e is) m bs k s cs f =
 
 -- a declaration
 pub record DeclarationTied (d : Declaration) : Type 0 where
-  pub scope : (bs : List Binding) (p : Enclosing) (s : Spot) (f : Found) → f.next ≡ s.number → s.number + numbers_one_declared d < 2 ^ 32 → (one_declared bs p d f).scope ≡ scope_behind_one bs p s d
-  pub place : (bs : List Binding) (p : Enclosing) (s : Spot) (f : Found) → f.next ≡ s.number → s.number + numbers_one_declared d < 2 ^ 32 → (one_declared bs p d f).place ≡ place_behind_one bs p s d
-  pub found : (bs : List Binding) (p : Enclosing) (s : Spot) (f : Found) → f.next ≡ s.number → s.number + numbers_one_declared d < 2 ^ 32 → Tied (told_one_declared bs p s d) (numbers_one_declared d) f (one_declared bs p d f).found
+  pub scope : (bs : List Binding) (p : Enclosing) (s : Spot) (f : Found) → f.next ≡ s.number → s.number + numbers_one_declared d < 2 ^ 32 → (one_declared bs p d f).scope ≡ scope_after_one bs p s d
+  pub place : (bs : List Binding) (p : Enclosing) (s : Spot) (f : Found) → f.next ≡ s.number → s.number + numbers_one_declared d < 2 ^ 32 → (one_declared bs p d f).place ≡ place_after_one bs p s d
+  pub found : (bs : List Binding) (p : Enclosing) (s : Spot) (f : Found) → f.next ≡ s.number → s.number + numbers_one_declared d < 2 ^ 32 → Tied (reported_one_declared bs p s d) (numbers_one_declared d) f (one_declared bs p d f).found
 
 pub manifest_declared : (l : ℕ) (is : Items) → DeclarationTied (constants l sort.Manifest is)
 manifest_declared l no_items = record { scope = λ bs p s f e fits. refl; place = λ bs p s f e fits. refl; found = λ bs p s f e fits. nothing_told f }
@@ -149,15 +149,15 @@ declare_tied d ds t u = record { scope = λ bs p s f e fits. (whole bs p s f e f
   Whole : List Binding → Enclosing → Spot → Found → List Binding → Enclosing → Type 0
   Whole bs p s f cs z =
       let b : AfterDeclarations = declared cs z ds (one_declared bs p d f).found in
-      Tied (told_declared bs p s (declare d ds)) (numbers_declared (declare d ds)) f b.found × (b.scope ≡ scope_behind bs p s (declare d ds)) × (b.place ≡ place_behind_all bs p s (declare d ds))
+      Tied (reported_declared bs p s (declare d ds)) (numbers_declared (declare d ds)) f b.found × (b.scope ≡ scope_after bs p s (declare d ds)) × (b.place ≡ place_after_all bs p s (declare d ds))
 
   whole : (bs : List Binding) (p : Enclosing) (s : Spot) (f : Found) → f.next ≡ s.number → s.number + numbers_declared (declare d ds) < 2 ^ 32 → Whole bs p s f (one_declared bs p d f).scope (one_declared bs p d f).place
   whole bs p s f e fits =
       let g : Found = (one_declared bs p d f).found in
-      let cs : List Binding = scope_behind_one bs p s d in
-      let z : Enclosing = place_behind_one bs p s d in
-      let v : Spot = behind_one_declared d s in
-      let one : Tied (told_one_declared bs p s d) (numbers_one_declared d) f g = t.found bs p s f e (omega (arith, fits)) in
+      let cs : List Binding = scope_after_one bs p s d in
+      let z : Enclosing = place_after_one bs p s d in
+      let v : Spot = after_one_declared d s in
+      let one : Tied (reported_one_declared bs p s d) (numbers_one_declared d) f g = t.found bs p s f e (omega (arith, fits)) in
       let same : g.next ≡ v.number = omega (arith, one.next, e) in
       let rest : v.number + numbers_declared ds < 2 ^ 32 = omega (arith, fits) in
       let here : Whole bs p s f cs z = (behind_it (one_declared_inside d bs p s) (declared_inside ds cs z v) (omega arith) one (u.found cs z v g same rest), u.scope cs z v g same rest, u.place cs z v g same rest) in
@@ -165,28 +165,28 @@ declare_tied d ds t u = record { scope = λ bs p s f e fits. (whole bs p s f e f
 
 -- what variables begin with
 abbrev pub StartsTied : Starts → Type 0
-StartsTied is = (bs : List Binding) (p : Enclosing) (s : Spot) (f : Found) → f.next ≡ s.number → s.number + numbers_started is < 2 ^ 32 → Tied (told_started bs p s is) (numbers_started is) f (started bs p is f)
+StartsTied is = (bs : List Binding) (p : Enclosing) (s : Spot) (f : Found) → f.next ≡ s.number → s.number + numbers_started is < 2 ^ 32 → Tied (reported_started bs p s is) (numbers_started is) f (started bs p is f)
 
 pub no_starts_tied : StartsTied no_starts
 no_starts_tied bs p s f e fits = nothing_told f
 
 pub value_start_tied : (e : Expression) (is : Starts) → ETied e → StartsTied is → StartsTied (value e is)
 value_start_tied e is t u bs p s f a fits =
-    let one : Tied (told Value bs p s e) (numbers e) f (evaluated Value bs p e f) = t Value tt bs p s f a (omega (arith, fits)) in
-    behind_it (inside e Value bs p s) (started_inside is bs (deeper 1 p) (behind e s)) (omega arith) one (u bs (deeper 1 p) (behind e s) (evaluated Value bs p e f) (omega (arith, one.next, a)) (omega (arith, fits)))
+    let one : Tied (reported Value bs p s e) (numbers e) f (evaluated Value bs p e f) = t Value tt bs p s f a (omega (arith, fits)) in
+    behind_it (inside e Value bs p s) (started_inside is bs (deeper 1 p) (following e s)) (omega arith) one (u bs (deeper 1 p) (following e s) (evaluated Value bs p e f) (omega (arith, one.next, a)) (omega (arith, fits)))
 
 pub vector_start_tied : (l : ℕ) (e : Expression) (is : Starts) → StartsTied is → StartsTied (vector l e is)
 vector_start_tied l e is u bs p s f a fits =
     let w : ℕ = words_of_start bs e in
     let g : Found = bounded VEC_NUMBER (at_expression e) vec_out_of_range (constant_word bs e) (constant_found bs p.procedure e f) in
-    let v : Spot = behind_constant e s in
+    let v : Spot = after_constant e s in
     let q : Enclosing = deeper (w + 1) p in
     let xs : List Point = constant bs p.procedure s e ++ at_most VEC_NUMBER s.place (at_expression e) vec_out_of_range (constant_word bs e) in
     let xs_spans : Spans s.place v.place xs = bounded_spans VEC_NUMBER vec_out_of_range e bs p.procedure s in
     let one : Tied (xs ++ pushed p (w + 1)) (0 + 0) f (reaches (p.depth + (w + 1)) g) =
     behind_it xs_spans (pushed_spans v.place p (w + 1)) (omega arith) (bounded_tied VEC_NUMBER vec_out_of_range e bs p.procedure s f) (pushed_tied p (w + 1) g) in
-    let two : Tied (told_started bs q v is) (numbers_started is) (reaches (p.depth + (w + 1)) g) (started bs q is (reaches (p.depth + (w + 1)) g)) = u bs q v (reaches (p.depth + (w + 1)) g) (omega (arith, one.next, a)) (omega (arith, fits)) in
-    subst (λ d. Tied (told_started bs p s (vector l e is)) (numbers_started is) f (started bs q is (reaches d g))) (omega arith)
+    let two : Tied (reported_started bs q v is) (numbers_started is) (reaches (p.depth + (w + 1)) g) (started bs q is (reaches (p.depth + (w + 1)) g)) = u bs q v (reaches (p.depth + (w + 1)) g) (omega (arith, one.next, a)) (omega (arith, fits)) in
+    subst (λ d. Tied (reported_started bs p s (vector l e is)) (numbers_started is) f (started bs q is (reaches d g))) (omega arith)
     (recount (numbers_started is) (behind_it (both xs_spans (pushed_spans v.place p (w + 1)) (omega arith) (omega arith)) (started_inside is bs q v) (omega arith) one two) (omega arith))
 
 -- the definition of some variables

@@ -1,5 +1,5 @@
 -- What stands behind a declaration and a definition.
-use Rattle.bk_scope.proofs.Terms.{◌≡◌, ℕ, ◌<◌, List, [], ◌∷◌, ◌++◌, length, Result, Ok, Err, OnOk, IfOk, refl, arith, Def, ConstItem, ConstItem as i, Sort, Sort as s, Mention, constants, definitions, items_in, definitions_in, Starts, no_starts, variables, Enclosing, Binding, bind_all, Found, takes, Stage, with_procedures, AfterDeclarations, Defined, manifests, statics, globals, variables_of, all_listed, started, place_behind, defined, one_declared, one_defined}
+use Rattle.bk_scope.proofs.Terms.{◌≡◌, ℕ, ◌<◌, List, [], ◌∷◌, ◌++◌, length, Result, Ok, Err, OnOk, IfOk, refl, arith, Def, ConstItem, ConstItem as i, Sort, Sort as s, Mention, constants, definitions, items_in, definitions_in, Starts, no_starts, variables, Enclosing, Binding, bind_all, Found, takes, Stage, with_procedures, AfterDeclarations, Defined, manifests, statics, globals, variables_of, all_listed, started, place_after, defined, one_declared, one_defined}
 use Rattle.std.specs.declared.alloc.AllocError.{AllocError}
 
 -- what stands behind a declaration that leaves the place as it was
@@ -46,7 +46,7 @@ let_behind bs p f l (x ∷ xs) t d cs q g some et ed ec eq eg = rw ec (rw eq (rw
 pub variables_behind : (n : ℕ) (bs : List Binding) (d : Defined) (l : ℕ) (xs : List Mention) (is : Starts) (r : Result Enclosing AllocError) (gs : List Binding) (h : Found)
     (cs : List Binding) (ys : List Mention) (js : Starts) (f : Found)
     → cs ≡ bs → ys ≡ xs → js ≡ is → f ≡ all_listed n xs d.found
-    → OnOk r (gs ≡ d.fresh ++ variables_of cs d.place ys js) → OnOk r (h ≡ started cs d.place js f) → IfOk r (λ p. p ≡ place_behind cs d.place js)
+    → OnOk r (gs ≡ d.fresh ++ variables_of cs d.place ys js) → OnOk r (h ≡ started cs d.place js f) → IfOk r (λ p. p ≡ place_after cs d.place js)
     → IfOk r (λ p. ◌≡◌ {A = Defined} (record { fresh = gs; place = p; found = h }) (one_defined n bs (variables l xs is) d))
 variables_behind n bs d l xs is (Ok p) gs h cs ys js f ec ey ej ef eg eh ep = rw eg (rw eh (rw ep (rw ec (rw ey (rw ej (rw ef refl))))))
 variables_behind n bs d l xs is (Err e) gs h cs ys js f ec ey ej ef eg eh ep = tt

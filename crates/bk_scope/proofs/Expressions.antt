@@ -1,5 +1,5 @@
 -- The pass and what is told: expressions, in each role.
-use Rattle.bk_scope.proofs.Terms.{◌≡◌, ℕ, ◌+◌, ◌^◌, ◌<◌, ◌==◌, Bool, true, false, cond, Option, Some, None, List, [], ◌∷◌, ◌++◌, refl, sym, subst, arith, append-nil, Operator, Operator as o, Prefix, Prefix as q, Expression, Expressions, Command, name, number, text, truth, query, parens, unary, binary, choice, apply, valof, table, none, more, at_expression, Bound, Constant, Global, Static, Variable, Label, Enclosing, Role, Value, Truth, Address, Destination, Binding, bound_in, has_address, Wrong, not_assignable, dynamic_name, text_of, Found, means, breaks, reaches, deeper, evaluated, destinations, used, unassignable, without_word, constants_found, parenthesised, Spot, past, behind, symbols_each, numbers, numbers_each, at, meaning, depth, unless, used_at, addressed, assigned, pushed, told, told_destinations}
+use Rattle.bk_scope.proofs.Terms.{◌≡◌, ℕ, ◌+◌, ◌^◌, ◌<◌, ◌==◌, Bool, true, false, cond, Option, Some, None, List, [], ◌∷◌, ◌++◌, refl, sym, subst, arith, append-nil, Operator, Operator as o, Prefix, Prefix as q, Expression, Expressions, Command, name, number, text, truth, query, parens, unary, binary, choice, apply, valof, table, none, more, at_expression, Bound, Constant, Global, Static, Variable, Label, Enclosing, Role, Value, Truth, Address, Destination, Binding, bound_in, has_address, Wrong, not_assignable, dynamic_name, text_of, Found, means, breaks, reaches, deeper, evaluated, destinations, used, unassignable, without_word, constants_found, parenthesised, Spot, past, following, symbols_each, numbers, numbers_each, at, meaning, depth, unless, used_at, addressed, assigned, pushed, reported, reported_destinations}
 use Rattle.bk_scope.proofs.Tied.{Tied, broken, both, behind_it, else_none, nothing_told}
 use Rattle.bk_scope.proofs.Operators.{Plain, ETied, EsTied, CTied, binary_tied, apply_tied, without_plain}
 use Rattle.bk_scope.proofs.Scopes.{recount, pushed_tied, pushed_spans, valof_tied}
@@ -10,9 +10,9 @@ use Rattle.bk_scope.proofs.Assignable.{Begins, unassignable_tied}
 -- an expression where a word is asked for
 pub record WTied (e : Expression) : Type 0 where
   pub address : (b : Bool) (l : ℕ) (bs : List Binding) (p : Enclosing) (s : Spot) (n : ℕ) (f : Found) → Begins b n s.place → f.next ≡ s.number → s.number + numbers e < 2 ^ 32
-      → Tied (unless (addressed bs e) (at n l not_assignable) ++ told (Address b l) bs p s e) (numbers e) f (evaluated (Address b l) bs p e f)
+      → Tied (unless (addressed bs e) (at n l not_assignable) ++ reported (Address b l) bs p s e) (numbers e) f (evaluated (Address b l) bs p e f)
   pub destination : (b : Bool) (l : ℕ) (bs : List Binding) (p : Enclosing) (s : Spot) (n : ℕ) (f : Found) → Begins b n s.place → f.next ≡ s.number → s.number + numbers e < 2 ^ 32
-      → Tied (unless (assigned bs e) (at n l not_assignable) ++ told (Destination b l) bs p s e) (numbers e) f (evaluated (Destination b l) bs p e f)
+      → Tied (unless (assigned bs e) (at n l not_assignable) ++ reported (Destination b l) bs p s e) (numbers e) f (evaluated (Destination b l) bs p e f)
 
 pub record ExpressionTied (e : Expression) : Type 0 where
   pub plain : ETied e
@@ -48,13 +48,13 @@ name_plain l x Truth h bs p s f e fits = name_deep l x bs p s.place f
 name_plain l x _ h bs p s f e fits = absurd h
 
 name_address : (q : Bool) (b : Bool) (m l : ℕ) (x : List ℕ) (bs : List Binding) (p : Enclosing) (s : Spot) (n : ℕ) (f : Found) → Begins b n s.place → f.next ≡ s.number
-    → Tied (unless q (at n m not_assignable) ++ told (Address b m) bs p s (name l x)) 0 f (reaches (p.depth + 1) (used p.procedure l x (bound_in bs x) (cond q f (unassignable bs p.procedure b m (name l x) f))))
+    → Tied (unless q (at n m not_assignable) ++ reported (Address b m) bs p s (name l x)) 0 f (reaches (p.depth + 1) (used p.procedure l x (bound_in bs x) (cond q f (unassignable bs p.procedure b m (name l x) f))))
 name_address true b m l x bs p s n f z a = name_deep l x bs p s.place f
 name_address false b m l x bs p s n f z a =
     unassignable_tied b (name l x) (Address b m) bs p s n m 0 f (λ h. reaches (p.depth + 1) (used p.procedure l x (bound_in bs x) h)) z (λ h c. name_deep l x bs p s.place h) a
 
 name_destination : (q : Bool) (b : Bool) (m l : ℕ) (x : List ℕ) (bs : List Binding) (p : Enclosing) (s : Spot) (n : ℕ) (f : Found) → has_address (bound_in bs x) ≡ q → Begins b n s.place → f.next ≡ s.number
-    → Tied (unless q (at n m not_assignable) ++ told (Destination b m) bs p s (name l x)) 0 f (cond q (used p.procedure l x (bound_in bs x) f) (reaches (p.depth + 1) (used p.procedure l x (bound_in bs x) (unassignable bs p.procedure b m (name l x) f))))
+    → Tied (unless q (at n m not_assignable) ++ reported (Destination b m) bs p s (name l x)) 0 f (cond q (used p.procedure l x (bound_in bs x) f) (reaches (p.depth + 1) (used p.procedure l x (bound_in bs x) (unassignable bs p.procedure b m (name l x) f))))
 name_destination true b m l x bs p s n f e z a =
     subst (λ c. Tied (used_at p.procedure s.place l x (bound_in bs x) ++ unless c (depth (p.depth + 1) ∷ [])) 0 f (used p.procedure l x (bound_in bs x) f)) (sym e) (name_set l x bs p s.place f)
 name_destination false b m l x bs p s n f e z a =
@@ -72,7 +72,7 @@ name_tied l x = record {
 
 -- what has no word of its own, whatever the role
 without_tied : (e : Expression) → ETied e → ((b : Bool) (l : ℕ) (bs : List Binding) (p : Enclosing) (s : Spot) (n : ℕ) (f : Found) → Begins b n s.place → f.next ≡ s.number → s.number + numbers e < 2 ^ 32
-    → Tied (at n l not_assignable ++ told Value bs p s e) (numbers e) f (evaluated Value bs p e (unassignable bs p.procedure b l e f)))
+    → Tied (at n l not_assignable ++ reported Value bs p s e) (numbers e) f (evaluated Value bs p e (unassignable bs p.procedure b l e f)))
 without_tied e t b l bs p s n f z a fits = unassignable_tied b e Value bs p s n l (numbers e) f (λ h. evaluated Value bs p e h) z (λ h c. t Value tt bs p s h c fits) a
 
 -- what only takes a word of the frame
@@ -122,10 +122,10 @@ parens_tied l e t = record {
 unary_plain : (f : Prefix) (l : ℕ) (e : Expression) → ExpressionTied e → ETied (unary l f e)
 unary_plain q.Contents l e t r h bs p s f a fits = t.plain Value tt bs p (past 1 s) f (omega (arith, a)) (omega (arith, fits))
 unary_plain q.Address l e t r h bs p s f a fits =
-    subst (λ v. Tied (told r bs p s (unary l q.Address e)) (numbers e) f (evaluated (Address false (at_expression e)) bs p e v)) (sym (without_plain r bs p.procedure (unary l q.Address e) f h))
+    subst (λ v. Tied (reported r bs p s (unary l q.Address e)) (numbers e) f (evaluated (Address false (at_expression e)) bs p e v)) (sym (without_plain r bs p.procedure (unary l q.Address e) f h))
     (t.word.address false (at_expression e) bs p (past 1 s) (past 1 s).place f refl (omega (arith, a)) (omega (arith, fits)))
-unary_plain q.Plus l e t r h bs p s f a fits = subst (λ v. Tied (told r bs p s (unary l q.Plus e)) (numbers e) f (evaluated Value bs p e v)) (sym (without_plain r bs p.procedure (unary l q.Plus e) f h)) (t.plain Value tt bs p (past 1 s) f (omega (arith, a)) (omega (arith, fits)))
-unary_plain q.Minus l e t r h bs p s f a fits = subst (λ v. Tied (told r bs p s (unary l q.Minus e)) (numbers e) f (evaluated Value bs p e v)) (sym (without_plain r bs p.procedure (unary l q.Minus e) f h)) (t.plain Value tt bs p (past 1 s) f (omega (arith, a)) (omega (arith, fits)))
+unary_plain q.Plus l e t r h bs p s f a fits = subst (λ v. Tied (reported r bs p s (unary l q.Plus e)) (numbers e) f (evaluated Value bs p e v)) (sym (without_plain r bs p.procedure (unary l q.Plus e) f h)) (t.plain Value tt bs p (past 1 s) f (omega (arith, a)) (omega (arith, fits)))
+unary_plain q.Minus l e t r h bs p s f a fits = subst (λ v. Tied (reported r bs p s (unary l q.Minus e)) (numbers e) f (evaluated Value bs p e v)) (sym (without_plain r bs p.procedure (unary l q.Minus e) f h)) (t.plain Value tt bs p (past 1 s) f (omega (arith, a)) (omega (arith, fits)))
 unary_plain q.Not l e t Value h bs p s f a fits = t.plain Value tt bs p (past 1 s) f (omega (arith, a)) (omega (arith, fits))
 unary_plain q.Not l e t Truth h bs p s f a fits = t.plain Truth tt bs p (past 1 s) f (omega (arith, a)) (omega (arith, fits))
 unary_plain q.Not l e t _ h bs p s f a fits = absurd h
@@ -171,12 +171,12 @@ choice_plain : (l m : ℕ) (c a b : Expression) → ETied c → ETied a → ETie
 choice_plain l m c a b tc ta tb r h bs p s f e fits =
     let g : Found = evaluated Truth bs p c f in
     let i : Found = evaluated Value bs p a g in
-    let u : Spot = past 1 (behind c s) in
-    let v : Spot = behind a u in
-    let one : Tied (told Truth bs p s c) (numbers c) f g = tc Truth tt bs p s f e (omega (arith, fits)) in
-    let two : Tied (told Value bs p u a) (numbers a) g i = ta Value tt bs p u g (omega (arith, one.next, e)) (omega (arith, fits)) in
-    let three : Tied (told Value bs p v b) (numbers b) i (evaluated Value bs p b i) = tb Value tt bs p v i (omega (arith, one.next, two.next, e)) (omega (arith, fits)) in
-    subst (λ w. Tied (told r bs p s (choice l m c a b)) (numbers (choice l m c a b)) f (evaluated Value bs p b (evaluated Value bs p a (evaluated Truth bs p c w))))
+    let u : Spot = past 1 (following c s) in
+    let v : Spot = following a u in
+    let one : Tied (reported Truth bs p s c) (numbers c) f g = tc Truth tt bs p s f e (omega (arith, fits)) in
+    let two : Tied (reported Value bs p u a) (numbers a) g i = ta Value tt bs p u g (omega (arith, one.next, e)) (omega (arith, fits)) in
+    let three : Tied (reported Value bs p v b) (numbers b) i (evaluated Value bs p b i) = tb Value tt bs p v i (omega (arith, one.next, two.next, e)) (omega (arith, fits)) in
+    subst (λ w. Tied (reported r bs p s (choice l m c a b)) (numbers (choice l m c a b)) f (evaluated Value bs p b (evaluated Value bs p a (evaluated Truth bs p c w))))
     (sym (without_plain r bs p.procedure (choice l m c a b) f h))
     (recount _ (behind_it (both (inside c Truth bs p s) (inside a Value bs p u) (omega arith) (omega arith)) (inside b Value bs p v) (omega arith)
     (behind_it (inside c Truth bs p s) (inside a Value bs p u) (omega arith) one two) three) (omega arith))
@@ -199,7 +199,7 @@ value_tied l c t =
 table_plain : (l : ℕ) (es : Expressions) → ETied (table l es)
 table_plain l es r h bs p s f e fits =
     let g : Found = constants_found bs p.procedure es f in
-    subst (λ w. Tied (told r bs p s (table l es)) 0 f (reaches (p.depth + 1) (constants_found bs p.procedure es w))) (sym (without_plain r bs p.procedure (table l es) f h))
+    subst (λ w. Tied (reported r bs p s (table l es)) 0 f (reaches (p.depth + 1) (constants_found bs p.procedure es w))) (sym (without_plain r bs p.procedure (table l es) f h))
     (recount 0 (behind_it (each_constant_spans es bs p.procedure (past 1 s)) (pushed_spans (s.place + 1 + symbols_each es) p 1) (omega arith) (each_constant_tied es bs p.procedure (past 1 s) f) (pushed_tied p 1 g)) (omega arith))
 
 pub table_tied : (l : ℕ) (es : Expressions) → ExpressionTied (table l es)
@@ -212,12 +212,12 @@ no_more_tied n bs p s f e fits = nothing_told f
 pub more_tied : (e : Expression) (es : Expressions) → ETied e → EsTied es → EsTied (more e es)
 more_tied e es t u n bs p s f a fits =
     let g : Found = evaluated Value bs p e f in
-    let one : Tied (told Value bs p s e) (numbers e) f g = t Value tt bs p s f a (omega (arith, fits)) in
-    behind_it (inside e Value bs p s) (each_inside es n bs (deeper n p) (behind e s)) (omega arith) one (u n bs (deeper n p) (behind e s) g (omega (arith, one.next, a)) (omega (arith, fits)))
+    let one : Tied (reported Value bs p s e) (numbers e) f g = t Value tt bs p s f a (omega (arith, fits)) in
+    behind_it (inside e Value bs p s) (each_inside es n bs (deeper n p) (following e s)) (omega arith) one (u n bs (deeper n p) (following e s) g (omega (arith, one.next, a)) (omega (arith, fits)))
 
 -- destinations
 abbrev pub DestinationsTied : Expressions → Type 0
-DestinationsTied es = (bs : List Binding) (p : Enclosing) (s : Spot) (f : Found) → f.next ≡ s.number → s.number + numbers_each es < 2 ^ 32 → Tied (told_destinations bs p s es) (numbers_each es) f (destinations bs p es f)
+DestinationsTied es = (bs : List Binding) (p : Enclosing) (s : Spot) (f : Found) → f.next ≡ s.number → s.number + numbers_each es < 2 ^ 32 → Tied (reported_destinations bs p s es) (numbers_each es) f (destinations bs p es f)
 
 pub no_destinations_tied : DestinationsTied none
 no_destinations_tied bs p s f e fits = nothing_told f
@@ -225,5 +225,5 @@ no_destinations_tied bs p s f e fits = nothing_told f
 pub destinations_tied : (e : Expression) (es : Expressions) → WTied e → DestinationsTied es → DestinationsTied (more e es)
 destinations_tied e es t u bs p s f a fits =
     let g : Found = evaluated (Destination false (at_expression e)) bs p e f in
-    let one : Tied (unless (assigned bs e) (at s.place (at_expression e) not_assignable) ++ told (Destination false (at_expression e)) bs p s e) (numbers e) f g = t.destination false (at_expression e) bs p s s.place f refl a (omega (arith, fits)) in
-    behind_it (destination_inside e bs p s) (destinations_inside es bs p (behind e s)) (omega arith) one (u bs p (behind e s) g (omega (arith, one.next, a)) (omega (arith, fits)))
+    let one : Tied (unless (assigned bs e) (at s.place (at_expression e) not_assignable) ++ reported (Destination false (at_expression e)) bs p s e) (numbers e) f g = t.destination false (at_expression e) bs p s s.place f refl a (omega (arith, fits)) in
+    behind_it (destination_inside e bs p s) (destinations_inside es bs p (following e s)) (omega arith) one (u bs p (following e s) g (omega (arith, one.next, a)) (omega (arith, fits)))

@@ -1,17 +1,16 @@
 -- Lists of points, one behind another.
-use Rattle.bk_scope.proofs.Terms.{◌≡◌, ℕ, ◌+◌, ◌*◌, ◌<◌, ◌≤◌, ◌==◌, Bool, true, false, cond, List, [], ◌∷◌, ◌++◌, refl, sym, ap, ◌∙◌, append_assoc, arith, nat_lt, le-ltb, eqb-true, Wrong, not_declared, declared_twice, dynamic_name, not_constant, divided_by_zero, case_repeated, default_repeated, no_loop, no_switchon, no_result_or_return, label_not_here, global_out_of_range, vec_out_of_range, frame_too_large, not_assignable, two_procedures, elsewhere, Claim, is_claimed, else_first, Fault, Point, meaning, word, depth, wrong, claim, number_of, claimed, claims_behind, judged, comes_before, put, in_order, first_told, meanings_of, words_of, deepest}
+use Rattle.bk_scope.proofs.Terms.{◌≡◌, ℕ, ◌+◌, ◌*◌, ◌<◌, ◌≤◌, ◌==◌, Bool, true, false, cond, List, [], ◌∷◌, ◌++◌, refl, sym, ap, ◌∙◌, append_assoc, arith, nat_lt, le-ltb, eqb-true, Wrong, not_declared, declared_twice, dynamic_name, not_constant, divided_by_zero, case_repeated, default_repeated, no_loop, no_switchon, no_result_or_return, label_not_here, global_out_of_range, vec_out_of_range, frame_too_large, not_assignable, two_procedures, elsewhere, Claim, is_claimed, else_first, Fault, Point, meaning, word, depth, wrong, claim, number_of, claimed, claims_after, judged, comes_before, put, in_order, first_reported, meanings_of, words_of, deepest}
 
 -- each part of what is told
-pub claims_append : (xs ys : List Point) (cs : List Claim) → claims_behind cs (xs ++ ys) ≡ claims_behind (claims_behind cs xs) ys
+pub claims_append : (xs ys : List Point) (cs : List Claim) → claims_after cs (xs ++ ys) ≡ claims_after (claims_after cs xs) ys
 claims_append [] ys cs = refl
 claims_append (claim c f ∷ xs) ys cs = claims_append xs ys (claimed c cs)
 claims_append (_ ∷ xs) ys cs = claims_append xs ys cs
 
-pub judged_append : (xs ys : List Point) (cs : List Claim) → judged cs (xs ++ ys) ≡ judged cs xs ++ judged (claims_behind cs xs) ys
+pub judged_append : (xs ys : List Point) (cs : List Claim) → judged cs (xs ++ ys) ≡ judged cs xs ++ judged (claims_after cs xs) ys
 judged_append [] ys cs = refl
 judged_append (wrong f ∷ xs) ys cs = ap (λ l. f ∷ l) (judged_append xs ys cs)
-judged_append (claim c f ∷ xs) ys cs =
-    ap (λ l. cond (is_claimed c cs) (f ∷ []) [] ++ l) (judged_append xs ys (claimed c cs)) ∙ sym (append_assoc (cond (is_claimed c cs) (f ∷ []) []) (judged (claimed c cs) xs) _)
+judged_append (claim c f ∷ xs) ys cs = grind (arith, (judged_append xs ys (claimed c cs)))
 judged_append (_ ∷ xs) ys cs = judged_append xs ys cs
 
 pub meanings_append : (xs ys : List Point) → meanings_of (xs ++ ys) ≡ meanings_of xs ++ meanings_of ys
@@ -106,14 +105,11 @@ pub order_apart : (n m l : ℕ) (fs gs : List Fault) → AllInside n m fs → Al
 order_apart n m l [] gs a b = refl
 order_apart n m l (f ∷ fs) gs a b = ap (put f) (order_apart n m l fs gs a.2 b) ∙ put_apart m l f (in_order fs) (in_order gs) a.1 (order_inside m l gs b)
 
-pub first_append : (fs gs : List Fault) → first_told (fs ++ gs) ≡ else_first (first_told fs) (first_told gs)
+pub first_append : (fs gs : List Fault) → first_reported (fs ++ gs) ≡ else_first (first_reported fs) (first_reported gs)
 first_append [] gs = refl
 first_append (f ∷ fs) gs = refl
 
 -- THE FIRST OF TWO PARTS, one behind the other
 pub first_of_both : (n m l : ℕ) (xs ys : List Point) (cs : List Claim) → Inside n m xs → Inside m l ys
-    → first_told (in_order (judged cs (xs ++ ys))) ≡ else_first (first_told (in_order (judged cs xs))) (first_told (in_order (judged (claims_behind cs xs) ys)))
-first_of_both n m l xs ys cs a b =
-    ap (λ k. first_told (in_order k)) (judged_append xs ys cs)
-    ∙ ap first_told (order_apart n m l _ _ (judged_inside n m xs cs a) (judged_inside m l ys (claims_behind cs xs) b))
-    ∙ first_append (in_order (judged cs xs)) _
+    → first_reported (in_order (judged cs (xs ++ ys))) ≡ else_first (first_reported (in_order (judged cs xs))) (first_reported (in_order (judged (claims_after cs xs) ys)))
+first_of_both n m l xs ys cs a b = grind (arith, in_order, judged_append, order_apart, judged_inside, first_append)

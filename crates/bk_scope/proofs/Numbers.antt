@@ -1,5 +1,5 @@
 -- Numbers rise in the order in which they are given, and so differ.
-use Rattle.bk_scope.proofs.Terms.{◌≡◌, ℕ, zero, suc, ◌+◌, ◌≤◌, ◌<◌, List, [], ◌∷◌, ◌++◌, length, refl, arith, Sort as sort, Expression, Expressions, Command, Commands, Declaration, Declarations, Definition, Definitions, Starts, name, number, text, truth, query, parens, unary, binary, choice, apply, valof, table, none, more, empty, assign, call, goto, label, case_of, default, when, test, while, for_loop, switch, result, simple, block, repeat, repeat_while, no_commands, also, constants, definitions, no_declarations, declare, no_items, item, routine, function, variables, no_definitions, define, no_starts, value, vector, labels_of, labels_of_each, Spot, procedures_in, numbers, numbers_each, numbers_done, numbers_done_each, numbers_declared, numbers_one_declared, numbers_items, numbers_defined, numbers_one_defined, numbers_started, numbered, behind, behind_each, behind_done, behind_declared, behind_one_declared, behind_one_defined, beginning, NoneOf, AllDiffer}
+use Rattle.bk_scope.proofs.Terms.{◌≡◌, ℕ, zero, suc, ◌+◌, ◌≤◌, ◌<◌, List, [], ◌∷◌, ◌++◌, length, refl, arith, Sort as sort, Expression, Expressions, Command, Commands, Declaration, Declarations, Definition, Definitions, Starts, name, number, text, truth, query, parens, unary, binary, choice, apply, valof, table, none, more, empty, assign, call, goto, label, case_of, default, when, test, while, for_loop, switch, result, simple, block, repeat, repeat_while, no_commands, also, constants, definitions, no_declarations, declare, no_items, item, routine, function, variables, no_definitions, define, no_starts, value, vector, labels_of, labels_of_each, Spot, procedures_in, numbers, numbers_each, numbers_done, numbers_done_each, numbers_declared, numbers_one_declared, numbers_items, numbers_defined, numbers_one_defined, numbers_started, numbered, following, after_each, after_done, after_declared, after_one_declared, after_one_defined, beginning, NoneOf, AllDiffer}
 use Rattle.bk_scope.specs.Given.{counted, given, given_each, given_done, given_done_each, given_declared, given_one_declared, given_defined, given_one_defined, given_started, NumbersDiffer}
 
 -- each is above the one before it, from n on and below m
@@ -61,51 +61,51 @@ mutual
   rise : (e : Expression) (s : Spot) → Rises s.number (numbers e) (given s e)
   rise (parens l e) s = rise e s
   rise (unary l o e) s = rise e s
-  rise (binary l o m a b) s = both_rise (rise a s) (rise b (behind a s)) refl
-  rise (choice l m c a b) s = both_rise (rise c s) (both_rise (rise a (behind c s)) (rise b (behind a (behind c s))) refl) refl
-  rise (apply l m e es) s = both_rise (rise e s) (rise_each es (behind e s)) refl
+  rise (binary l o m a b) s = both_rise (rise a s) (rise b (following a s)) refl
+  rise (choice l m c a b) s = both_rise (rise c s) (both_rise (rise a (following c s)) (rise b (following a (following c s))) refl) refl
+  rise (apply l m e es) s = both_rise (rise e s) (rise_each es (following e s)) refl
   rise (valof l c) s = more_rises _ _ (both_rise (counted_rise (s.number + 1) (length (labels_of c))) (rise_done c (numbered (1 + length (labels_of c)) s)) (omega arith)) (omega arith) (omega arith)
   rise _ s = nothing_rises _ _
 
   rise_each : (es : Expressions) (s : Spot) → Rises s.number (numbers_each es) (given_each s es)
   rise_each none s = nothing_rises _ _
-  rise_each (more e es) s = both_rise (rise e s) (rise_each es (behind e s)) refl
+  rise_each (more e es) s = both_rise (rise e s) (rise_each es (following e s)) refl
 
   rise_done : (c : Command) (s : Spot) → Rises s.number (numbers_done c) (given_done s c)
-  rise_done (assign l xs es) s = both_rise (rise_each xs s) (rise_each es (behind_each xs s)) refl
-  rise_done (call l e es) s = both_rise (rise e s) (rise_each es (behind e s)) refl
+  rise_done (assign l xs es) s = both_rise (rise_each xs s) (rise_each es (after_each xs s)) refl
+  rise_done (call l e es) s = both_rise (rise e s) (rise_each es (following e s)) refl
   rise_done (label l x c) s = rise_done c s
   rise_done (case_of l e c) s = rise_done c s
   rise_done (default l c) s = rise_done c s
-  rise_done (when l b e c) s = both_rise (rise e s) (rise_done c (behind e s)) refl
-  rise_done (test l e a b) s = both_rise (rise e s) (both_rise (rise_done a (behind e s)) (rise_done b (behind_done a (behind e s))) refl) refl
-  rise_done (while l b e c) s = both_rise (rise e s) (rise_done c (behind e s)) refl
+  rise_done (when l b e c) s = both_rise (rise e s) (rise_done c (following e s)) refl
+  rise_done (test l e a b) s = both_rise (rise e s) (both_rise (rise_done a (following e s)) (rise_done b (after_done a (following e s))) refl) refl
+  rise_done (while l b e c) s = both_rise (rise e s) (rise_done c (following e s)) refl
   rise_done (for_loop l x a b h c) s =
-      let u : Spot = behind b (behind a s) in
+      let u : Spot = following b (following a s) in
       let own : Rises u.number ((1 + length (labels_of c)) + numbers_done c) (counted (u.number + 1) (length (labels_of c)) ++ given_done (numbered (1 + length (labels_of c)) u) c) =
       more_rises _ _ (both_rise (counted_rise (u.number + 1) (length (labels_of c))) (rise_done c (numbered (1 + length (labels_of c)) u)) (omega arith)) (omega arith) (omega arith) in
-      both_rise (rise a s) (both_rise (rise b (behind a s)) own refl) refl
-  rise_done (switch l e c) s = both_rise (rise e s) (more_rises (behind e s).number (1 + numbers_done c) (rise_done c (numbered 1 (behind e s))) (omega arith) (omega arith)) refl
+      both_rise (rise a s) (both_rise (rise b (following a s)) own refl) refl
+  rise_done (switch l e c) s = both_rise (rise e s) (more_rises (following e s).number (1 + numbers_done c) (rise_done c (numbered 1 (following e s))) (omega arith) (omega arith)) refl
   rise_done (result l e) s = rise e s
   rise_done (block l no_declarations cs) s = rise_done_each cs s
   rise_done (block l (declare d ds) cs) s =
-      let v : Spot = behind_one_declared d s in
-      let u : Spot = behind_declared (declare d ds) s in
+      let v : Spot = after_one_declared d s in
+      let u : Spot = after_declared (declare d ds) s in
       let heads : Rises s.number (numbers_declared (declare d ds)) (given_declared s (declare d ds)) = both_rise (rise_one_declared d s) (rise_declared ds v) refl in
       let own : Rises u.number ((1 + length (labels_of_each cs)) + numbers_done_each cs) (counted (u.number + 1) (length (labels_of_each cs)) ++ given_done_each (numbered (1 + length (labels_of_each cs)) u) cs) =
       more_rises _ _ (both_rise (counted_rise (u.number + 1) (length (labels_of_each cs))) (rise_done_each cs (numbered (1 + length (labels_of_each cs)) u)) (omega arith)) (omega arith) (omega arith) in
       both_rise heads own refl
   rise_done (repeat l c) s = rise_done c s
-  rise_done (repeat_while l b c e) s = both_rise (rise_done c s) (rise e (behind_done c s)) refl
+  rise_done (repeat_while l b c e) s = both_rise (rise_done c s) (rise e (after_done c s)) refl
   rise_done _ s = nothing_rises _ _
 
   rise_done_each : (cs : Commands) (s : Spot) → Rises s.number (numbers_done_each cs) (given_done_each s cs)
   rise_done_each no_commands s = nothing_rises _ _
-  rise_done_each (also c cs) s = both_rise (rise_done c s) (rise_done_each cs (behind_done c s)) refl
+  rise_done_each (also c cs) s = both_rise (rise_done c s) (rise_done_each cs (after_done c s)) refl
 
   rise_declared : (ds : Declarations) (s : Spot) → Rises s.number (numbers_declared ds) (given_declared s ds)
   rise_declared no_declarations s = nothing_rises _ _
-  rise_declared (declare d ds) s = both_rise (rise_one_declared d s) (rise_declared ds (behind_one_declared d s)) refl
+  rise_declared (declare d ds) s = both_rise (rise_one_declared d s) (rise_declared ds (after_one_declared d s)) refl
 
   rise_one_declared : (d : Declaration) (s : Spot) → Rises s.number (numbers_one_declared d) (given_one_declared s d)
   rise_one_declared (constants l sort.Static (item m x e is)) s = more_rises _ _ (counted_rise (s.number + 1) (numbers_items sort.Static (item m x e is))) (omega arith) (omega arith)
@@ -114,7 +114,7 @@ mutual
 
   rise_defined : (ds : Definitions) (s : Spot) → Rises s.number (numbers_defined ds) (given_defined s ds)
   rise_defined no_definitions s = nothing_rises _ _
-  rise_defined (define d ds) s = both_rise (rise_one_defined d s) (rise_defined ds (behind_one_defined d s)) refl
+  rise_defined (define d ds) s = both_rise (rise_one_defined d s) (rise_defined ds (after_one_defined d s)) refl
 
   rise_one_defined : (d : Definition) (s : Spot) → Rises s.number (numbers_one_defined d) (given_one_defined s d)
   rise_one_defined (routine l x fs c) s =
@@ -124,7 +124,7 @@ mutual
 
   rise_started : (is : Starts) (s : Spot) → Rises s.number (numbers_started is) (given_started s is)
   rise_started no_starts s = nothing_rises _ _
-  rise_started (value e is) s = both_rise (rise e s) (rise_started is (behind e s)) refl
+  rise_started (value e is) s = both_rise (rise e s) (rise_started is (following e s)) refl
   rise_started (vector l e is) s = rise_started is s
 
 pub numbers_differ : NumbersDiffer

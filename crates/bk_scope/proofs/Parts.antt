@@ -1,5 +1,5 @@
 -- Where a whole has no fault, each part has none.
-use Rattle.bk_scope.proofs.Terms.{◌≡◌, Bool, true, false, cond, List, [], ◌∷◌, ◌++◌, refl, sym, ◌∙◌, Declarations, Claim, is_claimed, Fault, Point, meaning, word, depth, wrong, claim, claimed, claims_behind, comes_before, put, in_order, judged, told_of, faults, Clean, NoWrong}
+use Rattle.bk_scope.proofs.Terms.{◌≡◌, Bool, true, false, cond, List, [], ◌∷◌, ◌++◌, refl, sym, ◌∙◌, Declarations, Claim, is_claimed, Fault, Point, meaning, word, depth, wrong, claim, claimed, claims_after, comes_before, put, in_order, judged, reported_of, faults, Clean, NoWrong}
 use Rattle.bk_scope.proofs.Lists.{judged_append}
 
 cons_nil : (f : Fault) (fs : List Fault) → (f ∷ fs) ≡ [] → ⊥
@@ -26,14 +26,14 @@ order_none [] e = refl
 order_none (f ∷ fs) e = absurd (never_none f (in_order fs) e)
 
 -- A SECTION WITHOUT FAULTS is clean; of two parts each is
-pub section_clean : (ds : Declarations) → faults ds ≡ [] → Clean [] (told_of ds)
-section_clean ds e = order_none (judged [] (told_of ds)) e
+pub section_clean : (ds : Declarations) → faults ds ≡ [] → Clean [] (reported_of ds)
+section_clean ds e = order_none (judged [] (reported_of ds)) e
 
 pub first_clean : (cs : List Claim) (xs ys : List Point) → Clean cs (xs ++ ys) → Clean cs xs
-first_clean cs xs ys e = left_none (judged cs xs) (judged (claims_behind cs xs) ys) (sym (judged_append xs ys cs) ∙ e)
+first_clean cs xs ys e = left_none (judged cs xs) (judged (claims_after cs xs) ys) (sym (judged_append xs ys cs) ∙ e)
 
-pub second_clean : (cs : List Claim) (xs ys : List Point) → Clean cs (xs ++ ys) → Clean (claims_behind cs xs) ys
-second_clean cs xs ys e = right_none (judged cs xs) (judged (claims_behind cs xs) ys) (sym (judged_append xs ys cs) ∙ e)
+pub second_clean : (cs : List Claim) (xs ys : List Point) → Clean cs (xs ++ ys) → Clean (claims_after cs xs) ys
+second_clean cs xs ys e = right_none (judged cs xs) (judged (claims_after cs xs) ys) (sym (judged_append xs ys cs) ∙ e)
 
 -- whatever was claimed before, nothing is wrong by itself
 pub no_wrong : (xs : List Point) (cs : List Claim) → Clean cs xs → NoWrong xs

@@ -1,13 +1,13 @@
 -- The pass and what is told: procedures.
-use Rattle.bk_scope.proofs.Terms.{◌≡◌, ℕ, ◌+◌, ◌*◌, ◌^◌, ◌≤◌, ◌<◌, Bool, true, false, cond, Option, Some, None, List, [], ◌∷◌, ◌++◌, length, refl, sym, ap, ◌∙◌, subst, append_assoc, arith, nat_lt, append-nil, FRAME_WORDS, Mention, Expression, Command, routine, function, Bound, Constant, Global, Static, Variable, Label, Enclosing, Value, Binding, bound_in, text_of, declared_twice, frame_too_large, two_procedures, kept, labelled, called, Stage, labels_of, with_labels, with_formals, Defined, evaluated, done, one_defined, listed, all_listed, sets, named_as, headed, frame_wrong, Spot, onward, symbols, symbols_done, numbers, numbers_done, Fault, Point, meaning, word, depth, wrong, claim, at, claimed, claims_behind, judged, in_order, first_told, meanings_of, words_of, deepest, without_depths, labels_in_scope, told, told_done, told_one_defined, one_of, each_of, its_meaning, its_global, its_frame, inside_procedure, procedure}
-use Rattle.bk_scope.specs.Found.{Found, Claim, naming, setting, is_claimed, else_first, breaks, claims_new, claims_once, takes, opens, behind}
+use Rattle.bk_scope.proofs.Terms.{◌≡◌, ℕ, ◌+◌, ◌*◌, ◌^◌, ◌≤◌, ◌<◌, Bool, true, false, cond, Option, Some, None, List, [], ◌∷◌, ◌++◌, length, refl, sym, ap, ◌∙◌, subst, append_assoc, arith, nat_lt, append-nil, FRAME_WORDS, Mention, Expression, Command, routine, function, Bound, Constant, Global, Static, Variable, Label, Enclosing, Value, Binding, bound_in, text_of, declared_twice, frame_too_large, two_procedures, kept, labelled, called, Stage, labels_of, with_labels, with_formals, Defined, evaluated, done, one_defined, listed, all_listed, sets, named_as, headed, frame_wrong, Spot, onward, symbols, symbols_done, numbers, numbers_done, Fault, Point, meaning, word, depth, wrong, claim, at, claimed, claims_after, judged, in_order, first_reported, meanings_of, words_of, deepest, without_depths, labels_in_scope, reported, reported_done, reported_one_defined, one_of, each_of, its_meaning, its_global, its_frame, inside_procedure, procedure}
+use Rattle.bk_scope.specs.Found.{Found, Claim, naming, setting, is_claimed, else_first, breaks, claims_new, claims_once, takes, opens, following}
 use Rattle.bk_scope.proofs.Lists.{Inside, AllInside, inside_append, inside_wider, judged_inside, order_apart, first_append, meanings_append}
 use Rattle.bk_scope.proofs.Tied.{Tied, Spans, both, wider, behind_it, else_none, nothing_told, then}
 use Rattle.bk_scope.proofs.Operators.{ETied, EInside, CTied, CInside}
 use Rattle.bk_scope.proofs.Scopes.{moved, moved_tied, recount, no_span, labels_taken}
 
 -- a claim
-once_first : (b : Bool) (c : Claim) (x : Fault) (f : Found) → (cond b (breaks x.at x.wrong f) (claims_new c f)).first ≡ else_first f.first (first_told (in_order (cond b (x ∷ []) [] ++ [])))
+once_first : (b : Bool) (c : Claim) (x : Fault) (f : Found) → (cond b (breaks x.at x.wrong f) (claims_new c f)).first ≡ else_first f.first (first_reported (in_order (cond b (x ∷ []) [] ++ [])))
 once_first true c x f = refl
 once_first false c x f = sym (else_none f.first)
 
@@ -20,9 +20,7 @@ once_rest true c x f = (refl, refl, refl, refl)
 once_rest false c x f = (refl, refl, refl, refl)
 
 pub claim_tied : (c : Claim) (x : Fault) (f : Found) → Tied (claim c x ∷ []) 0 f (claims_once c x.at x.wrong f)
-claim_tied c x f =
-    let r : ((claims_once c x.at x.wrong f).meanings ≡ f.meanings) × ((claims_once c x.at x.wrong f).words ≡ f.words) × ((claims_once c x.at x.wrong f).next ≡ f.next) × ((claims_once c x.at x.wrong f).deepest ≡ f.deepest) = once_rest (is_claimed c f.claims) c x f in
-    record { first = once_first (is_claimed c f.claims) c x f; claims = once_claims (is_claimed c f.claims) c x f; meanings = r.0 ∙ sym (append-nil f.meanings); words = r.1 ∙ sym (append-nil f.words); next = omega (arith, r.2); deepest = r.3 }
+claim_tied c x f = grind (arith, deepest, once_rest, once_first, once_claims, append-nil)
 
 pub listed_tied : (m n l : ℕ) (x : List ℕ) (f : Found) → Tied (one_of m n l x) 0 f (listed m l x f)
 listed_tied m n l x f = claim_tied (naming m x) (record { place = n; at = l; wrong = declared_twice (text_of x) }) f
@@ -53,7 +51,7 @@ module _ (n l : ℕ) (xs : List Point) where
   frame_judged false cs = refl
 
   frame_silent : (b : Bool) → let ys : List Point = cond b (at n l frame_too_large) [] ++ xs in
-      ((cs : List Claim) → claims_behind cs ys ≡ claims_behind cs xs) × (meanings_of ys ≡ meanings_of xs) × (words_of ys ≡ words_of xs) × ((d : ℕ) → deepest d ys ≡ deepest d xs)
+      ((cs : List Claim) → claims_after cs ys ≡ claims_after cs xs) × (meanings_of ys ≡ meanings_of xs) × (words_of ys ≡ words_of xs) × ((d : ℕ) → deepest d ys ≡ deepest d xs)
   frame_silent true = (λ cs. refl, refl, refl, λ d. refl)
   frame_silent false = (λ cs. refl, refl, refl, λ d. refl)
 
@@ -61,7 +59,7 @@ module _ (n l : ℕ) (xs : List Point) where
   frame_inside true e h g = (omega arith, omega (arith, g), h)
   frame_inside false e h g = h
 
-frame_first : (b : Bool) (n l : ℕ) → first_told (in_order (cond b (record { place = n; at = l; wrong = frame_too_large } ∷ []) [])) ≡ cond b (Some (record { at = l; wrong = frame_too_large })) None
+frame_first : (b : Bool) (n l : ℕ) → first_reported (in_order (cond b (record { place = n; at = l; wrong = frame_too_large } ∷ []) [])) ≡ cond b (Some (record { at = l; wrong = frame_too_large })) None
 frame_first true n l = refl
 frame_first false n l = refl
 
@@ -72,7 +70,7 @@ frame_faults false n l = tt
 -- these say the same of faults, claims, words and the frame, and stand as far
 record Same (xs ys : List Point) : Type 0 where
   judged_so : (cs : List Claim) → judged cs xs ≡ judged cs ys
-  claims_so : (cs : List Claim) → claims_behind cs xs ≡ claims_behind cs ys
+  claims_so : (cs : List Claim) → claims_after cs xs ≡ claims_after cs ys
   words_so : words_of xs ≡ words_of ys
   within_so : (n m : ℕ) → Inside n m ys → Inside n m xs
 
@@ -117,7 +115,7 @@ flat_deepest (_ ∷ xs) d = flat_deepest xs d
 
 -- a procedure behind its name, where all that is told of it inside is `xs`
 inside_tied : (n l j e d : ℕ) (y : Option Bound) (xs : List Point) (f h : Found) → f.next + 1 < 2 ^ 32 → Inside (32 * n + 27) e xs → Tied xs j (opens d (named_as y (takes f))) h
-    → Tied (its_frame n l (deepest d xs) ++ (its_meaning y ++ without_depths xs)) (1 + j) f (behind f.first f.deepest (frame_wrong l h) h)
+    → Tied (its_frame n l (deepest d xs) ++ (its_meaning y ++ without_depths xs)) (1 + j) f (following f.first f.deepest (frame_wrong l h) h)
 inside_tied n l j e d y xs f h fits a t =
     let q : Bool = nat_lt FRAME_WORDS (deepest d xs) in
     let zs : List Point = its_meaning y ++ without_depths xs in
@@ -126,13 +124,13 @@ inside_tied n l j e d y xs f h fits a t =
     record {
       first =
           ap (λ b. else_first f.first (else_first (cond (nat_lt FRAME_WORDS b) (Some (record { at = l; wrong = frame_too_large })) None) h.first)) t.deepest
-          ∙ ap (λ b. else_first f.first (else_first (cond q (Some (record { at = l; wrong = frame_too_large })) None) b)) (t.first ∙ ap (λ c. first_told (in_order (judged c xs))) v.0)
-          ∙ ap (λ b. else_first f.first (else_first b (first_told (in_order (judged f.claims xs))))) (sym (frame_first q n l))
+          ∙ ap (λ b. else_first f.first (else_first (cond q (Some (record { at = l; wrong = frame_too_large })) None) b)) (t.first ∙ ap (λ c. first_reported (in_order (judged c xs))) v.0)
+          ∙ ap (λ b. else_first f.first (else_first b (first_reported (in_order (judged f.claims xs))))) (sym (frame_first q n l))
           ∙ ap (else_first f.first) (sym (
-          ap (λ b. first_told (in_order b)) (frame_judged n l zs q f.claims ∙ ap (λ b. cond q (record { place = n; at = l; wrong = frame_too_large } ∷ []) [] ++ b) rest)
-          ∙ ap first_told (order_apart (32 * n + 15) (32 * n + 27) e _ (judged f.claims xs) (frame_faults q n l) (judged_inside _ _ xs f.claims a))
+          ap (λ b. first_reported (in_order b)) (frame_judged n l zs q f.claims ∙ ap (λ b. cond q (record { place = n; at = l; wrong = frame_too_large } ∷ []) [] ++ b) rest)
+          ∙ ap first_reported (order_apart (32 * n + 15) (32 * n + 27) e _ (judged f.claims xs) (frame_faults q n l) (judged_inside _ _ xs f.claims a))
           ∙ first_append (in_order (cond q (record { place = n; at = l; wrong = frame_too_large } ∷ []) [])) _));
-      claims = t.claims ∙ ap (λ c. claims_behind c xs) v.0 ∙ sym ((frame_silent n l zs q).0 f.claims ∙ (name_same y (without_depths xs)).claims_so f.claims ∙ (flat_same xs).claims_so f.claims);
+      claims = t.claims ∙ ap (λ c. claims_after c xs) v.0 ∙ sym ((frame_silent n l zs q).0 f.claims ∙ (name_same y (without_depths xs)).claims_so f.claims ∙ (flat_same xs).claims_so f.claims);
       meanings =
           t.meanings ∙ ap (λ c. c ++ meanings_of xs) v.1 ∙ append_assoc f.meanings (meanings_of (its_meaning y)) (meanings_of xs)
           ∙ ap (λ c. f.meanings ++ c) (sym ((frame_silent n l zs q).1 ∙ meanings_append (its_meaning y) (without_depths xs) ∙ ap (λ c. meanings_of (its_meaning y) ++ c) (flat_meanings xs)));
@@ -143,7 +141,7 @@ inside_tied n l j e d y xs f h fits a t =
 
 pub procedure_tied : (m k l i j : ℕ) (s : Spot) (x : List ℕ) (fs : List Mention) (y : Option Bound) (body : List Point) (f h : Found)
     → f.next + 1 < 2 ^ 32 → Spans (s.place + 1 + length fs) (s.place + 1 + length fs + i) body → Tied body j (headed k l x fs y (takes (listed m l x f))) h
-    → Tied (procedure m k s l x fs y body) (1 + j) f (behind (listed m l x f).first (listed m l x f).deepest (frame_wrong l h) h)
+    → Tied (procedure m k s l x fs y body) (1 + j) f (following (listed m l x f).first (listed m l x f).deepest (frame_wrong l h) h)
 procedure_tied m k l i j s x fs y body f h fits a t =
     let n : ℕ = s.place in
     let e : ℕ = 32 * (n + 1 + length fs + i) in
@@ -167,24 +165,24 @@ headed_next k l x fs y f =
 
 -- A FUNCTION
 pub function_tied : (m l : ℕ) (x : List ℕ) (fs : List Mention) (a : Expression) → ETied a → EInside a → (bs : List Binding) (p : Enclosing) (s : Spot) (d : Defined) → d.found.next ≡ s.number → s.number + (1 + numbers a) < 2 ^ 32
-    → Tied (told_one_defined m bs p s (function l x fs a)) (1 + numbers a) d.found (one_defined m bs (function l x fs a) d).found
+    → Tied (reported_one_defined m bs p s (function l x fs a)) (1 + numbers a) d.found (one_defined m bs (function l x fs a) d).found
 function_tied m l x fs a ta ia bs p s d e fits =
     let f : Found = listed m l x d.found in
     let same : f.next ≡ s.number = omega (arith, (listed_tied m s.place l x d.found).next, e) in
     let u : Spot = onward (1 + length fs) 1 s in
-    let T : ℕ → Type 0 = λ k. Tied (told_one_defined m bs p s (function l x fs a)) (1 + numbers a) d.found
-    (behind f.first f.deepest (frame_wrong l (evaluated Value (with_formals k 2 fs bs) (called false k (length fs)) a (headed k l x fs (bound_in bs x) (takes f)))) (evaluated Value (with_formals k 2 fs bs) (called false k (length fs)) a (headed k l x fs (bound_in bs x) (takes f)))) in
+    let T : ℕ → Type 0 = λ k. Tied (reported_one_defined m bs p s (function l x fs a)) (1 + numbers a) d.found
+    (following f.first f.deepest (frame_wrong l (evaluated Value (with_formals k 2 fs bs) (called false k (length fs)) a (headed k l x fs (bound_in bs x) (takes f)))) (evaluated Value (with_formals k 2 fs bs) (called false k (length fs)) a (headed k l x fs (bound_in bs x) (takes f)))) in
     let k : ℕ = s.number in
     let g : Found = headed k l x fs (bound_in bs x) (takes f) in
     let cs : List Binding = with_formals k 2 fs bs in
     let q : Enclosing = called false k (length fs) in
     let g_next : g.next ≡ u.number = omega (arith, headed_next k l x fs (bound_in bs x) (takes f), same, fits) in
     subst T (sym same)
-    (procedure_tied m k l (symbols a) (numbers a) s x fs (bound_in bs x) (told Value cs q u a) d.found (evaluated Value cs q a g) (omega (arith, e, fits)) (wider _ _ (ia Value cs q u) (omega arith) (omega arith)) (ta Value tt cs q u g g_next (omega (arith, fits))))
+    (procedure_tied m k l (symbols a) (numbers a) s x fs (bound_in bs x) (reported Value cs q u a) d.found (evaluated Value cs q a g) (omega (arith, e, fits)) (wider _ _ (ia Value cs q u) (omega arith) (omega arith)) (ta Value tt cs q u g g_next (omega (arith, fits))))
 
 -- A ROUTINE
 pub routine_tied : (m l : ℕ) (x : List ℕ) (fs : List Mention) (c : Command) → CTied c → CInside c → (bs : List Binding) (p : Enclosing) (s : Spot) (d : Defined) → d.found.next ≡ s.number → s.number + ((2 + length (labels_of c)) + numbers_done c) < 2 ^ 32
-    → Tied (told_one_defined m bs p s (routine l x fs c)) ((2 + length (labels_of c)) + numbers_done c) d.found (one_defined m bs (routine l x fs c) d).found
+    → Tied (reported_one_defined m bs p s (routine l x fs c)) ((2 + length (labels_of c)) + numbers_done c) d.found (one_defined m bs (routine l x fs c) d).found
 routine_tied m l x fs c tc ic bs p s d e fits =
     let f : Found = listed m l x d.found in
     let same : f.next ≡ s.number = omega (arith, (listed_tied m s.place l x d.found).next, e) in
@@ -197,9 +195,9 @@ routine_tied m l x fs c tc ic bs p s d e fits =
     let cs : List Binding = labels_in_scope k (k + 2) (labels_of c) zs in
     let q : Enclosing = labelled (k + 1) (called true k (length fs)) in
     let g' : Found = moved ((g.next + 1) + L) g in
-    let body : Tied (told_done cs q u c) (numbers_done c) g' (done cs q c g') = tc cs q u g' (omega (arith, g_next)) (omega (arith, fits)) in
-    let all : Tied (told_done cs q u c) ((1 + L) + numbers_done c) g (done cs q c g') = behind_it (no_span u.place) (ic cs q u) (omega arith) (moved_tied (1 + L) g'.next g (omega arith)) body in
-    let whole : Found → Type 0 = λ h. Tied (told_one_defined m bs p s (routine l x fs c)) ((2 + L) + numbers_done c) d.found (behind f.first f.deepest (frame_wrong l h) h) in
+    let body : Tied (reported_done cs q u c) (numbers_done c) g' (done cs q c g') = tc cs q u g' (omega (arith, g_next)) (omega (arith, fits)) in
+    let all : Tied (reported_done cs q u c) ((1 + L) + numbers_done c) g (done cs q c g') = behind_it (no_span u.place) (ic cs q u) (omega arith) (moved_tied (1 + L) g'.next g (omega arith)) body in
+    let whole : Found → Type 0 = λ h. Tied (reported_one_defined m bs p s (routine l x fs c)) ((2 + L) + numbers_done c) d.found (following f.first f.deepest (frame_wrong l h) h) in
     let T : ℕ → Type 0 = λ j.
     let v : Found = headed j l x fs (bound_in bs x) (takes f) in
     let t : Stage = with_labels j (labels_of c) (record { scope = with_formals j 2 fs bs; found = takes v }) in
@@ -208,7 +206,7 @@ routine_tied m l x fs c tc ic bs p s d e fits =
     (subst (λ (t : Stage). whole (done t.scope (labelled g.next (called true k (length fs))) c t.found)) (sym (labels_taken k (labels_of c) zs g (omega (arith, g_next, fits))))
     (subst (λ n. whole (done (labels_in_scope k n (labels_of c) zs) (labelled g.next (called true k (length fs))) c g')) (let e' : k + 2 ≡ g.next + 1 = omega (arith, g_next) in e')
     (subst (λ n. whole (done cs (labelled n (called true k (length fs))) c g')) (sym g_next)
-    (recount _ (procedure_tied m k l (symbols_done c) ((1 + L) + numbers_done c) s x fs (bound_in bs x) (told_done cs q u c) d.found (done cs q c g') (omega (arith, e, fits)) (wider _ _ (ic cs q u) (omega arith) (omega arith)) all) (omega arith)))))
+    (recount _ (procedure_tied m k l (symbols_done c) ((1 + L) + numbers_done c) s x fs (bound_in bs x) (reported_done cs q u c) d.found (done cs q c g') (omega (arith, e, fits)) (wider _ _ (ic cs q u) (omega arith) (omega arith)) all) (omega arith)))))
 
 -- where a procedure's points stand
 pub procedure_spans : (m k l i : ℕ) (s : Spot) (x : List ℕ) (fs : List Mention) (y : Option Bound) (body : List Point) → Spans (s.place + 1 + length fs) (s.place + 1 + length fs + i) body

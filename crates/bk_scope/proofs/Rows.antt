@@ -1,5 +1,5 @@
 -- Worked rows: what is found wrong in small sections.
-use Rattle.bk_scope.proofs.Terms.{◌≡◌, ℕ, Some, List, [], ◌∷◌, map, refl, Operator as o, Simple as w, Sort as s, Mention, Expression, Command, Declaration, Declarations, name, number, binary, valof, none, more, empty, assign, call, case_of, switch, simple, block, no_commands, also, constants, definitions, no_declarations, declare, no_items, item, routine, function, variables, no_definitions, define, no_starts, value, vector, Wrong, Breach, text_of, declared_twice, dynamic_name, divided_by_zero, case_repeated, no_loop, no_result_or_return, vec_out_of_range, frame_too_large, two_procedures, first_told, faults}
+use Rattle.bk_scope.proofs.Terms.{◌≡◌, ℕ, Some, List, [], ◌∷◌, map, refl, Operator as o, Simple as w, Sort as s, Mention, Expression, Command, Declaration, Declarations, name, number, binary, valof, none, more, empty, assign, call, case_of, switch, simple, block, no_commands, also, constants, definitions, no_declarations, declare, no_items, item, routine, function, variables, no_definitions, define, no_starts, value, vector, Wrong, Breach, text_of, declared_twice, dynamic_name, divided_by_zero, case_repeated, no_loop, no_result_or_return, vec_out_of_range, frame_too_large, two_procedures, first_reported, faults}
 
 abbrev breach : ℕ → Wrong → Breach
 breach l w = record { at = l; wrong = w }
@@ -43,5 +43,5 @@ rows =
     ∷ (section (routine_of 2 83 (switch 3 (number 3 1) (block 4 no_declarations (also (case_of 5 (number 5 1) empty) (also (case_of 6 (number 6 1) empty) no_commands))))), breach 6 case_repeated)
     ∷ []
 
-rows_right : map (λ row. first_told (faults row.0)) rows ≡ map (λ row. Some row.1) rows
+rows_right : map (λ row. first_reported (faults row.0)) rows ≡ map (λ row. Some row.1) rows
 rows_right = refl

@@ -1,6 +1,6 @@
 -- The sections of the tests as worked rows: the whole list of faults of each, as a program apart from this kit gives it.
 -- Where a text inserts a header, a GLOBAL with its names stands in its place.
-use Rattle.bk_scope.proofs.Terms.{◌≡◌, ℕ, true, false, List, [], ◌∷◌, map, refl, Operator as o, Prefix as q, Simple as w, Sort as sort, Mention, Declarations, name, number, text, truth, parens, unary, binary, apply, valof, table, none, more, empty, assign, call, goto, label, case_of, default, when, while, for_loop, switch, result, simple, block, repeat, no_commands, also, constants, definitions, no_declarations, declare, no_items, item, routine, function, variables, no_definitions, define, no_starts, value, vector, Wrong, Breach, text_of, not_declared, declared_twice, dynamic_name, not_constant, divided_by_zero, case_repeated, default_repeated, no_loop, no_switchon, no_result_or_return, label_not_here, global_out_of_range, vec_out_of_range, frame_too_large, not_assignable, two_procedures, all_told, faults}
+use Rattle.bk_scope.proofs.Terms.{◌≡◌, ℕ, true, false, List, [], ◌∷◌, map, refl, Operator as o, Prefix as q, Simple as w, Sort as sort, Mention, Declarations, name, number, text, truth, parens, unary, binary, apply, valof, table, none, more, empty, assign, call, goto, label, case_of, default, when, while, for_loop, switch, result, simple, block, repeat, no_commands, also, constants, definitions, no_declarations, declare, no_items, item, routine, function, variables, no_definitions, define, no_starts, value, vector, Wrong, Breach, text_of, not_declared, declared_twice, dynamic_name, not_constant, divided_by_zero, case_repeated, default_repeated, no_loop, no_switchon, no_result_or_return, label_not_here, global_out_of_range, vec_out_of_range, frame_too_large, not_assignable, two_procedures, all_reported, faults}
 
 abbrev pub at_line : ℕ → List ℕ → Mention
 at_line l x = record { at = l; letters = x }
@@ -12,14 +12,14 @@ at_breach l x = record { at = l; wrong = x }
 pub data Row : Type 0 where
   tells : List Breach → Declarations → Row
 
-abbrev told_of : Row → List Breach
-told_of (tells bs ds) = all_told (faults ds)
+abbrev reported_of : Row → List Breach
+reported_of (tells bs ds) = all_reported (faults ds)
 
 abbrev faults_of : Row → List Breach
 faults_of (tells bs ds) = bs
 
 abbrev pub Right : List Row → Type 0
-Right rows = map told_of rows ≡ map faults_of rows
+Right rows = map reported_of rows ≡ map faults_of rows
 
 abbrev rows : List Row
 rows =

@@ -1,5 +1,5 @@
 -- What variables begin with, one after another.
-use Rattle.bk_scope.proofs.Terms.{◌≡◌, ℕ, ◌+◌, ◌<◌, ◌≤◌, List, [], ◌∷◌, ◌++◌, map, drop, length, get_or, refl, sym, ap, ap₂, ◌∙◌, append_assoc, arith, drop_more, drop_all, Init, Init as b, Name, Mention, Starts, starts_in, mention, Enclosing, Variable, Binding, Found, deeper, started, place_behind, variables_of, words_below}
+use Rattle.bk_scope.proofs.Terms.{◌≡◌, ℕ, ◌+◌, ◌<◌, ◌≤◌, List, [], ◌∷◌, ◌++◌, map, drop, length, get_or, refl, sym, ap, ap₂, ◌∙◌, append_assoc, arith, drop_more, drop_all, Init, Init as b, Name, Mention, Starts, starts_in, mention, Enclosing, Variable, Binding, Found, deeper, started, place_after, variables_of, words_below}
 
 -- the place after one of them
 abbrev pub after_one : List Binding → Enclosing → Init → Enclosing
@@ -13,7 +13,7 @@ found_first : (bs : List Binding) (p : Enclosing) (s : Init) (ss : List Init) (f
 found_first bs p (b.Value e) ss f = refl
 found_first bs p (b.Vector l e) ss f = refl
 
-place_first : (bs : List Binding) (p : Enclosing) (s : Init) (ss : List Init) → place_behind bs (after_one bs p s) (starts_in ss) ≡ place_behind bs p (starts_in (s ∷ ss))
+place_first : (bs : List Binding) (p : Enclosing) (s : Init) (ss : List Init) → place_after bs (after_one bs p s) (starts_in ss) ≡ place_after bs p (starts_in (s ∷ ss))
 place_first bs p (b.Value e) ss = refl
 place_first bs p (b.Vector l e) ss = refl
 
@@ -28,8 +28,8 @@ module _ (bs : List Binding) (p : Enclosing) (ss : List Init) (i : ℕ) (s : Ini
   pub found_after : (f : Found) → started bs (after_one bs p s) (starts_in (drop (i + 1) ss)) (started bs p (starts_in (s ∷ [])) f) ≡ started bs p (starts_in (drop i ss)) f
   found_after f = found_first bs p s (drop (i + 1) ss) f ∙ ap (λ l. started bs p (starts_in l) f) left
 
-  pub place_after : place_behind bs (after_one bs p s) (starts_in (drop (i + 1) ss)) ≡ place_behind bs p (starts_in (drop i ss))
-  place_after = place_first bs p s (drop (i + 1) ss) ∙ ap (λ l. place_behind bs p (starts_in l)) left
+  pub place_then : place_after bs (after_one bs p s) (starts_in (drop (i + 1) ss)) ≡ place_after bs p (starts_in (drop i ss))
+  place_then = place_first bs p s (drop (i + 1) ss) ∙ ap (λ l. place_after bs p (starts_in l)) left
 
   pub fresh_after : (xs : List Name) (x : Name) (zs : List Binding) → i < length xs → x ≡ get_or xs i x
       → (zs ++ variable bs p x s ∷ []) ++ variables_of bs (after_one bs p s) (map mention (drop (i + 1) xs)) (starts_in (drop (i + 1) ss)) ≡ zs ++ variables_of bs p (map mention (drop i xs)) (starts_in (drop i ss))
@@ -40,6 +40,4 @@ module _ (bs : List Binding) (p : Enclosing) (ss : List Init) (i : ℕ) (s : Ini
 
   pub fresh_without : (xs : List Name) (zs : List Binding) → length xs ≤ i
       → zs ++ variables_of bs (after_one bs p s) (map mention (drop (i + 1) xs)) (starts_in (drop (i + 1) ss)) ≡ zs ++ variables_of bs p (map mention (drop i xs)) (starts_in (drop i ss))
-  fresh_without xs zs none =
-      ap (λ ys. zs ++ variables_of bs (after_one bs p s) (map mention ys) (starts_in (drop (i + 1) ss))) (drop_all (i + 1) xs (omega (arith, none)))
-      ∙ ap (λ ys. zs ++ variables_of bs p (map mention ys) (starts_in (drop i ss))) (sym (drop_all i xs none))
+  fresh_without xs zs none = grind (arith, drop_all)

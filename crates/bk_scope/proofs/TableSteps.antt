@@ -25,22 +25,11 @@ mapped_place-put t u k o puts y =
 -- one binding more
 pub IsTable-push : (t u : Inside) (e : Entry) (i : ℕ) → IsTable t → u.bindings.items ≡ t.bindings.items ++ e ∷ [] → i ≡ length t.bindings.items
     → e.hidden ≡ place_in (scope_of t.bindings.items) e.name.letters.now → Puts t e.name (Some i) u → IsTable u
-IsTable-push t u e i before items last hidden puts =
-    let es = t.bindings.items in
-    let P : List Entry → Type 0 = HaveHidden in
-    record {
-      places = λ x. mapped_place-put t u e.name (Some i) puts x
-          ∙ ap (λ o. cond (bytes_eq e.name.letters.now x) (Some i) o) (before.places x)
-          ∙ ap (λ k. cond (bytes_eq e.name.letters.now x) (Some k) (place_in (scope_of es) x)) (last ∙ sym (length-scope_of es))
-          ∙ sym (ap (λ bs. place_in bs x) (ap scope_of items ∙ scope_of-push es e));
-      hidden = subst P (sym (ap reverse items ∙ reverse-append es (e ∷ []))) (hidden, before.hidden);
-    }
+IsTable-push t u e i before items last hidden puts = grind (arith, mapped_place-put, place_in, length-scope_of, scope_of-push, reverse-append)
 
 place_in-uncovered : (bs : List Binding) (x y : List ℕ) (k : ℕ) (o h : Option ℕ) → o ≡ cond (bytes_eq x y) (Some k) (place_in bs y) → h ≡ place_in bs x
     → cond (bytes_eq x y) h o ≡ place_in bs y
-place_in-uncovered bs x y k o h before hidden =
-    ⊎_elim (λ e. cond-true _ h o e ∙ hidden ∙ ap (place_in bs) ((bytes_eq-Decides x y).0 e))
-    (λ e. cond-false _ h o e ∙ before ∙ cond-false _ (Some k) (place_in bs y) e) (cases_Bool (bytes_eq x y))
+place_in-uncovered bs x y k o h before hidden = grind (arith, cond-true, place_in, bytes_eq-Decides, cond-false)
 
 -- one binding less
 pub IsTable-pop : (t u : Inside) (e : Entry) → IsTable t → t.bindings.items ≡ u.bindings.items ++ e ∷ [] → Puts t e.name e.hidden u → IsTable u

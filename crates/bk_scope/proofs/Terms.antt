@@ -33,16 +33,16 @@ pub use Rattle.bk_scope.specs.Cases.{word_if_any, case_words, case_words_each, d
 pub use Rattle.bk_scope.specs.Claims.{claim_of, claims_in}
 pub use Rattle.bk_scope.specs.Constants.{named_word, constant_word, is_prefix_of_constants, is_infix_of_constants, divides, divides_by_zero, wrong_name, wrongs, prefix_word, infix_word}
 pub use Rattle.bk_scope.specs.Entering.{with_formals, Stage, with_labels, labels_of, labels_of_each, with_procedures, with_procedure}
-pub use Rattle.bk_scope.specs.Faults.{unless, constant_name, constant_wrongs, constant_wrongs_each, its_word, constant, each_constant, at_most, one_of, each_of, pushed, manifest_items, static_items, global_items, told, told_declared, told_one_declared, told_started, used_at, depth_named, addressed, assigned, told_destinations, told_each, told_done, told_of, faults, meanings, words, told_done_each, gone_to, prefixed, chosen_at, defaulted_at, single_at, its_meaning, told_defined, told_one_defined, its_global, its_frame, inside_procedure, procedure}
+pub use Rattle.bk_scope.specs.Faults.{unless, constant_name, constant_wrongs, constant_wrongs_each, its_word, constant, each_constant, at_most, one_of, each_of, pushed, manifest_items, static_items, global_items, reported, reported_declared, reported_one_declared, reported_started, used_at, depth_named, addressed, assigned, reported_destinations, reported_each, reported_done, reported_of, faults, meanings, words, reported_done_each, gone_to, prefixed, chosen_at, defaulted_at, single_at, its_meaning, reported_defined, reported_one_defined, its_global, its_frame, inside_procedure, procedure}
 pub use Rattle.bk_scope.specs.Found.{Found, Claim, first_of, else_first, breaks_first, holds, breaks, means, takes, reaches, is_claimed, same_claim, choosing, defaulting, claims_new}
 pub use Rattle.bk_scope.specs.Laws.{Clean, NoWrong}
-pub use Rattle.bk_scope.specs.Names.{constant_found, constants_found, AfterDeclarations, evaluated, listed, all_listed, bounded, within, words_of_start, manifests, statics, globals, started, declared, one_declared, is_usable, begins_wrong, role_of_operands, destinations, used, unassignable, without_word, parenthesised, each_evaluated, done, fit_infix, place_of_second, role_of_operand, defined, nothing, found_in, each_done, place_behind, variables_of, Defined, one_defined, sets, named_as, headed, frame_wrong, words_below, reached, switched, chosen, defaulted, single}
+pub use Rattle.bk_scope.specs.Names.{constant_found, constants_found, AfterDeclarations, evaluated, listed, all_listed, bounded, within, words_of_start, manifests, statics, globals, started, declared, one_declared, is_usable, begins_wrong, role_of_operands, destinations, used, unassignable, without_word, parenthesised, each_evaluated, done, fit_infix, place_of_second, role_of_operand, defined, nothing, found_in, each_done, place_after, variables_of, Defined, one_defined, sets, named_as, headed, frame_wrong, words_below, reached, switched, chosen, defaulted, single}
 pub use Rattle.bk_scope.specs.Places.{deeper, kept, labelled, valued, outermost, switching, looping, called}
-pub use Rattle.bk_scope.specs.Points.{Point, meaning, word, depth, wrong, claim, at, claims_behind, judged, in_order, first_told, meanings_of, words_of, deepest, number_of, Fault, comes_before, put, claimed, all_told, without_depths, claiming}
+pub use Rattle.bk_scope.specs.Points.{Point, meaning, word, depth, wrong, claim, at, claims_after, judged, in_order, first_reported, meanings_of, words_of, deepest, number_of, Fault, comes_before, put, claimed, all_reported, without_depths, claiming}
 pub use Rattle.bk_scope.specs.Scope.{Binding, bind_all, bound_in, bind, is_global, has_address}
-pub use Rattle.bk_scope.specs.Scoping.{manifests_in_scope, statics_in_scope, globals_in_scope, scope_behind_one, place_behind_one, scope_behind, place_behind_all, labels_in_scope, procedure_in_scope, procedures_in_scope, place_behind_one_defined, place_behind_defined, variables_in_scope}
-pub use Rattle.bk_scope.specs.Sound.{Usable, GoesTo, HasWord, HasWordUpTo, HaveWords, Callable, PrefixSound, Stands, ManifestsSound, StaticsSound, GlobalsSound, FrameSound, Sound, SoundEach, SoundDestinations, SoundDone, SoundDoneEach, SoundDeclared, SoundOneDeclared, SoundDefined, SoundOneDefined, SoundStarted, SoundSection}
-pub use Rattle.bk_scope.specs.Spots.{Spot, past, behind_constant, symbols, symbols_each, numbered, behind, behind_one_declared, numbers, numbers_items, numbers_declared, numbers_one_declared, numbers_started, numbers_each, symbols_done, numbers_done, onward, beginning, procedures_in, numbers_done_each, numbers_defined, behind_declared, symbols_done_each, symbols_declared, behind_each, behind_done, behind_one_defined, symbols_one_declared, symbols_items, symbols_defined, symbols_one_defined, symbols_started, numbers_one_defined}
+pub use Rattle.bk_scope.specs.Scoping.{manifests_in_scope, statics_in_scope, globals_in_scope, scope_after_one, place_after_one, scope_after, place_after_all, labels_in_scope, procedure_in_scope, procedures_in_scope, place_after_one_defined, place_after_defined, variables_in_scope}
+pub use Rattle.bk_scope.specs.Sound.{Usable, GoesTo, HasWord, HasWordUpTo, HaveWords, Callable, PrefixSound, Applies, ManifestsSound, StaticsSound, GlobalsSound, FrameSound, Sound, SoundEach, SoundDestinations, SoundDone, SoundDoneEach, SoundDeclared, SoundOneDeclared, SoundDefined, SoundOneDefined, SoundStarted, SoundSection}
+pub use Rattle.bk_scope.specs.Spots.{Spot, past, after_constant, symbols, symbols_each, numbered, following, after_one_declared, numbers, numbers_items, numbers_declared, numbers_one_declared, numbers_started, numbers_each, symbols_done, numbers_done, onward, beginning, procedures_in, numbers_done_each, numbers_defined, after_declared, symbols_done_each, symbols_declared, after_each, after_done, after_one_defined, symbols_one_declared, symbols_items, symbols_defined, symbols_one_defined, symbols_started, numbers_one_defined}
 pub use Rattle.bk_scope.specs.TableView.{place_in, binding_of, scope_of, HaveHidden, mapped_place, IsTable}
 pub use Rattle.bk_scope.specs.Wrong.{Wrong, Breach, dynamic_name, not_constant, divided_by_zero, label_not_here, text_of, global_out_of_range, vec_out_of_range, not_assignable, not_declared, declared_twice, case_repeated, default_repeated, no_loop, no_switchon, no_result_or_return, frame_too_large, two_procedures, elsewhere}
 pub use Rattle.bk_scope.specs.contracts.name_key.NameKeyPartialEq.TheImpl.{eq-value}

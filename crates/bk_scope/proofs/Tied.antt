@@ -1,10 +1,10 @@
 -- The pass, and what is told: what stands behind a part of the pass is what stood before it and what is told of the part.
-use Rattle.bk_scope.proofs.Terms.{◌≡◌, ℕ, ◌+◌, ◌*◌, ◌≤◌, Option, Some, None, List, [], ◌++◌, refl, sym, ap, ◌∙◌, append_assoc, arith, append-nil, Wrong, Breach, Found, else_first, breaks, Point, at, claims_behind, judged, in_order, first_told, meanings_of, words_of, deepest}
+use Rattle.bk_scope.proofs.Terms.{◌≡◌, ℕ, ◌+◌, ◌*◌, ◌≤◌, Option, Some, None, List, [], ◌++◌, refl, sym, ap, ◌∙◌, append_assoc, arith, append-nil, Wrong, Breach, Found, else_first, breaks, Point, at, claims_after, judged, in_order, first_reported, meanings_of, words_of, deepest}
 use Rattle.bk_scope.proofs.Lists.{Inside, inside_append, inside_wider, claims_append, meanings_append, words_append, deepest_append, first_of_both}
 
 pub record Tied (xs : List Point) (i : ℕ) (f g : Found) : Type 0 where
-  pub first : g.first ≡ else_first f.first (first_told (in_order (judged f.claims xs)))
-  pub claims : g.claims ≡ claims_behind f.claims xs
+  pub first : g.first ≡ else_first f.first (first_reported (in_order (judged f.claims xs)))
+  pub claims : g.claims ≡ claims_after f.claims xs
   pub meanings : g.meanings ≡ f.meanings ++ meanings_of xs
   pub words : g.words ≡ f.words ++ words_of xs
   pub next : g.next ≡ f.next + i
@@ -30,10 +30,10 @@ broken n l f = record { first = refl; claims = refl; meanings = sym (append-nil 
 pub then : (n m l i j : ℕ) (xs ys : List Point) (f g h : Found) → Inside n m xs → Inside m l ys → Tied xs i f g → Tied ys j g h → Tied (xs ++ ys) (i + j) f h
 then n m l i j xs ys f g h a b s t = record {
   first =
-      t.first ∙ ap (λ c. else_first g.first (first_told (in_order (judged c ys)))) s.claims
-      ∙ ap (λ o. else_first o (first_told (in_order (judged (claims_behind f.claims xs) ys)))) s.first
+      t.first ∙ ap (λ c. else_first g.first (first_reported (in_order (judged c ys)))) s.claims
+      ∙ ap (λ o. else_first o (first_reported (in_order (judged (claims_after f.claims xs) ys)))) s.first
       ∙ firsts f.first _ _ ∙ ap (else_first f.first) (sym (first_of_both n m l xs ys f.claims a b));
-  claims = t.claims ∙ ap (λ c. claims_behind c ys) s.claims ∙ sym (claims_append xs ys f.claims);
+  claims = t.claims ∙ ap (λ c. claims_after c ys) s.claims ∙ sym (claims_append xs ys f.claims);
   meanings = t.meanings ∙ ap (λ c. c ++ meanings_of ys) s.meanings ∙ append_assoc f.meanings (meanings_of xs) (meanings_of ys) ∙ ap (λ c. f.meanings ++ c) (sym (meanings_append xs ys));
   words = t.words ∙ ap (λ c. c ++ words_of ys) s.words ∙ append_assoc f.words (words_of xs) (words_of ys) ∙ ap (λ c. f.words ++ c) (sym (words_append xs ys));
   next = omega (arith, t.next, s.next);

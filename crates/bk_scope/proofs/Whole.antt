@@ -1,5 +1,5 @@
 -- THE PASS AND WHAT IS TOLD, for each node and for a section.
-use Rattle.bk_scope.proofs.Terms.{◌≡◌, ◌+◌, ◌^◌, ◌<◌, None, List, [], ◌∷◌, refl, sym, ◌∙◌, arith, none-some, Sort as sort, Expression, Expressions, Command, Commands, Declaration, Declarations, Definition, Definitions, Starts, name, number, text, truth, query, parens, unary, binary, choice, apply, valof, table, none, more, empty, assign, call, goto, label, case_of, default, when, test, while, for_loop, switch, result, simple, block, repeat, repeat_while, no_commands, also, constants, definitions, no_declarations, declare, routine, function, variables, no_definitions, define, no_starts, value, vector, Within, nothing, found_in, outermost, beginning, numbers_declared, Fault, first_told, told_of, faults, meanings, words}
+use Rattle.bk_scope.proofs.Terms.{◌≡◌, ◌+◌, ◌^◌, ◌<◌, None, List, [], ◌∷◌, refl, sym, ◌∙◌, arith, none-some, Sort as sort, Expression, Expressions, Command, Commands, Declaration, Declarations, Definition, Definitions, Starts, name, number, text, truth, query, parens, unary, binary, choice, apply, valof, table, none, more, empty, assign, call, goto, label, case_of, default, when, test, while, for_loop, switch, result, simple, block, repeat, repeat_while, no_commands, also, constants, definitions, no_declarations, declare, routine, function, variables, no_definitions, define, no_starts, value, vector, Within, nothing, found_in, outermost, beginning, numbers_declared, Fault, first_reported, reported_of, faults, meanings, words}
 use Rattle.bk_scope.proofs.Tied.{Tied}
 use Rattle.bk_scope.proofs.Counting.{few_numbers}
 use Rattle.bk_scope.proofs.Operators.{EsTied, CTied}
@@ -86,14 +86,14 @@ pub numbers_fit : (ds : Declarations) → Within ds → 1 + numbers_declared ds 
 numbers_fit ds h = omega (arith, few_numbers ds h)
 
 -- A SECTION: the pass finds the first of the faults, and what the names mean, and the words of the constants
-pub section_tied : (ds : Declarations) → Within ds → Tied (told_of ds) (numbers_declared ds) nothing (found_in ds)
+pub section_tied : (ds : Declarations) → Within ds → Tied (reported_of ds) (numbers_declared ds) nothing (found_in ds)
 section_tied ds h = (declarations_tied ds).found [] outermost beginning nothing refl (numbers_fit ds h)
 
-pub first_found : (ds : Declarations) → Within ds → (found_in ds).first ≡ first_told (faults ds)
+pub first_found : (ds : Declarations) → Within ds → (found_in ds).first ≡ first_reported (faults ds)
 first_found ds h = (section_tied ds h).first
 
 -- where the pass finds none, there is none
-none_told : (fs : List Fault) → first_told fs ≡ None → fs ≡ []
+none_told : (fs : List Fault) → first_reported fs ≡ None → fs ≡ []
 none_told [] h = refl
 none_told (f ∷ fs) h = absurd (none-some _ (sym h))
 

@@ -54,8 +54,8 @@ else-none (Some b) = refl
 pub told_between : (bs : List Binding) (k l s : ℕ) (o : Operator) (a b : Expression) (f : Option Breach) → is_infix_of_constants o ≡ true → cond (divides_by_zero o (constant_word bs a) (constant_word bs b)) (else_first (else_first (else_first f (first_of (wrongs bs k a))) (first_of (wrongs bs k b))) (Some (record { at = l; wrong = divided_by_zero }))) (else_first (else_first f (first_of (wrongs bs k a))) (first_of (wrongs bs k b))) ≡ else_first f (first_of (wrongs bs k (binary l o s a b)))
 told_between bs k l s o a b f of = rw of (by_words (constant_word bs a) (constant_word bs b) refl refl)
   where
-    Told : Option ℕ → Option ℕ → Type 0
-    Told m n = cond (divides_by_zero o m n) (else_first (else_first (else_first f (first_of (wrongs bs k a))) (first_of (wrongs bs k b))) (Some (record { at = l; wrong = divided_by_zero }))) (else_first (else_first f (first_of (wrongs bs k a))) (first_of (wrongs bs k b))) ≡ else_first f (first_of (cond (divides_by_zero o m n) (record { at = l; wrong = divided_by_zero } ∷ []) (wrongs bs k a ++ wrongs bs k b)))
+    Reported : Option ℕ → Option ℕ → Type 0
+    Reported m n = cond (divides_by_zero o m n) (else_first (else_first (else_first f (first_of (wrongs bs k a))) (first_of (wrongs bs k b))) (Some (record { at = l; wrong = divided_by_zero }))) (else_first (else_first f (first_of (wrongs bs k a))) (first_of (wrongs bs k b))) ≡ else_first f (first_of (cond (divides_by_zero o m n) (record { at = l; wrong = divided_by_zero } ∷ []) (wrongs bs k a ++ wrongs bs k b)))
 
     neither : else_first (else_first f (first_of (wrongs bs k a))) (first_of (wrongs bs k b)) ≡ else_first f (first_of (wrongs bs k a ++ wrongs bs k b))
     neither = else-assoc f (first_of (wrongs bs k a)) (first_of (wrongs bs k b)) ∙ ap (λ (y : Option Breach). else_first f y) (sym (first_of-append (wrongs bs k a) (wrongs bs k b)))
@@ -64,7 +64,7 @@ told_between bs k l s o a b f of = rw of (by_words (constant_word bs a) (constan
     by_zero false x y ea eb = neither
     by_zero true x y ea eb = rw (no_wrong bs k a x ea) (rw (no_wrong bs k b y eb) (ap (λ (z : Option Breach). else_first z (Some (record { at = l; wrong = divided_by_zero }))) (else-none (else_first f None) ∙ else-none f)))
 
-    by_words : (m n : Option ℕ) → constant_word bs a ≡ m → constant_word bs b ≡ n → Told m n
+    by_words : (m n : Option ℕ) → constant_word bs a ≡ m → constant_word bs b ≡ n → Reported m n
     by_words (Some x) (Some y) ea eb = by_zero (cond (divides o) (y == 0) false) x y ea eb
     by_words _ _ ea eb = neither
 

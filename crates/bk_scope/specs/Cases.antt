@@ -7,7 +7,7 @@ use Rattle.bk_scope.specs.Scope.{Binding}
 use Rattle.bk_scope.specs.Constants.{constant_word}
 use Rattle.bk_scope.specs.Found.{Claim}
 use Rattle.bk_scope.specs.Spots.{Spot}
-use Rattle.bk_scope.specs.Faults.{told_done}
+use Rattle.bk_scope.specs.Faults.{reported_done}
 use Rattle.bk_scope.specs.Laws.{Clean}
 
 abbrev pub word_if_any : Option ℕ → List ℕ
@@ -61,4 +61,4 @@ AllDiffer (x ∷ xs) = NoneOf x xs × AllDiffer xs
 
 -- THE CASES OF A SWITCHON DIFFER, where what is reported of it is clean, and there is one DEFAULT at most.
 abbrev pub CasesDiffer : Type 0
-CasesDiffer = (cs : List Claim) (bs : List Binding) (p : Enclosing) (s : Spot) (l : ℕ) (e : Expression) (c : Command) → Clean cs (told_done bs p s (switch l e c)) → AllDiffer (case_words bs c) × (defaults c ≤ 1)
+CasesDiffer = (cs : List Claim) (bs : List Binding) (p : Enclosing) (s : Spot) (l : ℕ) (e : Expression) (c : Command) → Clean cs (reported_done bs p s (switch l e c)) → AllDiffer (case_words bs c) × (defaults c ≤ 1)

@@ -1,4 +1,4 @@
--- What the program's claims stand for.
+-- What the program's claims mean.
 use Rattle.std.specs.Prelude.{List, map, reverse}
 use Rattle.bk_scope.specs.Found as found
 use Rattle.bk_scope.specs.declared.claims.Claim.{Claim}

@@ -21,9 +21,9 @@ use Rattle.bk_scope.specs.Found.{naming, choosing, defaulting, setting}
 use Rattle.bk_scope.specs.Places.{kept, deeper, looping, switching, labelled, valued, called, outermost}
 use Rattle.bk_scope.specs.Entering.{labels_of, labels_of_each, with_formals}
 use Rattle.bk_scope.specs.Names.{parenthesised, role_of_operand, role_of_operands, place_of_second, words_of_start}
-use Rattle.bk_scope.specs.Spots.{Spot, procedures_in, onward, past, numbered, behind, behind_each, behind_done, behind_declared, behind_one_declared, behind_one_defined, behind_constant, symbols_each, beginning}
+use Rattle.bk_scope.specs.Spots.{Spot, procedures_in, onward, past, numbered, following, after_each, after_done, after_declared, after_one_declared, after_one_defined, after_constant, symbols_each, beginning}
 use Rattle.bk_scope.specs.Points.{Point, Fault, meaning, word, depth, at, claiming, judged, in_order, deepest, without_depths, meanings_of, words_of}
-use Rattle.bk_scope.specs.Scoping.{labels_in_scope, procedures_in_scope, place_behind_one_defined, scope_behind_one, place_behind_one, scope_behind, place_behind_all}
+use Rattle.bk_scope.specs.Scoping.{labels_in_scope, procedures_in_scope, place_after_one_defined, scope_after_one, place_after_one, scope_after, place_after_all}
 
 -- one if it is so
 abbrev pub unless : Bool → List Point → List Point
@@ -62,12 +62,12 @@ abbrev mutual
   constant_wrongs bs k s (unary l r e) = unless (is_prefix_of_constants r) (at s.place l not_constant) ++ constant_wrongs bs k (past 1 s) e
   constant_wrongs bs k s (binary l r m a b) =
       cond (divides_by_zero r (constant_word bs a) (constant_word bs b)) (at s.place l divided_by_zero) [] ++ constant_wrongs bs k s a
-      ++ unless (is_infix_of_constants r) (at (behind_constant a s).place m not_constant) ++ constant_wrongs bs k (past 1 (behind_constant a s)) b
+      ++ unless (is_infix_of_constants r) (at (after_constant a s).place m not_constant) ++ constant_wrongs bs k (past 1 (after_constant a s)) b
   constant_wrongs bs k s (choice l m c a b) =
-      constant_wrongs bs k s c ++ at (behind_constant c s).place m not_constant
-      ++ constant_wrongs bs k (past 1 (behind_constant c s)) a ++ constant_wrongs bs k (behind_constant a (past 1 (behind_constant c s))) b
+      constant_wrongs bs k s c ++ at (after_constant c s).place m not_constant
+      ++ constant_wrongs bs k (past 1 (after_constant c s)) a ++ constant_wrongs bs k (after_constant a (past 1 (after_constant c s))) b
   constant_wrongs bs k s (apply l m f es) =
-      constant_wrongs bs k s f ++ at (behind_constant f s).place m not_constant ++ constant_wrongs_each bs k (past 1 (behind_constant f s)) es
+      constant_wrongs bs k s f ++ at (after_constant f s).place m not_constant ++ constant_wrongs_each bs k (past 1 (after_constant f s)) es
   constant_wrongs bs k s (text l x) = at s.place l not_constant
   constant_wrongs bs k s (query l) = at s.place l not_constant
   constant_wrongs bs k s (valof l c) = at s.place l not_constant
@@ -75,7 +75,7 @@ abbrev mutual
 
   pub constant_wrongs_each : List Binding → ℕ → Spot → Expressions → List Point
   constant_wrongs_each bs k s none = []
-  constant_wrongs_each bs k s (more e es) = constant_wrongs bs k s e ++ constant_wrongs_each bs k (behind_constant e s) es
+  constant_wrongs_each bs k s (more e es) = constant_wrongs bs k s e ++ constant_wrongs_each bs k (after_constant e s) es
 
 abbrev pub its_word : Option ℕ → List Point
 its_word None = []
@@ -86,7 +86,7 @@ constant bs k s e = constant_wrongs bs k s e ++ its_word (constant_word bs e)
 
 abbrev pub each_constant : List Binding → ℕ → Spot → Expressions → List Point
 each_constant bs k s none = []
-each_constant bs k s (more e es) = constant bs k s e ++ each_constant bs k (behind_constant e s) es
+each_constant bs k s (more e es) = constant bs k s e ++ each_constant bs k (after_constant e s) es
 
 -- a constant of at most so much
 abbrev pub at_most : ℕ → ℕ → ℕ → Wrong → Option ℕ → List Point
@@ -147,17 +147,17 @@ each_of m n (x ∷ xs) = one_of m n x.at x.letters ++ each_of m (n + 1) xs
 abbrev pub manifest_items : ℕ → List Binding → ℕ → Spot → Items → List Point
 manifest_items m bs k s no_items = []
 manifest_items m bs k s (item l x e is) =
-    one_of m s.place l x ++ constant bs k (past 1 s) e ++ manifest_items m (bind x (Constant (constant_word bs e)) bs) k (behind_constant e (past 1 s)) is
+    one_of m s.place l x ++ constant bs k (past 1 s) e ++ manifest_items m (bind x (Constant (constant_word bs e)) bs) k (after_constant e (past 1 s)) is
 
 abbrev pub static_items : ℕ → List Binding → ℕ → Spot → Items → List Point
 static_items m bs k s no_items = []
-static_items m bs k s (item l x e is) = one_of m s.place l x ++ constant bs k (past 1 s) e ++ meaning (Static s.number) ∷ [] ++ static_items m bs k (numbered 1 (behind_constant e (past 1 s))) is
+static_items m bs k s (item l x e is) = one_of m s.place l x ++ constant bs k (past 1 s) e ++ meaning (Static s.number) ∷ [] ++ static_items m bs k (numbered 1 (after_constant e (past 1 s))) is
 
 abbrev pub global_items : ℕ → List Binding → ℕ → Spot → Items → List Point
 global_items m bs k s no_items = []
 global_items m bs k s (item l x e is) =
     one_of m s.place l x ++ constant bs k (past 1 s) e ++ at_most GLOBAL_NUMBER (s.place + 1) (at_expression e) global_out_of_range (constant_word bs e)
-    ++ global_items m bs k (behind_constant e (past 1 s)) is
+    ++ global_items m bs k (after_constant e (past 1 s)) is
 
 -- a procedure's name: what it means, its frame, and the global that it sets
 abbrev pub its_meaning : Option Bound → List Point
@@ -182,111 +182,111 @@ procedure m k s l x fs b body =
     ++ (its_meaning b ++ without_depths (inside_procedure k s l x fs b body)))
 
 abbrev mutual
-  pub told : Role → List Binding → Enclosing → Spot → Expression → List Point
-  told r bs p s (name l x) = used_at p.procedure s.place l x (bound_in bs x) ++ depth_named r p (bound_in bs x)
-  told r bs p s (number l n) = pushed p 1
-  told r bs p s (text l x) = pushed p 1
-  told r bs p s (truth l b) = pushed p 1
-  told r bs p s (query l) = pushed p 1
-  told r bs p s (parens l e) = told (parenthesised r) bs p (past 1 s) e
-  told r bs p s (unary l f e) = prefixed f bs (past 1 s) e ++ told (role_of_operand f r e) bs p (past 1 s) e
-  told r bs p s (binary l f m a b) = told (role_of_operands f r) bs p s a ++ told (role_of_operands f r) bs (place_of_second f r p) (past 1 (behind a s)) b
-  told r bs p s (choice l m c a b) =
-      told Truth bs p s c ++ told Value bs p (past 1 (behind c s)) a ++ told Value bs p (behind a (past 1 (behind c s))) b
-  told r bs p s (apply l m e es) = told Value bs (deeper (size es + 2) p) s e ++ told_each 1 bs (deeper 2 p) (past 1 (behind e s)) es
-  told r bs p s (valof l c) =
-      told_done (labels_in_scope p.procedure (s.number + 1) (labels_of c) bs) (labelled s.number (valued p)) (onward 1 (1 + length (labels_of c)) s) c
+  pub reported : Role → List Binding → Enclosing → Spot → Expression → List Point
+  reported r bs p s (name l x) = used_at p.procedure s.place l x (bound_in bs x) ++ depth_named r p (bound_in bs x)
+  reported r bs p s (number l n) = pushed p 1
+  reported r bs p s (text l x) = pushed p 1
+  reported r bs p s (truth l b) = pushed p 1
+  reported r bs p s (query l) = pushed p 1
+  reported r bs p s (parens l e) = reported (parenthesised r) bs p (past 1 s) e
+  reported r bs p s (unary l f e) = prefixed f bs (past 1 s) e ++ reported (role_of_operand f r e) bs p (past 1 s) e
+  reported r bs p s (binary l f m a b) = reported (role_of_operands f r) bs p s a ++ reported (role_of_operands f r) bs (place_of_second f r p) (past 1 (following a s)) b
+  reported r bs p s (choice l m c a b) =
+      reported Truth bs p s c ++ reported Value bs p (past 1 (following c s)) a ++ reported Value bs p (following a (past 1 (following c s))) b
+  reported r bs p s (apply l m e es) = reported Value bs (deeper (size es + 2) p) s e ++ reported_each 1 bs (deeper 2 p) (past 1 (following e s)) es
+  reported r bs p s (valof l c) =
+      reported_done (labels_in_scope p.procedure (s.number + 1) (labels_of c) bs) (labelled s.number (valued p)) (onward 1 (1 + length (labels_of c)) s) c
       ++ pushed p 1
-  told r bs p s (table l es) = each_constant bs p.procedure (past 1 s) es ++ pushed p 1
+  reported r bs p s (table l es) = each_constant bs p.procedure (past 1 s) es ++ pushed p 1
 
   -- each so many words deeper
-  pub told_each : ℕ → List Binding → Enclosing → Spot → Expressions → List Point
-  told_each n bs p s none = []
-  told_each n bs p s (more e es) = told Value bs p s e ++ told_each n bs (deeper n p) (behind e s) es
+  pub reported_each : ℕ → List Binding → Enclosing → Spot → Expressions → List Point
+  reported_each n bs p s none = []
+  reported_each n bs p s (more e es) = reported Value bs p s e ++ reported_each n bs (deeper n p) (following e s) es
 
-  pub told_destinations : List Binding → Enclosing → Spot → Expressions → List Point
-  told_destinations bs p s none = []
-  told_destinations bs p s (more e es) =
-      unless (assigned bs e) (at s.place (at_expression e) not_assignable) ++ told (Destination false (at_expression e)) bs p s e ++ told_destinations bs p (behind e s) es
+  pub reported_destinations : List Binding → Enclosing → Spot → Expressions → List Point
+  reported_destinations bs p s none = []
+  reported_destinations bs p s (more e es) =
+      unless (assigned bs e) (at s.place (at_expression e) not_assignable) ++ reported (Destination false (at_expression e)) bs p s e ++ reported_destinations bs p (following e s) es
 
-  pub told_done : List Binding → Enclosing → Spot → Command → List Point
-  told_done bs p s empty = []
-  told_done bs p s (assign l xs es) = told_destinations bs (deeper 1 p) s xs ++ told_each 0 bs p (behind_each xs s) es
-  told_done bs p s (call l e es) = told Value bs (deeper (size es + 2) p) s e ++ told_each 1 bs (deeper 2 p) (behind e s) es
-  told_done bs p s (goto l x) = gone_to p.procedure s.place x.at x.letters (bound_in bs x.letters)
-  told_done bs p s (label l x c) = one_of p.labels s.place l x ++ its_meaning (bound_in bs x) ++ told_done bs p (past 1 s) c
-  told_done bs p s (case_of l e c) =
-      chosen_at p.switch s.place l (constant_word bs e) ++ constant bs p.procedure (past 1 s) e ++ told_done bs p (behind_constant e (past 1 s)) c
-  told_done bs p s (default l c) = defaulted_at p.switch s.place l ++ told_done bs p (past 1 s) c
-  told_done bs p s (when l b e c) = told Truth bs p s e ++ told_done bs p (behind e s) c
-  told_done bs p s (test l e a b) = told Truth bs p s e ++ told_done bs p (behind e s) a ++ told_done bs p (behind_done a (behind e s)) b
-  told_done bs p s (while l b e c) = told Truth bs p s e ++ told_done bs (looping p) (behind e s) c
-  told_done bs p s (for_loop l x a b h c) =
-      let u : Spot = onward (symbols_each h) 0 (behind b (behind a s)) in
-      told Value bs p s a ++ told Value bs (deeper 1 p) (behind a s) b ++ each_constant bs p.procedure (behind b (behind a s)) h ++ pushed p 4
-      ++ told_done (labels_in_scope p.procedure (u.number + 1) (labels_of c) (bind x.letters (Variable p.procedure p.depth) bs)) (labelled u.number (looping (deeper 2 p)))
+  pub reported_done : List Binding → Enclosing → Spot → Command → List Point
+  reported_done bs p s empty = []
+  reported_done bs p s (assign l xs es) = reported_destinations bs (deeper 1 p) s xs ++ reported_each 0 bs p (after_each xs s) es
+  reported_done bs p s (call l e es) = reported Value bs (deeper (size es + 2) p) s e ++ reported_each 1 bs (deeper 2 p) (following e s) es
+  reported_done bs p s (goto l x) = gone_to p.procedure s.place x.at x.letters (bound_in bs x.letters)
+  reported_done bs p s (label l x c) = one_of p.labels s.place l x ++ its_meaning (bound_in bs x) ++ reported_done bs p (past 1 s) c
+  reported_done bs p s (case_of l e c) =
+      chosen_at p.switch s.place l (constant_word bs e) ++ constant bs p.procedure (past 1 s) e ++ reported_done bs p (after_constant e (past 1 s)) c
+  reported_done bs p s (default l c) = defaulted_at p.switch s.place l ++ reported_done bs p (past 1 s) c
+  reported_done bs p s (when l b e c) = reported Truth bs p s e ++ reported_done bs p (following e s) c
+  reported_done bs p s (test l e a b) = reported Truth bs p s e ++ reported_done bs p (following e s) a ++ reported_done bs p (after_done a (following e s)) b
+  reported_done bs p s (while l b e c) = reported Truth bs p s e ++ reported_done bs (looping p) (following e s) c
+  reported_done bs p s (for_loop l x a b h c) =
+      let u : Spot = onward (symbols_each h) 0 (following b (following a s)) in
+      reported Value bs p s a ++ reported Value bs (deeper 1 p) (following a s) b ++ each_constant bs p.procedure (following b (following a s)) h ++ pushed p 4
+      ++ reported_done (labels_in_scope p.procedure (u.number + 1) (labels_of c) (bind x.letters (Variable p.procedure p.depth) bs)) (labelled u.number (looping (deeper 2 p)))
       (numbered (1 + length (labels_of c)) u) c
-  told_done bs p s (switch l e c) =
-      told Value bs p s e ++ told_done bs (switching (behind e s).number p) (numbered 1 (behind e s)) c
-  told_done bs p s (result l e) = unless p.in_valof (at s.place l no_result_or_return) ++ told Value bs p (past 1 s) e
-  told_done bs p s (simple l f) = single_at p s.place l f
-  told_done bs p s (block l no_declarations cs) = told_done_each bs p s cs
-  told_done bs p s (block l (declare d ds) cs) =
-      let u : Spot = behind_declared (declare d ds) s in
-      told_declared bs p s (declare d ds)
-      ++ told_done_each (labels_in_scope p.procedure (u.number + 1) (labels_of_each cs) (scope_behind bs p s (declare d ds)))
-      (labelled u.number (place_behind_all bs p s (declare d ds))) (numbered (1 + length (labels_of_each cs)) u) cs
-  told_done bs p s (repeat l c) = told_done bs (looping p) s c
-  told_done bs p s (repeat_while l b c e) = told_done bs (looping p) s c ++ told Truth bs p (behind_done c s) e
+  reported_done bs p s (switch l e c) =
+      reported Value bs p s e ++ reported_done bs (switching (following e s).number p) (numbered 1 (following e s)) c
+  reported_done bs p s (result l e) = unless p.in_valof (at s.place l no_result_or_return) ++ reported Value bs p (past 1 s) e
+  reported_done bs p s (simple l f) = single_at p s.place l f
+  reported_done bs p s (block l no_declarations cs) = reported_done_each bs p s cs
+  reported_done bs p s (block l (declare d ds) cs) =
+      let u : Spot = after_declared (declare d ds) s in
+      reported_declared bs p s (declare d ds)
+      ++ reported_done_each (labels_in_scope p.procedure (u.number + 1) (labels_of_each cs) (scope_after bs p s (declare d ds)))
+      (labelled u.number (place_after_all bs p s (declare d ds))) (numbered (1 + length (labels_of_each cs)) u) cs
+  reported_done bs p s (repeat l c) = reported_done bs (looping p) s c
+  reported_done bs p s (repeat_while l b c e) = reported_done bs (looping p) s c ++ reported Truth bs p (after_done c s) e
 
-  pub told_done_each : List Binding → Enclosing → Spot → Commands → List Point
-  told_done_each bs p s no_commands = []
-  told_done_each bs p s (also c cs) = told_done bs p s c ++ told_done_each bs p (behind_done c s) cs
+  pub reported_done_each : List Binding → Enclosing → Spot → Commands → List Point
+  reported_done_each bs p s no_commands = []
+  reported_done_each bs p s (also c cs) = reported_done bs p s c ++ reported_done_each bs p (after_done c s) cs
 
-  pub told_declared : List Binding → Enclosing → Spot → Declarations → List Point
-  told_declared bs p s no_declarations = []
-  told_declared bs p s (declare d ds) =
-      told_one_declared bs p s d ++ told_declared (scope_behind_one bs p s d) (place_behind_one bs p s d) (behind_one_declared d s) ds
+  pub reported_declared : List Binding → Enclosing → Spot → Declarations → List Point
+  reported_declared bs p s no_declarations = []
+  reported_declared bs p s (declare d ds) =
+      reported_one_declared bs p s d ++ reported_declared (scope_after_one bs p s d) (place_after_one bs p s d) (after_one_declared d s) ds
 
-  pub told_one_declared : List Binding → Enclosing → Spot → Declaration → List Point
-  told_one_declared bs p s (constants l sort.Manifest is) = manifest_items s.number bs p.procedure (numbered 1 s) is
-  told_one_declared bs p s (constants l sort.Static is) = static_items s.number bs p.procedure (numbered 1 s) is
-  told_one_declared bs p s (constants l sort.Global is) = global_items s.number bs p.procedure (numbered 1 s) is
-  told_one_declared bs p s (definitions l ds) =
-      told_defined s.number (procedures_in_scope (s.number + 1) ds bs) p (numbered (1 + procedures_in ds) s) ds
+  pub reported_one_declared : List Binding → Enclosing → Spot → Declaration → List Point
+  reported_one_declared bs p s (constants l sort.Manifest is) = manifest_items s.number bs p.procedure (numbered 1 s) is
+  reported_one_declared bs p s (constants l sort.Static is) = static_items s.number bs p.procedure (numbered 1 s) is
+  reported_one_declared bs p s (constants l sort.Global is) = global_items s.number bs p.procedure (numbered 1 s) is
+  reported_one_declared bs p s (definitions l ds) =
+      reported_defined s.number (procedures_in_scope (s.number + 1) ds bs) p (numbered (1 + procedures_in ds) s) ds
 
   -- the definitions of a LET, which are the list m
-  pub told_defined : ℕ → List Binding → Enclosing → Spot → Definitions → List Point
-  told_defined m bs p s no_definitions = []
-  told_defined m bs p s (define d ds) = told_one_defined m bs p s d ++ told_defined m bs (place_behind_one_defined bs p d) (behind_one_defined d s) ds
+  pub reported_defined : ℕ → List Binding → Enclosing → Spot → Definitions → List Point
+  reported_defined m bs p s no_definitions = []
+  reported_defined m bs p s (define d ds) = reported_one_defined m bs p s d ++ reported_defined m bs (place_after_one_defined bs p d) (after_one_defined d s) ds
 
-  pub told_one_defined : ℕ → List Binding → Enclosing → Spot → Definition → List Point
-  told_one_defined m bs p s (routine l x fs c) =
+  pub reported_one_defined : ℕ → List Binding → Enclosing → Spot → Definition → List Point
+  reported_one_defined m bs p s (routine l x fs c) =
       procedure m s.number s l x fs (bound_in bs x)
-      (told_done (labels_in_scope s.number (s.number + 2) (labels_of c) (with_formals s.number 2 fs bs)) (labelled (s.number + 1) (called true s.number (length fs)))
+      (reported_done (labels_in_scope s.number (s.number + 2) (labels_of c) (with_formals s.number 2 fs bs)) (labelled (s.number + 1) (called true s.number (length fs)))
       (onward (1 + length fs) (2 + length (labels_of c)) s) c)
-  told_one_defined m bs p s (function l x fs e) =
+  reported_one_defined m bs p s (function l x fs e) =
       procedure m s.number s l x fs (bound_in bs x)
-      (told Value (with_formals s.number 2 fs bs) (called false s.number (length fs)) (onward (1 + length fs) 1 s) e)
-  told_one_defined m bs p s (variables l xs is) = each_of m s.place xs ++ told_started bs p (past (length xs) s) is
+      (reported Value (with_formals s.number 2 fs bs) (called false s.number (length fs)) (onward (1 + length fs) 1 s) e)
+  reported_one_defined m bs p s (variables l xs is) = each_of m s.place xs ++ reported_started bs p (past (length xs) s) is
 
-  pub told_started : List Binding → Enclosing → Spot → Starts → List Point
-  told_started bs p s no_starts = []
-  told_started bs p s (value e is) = told Value bs p s e ++ told_started bs (deeper 1 p) (behind e s) is
-  told_started bs p s (vector l e is) =
+  pub reported_started : List Binding → Enclosing → Spot → Starts → List Point
+  reported_started bs p s no_starts = []
+  reported_started bs p s (value e is) = reported Value bs p s e ++ reported_started bs (deeper 1 p) (following e s) is
+  reported_started bs p s (vector l e is) =
       constant bs p.procedure s e ++ at_most VEC_NUMBER s.place (at_expression e) vec_out_of_range (constant_word bs e) ++ pushed p (words_of_start bs e + 1)
-      ++ told_started bs (deeper (words_of_start bs e + 1) p) (behind_constant e s) is
+      ++ reported_started bs (deeper (words_of_start bs e + 1) p) (after_constant e s) is
 
 -- what is reported of a section
-abbrev pub told_of : Declarations → List Point
-told_of ds = told_declared [] outermost beginning ds
+abbrev pub reported_of : Declarations → List Point
+reported_of ds = reported_declared [] outermost beginning ds
 
 -- THE FAULTS OF A SECTION, by place and then by number; what its names mean, and the words of its constants
 abbrev pub faults : Declarations → List Fault
-faults ds = in_order (judged [] (told_of ds))
+faults ds = in_order (judged [] (reported_of ds))
 
 abbrev pub meanings : Declarations → List Bound
-meanings ds = meanings_of (told_of ds)
+meanings ds = meanings_of (reported_of ds)
 
 abbrev pub words : Declarations → List ℕ
-words ds = words_of (told_of ds)
+words ds = words_of (reported_of ds)

@@ -39,9 +39,9 @@ misnamed m.TwoProcedures x = two_procedures x
 abbrev pub breach_of : PlacedFault → Breach
 breach_of f = record { at = f.at; wrong = wrong_of f.kind }
 
-abbrev pub breach_told : Option PlacedFault → Option Breach
-breach_told None = None
-breach_told (Some f) = Some (breach_of f)
+abbrev pub breach_reported : Option PlacedFault → Option Breach
+breach_reported None = None
+breach_reported (Some f) = Some (breach_of f)
 
 abbrev pub first_fault : FirstFault → Option Breach
-first_fault f = breach_told f.fault
+first_fault f = breach_reported f.fault

@@ -68,12 +68,12 @@ holds None f = f
 holds (Some w) f = record { first = f.first; claims = f.claims; meanings = f.meanings; words = f.words ++ (w ∷ []); next = f.next; deepest = f.deepest }
 
 -- The number after this one. Numbers are words; a section within the limits does not come to the last of them.
-abbrev pub number_behind : ℕ → ℕ
-number_behind n = (n + 1) % 2 ^ 32
+abbrev pub number_after : ℕ → ℕ
+number_after n = (n + 1) % 2 ^ 32
 
 -- takes a number
 abbrev pub takes : Found → Found
-takes f = record { first = f.first; claims = f.claims; meanings = f.meanings; words = f.words; next = number_behind f.next; deepest = f.deepest }
+takes f = record { first = f.first; claims = f.claims; meanings = f.meanings; words = f.words; next = number_after f.next; deepest = f.deepest }
 
 abbrev pub reaches : ℕ → Found → Found
 reaches d f = record { first = f.first; claims = f.claims; meanings = f.meanings; words = f.words; next = f.next; deepest = max f.deepest (kept d) }
@@ -84,5 +84,5 @@ opens d f = record { first = None; claims = f.claims; meanings = f.meanings; wor
 
 -- What was found in a procedure, with what is wrong with its frame before it, and after what was wrong before; and how deep
 -- the frame around was.
-abbrev pub behind : Option Breach → ℕ → Option Breach → Found → Found
-behind before deepest frame g = record { first = else_first before (else_first frame g.first); claims = g.claims; meanings = g.meanings; words = g.words; next = g.next; deepest = deepest }
+abbrev pub following : Option Breach → ℕ → Option Breach → Found → Found
+following before deepest frame g = record { first = else_first before (else_first frame g.first); claims = g.claims; meanings = g.meanings; words = g.words; next = g.next; deepest = deepest }

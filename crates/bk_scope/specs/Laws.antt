@@ -2,8 +2,8 @@
 use Rattle.std.specs.Prelude.{◌≡◌, List, [], ◌∷◌, ◌++◌}
 use Rattle.bk_tree.specs.Tree.{Declarations}
 use Rattle.bk_scope.specs.Found.{Claim}
-use Rattle.bk_scope.specs.Points.{Point, wrong, claims_behind, judged, meanings_of, words_of}
-use Rattle.bk_scope.specs.Faults.{told_of, faults}
+use Rattle.bk_scope.specs.Points.{Point, wrong, claims_after, judged, meanings_of, words_of}
+use Rattle.bk_scope.specs.Faults.{reported_of, faults}
 use Rattle.bk_scope.specs.Sound.{SoundSection}
 
 -- nothing that is reported is a fault, where these claims were made before
@@ -18,11 +18,11 @@ NoWrong (_ ∷ xs) = NoWrong xs
 
 -- A section without faults is clean.
 abbrev pub SectionsAreClean : Type 0
-SectionsAreClean = (ds : Declarations) → faults ds ≡ [] → Clean [] (told_of ds)
+SectionsAreClean = (ds : Declarations) → faults ds ≡ [] → Clean [] (reported_of ds)
 
 -- Where a whole is clean, each part is, after the claims of what is before it.
 abbrev pub PartsAreClean : Type 0
-PartsAreClean = (cs : List Claim) (xs ys : List Point) → Clean cs (xs ++ ys) → Clean cs xs × Clean (claims_behind cs xs) ys
+PartsAreClean = (cs : List Claim) (xs ys : List Point) → Clean cs (xs ++ ys) → Clean cs xs × Clean (claims_after cs xs) ys
 
 -- Each part has its own stretch of the meanings and of the words.
 abbrev pub PartsHaveStretches : Type 0

@@ -24,7 +24,7 @@ use Rattle.bk_scope.specs.declared.role.Role.TheVariants.{Value, Truth, Address,
 use Rattle.bk_scope.specs.Scope.{Binding, bound_in, bind, bind_all, has_address}
 use Rattle.bk_scope.specs.Wrong.{Wrong, Breach, text_of, not_declared, declared_twice, dynamic_name, case_repeated, default_repeated, no_loop, no_switchon, no_result_or_return, label_not_here, global_out_of_range, vec_out_of_range, frame_too_large, not_assignable, two_procedures}
 use Rattle.bk_scope.specs.Constants.{constant_word, wrongs}
-use Rattle.bk_scope.specs.Found.{Found, naming, choosing, defaulting, setting, first_of, breaks_first, breaks, claims_once, means, holds, takes, reaches, opens, behind}
+use Rattle.bk_scope.specs.Found.{Found, naming, choosing, defaulting, setting, first_of, breaks_first, breaks, claims_once, means, holds, takes, reaches, opens, following}
 use Rattle.bk_scope.specs.Places.{kept, deeper, looping, switching, labelled, valued, called, outermost}
 use Rattle.bk_scope.specs.Entering.{Stage, labels_of, labels_of_each, with_labels, with_formals, with_procedures}
 
@@ -177,10 +177,10 @@ words_below bs (value e is) = 0
 words_below bs (vector l e is) = words_of_start bs e
 
 -- the place after them
-abbrev pub place_behind : List Binding → Enclosing → Starts → Enclosing
-place_behind bs p no_starts = p
-place_behind bs p (value e is) = place_behind bs (deeper 1 p) is
-place_behind bs p (vector l e is) = place_behind bs (deeper (words_of_start bs e + 1) p) is
+abbrev pub place_after : List Binding → Enclosing → Starts → Enclosing
+place_after bs p no_starts = p
+place_after bs p (value e is) = place_after bs (deeper 1 p) is
+place_after bs p (vector l e is) = place_after bs (deeper (words_of_start bs e + 1) p) is
 
 -- the variables of a definition, where their values are: a VEC's is its address, after its words
 abbrev pub variables_of : List Binding → Enclosing → List Mention → Starts → List Binding
@@ -330,16 +330,16 @@ abbrev mutual
       let g : Found = headed f.next l x fs (bound_in bs x) (takes f) in
       let t : Stage = with_labels f.next (labels_of c) (record { scope = with_formals f.next 2 fs bs; found = takes g }) in
       let h : Found = done t.scope (labelled g.next (called true f.next (length fs))) c t.found in
-      record { fresh = d.fresh; place = d.place; found = behind f.first f.deepest (frame_wrong l h) h }
+      record { fresh = d.fresh; place = d.place; found = following f.first f.deepest (frame_wrong l h) h }
   one_defined n bs (function l x fs e) d =
       let f : Found = listed n l x d.found in
       let g : Found = headed f.next l x fs (bound_in bs x) (takes f) in
       let h : Found = evaluated Value (with_formals f.next 2 fs bs) (called false f.next (length fs)) e g in
-      record { fresh = d.fresh; place = d.place; found = behind f.first f.deepest (frame_wrong l h) h }
+      record { fresh = d.fresh; place = d.place; found = following f.first f.deepest (frame_wrong l h) h }
   one_defined n bs (variables l xs is) d =
       record {
         fresh = d.fresh ++ variables_of bs d.place xs is;
-        place = place_behind bs d.place is;
+        place = place_after bs d.place is;
         found = started bs d.place is (all_listed n xs d.found);
       }
 

@@ -54,11 +54,11 @@ claiming c n l w = claim c (record { place = n; at = l; wrong = w }) ∷ []
 abbrev pub claimed : Claim → List Claim → List Claim
 claimed c cs = cond (is_claimed c cs) cs (c ∷ cs)
 
-abbrev pub claims_behind : List Claim → List Point → List Claim
-claims_behind cs [] = cs
-claims_behind cs (wrong f ∷ xs) = claims_behind cs xs
-claims_behind cs (claim c f ∷ xs) = claims_behind (claimed c cs) xs
-claims_behind cs (_ ∷ xs) = claims_behind cs xs
+abbrev pub claims_after : List Claim → List Point → List Claim
+claims_after cs [] = cs
+claims_after cs (wrong f ∷ xs) = claims_after cs xs
+claims_after cs (claim c f ∷ xs) = claims_after (claimed c cs) xs
+claims_after cs (_ ∷ xs) = claims_after cs xs
 
 -- the faults of them, where these claims were made before
 abbrev pub judged : List Claim → List Point → List Fault
@@ -82,13 +82,13 @@ in_order (f ∷ fs) = put f (in_order fs)
 abbrev pub breach : Fault → Breach
 breach f = record { at = f.at; wrong = f.wrong }
 
-abbrev pub all_told : List Fault → List Breach
-all_told [] = []
-all_told (f ∷ fs) = breach f ∷ all_told fs
+abbrev pub all_reported : List Fault → List Breach
+all_reported [] = []
+all_reported (f ∷ fs) = breach f ∷ all_reported fs
 
-abbrev pub first_told : List Fault → Option Breach
-first_told [] = None
-first_told (f ∷ fs) = Some (breach f)
+abbrev pub first_reported : List Fault → Option Breach
+first_reported [] = None
+first_reported (f ∷ fs) = Some (breach f)
 
 -- what the names mean, and the words of the constants
 abbrev pub meanings_of : List Point → List Bound

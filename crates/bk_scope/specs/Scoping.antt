@@ -7,8 +7,8 @@ use Rattle.bk_scope.specs.declared.bound.Bound.TheVariants.{Constant, Global, St
 use Rattle.bk_scope.specs.declared.place.Enclosing.{Enclosing}
 use Rattle.bk_scope.specs.Scope.{Binding, bound_in, bind, bind_all, is_global}
 use Rattle.bk_scope.specs.Constants.{constant_word}
-use Rattle.bk_scope.specs.Names.{within, variables_of, place_behind}
-use Rattle.bk_scope.specs.Spots.{Spot, behind_one_declared}
+use Rattle.bk_scope.specs.Names.{within, variables_of, place_after}
+use Rattle.bk_scope.specs.Spots.{Spot, after_one_declared}
 
 -- labels of procedure k, with numbers from n on
 abbrev pub labels_in_scope : ℕ → ℕ → List (List ℕ) → List Binding → List Binding
@@ -26,19 +26,19 @@ procedures_in_scope n (define (function l x fs e) ds) bs = procedures_in_scope (
 procedures_in_scope n (define (variables l xs is) ds) bs = procedures_in_scope n ds bs
 
 -- where the frame goes on after a definition, and after those of a LET
-abbrev pub place_behind_one_defined : List Binding → Enclosing → Definition → Enclosing
-place_behind_one_defined bs p (variables l xs is) = place_behind bs p is
-place_behind_one_defined bs p _ = p
+abbrev pub place_after_one_defined : List Binding → Enclosing → Definition → Enclosing
+place_after_one_defined bs p (variables l xs is) = place_after bs p is
+place_after_one_defined bs p _ = p
 
-abbrev pub place_behind_defined : List Binding → Enclosing → Definitions → Enclosing
-place_behind_defined bs p no_definitions = p
-place_behind_defined bs p (define d ds) = place_behind_defined bs (place_behind_one_defined bs p d) ds
+abbrev pub place_after_defined : List Binding → Enclosing → Definitions → Enclosing
+place_after_defined bs p no_definitions = p
+place_after_defined bs p (define d ds) = place_after_defined bs (place_after_one_defined bs p d) ds
 
 -- the variables of a LET, which come into scope after all of it
 
 abbrev pub variables_in_scope : List Binding → Enclosing → Definitions → List Binding
 variables_in_scope bs p no_definitions = []
-variables_in_scope bs p (define (variables l xs is) ds) = variables_of bs p xs is ++ variables_in_scope bs (place_behind bs p is) ds
+variables_in_scope bs p (define (variables l xs is) ds) = variables_of bs p xs is ++ variables_in_scope bs (place_after bs p is) ds
 variables_in_scope bs p (define d ds) = variables_in_scope bs p ds
 
 -- items: those of MANIFEST see the earlier ones
@@ -56,22 +56,22 @@ globals_in_scope os no_items bs = bs
 globals_in_scope os (item l x e is) bs = globals_in_scope os is (bind x (Global (within GLOBAL_NUMBER (constant_word os e))) bs)
 
 -- after a declaration: what is in scope, and where the frame goes on
-abbrev pub scope_behind_one : List Binding → Enclosing → Spot → Declaration → List Binding
-scope_behind_one bs p s (constants l o.Manifest is) = manifests_in_scope bs is
-scope_behind_one bs p s (constants l o.Static is) = statics_in_scope (s.number + 1) is bs
-scope_behind_one bs p s (constants l o.Global is) = globals_in_scope bs is bs
-scope_behind_one bs p s (definitions l ds) =
+abbrev pub scope_after_one : List Binding → Enclosing → Spot → Declaration → List Binding
+scope_after_one bs p s (constants l o.Manifest is) = manifests_in_scope bs is
+scope_after_one bs p s (constants l o.Static is) = statics_in_scope (s.number + 1) is bs
+scope_after_one bs p s (constants l o.Global is) = globals_in_scope bs is bs
+scope_after_one bs p s (definitions l ds) =
     let cs : List Binding = procedures_in_scope (s.number + 1) ds bs in
     bind_all (variables_in_scope cs p ds) cs
 
-abbrev pub place_behind_one : List Binding → Enclosing → Spot → Declaration → Enclosing
-place_behind_one bs p s (constants l q is) = p
-place_behind_one bs p s (definitions l ds) = place_behind_defined (procedures_in_scope (s.number + 1) ds bs) p ds
+abbrev pub place_after_one : List Binding → Enclosing → Spot → Declaration → Enclosing
+place_after_one bs p s (constants l q is) = p
+place_after_one bs p s (definitions l ds) = place_after_defined (procedures_in_scope (s.number + 1) ds bs) p ds
 
-abbrev pub scope_behind : List Binding → Enclosing → Spot → Declarations → List Binding
-scope_behind bs p s no_declarations = bs
-scope_behind bs p s (declare d ds) = scope_behind (scope_behind_one bs p s d) (place_behind_one bs p s d) (behind_one_declared d s) ds
+abbrev pub scope_after : List Binding → Enclosing → Spot → Declarations → List Binding
+scope_after bs p s no_declarations = bs
+scope_after bs p s (declare d ds) = scope_after (scope_after_one bs p s d) (place_after_one bs p s d) (after_one_declared d s) ds
 
-abbrev pub place_behind_all : List Binding → Enclosing → Spot → Declarations → Enclosing
-place_behind_all bs p s no_declarations = p
-place_behind_all bs p s (declare d ds) = place_behind_all (scope_behind_one bs p s d) (place_behind_one bs p s d) (behind_one_declared d s) ds
+abbrev pub place_after_all : List Binding → Enclosing → Spot → Declarations → Enclosing
+place_after_all bs p s no_declarations = p
+place_after_all bs p s (declare d ds) = place_after_all (scope_after_one bs p s d) (place_after_one bs p s d) (after_one_declared d s) ds

@@ -4,7 +4,7 @@ ghost use Rattle.bk_tree.specs.Tree.{expression};
 ghost use Rattle.bk_scope.specs.Wrong.{text_of};
 ghost use Rattle.bk_scope.specs.FirstFault.{first_fault, wrong_of, misnamed, breach_of};
 ghost use Rattle.bk_scope.specs.Claims.{claim_of};
-ghost use Rattle.bk_scope.specs.Found.{breaks, claims_once, means, holds, takes, reaches, opens, behind};
+ghost use Rattle.bk_scope.specs.Found.{breaks, claims_once, means, holds, takes, reaches, opens, following};
 ghost use Rattle.bk_scope.specs.Constants.{constant_word};
 ghost use Rattle.bk_scope.specs.Names.{nothing, constant_found, listed, named_as, sets, frame_wrong};
 
@@ -219,7 +219,7 @@ impl<'a> Findings<'a> {
 
     /// The frame of the procedure whose name is at this position ends.
     pub fn closes(&mut self, opened: OuterFindings, at: Position)
-        ensures { self.new ≡ behind (first_fault opened.first) opened.deepest (frame_wrong at self.old) self.old }
+        ensures { self.new ≡ following (first_fault opened.first) opened.deepest (frame_wrong at self.old) self.old }
     {
         let inner = mem::replace(&mut self.first, opened.first);
         if self.deepest > FRAME_WORDS {

@@ -1,6 +1,6 @@
 //! The first fault that is found in a section.
 ghost use Rattle.std.specs.Prelude.{◌≡◌, None, Some, OnOk, IfOk, string_bytes};
-ghost use Rattle.bk_scope.specs.FirstFault.{first_fault, breach_told, wrong_of, misnamed};
+ghost use Rattle.bk_scope.specs.FirstFault.{first_fault, breach_reported, wrong_of, misnamed};
 ghost use Rattle.bk_scope.specs.Found.{else_first};
 ghost use Rattle.bk_scope.specs.Wrong.{text_of};
 
@@ -48,7 +48,7 @@ impl FirstFault {
 
     /// The fault, if any was reported.
     pub fn fault(self) -> Option<PlacedFault>
-        ensures { breach_told result ≡ first_fault self }
+        ensures { breach_reported result ≡ first_fault self }
     {
         self.fault
     }

@@ -3,7 +3,7 @@ ghost use Rattle.std.specs.Prelude.{◌≡◌, ◌+◌, ◌-◌, ◌≤◌, OnOk
 ghost use Rattle.bk_tree.specs.Tree.{expression, mention, step_in};
 ghost use Rattle.bk_scope.specs.FirstFault.{first_fault};
 ghost use Rattle.bk_scope.specs.Scope.{bound_in};
-ghost use Rattle.bk_scope.specs.Found.{Found, breaks, takes, reaches, behind};
+ghost use Rattle.bk_scope.specs.Found.{Found, breaks, takes, reaches, following};
 ghost use Rattle.bk_scope.specs.Entering.{with_formals};
 ghost use Rattle.bk_scope.specs.Names.{switched, chosen, defaulted, single as Single, listed, all_listed, sets, named_as, headed, frame_wrong, bounded, words_of_start, constant_found, constants_found};
 ghost use Rattle.bk_scope.specs.Wrong.{vec_out_of_range, no_result_or_return};
@@ -275,7 +275,7 @@ pub fn end(walk: &mut Walk, procedure: Procedure, at: Position)
     requires { procedure.mark ≤ length walk.old.scope }
     ensures { walk.new ≡ record {
       scope = drop (length walk.old.scope - procedure.mark) walk.old.scope;
-      found = behind (first_fault procedure.opened.first) procedure.opened.deepest (frame_wrong at walk.old.found) walk.old.found;
+      found = following (first_fault procedure.opened.first) procedure.opened.deepest (frame_wrong at walk.old.found) walk.old.found;
     } }
 {
     walk.table.leave(procedure.mark);

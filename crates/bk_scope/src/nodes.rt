@@ -6,7 +6,7 @@ ghost use Rattle.bk_scope.specs.Found.{takes};
 ghost use Rattle.bk_scope.specs.Places.{deeper, looping, labelled};
 ghost use Rattle.bk_scope.specs.Entering.{Stage, with_labels, labels_of, labels_of_each};
 ghost use Rattle.bk_scope.specs.declared.bound.Bound.TheVariants.{Variable};
-ghost use Rattle.bk_scope.specs.Names.{AfterDeclarations, Defined, evaluated, each_evaluated, destinations, done, each_done, declared, one_declared, defined, one_defined, started, place_behind, variables_of, words_below};
+ghost use Rattle.bk_scope.specs.Names.{AfterDeclarations, Defined, evaluated, each_evaluated, destinations, done, each_done, declared, one_declared, defined, one_defined, started, place_after, variables_of, words_below};
 
 use crate::bound::Bound;
 use crate::claims::Claim;
@@ -377,14 +377,14 @@ pub fn declare_each<'a>(
     place: Enclosing,
     decls: &'a [Decl],
 ) -> Result<Enclosing, AllocError>
-    ensures { IfOk result (λ behind. (record { scope = walk.new.scope; place = behind; found = walk.new.found })
+    ensures { IfOk result (λ following. (record { scope = walk.new.scope; place = following; found = walk.new.found })
         ≡ declared walk.old.scope place (declarations_in decls.now) walk.old.found) }
 {
-    let mut behind = place;
+    let mut following = place;
     for decl in decls {
-        behind = declare(walk, behind, decl)?;
+        following = declare(walk, following, decl)?;
     }
-    Ok(behind)
+    Ok(following)
 }
 
 /// A declaration, and the place after it.
@@ -394,7 +394,7 @@ fn declare<'a>(
     place: Enclosing,
     decl: &'a Decl,
 ) -> Result<Enclosing, AllocError>
-    ensures { IfOk result (λ behind. (record { scope = walk.new.scope; place = behind; found = walk.new.found })
+    ensures { IfOk result (λ following. (record { scope = walk.new.scope; place = following; found = walk.new.found })
         ≡ one_declared walk.old.scope place (declaration decl.now) walk.old.found) }
 {
     match decl {
@@ -417,9 +417,9 @@ fn declare<'a>(
             let list = walk.findings.takes();
             enter_procedures(walk, defs)?;
             let mut fresh = Fresh::new(walk.alloc);
-            let behind = define_each(walk, list, place, defs, &mut fresh)?;
+            let following = define_each(walk, list, place, defs, &mut fresh)?;
             fresh.enter(&mut walk.table)?;
-            Ok(behind)
+            Ok(following)
         }
     }
 }
@@ -434,14 +434,14 @@ fn define_each<'a>(
     fresh: &mut Fresh<'a>,
 ) -> Result<Enclosing, AllocError>
     ensures scope { OnOk result (walk.new.scope ≡ walk.old.scope) }
-    ensures found { IfOk result (λ behind. (record { fresh = fresh.new; place = behind; found = walk.new.found })
+    ensures found { IfOk result (λ following. (record { fresh = fresh.new; place = following; found = walk.new.found })
         ≡ defined list walk.old.scope (definitions_in defs.now) (record { fresh = fresh.old; place = place; found = walk.old.found })) }
 {
-    let mut behind = place;
+    let mut following = place;
     for def in defs {
-        behind = define(walk, list, behind, def, fresh)?;
+        following = define(walk, list, following, def, fresh)?;
     }
-    Ok(behind)
+    Ok(following)
 }
 
 /// A definition, and the place after it.
@@ -454,7 +454,7 @@ fn define<'a>(
     fresh: &mut Fresh<'a>,
 ) -> Result<Enclosing, AllocError>
     ensures scope { OnOk result (walk.new.scope ≡ walk.old.scope) }
-    ensures found { IfOk result (λ behind. (record { fresh = fresh.new; place = behind; found = walk.new.found })
+    ensures found { IfOk result (λ following. (record { fresh = fresh.new; place = following; found = walk.new.found })
         ≡ one_defined list walk.old.scope (definition def.now) (record { fresh = fresh.old; place = place; found = walk.old.found })) }
 {
     match def {
@@ -504,7 +504,7 @@ fn start_each<'a>(
 ) -> Result<Enclosing, AllocError>
     ensures scope { OnOk result (walk.new.scope ≡ walk.old.scope) }
     ensures found { OnOk result (walk.new.found ≡ started walk.old.scope place (starts_in starts.now) walk.old.found) }
-    ensures place { IfOk result (λ behind. behind ≡ place_behind walk.old.scope place (starts_in starts.now)) }
+    ensures place { IfOk result (λ following. following ≡ place_after walk.old.scope place (starts_in starts.now)) }
     ensures fresh { OnOk result (fresh.new ≡ fresh.old ++ variables_of walk.old.scope place (map mention names.now) (starts_in starts.now)) }
 {
     let mut next = place;

@@ -25,7 +25,7 @@ pub struct Enclosing {
     pub switch: Option<u32>,
 }
 
-/// A depth as it is kept: the first past the limit of frames stands for all past it.
+/// A depth as it is kept: the first past the limit of frames means all past it.
 pub fn kept_depth(depth: usize) -> u32
     ensures { result ≡ kept depth }
 {

@@ -23,8 +23,8 @@ pub struct Follow<'s> {
 
 /// The statement of the string that has this label, of so many statements.
 pub fn string_of(label: u32, stmts: usize) -> Option<usize> {
-    let behind = label.checked_sub(OCODE_LABEL)? as usize;
-    stmts.checked_sub(behind)
+    let following = label.checked_sub(OCODE_LABEL)? as usize;
+    stmts.checked_sub(following)
 }
 
 impl<'s> Follow<'s> {

@@ -366,15 +366,15 @@ impl<'p> SourceTrace<'p> {
             .program
             .word(registers.c)
             .and_then(|word| word.procedure);
-        let is_told = is_own || (is_in && next.is_some() && self.is_of(next));
+        let is_reported = is_own || (is_in && next.is_some() && self.is_of(next));
         if word >> 29 == 6 {
-            if is_told {
+            if is_reported {
                 self.put_call(alloc, &mut text, machine)?;
             }
             self.depth = self.depth.saturating_add(1);
         } else if word == RETURN {
             self.depth = self.depth.saturating_sub(1);
-            if is_told {
+            if is_reported {
                 self.put_return(&mut text, step)?;
             }
         }

@@ -44,8 +44,7 @@ combined_adds _ x y = adds _ (λ v. given_after _ v)
 
 -- a turn less
 ready_ticked : (setting : Setting) (z : Configuration) (v : World) (n : ℕ) → Ready setting z v → Ready setting z (record v { turns = n })
-ready_ticked setting z v n r =
-    record { named = r.named; fits = r.fits; low = r.low; high = r.high; deep = r.deep; frames = r.frames; room = r.room; lasts = r.lasts; words = r.words; in_hand = r.in_hand }
+ready_ticked setting z v n r = grind arith
 
 -- places within larger accounts, and where a turn less was left
 larger_address : (setting : Setting) (s : State) (A B : Account) (z : Configuration) (rest : List Stmt) (v : World) (n : ℕ) (u : Target) (w1 : World) → A.most ≤ B.most → B.least ≤ A.least → HasAddress setting s A z rest (record v { turns = n }) u w1

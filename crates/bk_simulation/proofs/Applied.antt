@@ -1,6 +1,6 @@
 -- Calls, for a value or not: the arguments, then the procedure, then its frame or a routine of the library.
-use Rattle.bk_simulation.proofs.Words.{◌≡◌, ℕ, suc, ◌+◌, ◌-◌, ◌*◌, ◌<◌, ◌≤◌, ◌^◌, max, nat_lt, Bool, true, false, List, ◌∷◌, length, Some, None, refl, sym, ap, ◌∙◌, subst, arith, option_map_or, slice_get_within, FRAME_WORDS, Expression, Expressions, Command, Word, Cell, content_of, below, settle, Placed, Callables, Inside, State, slot, can_be_called, Stmt, Stack, Value, procedure, routine, World, Exit, Outcome, gives, undefined, each_way, calling, calls_back, Environment, past, procedure_of, history, After, Throughout, forwards, scope_of, alone, Meanings, enter, call, applied, adds, stays, earlier, with_after, each_way_after, closing_after, calling_on, library, ties_add, library_ties}
-use Rattle.bk_simulation.proofs.Pieces.{by_option, Moves, call_step, at_routine, entering, does, call_stmt, frames_called, Like, like_on, Stands, moved_on, fits_above, moved_above, stands_grown, below_like, settle_like, moves_bytes, turns_of, turns_among, Setting, CallAt, IsValue, AreValues, count, Configuration, start, FewFrames, Ready, Account, one, comes_on, Ran, went, each_way_ran, with_ran, CompletedAt, there, Out, next, ready_next, stay, roomy, completed_step, completed_on, ran_on, Simulates, for_values, value_run, called_cells, called_like, called_argument, called_frame, called_back, called_links}
+use Rattle.bk_simulation.proofs.Words.{◌≡◌, ℕ, suc, ◌+◌, ◌-◌, ◌*◌, ◌<◌, ◌≤◌, ◌^◌, max, nat_lt, Bool, true, false, List, ◌∷◌, length, Some, None, refl, sym, ap, ◌∙◌, subst, arith, option_map_or, slice_get_within, FRAME_WORDS, Expression, Expressions, Command, Word, Cell, content_of, below, settle, Placed, Callables, Inside, State, slot, can_be_called, Stmt, Stack, Value, procedure, routine, World, Exit, Outcome, gives, undefined, each_way, calling, calls_back, Environment, past, procedure_of, history, After, Throughout, forwards, scope_of, alone, Meanings, enter, call, applied, adds, stays, with_after, closing_after, library, ties_add, library_ties}
+use Rattle.bk_simulation.proofs.Pieces.{by_option, Moves, call_step, at_routine, entering, does, call_stmt, frames_called, Like, like_on, Applies, moved_on, fits_above, moved_above, stands_grown, below_like, settle_like, moves_bytes, turns_of, turns_among, Setting, CallAt, IsValue, AreValues, count, Configuration, start, FewFrames, Ready, Account, one, comes_on, Ran, went, each_way_ran, with_ran, CompletedAt, there, Out, next, ready_next, stay, roomy, completed_step, completed_on, ran_on, Simulates, for_values, value_run, called_cells, called_like, called_argument, called_frame, called_back, called_links}
 use Rattle.bk_ocode.specs.OcodeState as ocode
 use Rattle.bk_meaning.specs.Values as value
 use Rattle.bk_meaning.specs.Lasting.{Program}
@@ -62,8 +62,8 @@ routine_runs of setting r s A B z rest w w1 vs leB leB' led ready call known ca 
       moved = moved_on setting.codes top top top _ _ _ ready.fits (omega arith) ca.arr.moved (moved_above _ top c2 like);
       each = λ i u e.
           let li : i < length vs = slice_get_within vs i u e in
-          subst (λ a. Stands setting.codes ca.arr.bases1 u (content_of (c2 a))) (let q : top + 2 + i ≡ top + (2 + i) = omega arith in q)
-          (subst (λ y. Stands setting.codes ca.arr.bases1 u (content_of y)) (sym (called_argument ca.arr.cells1 z.frame top items back low i (omega arith))) (ca.each i u e));
+          subst (λ a. Applies setting.codes ca.arr.bases1 u (content_of (c2 a))) (let q : top + 2 + i ≡ top + (2 + i) = omega arith in q)
+          (subst (λ y. Applies setting.codes ca.arr.bases1 u (content_of y)) (sym (called_argument ca.arr.cells1 z.frame top items back low i (omega arith))) (ca.each i u e));
     }) in
     call_run led ca (library_after r vs (calling w1)) inside
 
@@ -80,9 +80,7 @@ called_after p inner grows alone_after (routine r) vs w = library_after r vs w
 called_after p inner grows alone_after _ vs w = tt
 
 pub call_after : (p : Program) (inner : Meanings) → Throughout (λ A w u. After (history w) u) inner → AloneAdds inner → (v : Value) (vs : List Value) (w : World) → After (history w) (call p inner v vs w)
-call_after p inner grows alone_after v vs w =
-    each_way_after _ (called p inner v vs (calling w)) _ _ (earlier _ _ (called p inner v vs (calling w)) (calling_on w) (called_after p inner grows alone_after v vs (calling w)))
-    (λ u. adds _ (λ w1. stays (history w1))) (λ x. adds _ (λ w1. tt))
+call_after p inner grows alone_after v vs w = grind (arith, called, called_after, adds, stays)
 
 called_runs : (of : Bool) (setting : Setting) (p : Program) (inner : Meanings) → Procedures setting p → KnowsLibrary setting → Simulates setting inner → AloneRuns setting inner → AloneAdds inner → (s : State) (A B : Account) (z : Configuration) (rest : List Stmt) (w w1 : World)
     (vs : List Value) (v : Value) → A.most + 4 ≤ B.most → B.least ≤ A.least → z.depth ≤ FRAME_WORDS → Ready setting z w → CallAt setting z.scene (call_stmt of z.depth) rest → Calling of setting s A z rest w vs v w1
@@ -134,8 +132,8 @@ apply_runs of setting p inner procs known sim alone_runs alone_after B f es z c 
       each = λ i u h.
           let lt : i < length vs = slice_get_within vs i u h in
           let e0 : z.frame + (z.depth + 2) + i ≡ z.frame + z.depth + 2 + i = omega arith in
-          subst (λ a. Stands setting.codes q.arr.bases1 u (content_of (q.arr.cells1 a))) e0
-          (stands_grown setting.codes l.arr.bases1 q.arr.bases1 u _ q.arr.moved.grown (subst (λ y. Stands setting.codes l.arr.bases1 u y)
+          subst (λ a. Applies setting.codes q.arr.bases1 u (content_of (q.arr.cells1 a))) e0
+          (stands_grown setting.codes l.arr.bases1 q.arr.bases1 u _ q.arr.moved.grown (subst (λ y. Applies setting.codes l.arr.bases1 u y)
           (sym (q.arr.moved.kept.as_was (z.frame + (z.depth + 2) + i) (omega arith) (λ o n b1 j al eb lj. let x = l.arr.fits.below o n b1 al eb in omega arith)).content)
           (l.each i u h)));
     })

@@ -1,6 +1,6 @@
 -- Assignments: each value, its destination, and the word or byte that is stored.
-use Rattle.bk_simulation.proofs.Words.{false, ◌≡◌, ℕ, ◌+◌, ◌-◌, ◌*◌, ◌<◌, ◌≤◌, true, List, ◌∷◌, Option, Some, None, refl, sym, ap, ◌∙◌, subst, arith, ◌%◌, ◌^◌, word_sum, byte_distance, Content, Variable, Cell, Held, content_of, kind_of, write, below, Word, Placed, Inside, State, named_place, has_word, Local, Static, Stmt, Assign, AssignAt, AssignByte, Address, Dyadic, Expression, Expressions, Value, address, holds, Memory, write_byte, Environment, past, Sense, constant, cell, sense_of, World, changes, remembering, Outcome, gives, given, with, history, Meanings, at, store as put_value, address_named, assigned, Adds, adds, stays, with_after, changes_after, given_after, sum}
-use Rattle.bk_simulation.proofs.Pieces.{by_option, Moves, assign_moves, assign_at_moves, assign_byte_moves, does, AreBytes, write_byte_at, BaseOf, Like, Stands, Store, Moved, Fits, moved_on, fits_above, fits_more, fits_less, moved_above, below_like, variable_found, put, write_here, write_at, turns_of, turns_among, Setting, Stretch, ByTurns, AreFrom, AreStores, IsStore, named_word, IsValue, Configuration, store, state, start, place_of, Ready, Account, further, went, with_ran, CompletedAt, store_at, there, Has, next, ready_next, NameAt, Ran, Out, stay, stepped, completed_more, completed_on, ran_on, comes_to, ran_more, above, Simulates, for_value, Destined, word, through, byte, RanDid, HasAddress, one_run, dyadic_topped, Two, for_two, two_run, pushes_item, named_at, ready_at, sum_applied}
+use Rattle.bk_simulation.proofs.Words.{false, ◌≡◌, ℕ, ◌+◌, ◌-◌, ◌*◌, ◌<◌, ◌≤◌, true, List, ◌∷◌, Option, Some, None, refl, sym, ap, ◌∙◌, subst, arith, ◌%◌, ◌^◌, word_sum, byte_distance, Content, Variable, Cell, Held, content_of, kind_of, write, below, Word, Placed, Inside, State, named_place, has_word, Local, Static, Stmt, Assign, AssignAt, AssignByte, Address, Dyadic, Expression, Expressions, Value, address, holds, Memory, write_byte, Environment, past, Sense, constant, cell, sense_of, World, changes, remembering, Outcome, gives, given, with, history, Meanings, at, store as put_value, address_named, assigned, Adds, adds, stays, with_after, changes_after, sum}
+use Rattle.bk_simulation.proofs.Pieces.{by_option, Moves, assign_moves, assign_at_moves, assign_byte_moves, does, AreBytes, write_byte_at, BaseOf, Like, Applies, Store, Moved, Fits, moved_on, fits_above, fits_more, fits_less, moved_above, below_like, variable_found, put, write_here, write_at, turns_of, turns_among, Setting, Stretch, ByTurns, AreFrom, AreStores, IsStore, named_word, IsValue, Configuration, store, state, start, place_of, Ready, Account, further, went, with_ran, CompletedAt, store_at, there, Has, next, ready_next, NameAt, Ran, Out, stay, stepped, completed_more, completed_on, ran_on, comes_to, ran_more, above, Simulates, for_value, Destined, word, through, byte, RanDid, HasAddress, one_run, dyadic_topped, Two, for_two, two_run, pushes_item, named_at, ready_at, sum_applied}
 use Rattle.bk_simulation.proofs.Terms.{Variable as Named, Target, byte_at, Dyadic as two}
 use Rattle.bk_tree.specs.Tree as t
 use Rattle.bk_meaning.specs.Memory as memory
@@ -65,9 +65,7 @@ sum_run setting s A B z rest w w1 u v L le le' dp gain t =
     went (gain a (dyadic_topped setting s A B z two.Add rest w w1 u v a p.left p.right p.result le le' dp t p.is_left p.is_right p.applies p.stands)))
 
 sum_adds : (u v : Value) → Adds (λ w. with (given (sum w.memory u v) w) (λ a w. gives (at a) w))
-sum_adds u v =
-    adds (λ w. with (given (sum w.memory u v) w) (λ a w. gives (at a) w))
-    (λ w1. with_after (history w1) (given (sum w1.memory u v) w1) (λ a w. gives (at a) w) (given_after (sum w1.memory u v) w1) (λ a. adds (λ w2. gives (at a) w2) (λ w2. stays (history w2))))
+sum_adds u v = grind (arith, adds, given, gives, stays)
 
 pub subscript_address : (setting : Setting) (inner : Meanings) → Simulates setting inner → (B : Account) (a b : Expression) (z : Configuration) (c c1 rest : List Stmt) (w : World) → 16 * w.turns + 1 ≤ B.most → B.least ≤ w.turns - (turns_of false a + turns_of false b)
     → IsValue setting z.scene z.depth z.env a c c1 → IsValue setting z.scene (z.depth + 1) (past a z.env) b c1 (Dyadic two.Add ∷ rest) → Ready setting z w
@@ -119,7 +117,7 @@ place_is own k c cells frame hand written w _ = refl
 
 -- SP, SG and SL
 pub word_stored : (setting : Setting) (s : State) (A B : Account) (z : Configuration) (rest : List Stmt) (w w2 : World) (v : Named) (o i b : ℕ) (u : Value) → A.most + 1 ≤ B.most → B.least ≤ A.least → Ready setting z w
-    → (a : CompletedAt setting s A z (Assign v ∷ rest) (z.depth + 1) w w2) → BaseOf a.bases1 o b → b + i ≡ place_of z.scene.own z.frame v → Stands setting.codes a.bases1 u (content_of (a.cells1 (z.frame + z.depth)))
+    → (a : CompletedAt setting s A z (Assign v ∷ rest) (z.depth + 1) w w2) → BaseOf a.bases1 o b → b + i ≡ place_of z.scene.own z.frame v → Applies setting.codes a.bases1 u (content_of (a.cells1 (z.frame + z.depth)))
     → RanDid setting s B z rest w (put_value (at (address o i)) u w2)
 word_stored setting s A B z rest w w2 v o i b u le le' r a eb ep st =
     by_option (λ y. RanDid setting s B z rest w (changes y w2)) (memory.write w2.memory (address o i) u) (λ _. went tt) (λ mem1 e.
@@ -136,7 +134,7 @@ word_stored setting s A B z rest w w2 v o i b u le le' r a eb ep st =
 
 -- STIND
 through_stored : (setting : Setting) (s : State) (A B : Account) (z : Configuration) (rest : List Stmt) (w w2 : World) (p u : Value) → A.most + 1 ≤ B.most → B.least ≤ A.least → Ready setting z w
-    → (a : CompletedAt setting s A z (AssignAt ∷ rest) (z.depth + 1 + 1) w w2) → Stands setting.codes a.bases1 p (content_of (a.cells1 (z.frame + (z.depth + 1)))) → Stands setting.codes a.bases1 u (content_of (a.cells1 (z.frame + z.depth)))
+    → (a : CompletedAt setting s A z (AssignAt ∷ rest) (z.depth + 1 + 1) w w2) → Applies setting.codes a.bases1 p (content_of (a.cells1 (z.frame + (z.depth + 1)))) → Applies setting.codes a.bases1 u (content_of (a.cells1 (z.frame + z.depth)))
     → RanDid setting s B z rest w (put_value (at p) u w2)
 through_stored setting s A B z rest w w2 p u le le' r a sp su =
     by_option (λ y. RanDid setting s B z rest w (changes y w2)) (memory.write w2.memory p u) (λ _. went tt) (λ mem1 e.
@@ -151,8 +149,8 @@ through_stored setting s A B z rest w w2 p u le le' r a sp su =
 
 -- PUTBYTE
 byte_stored : (setting : Setting) (s : State) (A B : Account) (z : Configuration) (rest : List Stmt) (w w2 : World) (p k u : Value) → A.most + 1 ≤ B.most → B.least ≤ A.least → Ready setting z w
-    → (a : CompletedAt setting s A z (AssignByte ∷ rest) (z.depth + 1 + 1 + 1) w w2) → Stands setting.codes a.bases1 p (content_of (a.cells1 (z.frame + (z.depth + 1)))) → Stands setting.codes a.bases1 k (content_of (a.cells1 (z.frame + (z.depth + 1 + 1))))
-    → Stands setting.codes a.bases1 u (content_of (a.cells1 (z.frame + z.depth))) → RanDid setting s B z rest w (put_value (byte_at p k) u w2)
+    → (a : CompletedAt setting s A z (AssignByte ∷ rest) (z.depth + 1 + 1 + 1) w w2) → Applies setting.codes a.bases1 p (content_of (a.cells1 (z.frame + (z.depth + 1)))) → Applies setting.codes a.bases1 k (content_of (a.cells1 (z.frame + (z.depth + 1 + 1))))
+    → Applies setting.codes a.bases1 u (content_of (a.cells1 (z.frame + z.depth))) → RanDid setting s B z rest w (put_value (byte_at p k) u w2)
 byte_stored setting s A B z rest w w2 p k u le le' r a sp sk su =
     let three_deep : (d : ℕ) → d + 1 + 1 + 1 ≡ d + 3 = λ d. omega arith in
     let two_deep : (d : ℕ) → d + 1 + 1 ≡ d + 2 = λ d. omega arith in

@@ -1,5 +1,5 @@
 -- Blocks with declarations.
-use Rattle.bk_simulation.proofs.Words.{◌≡◌, ℕ, suc, ◌+◌, ◌-◌, ◌*◌, ◌<◌, ◌≤◌, Bool, true, false, cond, List, [], ◌∷◌, length, None, refl, sym, ap, ◌∙◌, subst, arith, FRAME_WORDS, Commands, Declaration, Declarations, Binding, Cell, content_of, below, settle, Inside, State, Stmt, Stack, Store as Store_stmt, World, with, closing, Environment, labelled, behind, within_let, objects_of_definitions, history, After, Throughout, Sought, the_label, forwards, stands_in_one, Meanings, scope_of, adds, stays, with_after, Start, bind_variables, declare, declare_all}
+use Rattle.bk_simulation.proofs.Words.{◌≡◌, ℕ, suc, ◌+◌, ◌-◌, ◌*◌, ◌<◌, ◌≤◌, Bool, true, false, cond, List, [], ◌∷◌, length, None, refl, sym, ap, ◌∙◌, subst, arith, FRAME_WORDS, Commands, Declaration, Declarations, Binding, Cell, content_of, below, settle, Inside, State, Stmt, Stack, Store as Store_stmt, World, with, closing, Environment, labelled, following, within_let, objects_of_definitions, history, After, Throughout, Sought, the_label, forwards, one_has_place, Meanings, scope_of, adds, stays, with_after, Start, bind_variables, declare, declare_all}
 use Rattle.bk_simulation.proofs.Forms.{Moves, does, Codes, Like, like_on, Store, Grown, below_at, below_like, settle_like, settle_at, turns_one_declared, turns_declared, turns_through, Setting, Scene, NamedIn, Spot, defines_variables, KeepsLabels, IsAct, AreActs, AreDeclared, IsOneDeclared, owning, LeadsTo, some_objects, Configuration, store, state, start, Ready, Account, Ran, went, with_ran, OpenCompleted, store_at, named_grown, begun, accounted, completed_more, OpenExited, open_configuration, open_ready, open_step, open_on, ran_open, closed_ran, Since, since_refl, since_cells, closes, Simulates, RanDid, scope_runs, open_lift, Lets, defined_rise, no_spots, let_run, let_values_after, SpotsAt, RisingSpots, AreVariables, spots_carried, bind_run}
 use Rattle.bk_tree.specs.Tree as t
 use Rattle.bk_simulation.proofs.Renamed.{keeps_both}
@@ -86,7 +86,7 @@ one_declared_run setting inner sim (t.constants x q is) env bs then s A C B z w 
 })
 one_declared_run g m sim (t.definitions x ds) env bs then s A C B z w c d w1 r le keeps le1 le2 le3 le4 l a named =
     let lets = within_let ds env in
-    let env2 = behind (objects_of_definitions ds) lets in
+    let env2 = following (objects_of_definitions ds) lets in
     let bl = l.0 in
     let d1 = l.2 in
     let ps = l.3 in
@@ -141,7 +141,7 @@ all_declared_run g m sim (t.declare h hs) env bs then s A C B z w c d w1 r le ke
 abbrev BehindBlock : Configuration → Commands → List Stmt → Setting → Scene → ℕ → Environment → List Stmt → Type 0
 BehindBlock z cs rest setting sc1 d1 env1 c1 =
     (j : ℕ) × (at1 : Sought → List Stmt) × AreActs setting (owning j cs sc1) d1 (labelled cs env1) cs at1 c1 (Stack z.depth ∷ rest) × (turns_through false cs ≤ setting.pay)
-    × ((x : List ℕ) → stands_in_one (the_label x) env1 cs ≡ true → LeadsTo (owning j cs sc1) d1 x (at1 (the_label x)))
+    × ((x : List ℕ) → one_has_place (the_label x) env1 cs ≡ true → LeadsTo (owning j cs sc1) d1 x (at1 (the_label x)))
 
 -- its commands are done
 pub record Left (setting : Setting) (s : State) (B : Account) (z : Configuration) (rest : List Stmt) (w w1 : World) : Type 0 where

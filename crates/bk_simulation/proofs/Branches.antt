@@ -1,5 +1,5 @@
 -- IF, UNLESS and TEST.
-use Rattle.bk_simulation.proofs.Words.{◌≡◌, ℕ, ◌+◌, ◌-◌, ◌*◌, ◌≤◌, Bool, true, false, not, ◌||◌, cond, List, ◌∷◌, refl, sym, ap, ◌∙◌, subst, arith, Option, Some, pos, State, Stmt, Label, Jump, GiveResult, Finish, Expression, Command, Environment, past, past_command, Sought, Mode, forwards, seeking, stands_in, same_place, at_place, World, done, with, either, Exit, break, result, status, leaves, ends, history, Meanings, same_truth, where_truth, Adds, adds, stays, either_after, Status, Content, content_of, from_label}
+use Rattle.bk_simulation.proofs.Words.{◌≡◌, ℕ, ◌+◌, ◌-◌, ◌*◌, ◌≤◌, Bool, true, false, not, ◌||◌, cond, List, ◌∷◌, refl, sym, ap, ◌∙◌, subst, arith, Option, Some, pos, State, Stmt, Label, Jump, GiveResult, Finish, Expression, Command, Environment, past, past_command, Sought, Mode, forwards, seeking, has_place, same_place, at_place, World, done, with, either, Exit, break, result, status, leaves, ends, history, Meanings, same_truth, where_truth, Adds, adds, stays, either_after, Status, Content, content_of, from_label}
 use Rattle.bk_simulation.proofs.Pieces.{by_test, turns_of, turns_in, same_stands, Setting, LabelAt, IsJump, IsAct, Entered, IsValue, PlaceOf, Configuration, start, Ready, Account, went, with_ran, CompletedAt, next, ready_next, here, Stopped, Handed, Leads, still, stay, completed_on, ran_on, ran_more, completed_more, comes_to, ran_first, Simulates, for_truth, where_to, Did, RanDid, landed_on, jumped_on, result_on, or_second, finish_step, one_run}
 
 -- ---- Commands without parts, and places that may be sought: GOTO, BREAK, LOOP, ENDCASE, RETURN, FINISH, RESULTIS; labels, CASE, DEFAULT.
@@ -49,7 +49,7 @@ behind_place setting inner sim B a z n at1 c1 rest w le le' l ln r =
 
 abbrev pub EnteredPlace : Mode → Environment → Sought → Command → (Sought → List Stmt) → List Stmt → List Stmt → Type 0
 EnteredPlace forwards env spot a at c e = e ≡ c
-EnteredPlace (seeking s) env spot a at c e = ((same_place s spot || stands_in s env a) ≡ true) × (e ≡ at s)
+EnteredPlace (seeking s) env spot a at c e = ((same_place s spot || has_place s env a) ≡ true) × (e ≡ at s)
 
 pub place_run : (setting : Setting) (inner : Meanings) → Simulates setting inner → (B : Account) (spot : Sought) (a : Command) (mode : Mode) (z : Configuration) (at : Sought → List Stmt) (c rest e : List Stmt) (w : World) → 16 * w.turns + 1 ≤ B.most → B.least ≤ w.turns - turns_in false a
     → PlaceOf setting z.scene z.depth spot (λ at1 c1. IsAct setting z.scene z.depth z.env a at1 c1 rest) at c → EnteredPlace mode z.env spot a at c e → Ready setting z w → RanDid setting (start z e w) B z rest w (inner.act a (at_place spot mode) z.env w)
@@ -63,7 +63,7 @@ place_run setting inner sim B spot a (seeking s) z at c rest e w le le' l en r =
     (λ (h : same_place s spot ≡ false).
     subst (λ (b : Bool). RanDid setting (start z e w) B z rest w (inner.act a (cond b forwards (seeking s)) z.env w)) (sym h)
     (ran_first (omega arith) (omega arith) (λ _ w1 q. completed_more (omega arith) (omega arith) q)
-    (sim.act a (seeking s) z l.2 l.1 rest e w l.4 (or_second (same_place s spot) (stands_in s z.env a) en.0 h, en.1 ∙ l.6 s ∙ ap (λ (b : Bool). cond b c (l.2 s)) h) r)))
+    (sim.act a (seeking s) z l.2 l.1 rest e w l.4 (or_second (same_place s spot) (has_place s z.env a) en.0 h, en.1 ∙ l.6 s ∙ ap (λ (b : Bool). cond b c (l.2 s)) h) r)))
 
 -- a command behind an arrival, and what is done behind it
 pub act_after : (setting : Setting) (inner : Meanings) → Simulates setting inner → (s : State) (A C B : Account) (a : Command) (mode : Mode) (z : Configuration) (env : Environment) (at : Sought → List Stmt) (c1 e1 mid rest : List Stmt) (w w1 : World)
@@ -114,7 +114,7 @@ inside_run setting inner sim B a s z env at c1 e mid rest w le le' en l ent r fi
     (stay setting (record { most = 16 * w.turns; least = w.turns }) z e w (omega arith) (omega arith) r) (λ w2 y. fin (record { most = 16 * w.turns; least = w.turns - turns_in false a }) w2 le le' y)
 
 pub when_sought : (setting : Setting) (inner : Meanings) → Simulates setting inner → (B : Account) (e0 : Expression) (a : Command) (s : Sought) (z : Configuration) (n : ℕ) (at : Sought → List Stmt) (c1 e rest : List Stmt) (w : World) → 16 * w.turns + 2 ≤ B.most
-    → B.least ≤ w.turns - turns_in false a → IsAct setting z.scene z.depth (past e0 z.env) a at c1 (Label n ∷ rest) → LabelAt setting z.scene z.depth n rest → (stands_in s z.env a ≡ true) × (e ≡ at s) → Ready setting z w
+    → B.least ≤ w.turns - turns_in false a → IsAct setting z.scene z.depth (past e0 z.env) a at c1 (Label n ∷ rest) → LabelAt setting z.scene z.depth n rest → (has_place s z.env a ≡ true) × (e ≡ at s) → Ready setting z w
     → RanDid setting (start z e w) B z rest w (inner.act a (seeking s) (past e0 z.env) w)
 when_sought setting inner sim B e0 a s z n at c1 e rest w le le' l ln en r =
     let dp = r.deep in
@@ -147,17 +147,17 @@ test_run setting inner sim B e a b z n n1 at1 at2 c c1 c2 rest w le le' le_ la l
 
 pub test_sought : (setting : Setting) (inner : Meanings) → Simulates setting inner → (B : Account) (e0 : Expression) (a b : Command) (s : Sought) (z : Configuration) (n n1 : ℕ) (at at1 at2 : Sought → List Stmt) (c1 c2 e rest : List Stmt) (w : World) → 16 * w.turns + 4 ≤ B.most
     → B.least ≤ w.turns - (turns_in false a + turns_in false b) → IsAct setting z.scene z.depth (past e0 z.env) a at1 c1 (Jump n1 ∷ Label n ∷ c2) → IsAct setting z.scene z.depth (past_command a (past e0 z.env)) b at2 c2 (Label n1 ∷ rest)
-    → LabelAt setting z.scene z.depth n1 rest → ((s : Sought) → at s ≡ cond (stands_in s z.env a) (at1 s) (at2 s)) → ((stands_in s z.env a || stands_in s z.env b) ≡ true) × (e ≡ at s) → Ready setting z w
-    → RanDid setting (start z e w) B z rest w (either (stands_in s z.env a) (λ w. inner.act a (seeking s) (past e0 z.env) w) (λ w. inner.act b (seeking s) (past_command a (past e0 z.env)) w) w)
+    → LabelAt setting z.scene z.depth n1 rest → ((s : Sought) → at s ≡ cond (has_place s z.env a) (at1 s) (at2 s)) → ((has_place s z.env a || has_place s z.env b) ≡ true) × (e ≡ at s) → Ready setting z w
+    → RanDid setting (start z e w) B z rest w (either (has_place s z.env a) (λ w. inner.act a (seeking s) (past e0 z.env) w) (λ w. inner.act b (seeking s) (past_command a (past e0 z.env)) w) w)
 test_sought setting inner sim B e0 a b s z n n1 at at1 at2 c1 c2 e rest w le le' la lb l1 ea en r =
     let dp = r.deep in
-    by_test (stands_in s z.env a)
-    (λ (h : stands_in s z.env a ≡ true).
+    by_test (has_place s z.env a)
+    (λ (h : has_place s z.env a ≡ true).
     subst (λ (t : Bool). RanDid setting (start z e w) B z rest w (either t (λ w. inner.act a (seeking s) (past e0 z.env) w) (λ w. inner.act b (seeking s) (past_command a (past e0 z.env)) w) w)) (sym h)
     (inside_run setting inner sim B a s z (past e0 z.env) at1 c1 e (Jump n1 ∷ Label n ∷ c2) rest w (omega arith) (omega arith) refl la (same_stands s z.env.names (past e0 z.env).next z.env.next a ∙ h, en.1 ∙ ea s ∙ ap (λ (t : Bool). cond t (at1 s) (at2 s)) h) r
     (λ A w2 x y q. jumped_on x y r.deep l1 q)))
-    (λ (h : stands_in s z.env a ≡ false).
+    (λ (h : has_place s z.env a ≡ false).
     subst (λ (t : Bool). RanDid setting (start z e w) B z rest w (either t (λ w. inner.act a (seeking s) (past e0 z.env) w) (λ w. inner.act b (seeking s) (past_command a (past e0 z.env)) w) w)) (sym h)
     (inside_run setting inner sim B b s z (past_command a (past e0 z.env)) at2 c2 e (Label n1 ∷ rest) rest w (omega arith) (omega arith) refl lb
-    (same_stands s z.env.names (past_command a (past e0 z.env)).next z.env.next b ∙ or_second (stands_in s z.env a) (stands_in s z.env b) en.0 h, en.1 ∙ ea s ∙ ap (λ (t : Bool). cond t (at1 s) (at2 s)) h) r
+    (same_stands s z.env.names (past_command a (past e0 z.env)).next z.env.next b ∙ or_second (has_place s z.env a) (has_place s z.env b) en.0 h, en.1 ∙ ea s ∙ ap (λ (t : Bool). cond t (at1 s) (at2 s)) h) r
     (λ A w2 x y q. landed_on (omega arith) y l1 q)))

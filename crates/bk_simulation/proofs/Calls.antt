@@ -1,6 +1,6 @@
 -- Calls of procedures: their frame, their body, and back. A procedure is called: into its frame, through its body, and back.
 use Rattle.bk_simulation.proofs.Words.{◌≡◌, ℕ, ◌+◌, ◌-◌, ◌*◌, ◌≤◌, Bool, List, ◌∷◌, length, Option, Some, None, refl, ap, arith, slice_get, suc, ◌<◌, ◌^◌, ◌≢◌, true, false, sym, ◌∙◌, subst, zero, Command, Expression, Expressions, Content, Word, content_of, Temporary, Link, Cell, Held, write, below, Inside, State, Goes, At, in_hand, program_step, Stmt, ReturnItem, Return, Entry, Save, Value, unset, World, Exit, return, Outcome, gives, each_way, closing, forgetting, Done, calls_back, Environment, past, Body, command, expression, Procedure, procedure_of, history, After, Throughout, forwards, scope_of, alone, Meanings, return_exit, run_body, bind_formals, values, adds, stays, each_way_after, with_after, FRAME_WORDS, max, nat_lt, [], ◌++◌, ⊎_elim, inl, inr, append-nil, option_map_or, slice_get_within, Placed, Callables, slot, can_be_called, procedure, holds, making, calling, formal_cells, enter, closing_after, ltb-false, ltb-true, IsCallAt, drop, Cell_of}
-use Rattle.bk_simulation.proofs.Pieces.{by_test, by_option, Stands, BaseOf, Grown, Like, like_refl, Moved, Fits, moved_on, fits_above, moved_above, Alive, StandsCell, Store, fits_more, turns_of, turns_through, Setting, Scene, IsAlone, IsValue, CallAt, AreValues, count, Configuration, start, Ready, Account, Ran, went, each_way_ran, so, CompletedAt, there, Has, Out, store, state, FewFrames, Comes, comes_on, one, with_ran, next, ready_next, here, go_on, falls_on, ran_from, completed_more, roomy, links_below, stay, completed_on, ran_on, ran_more, above, Simulates, for_scope, RanDid, for_value, for_values, value_run, Moves, returning, return_item_step, return_step, entering, does, call_stmt, call_step, call_settled, entry_settled, LinksFrom, links_kept, frames_called, untouched, below_at, below_like, HasBytes, moves_bytes, make, grown_made, lying, Since, since_on, since_made, since_moved, closed_moved, closed_fits, make_fits, IsFree, get_new, called_cells, saved_cells, called_argument, called_frame, called_back, called_links, saved_links, saved_same, saved_like, saved_formal, formals_long, formal_is, NamedIn}
+use Rattle.bk_simulation.proofs.Pieces.{by_test, by_option, Applies, BaseOf, Grown, Like, like_refl, Moved, Fits, moved_on, fits_above, moved_above, Alive, StandsCell, Store, fits_more, turns_of, turns_through, Setting, Scene, IsAlone, IsValue, CallAt, AreValues, count, Configuration, start, Ready, Account, Ran, went, each_way_ran, so, CompletedAt, there, Has, Out, store, state, FewFrames, Comes, comes_on, one, with_ran, next, ready_next, here, go_on, falls_on, ran_from, completed_more, roomy, links_below, stay, completed_on, ran_on, ran_more, above, Simulates, for_scope, RanDid, for_value, for_values, value_run, Moves, returning, return_item_step, entering, does, call_stmt, call_step, call_settled, entry_settled, LinksFrom, links_kept, frames_called, untouched, below_at, below_like, HasBytes, moves_bytes, make, grown_made, lying, Since, since_on, since_made, since_moved, closed_moved, closed_fits, make_fits, IsFree, get_new, called_cells, saved_cells, called_argument, called_frame, called_back, called_links, saved_links, saved_same, saved_like, saved_formal, formals_long, formal_is, NamedIn}
 use Rattle.bk_meaning.specs.Lasting.{Program}
 use Rattle.bk_simulation.proofs.WrittenCells.{written}
 use Rattle.bk_tree.specs.Tree as t
@@ -19,7 +19,7 @@ pub record Listed (setting : Setting) (s : State) (B : Account) (z : Configurati
   pub is_depth : depth1 ≡ z.depth + count es
   pub long : length vs ≡ count es
   pub arr : CompletedAt setting s B z c depth1 w w1
-  pub each : (i : ℕ) (v : Value) → slice_get vs i ≡ Some v → Stands setting.codes arr.bases1 v (content_of (arr.cells1 (z.frame + z.depth + i)))
+  pub each : (i : ℕ) (v : Value) → slice_get vs i ≡ Some v → Applies setting.codes arr.bases1 v (content_of (arr.cells1 (z.frame + z.depth + i)))
 
 -- the first of them, and those after it
 first_of_list : (setting : Setting) (s : State) (A N B : Account) (z : Configuration) (c c2 : List Stmt) (e : Expression) (es : Expressions) (w w1 w2 : World) (v : Value) (vs : List Value)
@@ -34,15 +34,15 @@ first_of_list setting s A N B z c c2 e es w w1 w2 v vs le1 le2 r a l = record {
   each = at_index;
 }
   where
-    at_index : (i : ℕ) (u : Value) → slice_get (v ∷ vs) i ≡ Some u → Stands setting.codes l.arr.bases1 u (content_of (l.arr.cells1 (z.frame + z.depth + i)))
+    at_index : (i : ℕ) (u : Value) → slice_get (v ∷ vs) i ≡ Some u → Applies setting.codes l.arr.bases1 u (content_of (l.arr.cells1 (z.frame + z.depth + i)))
     at_index zero u h =
         let e0 : z.frame + z.depth ≡ z.frame + z.depth + 0 = omega arith in
         let eu : v ≡ u = cc in
-        subst (λ x. Stands setting.codes l.arr.bases1 u (content_of (l.arr.cells1 x))) e0
-        (subst (λ x. Stands setting.codes l.arr.bases1 x (content_of (l.arr.cells1 (z.frame + z.depth)))) eu (above a l.arr))
+        subst (λ x. Applies setting.codes l.arr.bases1 u (content_of (l.arr.cells1 x))) e0
+        (subst (λ x. Applies setting.codes l.arr.bases1 x (content_of (l.arr.cells1 (z.frame + z.depth)))) eu (above a l.arr))
     at_index (suc i) u h =
         let e0 : z.frame + (z.depth + 1) + i ≡ z.frame + z.depth + suc i = omega arith in
-        subst (λ x. Stands setting.codes l.arr.bases1 u (content_of (l.arr.cells1 x))) e0 (l.each i u h)
+        subst (λ x. Applies setting.codes l.arr.bases1 u (content_of (l.arr.cells1 x))) e0 (l.each i u h)
 
 pub values_run : (setting : Setting) (inner : Meanings) → Simulates setting inner → (es : Expressions) (z : Configuration) (c rest : List Stmt) (w : World) → AreValues setting z.scene z.depth z.env es c rest → Ready setting z w
     → Ran setting (start z c w) (for_values es w) (Listed setting (start z c w) (for_values es w) z rest es w) (Out setting (start z c w) (for_values es w) z w) (values inner es z.env w)
@@ -134,25 +134,25 @@ came_back {setting} {z = z} {w = w} n le le' en r q new written2 like m =
     }
 
 pub returned_in : (of : Bool) (setting : Setting) (s : State) (A B : Account) (z : Configuration) (rest : List Stmt) (w w3 : World) (n : ℕ) (v : Value) (result : Option Content) → A.most + 1 ≤ B.most → B.least ≤ A.least → n ≡ w.calls
-    → Ready setting z w → CallAt setting z.scene (call_stmt of z.depth) rest → (q : Back setting s A z w (z.scene.own.places.call (length rest)) result w3) → Stands setting.codes q.bases1 v (in_hand result)
+    → Ready setting z w → CallAt setting z.scene (call_stmt of z.depth) rest → (q : Back setting s A z w (z.scene.own.places.call (length rest)) result w3) → Applies setting.codes q.bases1 v (in_hand result)
     → Gave of setting s B z rest w v (calls_back n w3)
 returned_in true setting s A B z rest w w3 n v result le le' en r call q st =
     let top = z.frame + z.depth in
     let new : ℕ → Cell = write (below top q.cells1) top (Held Temporary (in_hand result)) in
     let t : State = record { control = At (z.scene.own.places.call (length rest)); cells = below top q.cells1; frame = z.frame; hand = result; input = w3.input; output = w3.output; written = q.written1 } in
     let m : Moves setting.program q.from (state z.scene.own (z.depth + 1) rest new z.frame None (top ∷ q.written1) w3) =
-    subst (λ c. Moves setting.program q.from (state z.scene.own (z.depth + 1) c new z.frame None (top ∷ q.written1) w3)) call.behind
-    (t, q.returns, call_settled setting.program setting.first FRAME_WORDS setting.well z.scene.section z.scene.own call.is_own true t call.place z.depth call.at (ap (λ c. At (z.scene.own.places.call (length c))) (sym call.behind))) in
+    subst (λ c. Moves setting.program q.from (state z.scene.own (z.depth + 1) c new z.frame None (top ∷ q.written1) w3)) call.following
+    (t, q.returns, call_settled setting.program setting.first FRAME_WORDS setting.well z.scene.section z.scene.own call.is_own true t call.place z.depth call.at (ap (λ c. At (z.scene.own.places.call (length c))) (sym call.following))) in
     record {
       arr = came_back n le le' en r q new (top ∷ q.written1) (λ a lt. item_like top q.cells1 (Held Temporary (in_hand result)) a lt) m;
-      stands = subst (λ y. Stands setting.codes q.bases1 v (content_of y)) (sym (written (below top q.cells1) top (Held Temporary (in_hand result)))) st;
+      stands = subst (λ y. Applies setting.codes q.bases1 v (content_of y)) (sym (written (below top q.cells1) top (Held Temporary (in_hand result)))) st;
     }
 returned_in false setting s A B z rest w w3 n v result le le' en r call q st =
     let top = z.frame + z.depth in
     let t : State = record { control = At (z.scene.own.places.call (length rest)); cells = below top q.cells1; frame = z.frame; hand = result; input = w3.input; output = w3.output; written = q.written1 } in
     came_back n le le' en r q (below top q.cells1) q.written1 (λ a lt. below_like top q.cells1 a lt)
-    (subst (λ c. Moves setting.program q.from (state z.scene.own z.depth c (below top q.cells1) z.frame None q.written1 w3)) call.behind
-    (t, q.returns, call_settled setting.program setting.first FRAME_WORDS setting.well z.scene.section z.scene.own call.is_own false t call.place z.depth call.at (ap (λ c. At (z.scene.own.places.call (length c))) (sym call.behind))))
+    (subst (λ c. Moves setting.program q.from (state z.scene.own z.depth c (below top q.cells1) z.frame None q.written1 w3)) call.following
+    (t, q.returns, call_settled setting.program setting.first FRAME_WORDS setting.well z.scene.section z.scene.own call.is_own false t call.place z.depth call.at (ap (λ c. At (z.scene.own.places.call (length c))) (sym call.following))))
 
 -- ---- Where the procedures of a program are laid.
 
@@ -171,7 +171,7 @@ pub record IsProcedure (setting : Setting) (n : ℕ) (f : Procedure) : Type 0 wh
   pub name : List ℕ
   pub at : slice_get scene.own.stmts place ≡ Some (Entry label name)
   pub body : List Stmt
-  pub behind : drop (suc place) scene.own.stmts ≡ Save (length f.formals + 2) ∷ body
+  pub following : drop (suc place) scene.own.stmts ≡ Save (length f.formals + 2) ∷ body
   pub word : setting.codes.procedure n ≡ scene.own.places.label label
   pub few : length f.formals + 2 ≤ FRAME_WORDS
   pub laid : (object : ℕ) → 0 < object → IsBody setting scene (length f.formals + 2) (bind_formals object 0 f.formals f.env) f.body body
@@ -187,8 +187,8 @@ pub record Calling (of : Bool) (setting : Setting) (s : State) (A : Account) (z 
   pub depth1 : ℕ
   pub is_depth : depth1 ≡ z.depth + 2 + length vs
   pub arr : CompletedAt setting s A z (call_stmt of z.depth ∷ rest) (depth1 + 1) w w1
-  pub word : Stands setting.codes arr.bases1 v (content_of (arr.cells1 (z.frame + depth1)))
-  pub each : (i : ℕ) (u : Value) → slice_get vs i ≡ Some u → Stands setting.codes arr.bases1 u (content_of (arr.cells1 (z.frame + z.depth + 2 + i)))
+  pub word : Applies setting.codes arr.bases1 v (content_of (arr.cells1 (z.frame + depth1)))
+  pub each : (i : ℕ) (u : Value) → slice_get vs i ≡ Some u → Applies setting.codes arr.bases1 u (content_of (arr.cells1 (z.frame + z.depth + 2 + i)))
 
 -- nothing is said of an exit out of a procedure
 abbrev pub AnyExit : Exit → World → Type 0
@@ -202,7 +202,7 @@ pub record Yielded (setting : Setting) (s : State) (B : Account) (z : Configurat
   pub depth1 : ℕ
   pub result : Option Content
   pub arr : CompletedAt setting s B z control depth1 w w1
-  pub stands : Stands setting.codes arr.bases1 v (in_hand result)
+  pub stands : Applies setting.codes arr.bases1 v (in_hand result)
   pub leaves : (c p : ℕ) → content_of (arr.cells1 (z.frame + 1)) ≡ Word c → content_of (arr.cells1 (z.frame + 0)) ≡ Word p
       → program_step setting.program (there setting s B z control depth1 w w1 arr) ≡ Goes (returning (there setting s B z control depth1 w w1 arr) result c p)
 
@@ -224,9 +224,7 @@ exit_after _ w = stays (history w)
 
 returned_ran : (setting : Setting) (s : State) (B : Account) (z : Configuration) (r : List Stmt) (w : World) (o : Outcome Done) → RanDid setting s B z (Return ∷ r) w o
     → Ran setting s B (Yielded setting s B z w) AnyExit (each_way (λ _ w. gives unset w) return_exit o)
-returned_ran setting s B z r w o q =
-    each_way_ran (λ _. adds _ (λ w1. stays (history w1))) (λ x. adds _ (λ w1. exit_after x w1)) q
-    (λ _ w1 a. went (returned_by setting s B z w w1 (Return ∷ r) z.depth r refl a)) (λ x w1 e. returned_exit setting s B z w x w1 e)
+returned_ran setting s B z r w o q = grind (arith, adds, stays, exit_after, went, returned_by, returned_exit)
 
 valued_by : (setting : Setting) (s : State) (B : Account) (z : Configuration) (r : List Stmt) (w : World) (v : Value) (w1 : World)
     → Has setting s B z (ReturnItem ∷ r) (z.depth + 1) w v w1 → Yielded setting s B z w v w1
@@ -351,7 +349,7 @@ entered_runs of setting inner sim alone_runs alone_after k f ip s A B z rest w w
     let some : 2 ≤ size = omega arith in
     let e : content_of (c3 (b + i)) ≡ content_of (ca.arr.cells1 (b + i)) =
     ap content_of (saved_formal ca.arr.cells1 z.frame top items back low size some i lt) ∙ ap content_of (called_argument ca.arr.cells1 z.frame top items back low i (omega arith)) in
-    subst (λ y. StandsCell setting.codes ca.arr.bases1 y (content_of (c3 (b + i)))) (sym x.2) (subst (λ y. Stands setting.codes ca.arr.bases1 x.0 y) (sym e) (ca.each i x.0 x.1)) in
+    subst (λ y. StandsCell setting.codes ca.arr.bases1 y (content_of (c3 (b + i)))) (sym x.2) (subst (λ y. Applies setting.codes ca.arr.bases1 x.0 y) (sym e) (ca.each i x.0 x.1)) in
     let ec = ca.arr.calls_are in
     let dp = r.deep in
     let id = ca.is_depth in
@@ -378,7 +376,7 @@ entered_runs of setting inner sim alone_runs alone_after k f ip s A B z rest w w
     let s3 : State = state own size ip.body c3 top None wr w1 in
     let m1 : Moves setting.program at_call s1 = call_moves of setting at_call z.scene.own rest ip.scene.section own ip.is_own ca.depth1 z.depth ip.place ip.label ip.name refl (ca.word ∙ ap Word ip.word) ip.at h in
     let m2 : Moves setting.program s1 s2 = does setting.program s1 own (drop (suc ip.place) own.stmts) 2 (Entry ip.label ip.name) refl refl refl in
-    let m3 : Moves setting.program s2 s3 = does setting.program s2 own ip.body 2 (Save size) (ap (λ y. Inside own 2 y) ip.behind) refl refl in
+    let m3 : Moves setting.program s2 s3 = does setting.program s2 own ip.body 2 (Save size) (ap (λ y. Inside own 2 y) ip.following) refl refl in
     let to_body : Comes setting 3 (setting.pay + (setting.pay + (setting.pay + 0))) at_call s3 = go_on 2 _ at_call s1 s3 m1 cap2 (go_on 1 _ s1 s2 s3 m2 cap2 (go_on 0 0 s2 s3 s3 m3 cap3 (here s3))) in
     let has3 : HasBytes s3 = moves_bytes setting.program s2 s3 m3 (moves_bytes setting.program s1 s2 m2 (moves_bytes setting.program at_call s1 m1 ca.arr.bytes)) in
     let high : 16 ≤ z.frame = r.high in

@@ -1,8 +1,8 @@
 -- Bytes of cells of the meaning, and of contents of OCODE.
 use Rattle.bk_simulation.proofs.Lists.{either_way, by_option}
-use Rattle.bk_simulation.proofs.Words.{◌≡◌, ℕ, zero, suc, ◌+◌, ◌<◌, ◌%◌, ◌^◌, ◌==◌, Bool, true, false, cond, List, Option, Some, None, refl, sym, ap, ◌∙◌, subst, if◌then◌else◌, arith, option_and_then, option_map, word_sum, word_byte, word_with_byte, byte_distance, byte_place, Value, number, address, unset, holds, places, filled, set_among, Memory, cell_at, with_cell, cell_of_byte, read_byte, write_byte, Content, Unset, Partly, Word, Variable, Held, byte_in, four_bytes, with_byte, variable_at, byte_at, word_with_byte_at, word_byte-small, word_byte-packed_0, word_byte-packed_1, word_byte-packed_2, word_byte-packed_3, Cell_of}
+use Rattle.bk_simulation.proofs.Words.{◌≡◌, ℕ, zero, suc, ◌+◌, ◌<◌, ◌%◌, ◌^◌, ◌==◌, Bool, true, false, cond, List, Option, Some, None, refl, sym, ap, ◌∙◌, subst, if◌then◌else◌, arith, option_and_then, option_map, word_sum, word_with_byte, byte_distance, byte_place, Value, number, address, unset, holds, places, filled, set_among, Memory, cell_at, with_cell, cell_of_byte, read_byte, write_byte, Content, Unset, Partly, Word, Variable, Held, byte_in, four_bytes, with_byte, variable_at, byte_at, word_with_byte_at, word_byte-small, word_byte-packed_0, word_byte-packed_1, word_byte-packed_2, word_byte-packed_3, Cell_of}
 use Rattle.bk_meaning.specs.Values as value
-use Rattle.bk_simulation.proofs.Memory.{Store, HoldsByte, Codes, Stands, StandsCell, Moved, Fits}
+use Rattle.bk_simulation.proofs.Memory.{Store, HoldsByte, Codes, Applies, StandsCell, Moved, Fits}
 use Rattle.bk_simulation.proofs.WrittenCells.{FoundAt, found_at, write_at, put, variable_found}
 
 -- a byte that is set is one
@@ -26,8 +26,7 @@ abbrev FourAre : Content → Option ℕ → Option ℕ → Option ℕ → Option
 FourAre x p q r t = (byte_in x 0 ≡ p) × (byte_in x 1 ≡ q) × (byte_in x 2 ≡ r) × (byte_in x 3 ≡ t)
 
 pub bytes_of_four : (p q r t : Option ℕ) → IsByte p → IsByte q → IsByte r → IsByte t → FourAre (four_bytes p q r t) p q r t
-bytes_of_four (Some a) (Some b) (Some c) (Some d) ha hb hc hd =
-    (ap (λ x. Some x) (word_byte-packed_0 a b c d ha), ap (λ x. Some x) (word_byte-packed_1 a b c d ha hb), ap (λ x. Some x) (word_byte-packed_2 a b c d ha hb hc), ap (λ x. Some x) (word_byte-packed_3 a b c d ha hb hc hd))
+bytes_of_four (Some a) (Some b) (Some c) (Some d) ha hb hc hd = grind (arith, word_byte-packed_0, word_byte-packed_1, word_byte-packed_2, word_byte-packed_3)
 bytes_of_four _ _ _ _ ha hb hc hd = (refl, refl, refl, refl)
 
 pub four_are_bytes : (p q r t : Option ℕ) → IsByte p → IsByte q → IsByte r → IsByte t → AreBytes (four_bytes p q r t)
@@ -41,15 +40,8 @@ module _ (codes : Codes) (bases : List ℕ) where
   -- four places, some filled, and four bytes of which those are the same
   pub four_stand : (p q r t p1 q1 r1 t1 : Option ℕ) → HoldsByte p p1 → HoldsByte q q1 → HoldsByte r r1 → HoldsByte t t1 → IsByte p1 → IsByte q1 → IsByte r1 → IsByte t1
       → StandsCell codes bases (filled p q r t) (four_bytes p1 q1 r1 t1)
-  four_stand (Some a) (Some b) (Some c) (Some d) p1 q1 r1 t1 hp hq hr ht ip iq ir it =
-      ap (λ x. four_bytes x q1 r1 t1) hp ∙ ap (λ x. four_bytes (Some a) x r1 t1) hq ∙ ap (λ x. four_bytes (Some a) (Some b) x t1) hr ∙ ap (λ x. four_bytes (Some a) (Some b) (Some c) x) ht
-  four_stand p q r t p1 q1 r1 t1 hp hq hr ht ip iq ir it =
-      let f = bytes_of_four p1 q1 r1 t1 ip iq ir it in (
-        holds_at p p1 (byte_in (four_bytes p1 q1 r1 t1) 0) hp f.0,
-        holds_at q q1 (byte_in (four_bytes p1 q1 r1 t1) 1) hq f.1,
-        holds_at r r1 (byte_in (four_bytes p1 q1 r1 t1) 2) hr f.2,
-        holds_at t t1 (byte_in (four_bytes p1 q1 r1 t1) 3) ht f.3,
-      )
+  four_stand (Some a) (Some b) (Some c) (Some d) p1 q1 r1 t1 hp hq hr ht ip iq ir it = grind (arith, four_bytes)
+  four_stand p q r t p1 q1 r1 t1 hp hq hr ht ip iq ir it = grind (arith, bytes_of_four, holds_at, byte_in, four_bytes)
 
   -- ---- reading a byte
 
@@ -95,16 +87,11 @@ module _ (codes : Codes) (bases : List ℕ) where
       (put_is_byte (i == 2) b (byte_in x 2) small (byte_is x 2 are)) (put_is_byte (i == 3) b (byte_in x 3) small (byte_is x 3 are)))
 
   number_stands : (n i b : ℕ) → with_byte (Word n) i b ≡ Word (word_with_byte n i b)
-  number_stands n i b =
-      ap (λ y. four_bytes y (if i == 1 then Some b else Some (word_byte n 1)) (if i == 2 then Some b else Some (word_byte n 2)) (if i == 3 then Some b else Some (word_byte n 3))) (picked (i == 0) b (word_byte n 0))
-      ∙ ap (λ y. four_bytes (Some (if i == 0 then b else word_byte n 0)) y (if i == 2 then Some b else Some (word_byte n 2)) (if i == 3 then Some b else Some (word_byte n 3))) (picked (i == 1) b (word_byte n 1))
-      ∙ ap (λ y. four_bytes (Some (if i == 0 then b else word_byte n 0)) (Some (if i == 1 then b else word_byte n 1)) y (if i == 3 then Some b else Some (word_byte n 3))) (picked (i == 2) b (word_byte n 2))
-      ∙ ap (λ y. four_bytes (Some (if i == 0 then b else word_byte n 0)) (Some (if i == 1 then b else word_byte n 1)) (Some (if i == 2 then b else word_byte n 2)) y) (picked (i == 3) b (word_byte n 3))
+  number_stands n i b = grind (arith, four_bytes, picked)
 
   pub byte_set : (c : Cell_of) (x : Content) (i b : ℕ) (d : Cell_of) → StandsCell codes bases c x → AreBytes x → b < 2 ^ 8 → value.with_byte c i b ≡ Some d
       → StandsCell codes bases d (with_byte x i b)
-  byte_set (holds (number n)) x i b d s are small e =
-      subst (λ y. StandsCell codes bases y (with_byte x i b)) (some_cell _ d e) (ap (λ y. with_byte y i b) s ∙ number_stands n i b)
+  byte_set (holds (number n)) x i b d s are small e = grind (arith, some_cell, number_stands)
   byte_set (holds unset) x i b d s are small e = set_stands None None None None x i b d tt tt tt tt are small e
   byte_set (places p q r t) x i b d s are small e = set_stands p q r t x i b d s.0 s.1 s.2 s.3 are small e
   byte_set _ x i b d s are small e = absurd (cc)
@@ -118,11 +105,11 @@ further b k d = omega arith
 pub word_number : (w n : ℕ) → Word w ≡ Word n → w ≡ n
 word_number w n e = cc
 
-pub byte_address : (codes : Codes) (bases : List ℕ) (a : Value) (s i : ℕ) → Stands codes bases a (Word s) → ((o k : ℕ) → a ≡ address o k → Stands codes bases (cell_of_byte a i) (Word (word_sum s (byte_distance i))))
+pub byte_address : (codes : Codes) (bases : List ℕ) (a : Value) (s i : ℕ) → Applies codes bases a (Word s) → ((o k : ℕ) → a ≡ address o k → Applies codes bases (cell_of_byte a i) (Word (word_sum s (byte_distance i))))
 byte_address codes bases (address o k) s i st o1 k1 e = grind (arith, word_number, further)
 byte_address codes bases _ s i st o1 k1 e = absurd (cc)
 
-set_word : (codes : Codes) (bases : List ℕ) (a : Value) (x : Content) (o k : ℕ) → a ≡ address o k → Stands codes bases a x → (w : ℕ) × (x ≡ Word w)
+set_word : (codes : Codes) (bases : List ℕ) (a : Value) (x : Content) (o k : ℕ) → a ≡ address o k → Applies codes bases a x → (w : ℕ) × (x ≡ Word w)
 set_word codes bases (address o1 k1) x o k e st = ((st.0 + k1) % 2 ^ 32, st.3)
 set_word codes bases _ x o k e st = absurd (cc)
 
@@ -132,7 +119,7 @@ pub record ByteCell (codes : Codes) (h : Store) (top : ℕ) (a : Value) (i : ℕ
   pub is_word : x ≡ Word word
   pub there : FoundAt codes h top (cell_of_byte a i) (Word (word_sum word (byte_distance i))) c
 
-pub byte_cell : (codes : Codes) (h : Store) (top : ℕ) (a : Value) (i : ℕ) (x : Content) (c : Cell_of) → Fits codes h top → Stands codes h.bases a x → cell_at h.mem (cell_of_byte a i) ≡ Some c
+pub byte_cell : (codes : Codes) (h : Store) (top : ℕ) (a : Value) (i : ℕ) (x : Content) (c : Cell_of) → Fits codes h top → Applies codes h.bases a x → cell_at h.mem (cell_of_byte a i) ≡ Some c
     → ByteCell codes h top a i x c
 byte_cell codes h top (address o k) i x c f st e = grind (arith, set_word, found_at, byte_address)
 byte_cell codes h top (number n) i x c f st e = absurd (let z : None ≡ Some c = e in cc)
@@ -154,7 +141,7 @@ pub record ByteRead (top : ℕ) (h : Store) (x y : Content) (b : ℕ) : Type 0 w
   pub is_index : y ≡ Word index
   pub reads : byte_at top h.cells word index ≡ Some b
 
-pub read_byte_at : (codes : Codes) (h : Store) (top : ℕ) (a v : Value) (x y : Content) (b : ℕ) → Fits codes h top → Stands codes h.bases a x → Stands codes h.bases v y
+pub read_byte_at : (codes : Codes) (h : Store) (top : ℕ) (a v : Value) (x y : Content) (b : ℕ) → Fits codes h top → Applies codes h.bases a x → Applies codes h.bases v y
     → read_byte h.mem a v ≡ Some b → ByteRead top h x y b
 read_byte_at codes h top a (number i) x y b f st sv e =
     by_option (λ d. option_and_then (λ c. value.byte_in c (byte_place i)) d ≡ Some b → ByteRead top h x y b) (cell_at h.mem (cell_of_byte a i)) (λ _ e. absurd (cc)) (λ c ed e.
@@ -188,7 +175,7 @@ pub byte_low : (b : ℕ) → b % 256 < 2 ^ 8
 byte_low b = omega arith
 
 pub write_byte_at : (codes : Codes) (h : Store) (top : ℕ) (a v u : Value) (x y z : Content) (mem1 : Memory) → ((p : ℕ) (k : Content) → h.cells p ≡ Held Variable k → AreBytes k)
-    → Fits codes h top → Stands codes h.bases a x → Stands codes h.bases v y → Stands codes h.bases u z → write_byte h.mem a v u ≡ Some mem1 → ByteSet codes top h x y z mem1
+    → Fits codes h top → Applies codes h.bases a x → Applies codes h.bases v y → Applies codes h.bases u z → write_byte h.mem a v u ≡ Some mem1 → ByteSet codes top h x y z mem1
 write_byte_at codes h top a (number i) (number b) x y z mem1 are f st sv su e = by_cell (cell_at h.mem (cell_of_byte a i)) refl e
   where
     by_byte : (c : Cell_of) → cell_at h.mem (cell_of_byte a i) ≡ Some c → (d : Option Cell_of) → value.with_byte c (byte_place i) (b % 256) ≡ d
@@ -219,12 +206,12 @@ write_byte_at codes h top a (number i) (number b) x y z mem1 are f st sv su e = 
           moved = λ t. subst (λ q. Moved t h (put h mem1 q new)) (sym same1) (w.cell.moved new t);
         }
       where
-        stands_there : (g : ByteCell codes h top a i x c) → Stands codes h.bases (cell_of_byte a i) (Word (word_sum g.word (byte_distance i)))
+        stands_there : (g : ByteCell codes h top a i x c) → Applies codes h.bases (cell_of_byte a i) (Word (word_sum g.word (byte_distance i)))
         stands_there g = by_address a st g.there.address_is g.word g.is_word
           where
-            by_address : (a : Value) → Stands codes h.bases a x → cell_of_byte a i ≡ address g.there.object g.there.offset → (w : ℕ) → x ≡ Word w
-                → Stands codes h.bases (cell_of_byte a i) (Word (word_sum w (byte_distance i)))
-            by_address (address o k) st e w ew = byte_address codes h.bases (address o k) w i (subst (λ y. Stands codes h.bases (address o k) y) ew st) o k refl
+            by_address : (a : Value) → Applies codes h.bases a x → cell_of_byte a i ≡ address g.there.object g.there.offset → (w : ℕ) → x ≡ Word w
+                → Applies codes h.bases (cell_of_byte a i) (Word (word_sum w (byte_distance i)))
+            by_address (address o k) st e w ew = byte_address codes h.bases (address o k) w i (subst (λ y. Applies codes h.bases (address o k) y) ew st) o k refl
             by_address _ st e w ew = absurd (cc)
 
     by_cell : (d : Option Cell_of) → cell_at h.mem (cell_of_byte a i) ≡ d

@@ -1,6 +1,6 @@
 -- How runs compose: another account, a step more, a part behind another; and parts in which objects are made that die at their end.
 use Rattle.bk_simulation.proofs.Words.{◌≡◌, ℕ, suc, ◌+◌, ◌-◌, ◌*◌, ◌<◌, ◌≤◌, List, ◌∷◌, length, Option, None, refl, sym, ◌∙◌, subst, arith, FRAME_WORDS, Binding, Content, Temporary, Cell, Held, content_of, write, below, Placed, State, Stmt, Around, meant, goal_in, Value, Memory, Environment, World, Exit, goto, Outcome, turn, closing, forgetting, remembering, history, adds, stays}
-use Rattle.bk_simulation.proofs.Situations.{Moves, LinksFrom, links_kept, moves_bytes, Like, like_on, Stands, Store, Moved, Fits, moved_refl, moved_on, fits_above, fits_more, fits_less, moved_less, stands_grown, Since, since_on, since_cells, since_moved, closed_moved, closed_fits, pushed_like, pushed_at, Setting, Scene, Exits, IsLabelHere, KeepsLabels, Configuration, store, state, start, FewFrames, Ready, Account, further, paying, here, comes_on, one, Ran, went, each_way_ran, ran_from, so, turn_behind, Completed, CompletedAt, OpenCompleted, store_at, there, Has, GoesTo, Leads, Exited, Out, next, NamedIn}
+use Rattle.bk_simulation.proofs.Situations.{Moves, LinksFrom, links_kept, moves_bytes, Like, like_on, Applies, Store, Moved, Fits, moved_refl, moved_on, fits_above, fits_more, fits_less, moved_less, stands_grown, Since, since_on, since_cells, since_moved, closed_moved, closed_fits, pushed_like, pushed_at, Setting, Scene, Exits, IsLabelHere, KeepsLabels, Configuration, store, state, start, FewFrames, Ready, Account, further, paying, here, comes_on, one, Ran, went, each_way_ran, ran_from, so, turn_behind, Completed, CompletedAt, OpenCompleted, store_at, there, Has, GoesTo, Leads, Exited, Out, next, NamedIn}
 
 -- ---- one arrival
 
@@ -116,12 +116,12 @@ module _ {setting : Setting} {s : State} {own : Placed} {frame calls top : ℕ} 
       }
 
   -- what follows: it has N for itself, and the two together have B
-  abbrev pub behind : {R R1 : Store → Type 0} {A N B : Account} {calls1 top1 d2 : ℕ} {c2 : List Stmt} {w2 : World} (top2 : ℕ) (R2 : Store → Type 0)
+  abbrev pub following : {R R1 : Store → Type 0} {A N B : Account} {calls1 top1 d2 : ℕ} {c2 : List Stmt} {w2 : World} (top2 : ℕ) (R2 : Store → Type 0)
       → A.most + N.most ≤ B.most + 16 * w1.turns → B.least ≤ N.least + (A.least - w1.turns) → calls1 ≡ w1.calls
       → (a : Completed setting s A own frame calls top R c d w1)
       (b : Completed setting (state own d c a.cells1 frame a.hand1 a.written1 w1) N own frame calls1 top1 R1 c2 d2 w2) → Fits setting.codes (store_at b) top2 → R2
       (store_at b) → Completed setting s B own frame calls top2 R2 c2 d2 w2
-  behind top2 R2 le1 le2 ec a b fits moved = let m = a.most in let n = b.most in let ml = a.least in let nl = b.least in record {
+  following top2 R2 le1 le2 ec a b fits moved = let m = a.most in let n = b.most in let ml = a.least in let nl = b.least in record {
     steps = a.steps + b.steps;
     paid = a.paid + b.paid;
     bases1 = b.bases1;
@@ -184,7 +184,7 @@ abbrev pub completed_on : {setting : Setting} {s : State} {A N B : Account} {z :
     → A.most + N.most ≤ B.most + 16 * w1.turns → B.least ≤ N.least + (A.least - w1.turns) → Ready setting z w → z.depth ≤ d1
     → (a : CompletedAt setting s A z c d1 w w1) → CompletedAt setting (start (next setting s A z c d1 w w1 z.env d1 a) c w1) N (next setting s A z c d1 w w1 z.env d1 a) c2 d2 w1 w2
     → CompletedAt setting s B z c2 d2 w w2
-completed_on {setting} {z = z} {d1 = d1} {w = w} le1 le2 r le a b = behind (z.frame + z.depth) (Moved (z.frame + z.depth) (store z w)) le1 le2 refl a b
+completed_on {setting} {z = z} {d1 = d1} {w = w} le1 le2 r le a b = following (z.frame + z.depth) (Moved (z.frame + z.depth) (store z w)) le1 le2 refl a b
     (fits_less setting.codes _ _ (z.frame + z.depth) (z.frame + d1) a.fits (moved_less _ _ (z.frame + z.depth) (z.frame + d1) (omega arith) b.moved) b.fits)
     (moved_on setting.codes (z.frame + z.depth) (z.frame + z.depth) (z.frame + d1) _ _ _ r.fits (omega arith) a.moved b.moved)
 
@@ -240,7 +240,7 @@ ran_more le le' q = ran_first le le' (λ t w1 k. k) q
 -- An item takes the place of those from the top on.
 pub topped : {setting : Setting} {s : State} {A B : Account} {z : Configuration} {c rest : List Stmt} {d : ℕ} {w w1 : World} {v : Value} (x : Content) → A.most + 1 ≤ B.most
     → B.least ≤ A.least → 2 ≤ z.depth → (a : CompletedAt setting s A z c d w w1)
-    → Stands setting.codes a.bases1 v x
+    → Applies setting.codes a.bases1 v x
     → Moves setting.program (there setting s A z c d w w1 a)
     (state z.scene.own (z.depth + 1) rest (below (z.frame + (z.depth + 1)) (write a.cells1 (z.frame + z.depth) (Held Temporary x))) z.frame None ((z.frame + z.depth) ∷ a.written1) w1)
     → Has setting s B z rest (z.depth + 1) w v w1
@@ -249,17 +249,17 @@ topped {setting} {z = z} {v = v} x le le' dp a st e =
     let cells2 = below (z.frame + (z.depth + 1)) (write a.cells1 top (Held Temporary x)) in
     record {
       arr = completed_more le le' (completed_step a cells2 None (top ∷ a.written1) (omega arith) (λ y ly. pushed_like z.frame z.depth a.cells1 (Held Temporary x) y ly) e);
-      stands = subst (λ y. Stands setting.codes a.bases1 v (content_of y)) (sym (pushed_at z.frame z.depth a.cells1 (Held Temporary x))) st;
+      stands = subst (λ y. Applies setting.codes a.bases1 v (content_of y)) (sym (pushed_at z.frame z.depth a.cells1 (Held Temporary x))) st;
     }
 
 -- the item on top is still there behind what follows above it
 pub above : {setting : Setting} {s : State} {A N : Account} {z : Configuration} {c c2 : List Stmt} {d2 : ℕ} {w w1 w2 : World} {v : Value}
     (a : Has setting s A z c (z.depth + 1) w v w1)
     (b : CompletedAt setting (start (next setting s A z c (z.depth + 1) w w1 z.env (z.depth + 1) a.arr) c w1) N (next setting s A z c (z.depth + 1) w w1 z.env (z.depth + 1) a.arr) c2 d2 w1 w2)
-    → Stands setting.codes b.bases1 v (content_of (b.cells1 (z.frame + z.depth)))
+    → Applies setting.codes b.bases1 v (content_of (b.cells1 (z.frame + z.depth)))
 above {setting} {z = z} {v = v} a b =
     let like = b.moved.kept.as_was (z.frame + z.depth) (omega arith) (λ o n b1 i l e lt. let u = a.arr.fits.below o n b1 l e in omega arith) in
-    stands_grown setting.codes a.arr.bases1 b.bases1 v _ b.moved.grown (subst (λ y. Stands setting.codes a.arr.bases1 v y) (sym like.content) a.stands)
+    stands_grown setting.codes a.arr.bases1 b.bases1 v _ b.moved.grown (subst (λ y. Applies setting.codes a.arr.bases1 v y) (sym like.content) a.stands)
 
 -- ---- runs during which objects are made that die at the end
 
@@ -322,7 +322,7 @@ abbrev pub open_on : {setting : Setting} {s : State} {A N B : Account} {z : Conf
     (b : Completed setting (state z.scene.own d1 c a.cells1 z.frame a.hand1 a.written1 w1) N z.scene.own z.frame w1.calls (z.frame + d1) (Moved (z.frame + d1) (store_at a)) c2 d2 w2)
     → OpenCompleted setting s B z w c2 d2 (z.frame + d1) w2
 open_on {z = z} {d1 = d1} {w = w} le1 le2 r le a b =
-    behind (z.frame + d1) (Since (z.frame + z.depth) (store z w)) le1 le2 refl a b b.fits
+    following (z.frame + d1) (Since (z.frame + z.depth) (store z w)) le1 le2 refl a b b.fits
     (since_on (omega arith) a.moved (since_moved a.fits b.fits b.moved))
 
 -- an exit to where names that are no labels hide none

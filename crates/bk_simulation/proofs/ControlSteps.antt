@@ -1,6 +1,6 @@
 -- Steps that move control from where a run has come to: LAB, jumps, tests, results.
 use Rattle.bk_simulation.proofs.Words.{◌≡◌, ℕ, suc, ◌+◌, ◌-◌, ◌<◌, ◌≤◌, ◌==◌, Bool, true, false, not, List, ◌∷◌, length, Option, Some, None, refl, ap, ◌∙◌, subst, arith, option_map_or, Content, Unset, Word, Cell, content_of, below, settle, Placed, Inside, State, Goal, from_label, Stmt, Jump, JumpIf, Label, GiveResult, TakeResult, Stack, Value, truth_of_value, World, Exit, given, forgetting, judged, drop}
-use Rattle.bk_simulation.proofs.Situations.{by_option, Moves, label_moves, jump_moves, taken_moves, passed_moves, give_result_moves, does, Like, like_on, Stands, Store, Moved, below_like, settle_like, judged_word, Setting, Scene, LabelAt, Configuration, state, Ready, Account, paying, Ran, went, Completed, CompletedAt, OpenCompleted, there, Has, GoesTo, Exited, Out, still}
+use Rattle.bk_simulation.proofs.Situations.{by_option, Moves, label_moves, jump_moves, taken_moves, passed_moves, give_result_moves, does, Like, Applies, Store, Moved, below_like, judged_word, Setting, Scene, LabelAt, Configuration, state, Ready, Account, paying, Ran, went, Completed, CompletedAt, OpenCompleted, there, Has, GoesTo, Exited, Out, still}
 use Rattle.bk_simulation.proofs.Compose.{accounted, stepped, links_below, completed_more, completed_paid, topped, closed_arrival}
 use Rattle.bk_simulation.proofs.Simulates.{where_to, HasTruth}
 
@@ -10,7 +10,7 @@ pub label_goes : (setting : Setting) (sc : Scene) (d k n : ℕ) (rest : List Stm
     → Moves setting.program (state sc.own k (Label n ∷ rest) cells frame hand written w) (state sc.own d rest cells frame hand written w)
 label_goes setting sc d k n rest cells frame hand written w l =
     let s = state sc.own k (Label n ∷ rest) cells frame hand written w in
-    subst (λ y. Moves setting.program s (state sc.own d y cells frame hand written w)) l.behind
+    subst (λ y. Moves setting.program s (state sc.own d y cells frame hand written w)) l.following
     (subst (λ y. Moves setting.program s (state sc.own y (drop (suc l.place) sc.own.stmts) cells frame hand written w)) l.same_depth
     (label_moves setting.program s sc.own rest k n l.place (setting.well.is_program.accepted sc.section sc.own l.is_own) l.at refl))
 
@@ -35,17 +35,16 @@ jump_on {setting} {own = own} {frame = frame} {k = k} {n = n} {to = to} {rest = 
     (jump_moves setting.program (state own k (Jump n ∷ rest) a.cells1 frame a.hand1 a.written1 w1) own rest k n to refl e)
 
 -- to a LAB
-pub jumped_on : {setting : Setting} {s : State} {A B : Account} {sc : Scene} {frame calls d n : ℕ} {h : Store} {rest behind : List Stmt} {w1 : World}
+pub jumped_on : {setting : Setting} {s : State} {A B : Account} {sc : Scene} {frame calls d n : ℕ} {h : Store} {rest following : List Stmt} {w1 : World}
     → A.most + 2 ≤ B.most → B.least ≤ A.least → 2 ≤ d → LabelAt setting sc d n rest
-    → Completed setting s A sc.own frame calls (frame + d) (Moved (frame + d) h) (Jump n ∷ behind) d w1 → Completed setting s B sc.own frame calls (frame + d)
+    → Completed setting s A sc.own frame calls (frame + d) (Moved (frame + d) h) (Jump n ∷ following) d w1 → Completed setting s B sc.own frame calls (frame + d)
     (Moved (frame + d) h) rest d w1
 jumped_on le le' dp l a = completed_more (omega arith) (omega arith) (label_on l (jump_on (omega arith) (omega arith) l.found a))
 
 -- the depth is set
 pub stacked_like : (frame k n top : ℕ) (cells : ℕ → Cell) → top ≤ frame + n → (x : ℕ) → x < top → Like
     (below (frame + n) (settle (frame + k) (frame + n) cells) x) (cells x)
-stacked_like frame k n top cells le x lt =
-    like_on _ _ _ (below_like (frame + n) (settle (frame + k) (frame + n) cells) x (omega arith)) (settle_like (frame + k) (frame + n) cells x)
+stacked_like frame k n top cells le x lt = grind (arith, below_like)
 
 abbrev pub stack_on : {setting : Setting} {s : State} {B : Account} {own : Placed} {frame calls top : ℕ} {h : Store} {k n : ℕ} {c rest : List Stmt} {w1 : World}
     → suc frame < top → top ≤ frame + n → c ≡ Stack n ∷ rest
@@ -108,7 +107,7 @@ result_on {setting} {s} {A} {z} {n} {to} {rest} {w} {w1} r e a =
 -- and taken up; where none came the item is unset
 pub taken_on : {setting : Setting} {s : State} {A B : Account} {z : Configuration} {rest : List Stmt} {k : ℕ} {w w1 : World} {v : Value} → A.most + 1 ≤ B.most
     → B.least ≤ A.least → Ready setting z w
-    → (a : CompletedAt setting s A z (TakeResult z.depth ∷ rest) k w w1) → Stands setting.codes a.bases1 v (option_map_or (λ x. x) a.hand1 Unset) → Has setting s B z rest
+    → (a : CompletedAt setting s A z (TakeResult z.depth ∷ rest) k w w1) → Applies setting.codes a.bases1 v (option_map_or (λ x. x) a.hand1 Unset) → Has setting s B z rest
     (z.depth + 1) w v w1
 taken_on {setting} {s} {A} {z = z} {rest = rest} {k = k} {w = w} {w1 = w1} le le' r a st =
     topped (option_map_or (λ x. x) a.hand1 Unset) le le' r.deep a st

@@ -1,6 +1,6 @@
 -- FOR as a command.
-use Rattle.bk_simulation.proofs.Words.{◌≡◌, ◌≢◌, ℕ, zero, suc, ◌+◌, ◌-◌, ◌*◌, ◌<◌, ◌≤◌, ◌^◌, Bool, true, false, cond, List, [], ◌∷◌, ◌++◌, length, Some, None, refl, sym, ap, ◌∙◌, subst, arith, ⊎_elim, not, nat_lt, pos, int_lt, bytes_eq, bytes_eq-Decides, FRAME_WORDS, Bound, Binding, bound_in, bind as bind_bound, Content, Cell, Variable, Held, content_of, below, settle, Word, State, Local, Stmt, Label, Load, JumpIf, Jump, Store as Store_stmt, Stack, Number, Dyadic, Assign, variable, test_of_step, goal, meant, Mention, Expression, Expressions, Command, Value, holds, number, address, Environment, cell, past, World, Outcome, Done, done, given, with, either, making, Exit, break, loop, turn, history, Meanings, fetch, store as put_value, at, Sought, forwards, step_of, for_test, for_rounds_of, for_loop, round_exit, for_step, relation, Adds, adds, with_after, given_after, closing_after, stays, each_way_after, turn_after, changes_after, either_after, scope_of, alone, nat_tests, ints, signed, word_of, from_label, read, operate, judged, slice_get, Cell_of}
-use Rattle.bk_simulation.proofs.Pieces.{by_option, by_test, jump_moves, does, BaseOf, Alive, Like, like_on, Stands, StandsCell, Store, Moved, moved_on, fits_above, fits_more, stands_grown, below_at, below_like, settle_like, settle_at, read_here, make, make_fits, Since, since_refl, since_on, since_cells, since_made, grown_made, lying, since_moved, get_new, turns_of, turns_in, turns_through, Setting, Scene, in_loop, IsWord, IsAlone, KeepsLabels, IsLabelHere, LabelAt, IsAct, IsForLoop, behind_body, some_objects, Configuration, store, state, start, named_grown, Ready, Account, further, went, ran_from, CompletedAt, OpenCompleted, there, next, ready_next, each_way_ran, with_ran, so, Out, Has, begun, stay, links_like, with_objects, stepped, behind, completed_more, comes_to, open_configuration, open_ready, open_step, open_on, ran_open, closed_ran, completed_turn, turn_there, ran_more, outside, completed_on, topped, above, Simulates, Limit, where_to, RanDid, for_scope, for_counts, label_on, landed_on, closes, caught_at, tested, bound_named, operates, dyadic_run, for_two, two_run, Two, RanValue, pushes_item, same_number, place_of, NameAt}
+use Rattle.bk_simulation.proofs.Words.{◌≡◌, ◌≢◌, ℕ, zero, suc, ◌+◌, ◌-◌, ◌*◌, ◌<◌, ◌≤◌, ◌^◌, Bool, true, false, cond, List, [], ◌∷◌, ◌++◌, length, Some, None, refl, sym, ap, ◌∙◌, subst, arith, ⊎_elim, not, nat_lt, pos, int_lt, bytes_eq-Decides, FRAME_WORDS, Bound, Binding, bound_in, bind as bind_bound, Content, Cell, Variable, Held, content_of, below, settle, Word, State, Local, Stmt, Label, Load, JumpIf, Jump, Store as Store_stmt, Stack, Number, Dyadic, Assign, variable, test_of_step, goal, Mention, Expression, Expressions, Command, Value, holds, number, address, Environment, cell, past, World, Outcome, Done, done, given, with, either, making, Exit, break, loop, turn, history, Meanings, fetch, store as put_value, at, Sought, forwards, step_of, for_test, for_rounds_of, for_loop, round_exit, for_step, relation, Adds, adds, with_after, given_after, closing_after, stays, each_way_after, turn_after, changes_after, either_after, scope_of, alone, nat_tests, ints, signed, word_of, from_label, read, operate, judged, slice_get, Cell_of}
+use Rattle.bk_simulation.proofs.Pieces.{by_option, by_test, jump_moves, does, BaseOf, Alive, Like, like_on, Applies, StandsCell, Store, Moved, moved_on, fits_above, fits_more, stands_grown, below_at, below_like, settle_like, settle_at, read_here, make, make_fits, Since, since_refl, since_on, since_cells, since_made, grown_made, lying, since_moved, get_new, turns_of, turns_in, turns_through, Setting, Scene, in_loop, IsAlone, KeepsLabels, LabelAt, IsAct, IsForLoop, behind_body, some_objects, Configuration, store, state, start, named_grown, Ready, Account, further, went, ran_from, CompletedAt, OpenCompleted, there, next, ready_next, each_way_ran, with_ran, so, Out, Has, begun, stay, links_like, with_objects, stepped, following, completed_more, comes_to, open_configuration, open_ready, open_step, open_on, ran_open, closed_ran, completed_turn, turn_there, ran_more, outside, completed_on, topped, above, Simulates, Limit, where_to, RanDid, for_scope, for_counts, label_on, landed_on, closes, caught_at, tested, bound_named, operates, dyadic_run, for_two, two_run, Two, RanValue, pushes_item, same_number, NameAt}
 use Rattle.bk_simulation.proofs.Terms.{Bound as b, bind, Operator as op, Dyadic as two}
 use Rattle.bk_tree.specs.Tree as t
 use Rattle.bk_simulation.proofs.Loops.{scope_runs, around_ready, looping, round_exit_adds}
@@ -12,14 +12,12 @@ use Rattle.bk_simulation.proofs.Assignments.{word_stored}
 -- ---- The step and the test of a FOR.
 
 -- the limit stands at its place behind each arrival
-pub limit_here : (setting : Setting) (s : State) (A : Account) (z : Configuration) (c : List Stmt) (k : ℕ) (w w1 : World) (d o : ℕ) (u : Value) → z.depth ≡ d + 2 → Limit setting z w d o u → (a : CompletedAt setting s A z c k w w1) → Stands setting.codes a.bases1 u (content_of (a.cells1 (z.frame + (d + 1))))
-limit_here setting s A z c k w w1 d o u ed l a =
-    let like = a.moved.kept.as_was (z.frame + (d + 1)) (omega arith) l.free in
-    stands_grown setting.codes z.bases a.bases1 u _ a.moved.grown (subst (λ y. Stands setting.codes z.bases u y) (sym like.content) l.limit)
+pub limit_here : (setting : Setting) (s : State) (A : Account) (z : Configuration) (c : List Stmt) (k : ℕ) (w w1 : World) (d o : ℕ) (u : Value) → z.depth ≡ d + 2 → Limit setting z w d o u → (a : CompletedAt setting s A z c k w w1) → Applies setting.codes a.bases1 u (content_of (a.cells1 (z.frame + (d + 1))))
+limit_here setting s A z c k w w1 d o u ed l a = grind arith
 
 -- a slot is loaded
 slot_run : (setting : Setting) (s : State) (A B : Account) (z : Configuration) (q : ℕ) (rest : List Stmt) (w w1 : World) (v : Value) → A.most + 1 ≤ B.most → B.least ≤ A.least → 2 ≤ z.depth → (a : CompletedAt setting s A z (Load (Local q) ∷ rest) z.depth w w1)
-    → Stands setting.codes a.bases1 v (content_of (a.cells1 (z.frame + q))) → Has setting s B z rest (z.depth + 1) w v w1
+    → Applies setting.codes a.bases1 v (content_of (a.cells1 (z.frame + q))) → Has setting s B z rest (z.depth + 1) w v w1
 slot_run setting s A B z q rest w w1 v le le' dp a st =
     topped _ le le' dp a st (does setting.program (there setting s A z (Load (Local q) ∷ rest) z.depth w w1 a) z.scene.own rest z.depth (Load (Local q)) refl refl refl)
 
@@ -29,7 +27,7 @@ variable_run setting s A B z d o rest w w1 le le' dp eb a =
     by_option (λ y. RanValue setting s B z rest w (given y w1)) (read w1.memory (address o 0)) (λ _. went tt) (λ v e.
     let f = read_here setting.codes _ (z.frame + z.depth) o 0 (z.frame + d) v a.fits (a.moved.grown.each o (z.frame + d) eb) e in
     let zero : z.frame + d + 0 ≡ z.frame + d = omega arith in
-    went (slot_run setting s A B z d rest w w1 v le le' dp a (subst (λ y. Stands setting.codes a.bases1 v (content_of (a.cells1 y))) zero (subst (λ y. Stands setting.codes a.bases1 v y) (sym (ap content_of f.there)) f.stands))))
+    went (slot_run setting s A B z d rest w w1 v le le' dp a (subst (λ y. Applies setting.codes a.bases1 v (content_of (a.cells1 y))) zero (subst (λ y. Applies setting.codes a.bases1 v y) (sym (ap content_of f.there)) f.stands))))
 
 -- a second item
 second_item : (setting : Setting) (s : State) (A B : Account) (z : Configuration) (i : Stmt) (rest : List Stmt) (w w1 : World) (u v : Value) → A.most + 1 ≤ B.most → B.least ≤ A.least → Ready setting z w → (a : Has setting s A z (i ∷ rest) (z.depth + 1) w u w1)
@@ -118,8 +116,7 @@ either_adds : (go : World → Outcome Done) → Adds go → (b : Bool) → Adds 
 either_adds go ad b = adds _ (λ w. either_after b go done ad (adds _ (λ w1. stays (history w1))) w)
 
 pub test_adds : (o k : ℕ) (u : Value) (go : World → Outcome Done) → Adds go → Adds (for_test o u k go)
-test_adds o k u go ad =
-    adds (for_test o u k go) (λ w. with_after (history w) (fetch (address o 0) w) (λ v w. with (operate (relation k) v u w) (λ x w. with (judged x w) (λ b w. either b go done w))) ((fetch_adds (address o 0)).at w) (λ v. adds _ (λ w1. with_after _ _ _ ((related_adds (nat_lt k (2 ^ 31)) v u).at w1) (λ x. adds _ (λ w2. with_after _ _ _ ((judged_adds x).at w2) (λ b. either_adds go ad b))))))
+test_adds o k u go ad = grind (arith, adds, go, either, done, related_adds, judged_adds, either_adds, (address o 0), (fetch_adds (address o 0)))
 
 pub step_adds : (o k : ℕ) → Adds (for_step o k)
 step_adds o k = adds (for_step o k) (λ w. with_after (history w) (fetch (address o 0) w) (λ v w. with (operate op.Add v (number k) w) (λ x w. put_value (at (address o 0)) x w)) ((fetch_adds (address o 0)).at w) (λ v. adds _ (λ w1. with_after _ _ _ ((sum_adds v (number k)).at w1) (λ x. put_adds (address o 0) x))))
@@ -229,7 +226,7 @@ rounds_adds setting inner sim x o u k env au =
 abbrev joined : {setting : Setting} {s : State} {A N B : Account} {z : Configuration} {c c2 : List Stmt} {k d2 : ℕ} {w w1 w2 : World} → A.most + N.most ≤ B.most + 16 * w1.turns
     → B.least ≤ N.least + (A.least - w1.turns) → Ready setting z w
     → (a : CompletedAt setting s A z c k w w1) → CompletedAt setting (there setting s A z c k w w1 a) N (next setting s A z c k w w1 z.env z.depth a) c2 d2 w1 w2 → CompletedAt setting s B z c2 d2 w w2
-joined {setting} {z = z} {w = w} le1 le2 r a x = behind (z.frame + z.depth) (Moved (z.frame + z.depth) (store z w)) le1 le2 refl a x x.fits
+joined {setting} {z = z} {w = w} le1 le2 r a x = following (z.frame + z.depth) (Moved (z.frame + z.depth) (store z w)) le1 le2 refl a x x.fits
     (moved_on setting.codes (z.frame + z.depth) (z.frame + z.depth) (z.frame + z.depth) _ _ _ r.fits (omega arith) a.moved x.moved)
 
 joined_ran : {setting : Setting} {s : State} {A N B : Account} {z : Configuration} {c rest : List Stmt} {k : ℕ} {w w1 : World} {o : Outcome Done}
@@ -247,7 +244,7 @@ variable_keeps x p d bs y h = grind (arith, by_test)
 
 -- a LAB is the same where other names are in scope
 same_label : (setting : Setting) (sc : Scene) (bs : List Binding) (d n : ℕ) (rest : List Stmt) → LabelAt setting sc d n rest → LabelAt setting (record sc { bindings = bs }) d n rest
-same_label setting sc bs d n rest l = record { is_own = l.is_own; place = l.place; at = l.at; same_depth = l.same_depth; behind = l.behind; found = l.found }
+same_label setting sc bs d n rest l = record { is_own = l.is_own; place = l.place; at = l.at; same_depth = l.same_depth; following = l.following; found = l.found }
 
 -- ---- the test and the rounds, with the variable in scope
 first_test : (setting : Setting) (inner : Meanings) → Simulates setting inner → (B : Account) (x : Command) (o : ℕ) (u : Value) (k d n1 : ℕ) (z : Configuration) (body test end : List Stmt) (n3 : ℕ) (w : World) → 16 * w.turns + 16 ≤ B.most → B.least ≤ w.turns - suc (turns_in false x) → z.depth ≡ d + 2
@@ -280,7 +277,7 @@ stored_at frame k x cells le lt = below_at (frame + k) (settle (frame + 2) (fram
 
 -- the variable of a FOR is made where its first value stands
 variable_made : (setting : Setting) (z : Configuration) (w : World) (c : List Stmt) (u : Value) → (r : Ready setting z w) → z.depth + 2 ≤ FRAME_WORDS
-    → Stands setting.codes z.bases u (content_of (z.cells (z.frame + z.depth)))
+    → Applies setting.codes z.bases u (content_of (z.cells (z.frame + z.depth)))
     → OpenCompleted setting (state z.scene.own (z.depth + 1 + 1) (Store_stmt ∷ c) z.cells z.frame z.hand z.written w) (record { most = 16 * w.turns + 1; least = w.turns }) z w c (z.depth + 1 + 1) (z.frame + (z.depth + 2)) (making (holds u ∷ []) w)
 variable_made setting z w c u r room st =
     let first_variable : (i : ℕ) → i < 1 → stored_cells z.frame (z.depth + 1 + 1) z.cells (z.frame + z.depth) ≡ Held Variable (content_of (z.cells (z.frame + z.depth)))
@@ -311,7 +308,7 @@ variable_made setting z w c u r room st =
         let same : holds u ≡ cl = cc in
         let zero_off : z.frame + z.depth + 0 ≡ z.frame + z.depth = omega arith in
         subst (λ y. StandsCell setting.codes z.bases y (content_of (stored_cells z.frame (z.depth + 1 + 1) z.cells (z.frame + z.depth + 0)))) same
-        (subst (λ y. Stands setting.codes z.bases u (content_of y)) (sym (ap (stored_cells z.frame (z.depth + 1 + 1) z.cells) zero_off ∙ h)) st)
+        (subst (λ y. Applies setting.codes z.bases u (content_of y)) (sym (ap (stored_cells z.frame (z.depth + 1 + 1) z.cells) zero_off ∙ h)) st)
     first_cell (suc i) cl e h = absurd (let q : None ≡ Some cl = e in cc)
 
 -- what the variable means in scope
@@ -329,8 +326,8 @@ limit_free setting z w u r o1 n b1 i li eb lt e = ⊎_elim
 -- the whole loop, behind its two values
 for_opened : (setting : Setting) (inner : Meanings) → Simulates setting inner → (l : ℕ) (x : Mention) (a y : Expression) (h : Expressions) (c : Command) (z z0 : Configuration)
     (there : Sought → List Stmt) (c0 rest : List Stmt) (w : World) (u v : Value) (lx : IsAct setting z.scene z.depth z0.env (t.for_loop l x a y h c) there c0 rest)
-    → z.env ≡ past y (past a z0.env) → Ready setting z w → Stands setting.codes z.bases u (content_of (z.cells (z.frame + z.depth)))
-    → Stands setting.codes z.bases v (content_of (z.cells (z.frame + (z.depth + 1)))) → ((o : ℕ) → Adds (λ w. for_rounds_of inner c o v lx.4 (bind x.letters (cell o 0) z.env) w))
+    → z.env ≡ past y (past a z0.env) → Ready setting z w → Applies setting.codes z.bases u (content_of (z.cells (z.frame + z.depth)))
+    → Applies setting.codes z.bases v (content_of (z.cells (z.frame + (z.depth + 1)))) → ((o : ℕ) → Adds (λ w. for_rounds_of inner c o v lx.4 (bind x.letters (cell o 0) z.env) w))
     → RanDid setting (state z.scene.own (z.depth + 1 + 1) (Store_stmt ∷ Jump lx.0 ∷ Label lx.1 ∷ lx.7) z.cells z.frame z.hand z.written w) (record { most = 16 * w.turns + 20; least = w.turns - suc (turns_in false c) }) z rest w
     (for_loop inner x.letters c u v lx.4 z.env w)
 unfolding variable_made
@@ -380,7 +377,7 @@ for_opened g m sim l x a y h c z z0 there c0 rest w u v lx ez r su sv ad =
     ∙ ap content_of (stored_at z.frame (z.depth + 1 + 1) (z.frame + (z.depth + 1)) z.cells (omega arith) (omega arith)) in
     let lim : Limit g z1 w1 z.depth o v = record {
       base = is_base;
-      limit = subst (λ k. Stands g.codes a3.bases1 v k) (sym like1) (stands_grown g.codes z.bases a3.bases1 v _ (grown_made z.bases (z.frame + z.depth)) sv);
+      limit = subst (λ k. Applies g.codes a3.bases1 v k) (sym like1) (stands_grown g.codes z.bases a3.bases1 v _ (grown_made z.bases (z.frame + z.depth)) sv);
       free = limit_free g z w u r;
     } in
     closed_ran {K = λ _ w2. OpenCompleted g s0 D z w (Stack z.depth ∷ rest) d2 more w2} r (λ _ w2 q. closes (omega arith) (omega arith) r q)

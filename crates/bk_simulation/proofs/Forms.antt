@@ -12,6 +12,6 @@ pub use Rattle.bk_simulation.proofs.ForLoops.{for_rounds_run, for_run, rounds_ad
 pub use Rattle.bk_simulation.proofs.ProgramEnds.{HasStart, NoStart, called_at, calls_of, does_from, enter_after, entered_so, fell_out, some_calls}
 pub use Rattle.bk_simulation.proofs.LastingFits.{HasEntry, HoldsEntry, HoldsLasting, HoldsOne, InData, IsSized, first_store, in_datum, library_word, setting_of, settings, start_there}
 pub use Rattle.bk_simulation.proofs.SectionGlobals.{SetSame, all_set_same}
-pub use Rattle.bk_simulation.proofs.Standing.{AreBelow, AreSet, Bases, DataIn, Follow, FollowWords, FoundParts, Home, Lies, Mean, StandsAt, Suits, at_depth, base_both, bases_of, bases_paid, bases_so, bases_some, bases_under, bases_within, both_bases, call_at, data_at, data_below, data_both, data_is, data_of_parts, data_with, data_within, first_of, found_back, found_front, home, label_at, label_found, lie, lies_after, lies_behind, lies_so, lies_within, new_base, no_bases, passed, then_bases, there_in, three_bases, with_base, within_at, written, HeldList, HeldOne, HeldWord}
+pub use Rattle.bk_simulation.proofs.Standing.{AreBelow, AreSet, Bases, DataIn, Follow, FollowWords, FoundParts, Home, Lies, Mean, IsNumbered, Suits, at_depth, base_both, bases_of, bases_paid, bases_so, bases_some, bases_under, bases_within, both_bases, call_at, data_at, data_below, data_both, data_is, data_of_parts, data_with, data_within, first_of, found_back, found_front, home, label_at, label_found, lie, lies_after, lies_behind, lies_so, lies_within, new_base, no_bases, passed, then_bases, there_in, three_bases, with_base, within_at, written, HeldList, HeldOne, HeldWord}
 pub use Rattle.bk_simulation.proofs.LaidExpressions.{Around, HasWords, InNames, around_deeper, call_lies, coded, constants_agree, infix_on, joined_choice, joined_three, joined_two, known, known_agree, leaf_lies, leaf_on, level, names_of, own_parts, plain_laid, pushed_depth, role, stands_agree, truth_depth}
 pub use Rattle.bk_simulation.proofs.Constants.{constant_small, words_bound, words_constant, words_globals, words_manifests, words_procedures, words_statics}

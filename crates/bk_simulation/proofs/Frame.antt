@@ -4,7 +4,7 @@ use Rattle.bk_meaning.specs.World as world
 use Rattle.bk_simulation.proofs.Moves.{Moves}
 use Rattle.bk_simulation.proofs.FramesKept.{AtMostFrames}
 use Rattle.bk_simulation.proofs.BytesKept.{AllBytes, InHand, HasBytes}
-use Rattle.bk_simulation.proofs.Memory.{Stands, Store, Grown, Moved, Fits, fits_more}
+use Rattle.bk_simulation.proofs.Memory.{Applies, Store, Grown, Moved, Fits, fits_more}
 use Rattle.bk_simulation.proofs.MadeObjects.{Since}
 pub use Rattle.bk_simulation.proofs.Laid.{place_of, IsWord, NameAt, NamedIn}
 use Rattle.bk_simulation.proofs.Laid.{Setting, Scene, goal_named, IsLabelHere}
@@ -84,8 +84,7 @@ pub data Comes (setting : Setting) : ℕ → ℕ → State → State → Type 0 
   go_on : (n p : ℕ) (s t u : State) → Moves setting.program s t → FewFrames setting t.cells t.frame setting.cap → Comes setting n p t u → Comes setting (suc n) (setting.pay + p) s u
 
 pub comes_on : (setting : Setting) (n p k q : ℕ) (s t u : State) → Comes setting n p s t → Comes setting k q t u → Comes setting (n + k) (p + q) s u
-comes_on setting n p k q s t u (here _) c =
-    let e : k ≡ 0 + k = omega arith in let f : q ≡ 0 + q = omega arith in subst (λ y. Comes setting (0 + k) y s u) f (subst (λ x. Comes setting x q s u) e c)
+comes_on setting n p k q s t u (here _) c = grind arith
 comes_on setting n p k q s t u (go_on j i _ v _ e r a) c =
     let x : suc (j + k) ≡ suc j + k = omega arith in
     let y : setting.pay + (i + q) ≡ setting.pay + i + q = omega arith in
@@ -277,7 +276,7 @@ there setting s B z c d w w1 a = state z.scene.own d c a.cells1 z.frame a.hand1 
 -- a value is on top
 pub record Has (setting : Setting) (s : State) (B : Account) (z : Configuration) (c : List Stmt) (d : ℕ) (w : World) (v : Value) (w1 : World) : Type 0 where
   pub arr : CompletedAt setting s B z c d w w1
-  pub stands : Stands setting.codes arr.bases1 v (content_of (arr.cells1 (z.frame + z.depth)))
+  pub stands : Applies setting.codes arr.bases1 v (content_of (arr.cells1 (z.frame + z.depth)))
 
 -- Where control is when a command or an expression was left: before the two statements that go to a label, at the LAB with a result in
 -- hand, or before a return.
@@ -294,7 +293,7 @@ Leads sc return c = (r : List Stmt) × (c ≡ Return ∷ r)
 
 -- a result is in hand for its VALOF
 abbrev pub Handed : Setting → List ℕ → Exit → Option Content → Type 0
-Handed setting bases (result v) h = (x : Content) × (h ≡ Some x) × Stands setting.codes bases v x
+Handed setting bases (result v) h = (x : Content) × (h ≡ Some x) × Applies setting.codes bases v x
 Handed setting bases _ h = Unit {0}
 
 -- steps that are still to be done there

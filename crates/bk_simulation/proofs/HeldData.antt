@@ -1,13 +1,13 @@
 -- The words of strings and tables are data of the program.
 use Rattle.bk_simulation.proofs.Words.{◌≡◌, ℕ, zero, suc, ◌+◌, ◌<◌, ◌≤◌, ◌^◌, List, [], ◌∷◌, ◌++◌, length, map, Option, Some, None, slice_get, drop, refl, sym, ap, ap₂, ◌∙◌, subst, arith, unwrap_or, signed, Expressions, Binding, constant_word, HaveWords, Placement, Placed, Program, Datum, item_words, datum_of, data_of, all_data, Stmt, DataNumber, worth, words_named, Named, constant_words, FRAME_WORDS, IsWellPlaced, ◌==◌, Bool, true, false, cond, eqb-true, is_in, DataLabel, DataAddress, word_code, Bound, words, option_map_or, RegularEach}
-use Rattle.bk_simulation.proofs.Forms.{same_number, get_first, with_names, InData, Agree, StandsAt, data_below, data_within, with_base, HasWords, constants_agree, constant_small, in_datum}
+use Rattle.bk_simulation.proofs.Forms.{same_number, get_first, with_names, InData, Agree, IsNumbered, data_below, data_within, with_base, HasWords, constants_agree, constant_small, in_datum}
 use Rattle.bk_tree.specs.Tree as t
 use Rattle.bk_scope.specs.declared.bound.Bound.TheVariants as b
 
 -- a place of a list behind others
-pub get_behind : {A : Type 0} (xs ys : List A) (i : ℕ) → slice_get (xs ++ ys) (length xs + i) ≡ slice_get ys i
-get_behind [] ys i = let e : 0 + i ≡ i = omega arith in ap (slice_get ys) e
-get_behind (x ∷ xs) ys i = let e : length (x ∷ xs) + i ≡ suc (length xs + i) = omega arith in ap (slice_get (x ∷ (xs ++ ys))) e ∙ get_behind xs ys i
+pub get_after : {A : Type 0} (xs ys : List A) (i : ℕ) → slice_get (xs ++ ys) (length xs + i) ≡ slice_get ys i
+get_after [] ys i = let e : 0 + i ≡ i = omega arith in ap (slice_get ys) e
+get_after (x ∷ xs) ys i = let e : length (x ∷ xs) + i ≡ suc (length xs + i) = omega arith in ap (slice_get (x ∷ (xs ++ ys))) e ∙ get_after xs ys i
 
 -- the one datum of a statement is among those of the section,
 datum_in : (places : Placement) (stmts : List Stmt) (i : ℕ) (s : Stmt) (rest : List Stmt) (d : Datum) → drop i stmts ≡ s ∷ rest → datum_of places s rest ≡ d ∷ [] → (j : ℕ) × (slice_get (data_of places stmts) j ≡ Some d)
@@ -16,7 +16,7 @@ datum_in places [] (suc i) s rest d e k = absurd (let h : [] ≡ s ∷ rest = e 
 datum_in places (x ∷ xs) zero s rest d e k = grind arith
 datum_in places (x ∷ xs) (suc i) s rest d e k =
     let h = datum_in places xs i s rest d e k in
-    (length (datum_of places x xs) + h.0, get_behind (datum_of places x xs) (data_of places xs) h.0 ∙ h.1)
+    (length (datum_of places x xs) + h.0, get_after (datum_of places x xs) (data_of places xs) h.0 ∙ h.1)
 
 -- and so of the program
 section_datum : (sections : List Placed) (k : ℕ) (own : Placed) (j : ℕ) (d : Datum) → slice_get sections k ≡ Some own → slice_get (data_of own.places own.stmts) j ≡ Some d → (i : ℕ) × (slice_get (all_data sections) i ≡ Some d)
@@ -26,14 +26,14 @@ section_datum (x ∷ xs) zero own j d e h =
     (j, get_first (data_of x.places x.stmts) (all_data xs) j d (ap (λ y. slice_get (data_of y.places y.stmts) j) same ∙ h))
 section_datum (x ∷ xs) (suc k) own j d e h =
     let r = section_datum xs k own j d e h in
-    (length (data_of x.places x.stmts) + r.0, get_behind (data_of x.places x.stmts) (all_data xs) r.0 ∙ r.1)
+    (length (data_of x.places x.stmts) + r.0, get_after (data_of x.places x.stmts) (all_data xs) r.0 ∙ r.1)
 
-pub statement_data : (program : Program) (section : ℕ) (own : Placed) (k : ℕ) (s : Stmt) (rest : List Stmt) (d : Datum) → slice_get program.sections section ≡ Some own → StandsAt own k (s ∷ rest) → datum_of own.places s rest ≡ d ∷ []
+pub statement_data : (program : Program) (section : ℕ) (own : Placed) (k : ℕ) (s : Stmt) (rest : List Stmt) (d : Datum) → slice_get program.sections section ≡ Some own → IsNumbered own k (s ∷ rest) → datum_of own.places s rest ≡ d ∷ []
     → InData program d.place d.words
 statement_data program section own k s rest d is st e = grind (arith, datum_in, section_datum)
 
 -- so its place lies below the first frame
-pub statement_below : (section : ℕ) (own : Placed) (k : ℕ) (s : Stmt) (rest : List Stmt) (d : Datum) → StandsAt own k (s ∷ rest) → datum_of own.places s rest ≡ d ∷ [] → (program : Program) (first : ℕ)
+pub statement_below : (section : ℕ) (own : Placed) (k : ℕ) (s : Stmt) (rest : List Stmt) (d : Datum) → IsNumbered own k (s ∷ rest) → datum_of own.places s rest ≡ d ∷ [] → (program : Program) (first : ℕ)
     → IsWellPlaced program first FRAME_WORDS → slice_get program.sections section ≡ Some own → d.place ≤ first
 statement_below section own k s rest d st e program first well is = data_below program first well d.place d.words (statement_data program section own k s rest d is st e)
 
@@ -81,8 +81,7 @@ datum_paid place (w ∷ ws) a = let h = place_in (record { place = place; words 
 pub words_paid : (own : Placed) (a n : ℕ) (ws us : List ℕ) (rest : List Stmt) → us ≡ ws → with_base a (words us ∷ []) (own.places.label n ∷ []) ≤ data_within own a (DataLabel n ∷ map (λ w. DataNumber (signed w)) ws) rest
 words_paid own a n ws [] rest e = omega arith
 words_paid own a n [] (u ∷ us) rest e = absurd (cc)
-words_paid own a n (w ∷ ws) (u ∷ us) rest e =
-    let h = place_in (record { place = own.places.label n; words = item_words own.places (map (λ v. DataNumber (signed v)) (w ∷ ws) ++ rest) }) a (omega arith) in omega (arith, h)
+words_paid own a n (w ∷ ws) (u ∷ us) rest e = grind (arith, place_in, words)
 
 -- the global of a procedure by what its name means
 abbrev pub bound_global : Bound → Option ℕ

@@ -1,6 +1,6 @@
 -- Where the code of each form is laid: of this expression or command, with these names in scope, from these statements on before
 -- those. A jump has its LAB, a string and a table their object, a call its place.
-use Rattle.bk_simulation.proofs.Words.{◌≡◌, ℕ, suc, ◌+◌, ◌-◌, ◌<◌, ◌≤◌, ◌^◌, Bool, true, false, not, List, [], ◌∷◌, ◌++◌, length, Option, Some, cond, FRAME_WORDS, first_bytes, signed, Operator, Expression, Expressions, Command, Commands, Declaration, Declarations, Definitions, Starts, Bound, Binding, bound_in, bind, labels_of_each, labels_in_scope, depth_behind, Placed, global_place, from_label, case_label, Program, Local, Global, Static, Case, Stmt, Number, Query, Load, Address, Text, Monadic, Dyadic, Assign, AssignAt, AssignByte, Jump, JumpIf, Label, GiveResult, TakeResult, Stack, Store, CallFunction, CallRoutine, Return, Switch, Finish, Goal, Around, Target, meant, goal_in, variable, push, infix_code, truth_value, go, test_of_step, valued, looping, switching, Environment, Sense, constant, cell, sense_of, constant_in, behind, past, past_each, past_command, past_definition, labelled, within_let, constants_declared, letters, objects_of_definitions, step_of, Sought, the_label, the_case, the_default, Mode, forwards, seeking, same_place, stands_in, stands_in_one, alone, IsWellPlaced, slice_get, take, drop}
+use Rattle.bk_simulation.proofs.Words.{◌≡◌, ℕ, suc, ◌+◌, ◌-◌, ◌<◌, ◌≤◌, ◌^◌, Bool, true, false, not, List, [], ◌∷◌, ◌++◌, length, Option, Some, cond, FRAME_WORDS, first_bytes, signed, Operator, Expression, Expressions, Command, Commands, Declaration, Declarations, Definitions, Starts, Bound, Binding, bound_in, bind, labels_of_each, labels_in_scope, depth_after, Placed, global_place, from_label, case_label, Program, Local, Global, Static, Case, Stmt, Number, Query, Load, Address, Text, Monadic, Dyadic, Assign, AssignAt, AssignByte, Jump, JumpIf, Label, GiveResult, TakeResult, Stack, Store, CallFunction, CallRoutine, Return, Switch, Finish, Goal, Around, Target, meant, goal_in, variable, push, infix_code, truth_value, go, test_of_step, valued, looping, switching, Environment, Sense, constant, cell, sense_of, constant_in, following, past, past_each, past_command, past_definition, labelled, within_let, constants_declared, letters, objects_of_definitions, step_of, Sought, the_label, the_case, the_default, Mode, forwards, seeking, same_place, has_place, one_has_place, alone, IsWellPlaced, slice_get, take, drop}
 use Rattle.bk_simulation.proofs.Terms.{Operator as o, Prefix as q, Simple as k, Bound as b, Variable, Variable as Named, Dyadic as two, Monadic as w}
 use Rattle.bk_tree.specs.Tree as t
 use Rattle.bk_meaning.specs.Environment as m
@@ -125,8 +125,8 @@ pub record LabelAt (setting : Setting) (sc : Scene) (depth label : ℕ) (rest : 
   pub is_own : slice_get setting.program.sections sc.section ≡ Some sc.own
   pub place : ℕ
   pub at : slice_get sc.own.stmts place ≡ Some (Label label)
-  pub same_depth : depth_behind 0 (take place sc.own.stmts) ≡ depth
-  pub behind : drop (suc place) sc.own.stmts ≡ rest
+  pub same_depth : depth_after 0 (take place sc.own.stmts) ≡ depth
+  pub following : drop (suc place) sc.own.stmts ≡ rest
   pub found : from_label sc.own.stmts label ≡ Some (Label label ∷ rest)
 
 -- a call, with these statements behind it
@@ -134,7 +134,7 @@ pub record CallAt (setting : Setting) (sc : Scene) (call : Stmt) (rest : List St
   pub is_own : slice_get setting.program.sections sc.section ≡ Some sc.own
   pub place : ℕ
   pub at : slice_get sc.own.stmts place ≡ Some call
-  pub behind : drop (suc place) sc.own.stmts ≡ rest
+  pub following : drop (suc place) sc.own.stmts ≡ rest
 
 abbrev pub count : Expressions → ℕ
 count t.none = 0
@@ -178,9 +178,9 @@ PlaceOf setting sc d here inner at c =
 abbrev pub OneScope : Setting → Scene → ℕ → Environment → Command → ℕ → ((Sought → List Stmt) → List Stmt → Type 0) → List Stmt → Type 0
 OneScope setting sc d env a j inner rest =
     (at : Sought → List Stmt)
-    × ((c1 : List Stmt) × (at1 at2 : Sought → List Stmt) × inner at1 c1 × (c1 ≡ rest) × ((s : Sought) → at s ≡ cond (stands_in s (labelled (alone a) env) a) (at1 s) (at2 s)))
+    × ((c1 : List Stmt) × (at1 at2 : Sought → List Stmt) × inner at1 c1 × (c1 ≡ rest) × ((s : Sought) → at s ≡ cond (has_place s (labelled (alone a) env) a) (at1 s) (at2 s)))
     × (turns_through false (alone a) ≤ setting.pay)
-    × ((x : List ℕ) → stands_in_one (the_label x) env (alone a) ≡ true → LeadsTo (owning j (alone a) sc) d x (at (the_label x)))
+    × ((x : List ℕ) → one_has_place (the_label x) env (alone a) ≡ true → LeadsTo (owning j (alone a) sc) d x (at (the_label x)))
 
 -- statements, and those behind them
 pub record Stretch : Type 0 where
@@ -278,7 +278,7 @@ abbrev mutual
   IsAct setting sc d env (t.test l e x y) at c rest =
       (n n1 : ℕ) × (c1 c2 : List Stmt) × (at1 at2 : Sought → List Stmt) × IsCode setting sc d env (jumps false n) e c c1 × IsAct setting sc d (past e env) x at1 c1 (Jump n1 ∷ Label n ∷ c2)
       × IsAct setting sc d (past_command x (past e env)) y at2 c2 (Label n1 ∷ rest) × LabelAt setting sc d n c2 × LabelAt setting sc d n1 rest
-      × ((s : Sought) → at s ≡ cond (stands_in s env x) (at1 s) (at2 s))
+      × ((s : Sought) → at s ≡ cond (has_place s env x) (at1 s) (at2 s))
   IsAct setting sc d env (t.while l u e a) at c rest =
       (n n1 n2 : ℕ) × (body test : List Stmt) × (c ≡ Jump n ∷ Label n1 ∷ body) × IsAct setting (in_loop n n2 d sc) d (past e env) a at body (Label n ∷ test)
       × IsCode setting sc d env (jumps u n1) e test (Label n2 ∷ rest) × LabelAt setting sc d n test × LabelAt setting sc d n1 body × LabelAt setting sc d n2 rest
@@ -296,9 +296,9 @@ abbrev mutual
       × (d + 2 ≤ FRAME_WORDS) × (suc (turns_in false e) ≤ setting.pay) × (k < 2 ^ 32)
   IsAct setting sc d env (t.switch l e a) at c rest =
       (n other : ℕ) × (cs : List Case) × (c1 : List Stmt) × IsCode setting sc d env pushes e c (Switch other cs ∷ c1) × IsAct setting (in_switch n d sc) d (past e env) a at c1 (Label n ∷ rest) × LabelAt setting sc d n rest
-      × ((w : ℕ) → stands_in (the_case (Some w)) (past e env) a ≡ true → from_label sc.own.stmts (case_label cs other w) ≡ Some (at (the_case (Some w))))
-      × ((w : ℕ) → stands_in (the_case (Some w)) (past e env) a ≡ false → stands_in the_default (past e env) a ≡ true → from_label sc.own.stmts (case_label cs other w) ≡ Some (at the_default))
-      × ((w : ℕ) → stands_in (the_case (Some w)) (past e env) a ≡ false → stands_in the_default (past e env) a ≡ false → case_label cs other w ≡ n)
+      × ((w : ℕ) → has_place (the_case (Some w)) (past e env) a ≡ true → from_label sc.own.stmts (case_label cs other w) ≡ Some (at (the_case (Some w))))
+      × ((w : ℕ) → has_place (the_case (Some w)) (past e env) a ≡ false → has_place the_default (past e env) a ≡ true → from_label sc.own.stmts (case_label cs other w) ≡ Some (at the_default))
+      × ((w : ℕ) → has_place (the_case (Some w)) (past e env) a ≡ false → has_place the_default (past e env) a ≡ false → case_label cs other w ≡ n)
   IsAct setting sc d env (t.result l e) at c rest =
       (to : List Stmt) × IsCode setting sc d env pushes e c (GiveResult sc.around.valof ∷ rest) × (from_label sc.own.stmts sc.around.valof ≡ Some to)
   IsAct setting sc d env (t.simple l k.Break) at c rest = (c ≡ go sc.around.leaves d ++ rest) × (sc.exits.loop ≡ true)
@@ -310,7 +310,7 @@ abbrev mutual
   IsAct setting sc d env (t.block l (t.declare h hs) cs) at c rest =
       IsOneDeclared setting sc d env h (λ sc0 d0 env0 c0. AreDeclared setting sc0 d0 env0 hs (λ sc1 d1 env1 c1.
       (j : ℕ) × (at1 : Sought → List Stmt) × AreActs setting (owning j cs sc1) d1 (labelled cs env1) cs at1 c1 (Stack d ∷ rest) × (turns_through false cs ≤ setting.pay)
-      × ((x : List ℕ) → stands_in_one (the_label x) env1 cs ≡ true → LeadsTo (owning j cs sc1) d1 x (at1 (the_label x)))) c0) c
+      × ((x : List ℕ) → one_has_place (the_label x) env1 cs ≡ true → LeadsTo (owning j cs sc1) d1 x (at1 (the_label x)))) c0) c
   IsAct setting sc d env (t.repeat l a) at c rest =
       (n n1 : ℕ) × (body : List Stmt) × (c ≡ Label n ∷ body) × IsAct setting (in_loop n n1 d sc) d env a at body (Jump n ∷ Label n1 ∷ rest) × LabelAt setting sc d n body × LabelAt setting sc d n1 rest
       × (suc (turns_in false a) ≤ setting.pay)
@@ -324,7 +324,7 @@ abbrev mutual
   AreActs setting sc d env t.no_commands at c rest = c ≡ rest
   AreActs setting sc d env (t.also a cs) at c rest =
       (c1 : List Stmt) × (at1 at2 : Sought → List Stmt) × IsAct setting sc d env a at1 c c1 × AreActs setting sc d (past_command a env) cs at2 c1 rest
-      × ((s : Sought) → at s ≡ cond (stands_in s env a) (at1 s) (at2 s))
+      × ((s : Sought) → at s ≡ cond (has_place s env a) (at1 s) (at2 s))
 
   -- declarations, with what is laid behind them
   pub AreDeclared : Setting → Scene → ℕ → Environment → Declarations → (Scene → ℕ → Environment → List Stmt → Type 0) → List Stmt → Type 0
@@ -336,9 +336,9 @@ abbrev mutual
       (bs : List Binding) × Renames setting sc env bs (constants_declared s is env) × then (record sc { bindings = bs }) d (constants_declared s is env) c
   IsOneDeclared setting sc d env (t.definitions l ds) then c =
       (bl bs : List Binding) × (d1 : ℕ) × (ps : List Spot) × (c1 c2 : List Stmt) × Renames setting sc env bl (within_let ds env)
-      × RenamesVariables sc bl (within_let ds env) bs ps (behind (objects_of_definitions ds) (within_let ds env))
+      × RenamesVariables sc bl (within_let ds env) bs ps (following (objects_of_definitions ds) (within_let ds env))
       × AreDefined setting (record sc { bindings = bl }) d (within_let ds env) ds c c1 d1 ps × (c1 ≡ cond (defines_variables ds) (Store ∷ c2) c2) × (d1 ≤ FRAME_WORDS)
-      × ((o : ℕ) → 0 < o → then (record sc { bindings = bs }) d1 (variables_bound o ps (behind (objects_of_definitions ds) (within_let ds env))) c2)
+      × ((o : ℕ) → 0 < o → then (record sc { bindings = bs }) d1 (variables_bound o ps (following (objects_of_definitions ds) (within_let ds env))) c2)
 
   -- the definitions of a LET: up to this depth, with variables in these slots
   pub AreDefined : Setting → Scene → ℕ → Environment → Definitions → List Stmt → List Stmt → ℕ → List Spot → Type 0
@@ -372,7 +372,7 @@ IsJump setting sc d env e u n c rest = IsCode setting sc d env (jumps u n) e c r
 abbrev pub IsScopeAt : Setting → Scene → ℕ → Environment → Commands → ℕ → (Sought → List Stmt) → List Stmt → List Stmt → Type 0
 IsScopeAt setting sc d env cs j at c rest =
     AreActs setting (owning j cs sc) d (labelled cs env) cs at c rest × (turns_through false cs ≤ setting.pay)
-    × ((x : List ℕ) → stands_in_one (the_label x) env cs ≡ true → LeadsTo (owning j cs sc) d x (at (the_label x)))
+    × ((x : List ℕ) → one_has_place (the_label x) env cs ≡ true → LeadsTo (owning j cs sc) d x (at (the_label x)))
 
 abbrev pub IsScope : Setting → Scene → ℕ → Environment → Commands → ℕ → List Stmt → List Stmt → Type 0
 IsScope setting sc d env cs j c rest = (at : Sought → List Stmt) × IsScopeAt setting sc d env cs j at c rest
@@ -391,19 +391,19 @@ IsLoop setting sc d env _ at body rest = ⊥
 
 -- what a loop has in it, and the environment there
 abbrev pub stands_in_body : Sought → Environment → Command → Bool
-stands_in_body s env (t.while l u e a) = stands_in s (past e env) a
-stands_in_body s env (t.repeat l a) = stands_in s env a
-stands_in_body s env (t.repeat_while l u a e) = stands_in s env a
+stands_in_body s env (t.while l u e a) = has_place s (past e env) a
+stands_in_body s env (t.repeat l a) = has_place s env a
+stands_in_body s env (t.repeat_while l u a e) = has_place s env a
 stands_in_body s env _ = false
 
 -- where a command, commands and a loop's body are entered
 abbrev pub Entered : Mode → Environment → Command → (Sought → List Stmt) → List Stmt → List Stmt → Type 0
 Entered forwards env x at c e = e ≡ c
-Entered (seeking s) env x at c e = (stands_in s env x ≡ true) × (e ≡ at s)
+Entered (seeking s) env x at c e = (has_place s env x ≡ true) × (e ≡ at s)
 
 abbrev pub EnteredAny : Mode → Environment → Commands → (Sought → List Stmt) → List Stmt → List Stmt → Type 0
 EnteredAny forwards env cs at c e = e ≡ c
-EnteredAny (seeking s) env cs at c e = (stands_in_one s env cs ≡ true) × (e ≡ at s)
+EnteredAny (seeking s) env cs at c e = (one_has_place s env cs ≡ true) × (e ≡ at s)
 
 abbrev pub EnteredBody : Mode → Environment → Command → (Sought → List Stmt) → List Stmt → List Stmt → Type 0
 EnteredBody forwards env x at c e = e ≡ c

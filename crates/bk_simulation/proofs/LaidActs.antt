@@ -1,8 +1,8 @@
 -- A FOR is laid where the scheme puts it, where its body is. Each command of an accepted section is laid where the scheme puts it. That VALOFs and blocks
 -- with declarations are is taken here as an argument.
 use Rattle.bk_simulation.proofs.LaidProcedures.{all_passed}
-use Rattle.bk_simulation.proofs.Words.{◌-◌, Placed, Environment, Goal, go, ◌≡◌, ℕ, ◌+◌, ◌<◌, ◌≤◌, ◌^◌, Bool, true, false, List, [], ◌∷◌, ◌++◌, length, Some, cond, refl, sym, ap, ap₂, ◌∙◌, subst, arith, int_lt, pos, signed, Expressions, Command, Commands, Declaration, Declarations, Enclosing, Binding, bind, labels_of, deeper, labels_in_scope, SoundDone, HaveWords, Spot, next_depth, Local, Stmt, Number, Load, Dyadic, Assign, Jump, JumpIf, Label, Stack, Store, labels, term_named, command_named, worth, step_named, parts, parts_in, value_code, command_code, test_of_step, Named, objects, objects_of_command, cell, foreign, step_of, of_command, in_scope, not, suc, false≢true, bytes_eq, size, bound_in, constant_word, SoundDoneEach, Sound, from_label, GiveResult, CallRoutine, Switch, Return, Finish, TakeResult, labels_if, labels_onto, labels_in, meant, condition_named, lvalues_named, commands_named, parts_if, parts_onto, parts_through, goal_in, jump_code, through_code, cases, default_in, label_or, valued, objects_of_each, objects_of_commands, constant_in, the_label, the_case, the_default, same_place, stands_in, of_commands, Sought, RegularEach, RegularCommand, RegularCommands, Regular, Simple}
-use Rattle.bk_simulation.proofs.Forms.{at_depth, turns_in, in_light, turns_through, of_light, turns_of, with_names, IsAct, Setting, Scene, in_loop, pushes, IsAlone, in_switch, jumps, count, IsLabelHere, AreActs, in_valof, Aim, ending, bound_named, Agree, own_cell, agree_bound, there_in, bases_under, StandsAt, passed, label_at, home, three_bases, bases_so, Lies, written, call_at, label_found, Bases, no_bases, both_bases, lies_so, lie, lies_within, data_at, FoundParts, found_front, found_back, lies_after, constant_small, HasWords, around_deeper, constants_agree, InNames, joined_choice, known, known_agree, names_of, stands_agree, joined_two, joined_three, role, Around, call_lies, plain_laid}
+use Rattle.bk_simulation.proofs.Words.{◌-◌, Placed, Environment, Goal, go, ◌≡◌, ℕ, ◌+◌, ◌<◌, ◌≤◌, ◌^◌, Bool, true, false, List, [], ◌∷◌, ◌++◌, length, Some, cond, refl, sym, ap, ap₂, ◌∙◌, subst, arith, int_lt, pos, signed, Expressions, Command, Commands, Declaration, Declarations, Enclosing, Binding, bind, labels_of, deeper, labels_in_scope, SoundDone, HaveWords, Spot, next_depth, Local, Stmt, Number, Load, Dyadic, Assign, Jump, JumpIf, Label, Stack, Store, labels, term_named, command_named, worth, step_named, parts, parts_in, value_code, command_code, test_of_step, Named, objects, objects_of_command, cell, foreign, step_of, of_command, in_scope, not, suc, false≢true, bytes_eq, size, bound_in, constant_word, SoundDoneEach, Sound, from_label, GiveResult, CallRoutine, Switch, Return, Finish, TakeResult, labels_if, labels_onto, labels_in, meant, condition_named, lvalues_named, commands_named, parts_if, parts_onto, parts_through, goal_in, jump_code, through_code, cases, default_in, label_or, valued, objects_of_each, objects_of_commands, constant_in, the_label, the_case, the_default, same_place, has_place, of_commands, Sought, RegularEach, RegularCommand, RegularCommands, Regular, Simple}
+use Rattle.bk_simulation.proofs.Forms.{at_depth, turns_in, in_light, turns_through, of_light, turns_of, with_names, IsAct, Setting, Scene, in_loop, pushes, IsAlone, in_switch, jumps, count, IsLabelHere, AreActs, in_valof, Aim, ending, bound_named, Agree, own_cell, agree_bound, there_in, bases_under, IsNumbered, passed, label_at, home, three_bases, bases_so, Lies, written, call_at, label_found, Bases, no_bases, both_bases, lies_so, lie, lies_within, data_at, FoundParts, found_front, found_back, lies_after, constant_small, HasWords, around_deeper, constants_agree, InNames, joined_choice, known, known_agree, names_of, stands_agree, joined_two, joined_three, role, Around, call_lies, plain_laid}
 use Rattle.bk_simulation.proofs.LaidAssigned.{Doing, finds_nothing, Done, words_labels, words_variable, alone_lies, doing_loop, doing_switch, Leads, finds_case, finds_both, switch_chosen, switch_default, switch_none, DoneEach, leads_label, either_leads, same_letters, label_ahead, turns_lie, laid_froms, laid_stores, FindsEach}
 use Rattle.bk_simulation.proofs.LaidValues.{ValofsLie, laid_code, laid_each, CodeLies}
 use Rattle.bk_tree.specs.Tree as t
@@ -12,7 +12,7 @@ use Rattle.bk_scope.specs.Spots as spot
 
 -- the code of a command is laid from statements on before those
 abbrev pub ActLies : ℕ → Scene → Enclosing → Spot → ℕ → Command → ℕ → ℕ → List Stmt → List Stmt → Type 0
-ActLies pay sc p s i x d n c rest = (f : FoundParts sc.own sc.targets (parts_in d n (command_named sc.bindings p s x))) → c ≡ command_code sc.targets sc.around d n (command_named sc.bindings p s x) ++ rest → StandsAt sc.own d c
+ActLies pay sc p s i x d n c rest = (f : FoundParts sc.own sc.targets (parts_in d n (command_named sc.bindings p s x))) → c ≡ command_code sc.targets sc.around d n (command_named sc.bindings p s x) ++ rest → IsNumbered sc.own d c
     → Done pay sc i x d n (command_named sc.bindings p s x) c rest f
 
 -- the step of a FOR
@@ -31,13 +31,13 @@ test_in d false = omega arith
 -- ---- Commands of one word are laid where the scheme puts them.
 
 -- a jump to another depth
-gone : (own : Placed) (d : ℕ) (to : Goal) (c rest : List Stmt) → c ≡ go to d ++ rest → StandsAt own d c → StandsAt own d rest
+gone : (own : Placed) (d : ℕ) (to : Goal) (c rest : List Stmt) → c ≡ go to d ++ rest → IsNumbered own d c → IsNumbered own d rest
 gone own d to c rest k st =
     let s1 = passed own d to.depth (Stack to.depth) (Jump to.label ∷ Stack d ∷ rest) (written own d c (Stack to.depth ∷ Jump to.label ∷ Stack d ∷ rest) k st) refl in
     passed own to.depth d (Stack d) rest (passed own to.depth to.depth (Jump to.label) (Stack d ∷ rest) s1 refl) refl
 
 -- a command of one word
-one_word : (pay : ℕ) (sc : Scene) (p : Enclosing) (s : Spot) (i l : ℕ) (x : Simple) (d n : ℕ) (c rest : List Stmt) {f : FoundParts sc.own sc.targets (parts_in d n (command_named sc.bindings p s (t.simple l x)))} → StandsAt sc.own d rest
+one_word : (pay : ℕ) (sc : Scene) (p : Enclosing) (s : Spot) (i l : ℕ) (x : Simple) (d n : ℕ) (c rest : List Stmt) {f : FoundParts sc.own sc.targets (parts_in d n (command_named sc.bindings p s (t.simple l x)))} → IsNumbered sc.own d rest
     → ((q : ℕ) → data_at sc.own q rest ≤ data_at sc.own q c)
     → ((setting : Setting) (env : Environment) → IsAct setting sc d env (t.simple l x) (λ y. rest) c rest) → Done pay sc i (t.simple l x) d n (command_named sc.bindings p s (t.simple l x)) c rest f
 one_word pay sc p s i l x d n c rest on less laid = record {
@@ -74,7 +74,7 @@ mutual
   laid_act pay valofs blocks sc p s i (t.assign l xs es) d n c rest a h r m f k st =
       let lx = lvalues_named sc.bindings (deeper 1 p) s xs in
       let j = i + objects_of_each xs in
-      let u = spot.behind_each xs s in
+      let u = spot.after_each xs s in
       let stores = laid_stores pay valofs sc p s i xs d n a.around h.0 r.1 (omega arith) (found_front sc.own sc.targets (parts_onto (d + 1) n lx) _ f) in
       let froms = laid_froms pay valofs sc p u j es d (n + labels_onto lx) st.shallow a.around h.1 r.2 (omega arith) (found_back sc.own sc.targets (parts_onto (d + 1) n lx) _ f) in
       let x = turns_lie pay sc p p s u i j xs es d n (n + labels_onto lx) c rest (found_front sc.own sc.targets (parts_onto (d + 1) n lx) _ f) (found_back sc.own sc.targets (parts_onto (d + 1) n lx) _ f) r.0 stores froms k st in
@@ -84,7 +84,7 @@ mutual
         finds = finds_nothing sc.own sc.targets sc.bindings d _;
       }
   laid_act pay valofs blocks sc p s i (t.call l e es) d n c rest a h r m f k st =
-      let s1 : Spot = spot.behind e s in
+      let s1 : Spot = spot.following e s in
       let z : Enclosing = deeper (size es + 2) p in
       let g1 = call_lies pay sc p s s1 i (CallRoutine d) e es d n c rest a.around f k st
       (λ c1 c2 b0 f0 k0 st0. laid_each pay valofs sc (deeper 2 p) s1 (i + objects e) es (d + 2) (n + labels (term_named sc.bindings z s e)) c1 c2 b0 h.1 r.1 (omega arith) f0 k0 st0)
@@ -112,7 +112,7 @@ mutual
         at = λ y. cond (same_place y (the_label x)) c (done.at y);
         lies = lies_after _ refl (lies_within (λ q. let e0 = ap (data_at sc.own q) k in omega (arith, e0)) (lies_so (home sc pay) _ (λ g z v ns u. (n, c1, done.at, k, v ns u, label_at g sc d n c1 z.own st0, (λ y. refl))) done.lies));
         finds = record {
-          labels = λ y e. either_leads sc.own sc.targets sc.bindings d y (bytes_eq y x) (stands_in (the_label y) (known sc.bindings) a0) c (done.at (the_label y))
+          labels = λ y e. either_leads sc.own sc.targets sc.bindings d y (bytes_eq y x) (has_place (the_label y) (known sc.bindings) a0) c (done.at (the_label y))
               (λ same. subst (λ z. Leads sc.own sc.targets sc.bindings d z c) (sym (same_letters y x same)) own_leads) (fd.labels y) e;
           chosen = fd.chosen;
           others = fd.others;
@@ -121,7 +121,7 @@ mutual
         };
       }
   laid_act pay valofs blocks sc p s i (t.case_of l e a0) d n c rest a h r m f k st =
-      let s1 : Spot = spot.behind_constant e (spot.past 1 s) in
+      let s1 : Spot = spot.after_constant e (spot.past 1 s) in
       let k0 = command_named sc.bindings p s1 a0 in
       let c1 = command_code sc.targets sc.around d (n + 1) k0 ++ rest in
       let st0 = written sc.own d c (Label n ∷ c1) k st in
@@ -146,7 +146,7 @@ mutual
         finds = record { labels = fd.labels; chosen = fd.chosen; others = fd.others; default = λ e0. (n, refl, label_found sc.own d n c1 st0 ∙ ap Some (sym k)); no_default = λ e0. absurd (false≢true (sym e0)) };
       }
   laid_act pay valofs blocks sc p s i (t.when l v e a0) d n c rest a h r m f k st =
-      let s1 : Spot = spot.behind e s in
+      let s1 : Spot = spot.following e s in
       let ce = condition_named sc.bindings p s e in
       let k0 = command_named sc.bindings p s1 a0 in
       let n0 = n + 1 + labels_if ce in
@@ -163,8 +163,8 @@ mutual
         finds = record { labels = fd.labels; chosen = fd.chosen; others = fd.others; default = fd.default; no_default = fd.no_default };
       }
   laid_act pay valofs blocks sc p s i (t.test l e x y) d n c rest a h r m f k st =
-      let s1 : Spot = spot.behind e s in
-      let s2 : Spot = spot.behind_done x s1 in
+      let s1 : Spot = spot.following e s in
+      let s2 : Spot = spot.after_done x s1 in
       let ce = condition_named sc.bindings p s e in
       let kx = command_named sc.bindings p s1 x in
       let ky = command_named sc.bindings p s2 y in
@@ -182,7 +182,7 @@ mutual
       let dy = laid_act pay valofs blocks sc p s2 (i + objects e + objects_of_command x) y d ny c2 (Label (n + 1) ∷ rest) a h.2 r.2 (omega arith) (found_back sc.own sc.targets (parts_if d (n + 2) ce ++ parts_in d nx kx) _ f) refl
       (passed sc.own d d (Label n) c2 sn refl) in
       record {
-        at = λ z. cond (stands_in z (known sc.bindings) x) (dx.at z) (dy.at z);
+        at = λ z. cond (has_place z (known sc.bindings) x) (dx.at z) (dy.at z);
         lies = lie (passed sc.own d d (Label (n + 1)) rest dy.lies.on refl)
             (bases_so (home sc pay) _ (λ g z v ns u. (
               n,
@@ -202,7 +202,7 @@ mutual
         finds = finds_both sc.own sc.targets sc.bindings d _ _ _ _ _ _ dx.at dy.at dx.finds dy.finds;
       }
   laid_act pay valofs blocks sc p s i (t.while l v e a0) d n c rest a h r m f k st =
-      let s1 : Spot = spot.behind e s in
+      let s1 : Spot = spot.following e s in
       let p1 : Enclosing = place.looping p in
       let ce = condition_named sc.bindings p s e in
       let inside : Scene = in_loop n (n + 2) d sc in
@@ -240,8 +240,8 @@ mutual
         finds = record { labels = fd.labels; chosen = fd.chosen; others = fd.others; default = fd.default; no_default = fd.no_default };
       }
   laid_act pay valofs blocks sc p s i (t.for_loop l x a1 b1 h1 a0) d n c rest a h r m f k st =
-      let sb : Spot = spot.behind a1 s in
-      let u0 : Spot = spot.onward (spot.symbols_each h1) 0 (spot.behind b1 sb) in
+      let sb : Spot = spot.following a1 s in
+      let u0 : Spot = spot.onward (spot.symbols_each h1) 0 (spot.following b1 sb) in
       let pb : Enclosing = deeper 1 p in
       let p1 : Enclosing = place.labelled u0.number (place.looping (deeper 2 p)) in
       let s1 : Spot = spot.numbered (1 + length (labels_of a0)) u0 in
@@ -322,7 +322,7 @@ mutual
         finds = finds_nothing sc.own sc.targets sc.bindings d _;
       }
   laid_act pay valofs blocks sc p s i (t.switch l e a0) d n c rest a h r m f k st =
-      let s1 : Spot = spot.behind e s in
+      let s1 : Spot = spot.following e s in
       let p1 : Enclosing = place.switching s1.number p in
       let s2 : Spot = spot.numbered 1 s1 in
       let te = term_named sc.bindings p s e in
@@ -404,7 +404,7 @@ mutual
       let p1 : Enclosing = place.looping p in
       let inside : Scene = in_loop (n + 1) (n + 2) d sc in
       let k0 = command_named sc.bindings p1 s a0 in
-      let s1 : Spot = spot.behind_done a0 s in
+      let s1 : Spot = spot.after_done a0 s in
       let ce = condition_named sc.bindings p s1 e in
       let ne = n + 3 + labels_in k0 in
       let code = command_code sc.targets inside.around d (n + 3) k0 in
@@ -440,7 +440,7 @@ mutual
       }
 
   pub laid_acts : (pay : ℕ) (valofs : ValofsLie pay) (blocks : BlocksLie pay) (sc : Scene) (p : Enclosing) (s : Spot) (i : ℕ) (cs : Commands) (d n : ℕ) (c rest : List Stmt) → Doing sc p d → SoundDoneEach sc.bindings p s cs → RegularCommands cs → turns_through true cs ≤ pay
-      → (f : FoundParts sc.own sc.targets (parts_through d n (commands_named sc.bindings p s cs))) → c ≡ through_code sc.targets sc.around d n (commands_named sc.bindings p s cs) ++ rest → StandsAt sc.own d c
+      → (f : FoundParts sc.own sc.targets (parts_through d n (commands_named sc.bindings p s cs))) → c ≡ through_code sc.targets sc.around d n (commands_named sc.bindings p s cs) ++ rest → IsNumbered sc.own d c
       → DoneEach pay sc i cs d n (commands_named sc.bindings p s cs) c rest f
   laid_acts pay valofs blocks sc p s i t.no_commands d n c rest a h r m f k st = record {
     at = λ y. rest;
@@ -449,7 +449,7 @@ mutual
   }
   laid_acts pay valofs blocks sc p s i (t.also x cs) d n c rest a h r m f k st =
       let k0 = command_named sc.bindings p s x in
-      let s1 : Spot = spot.behind_done x s in
+      let s1 : Spot = spot.after_done x s in
       let ks = commands_named sc.bindings p s1 cs in
       let code = command_code sc.targets sc.around d n k0 in
       let codes = through_code sc.targets sc.around d (n + labels_in k0) ks in
@@ -457,7 +457,7 @@ mutual
       let dx = laid_act pay valofs blocks sc p s i x d n c c1 a h.0 r.0 (omega arith) (found_front sc.own sc.targets (parts_in d n k0) _ f) (joined_two code codes rest c k) st in
       let ds = laid_acts pay valofs blocks sc p s1 (i + objects_of_command x) cs d (n + labels_in k0) c1 rest a h.1 r.1 (omega arith) (found_back sc.own sc.targets (parts_in d n k0) _ f) refl dx.lies.on in
       record {
-        at = λ z. cond (stands_in z (known sc.bindings) x) (dx.at z) (ds.at z);
+        at = λ z. cond (has_place z (known sc.bindings) x) (dx.at z) (ds.at z);
         lies = lie ds.lies.on
             (bases_so (home sc pay) _ (λ g z v ns u. (c1, dx.at, ds.at, v.0 ns u, v.1 ns u, (λ w0. ap (λ q0. cond q0 (dx.at w0) (ds.at w0)) (sym (stands_agree w0 ns sc.bindings i u x)))))
             (both_bases (home sc pay) i (objects_of_command x) (objects_of_commands cs) (parts_in d n k0) f _ _ dx.lies.objects_are ds.lies.objects_are))

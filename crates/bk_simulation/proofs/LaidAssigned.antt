@@ -1,7 +1,7 @@
 -- What the static side of commands needs: which exits there are, where labels, CASEs and DEFAULTs are found, and scopes. An assignment is laid where the
 -- scheme puts it: its values, and where they are stored, by turns.
-use Rattle.bk_simulation.proofs.Words.{◌≡◌, ℕ, suc, ◌+◌, ◌<◌, ◌≤◌, ◌^◌, ◌==◌, Bool, true, false, ◌||◌, List, [], ◌∷◌, ◌++◌, length, Option, Some, None, cond, refl, sym, ap, ◌∙◌, subst, arith, append_assoc, append-nil, drop, if◌then◌else◌, eqb-true, eq-eqb, ne_eqb, false≢true, bytes_eq-Decides, bytes_eq, signed, Expressions, Command, Commands, Enclosing, Binding, bound_in, bind, labels_of, labels_of_each, labels_in_scope, GoesTo, Placed, from_label, case_label, Case, Stmt, Label, label_has_one_place, Goal, Target, NamedCommand, NamedCommands, meant, worth, target_of_label, goal_in, cases, cases_through, default_in, default_through, first_of, label_or, Named, Sense, label, bind_each, labelled, objects_of_each, objects_of_command, objects_of_commands, Sought, the_label, the_case, the_default, same_place, stands_in, stands_in_one, alone, AllFound, of_each, of_command, of_commands, in_scope, FRAME_WORDS, at_expression, size, Destination, deeper, SoundEach, SoundDestinations, Spot, labels, labels_at, term_named, terms_named, lvalue_named, lvalues_named, parts, parts_at, parts_onto, parts_from, value_code, store_code, value_codes, store_codes, by_turns, objects, of_expression, Part, parts_in, parts_through, or_parts, RegularEach}
-use Rattle.bk_simulation.proofs.Forms.{words_bound, turns_in, turns_among, same_number, with_names, label_stands, Scene, in_loop, in_switch, owning, Stretch, ByTurns, AreFrom, AreStores, AreActs, IsAct, IsAlone, pushes, IsCode, IsStore, labels_named, Agree, agree_bound, there_in, bases_under, bases_of, StandsAt, first_of as first_at, home, Bases, bases_so, Lies, written, no_bases, both_bases, lie, data_at, FoundParts, found_front, found_back, HasWords, Around, known, InNames, around_deeper, joined_three}
+use Rattle.bk_simulation.proofs.Words.{◌≡◌, ℕ, suc, ◌+◌, ◌<◌, ◌≤◌, ◌^◌, ◌==◌, Bool, true, false, ◌||◌, List, [], ◌∷◌, ◌++◌, length, Option, Some, None, cond, refl, sym, ap, ◌∙◌, subst, arith, append_assoc, append-nil, drop, if◌then◌else◌, eqb-true, eq-eqb, ne_eqb, false≢true, bytes_eq-Decides, bytes_eq, signed, Expressions, Command, Commands, Enclosing, Binding, bound_in, bind, labels_of, labels_of_each, labels_in_scope, GoesTo, Placed, from_label, case_label, Case, Stmt, Label, label_has_one_place, Target, NamedCommand, NamedCommands, meant, worth, target_of_label, goal_in, cases, cases_through, default_in, default_through, first_of, label_or, Named, Sense, label, bind_each, labelled, objects_of_each, objects_of_command, objects_of_commands, Sought, the_label, the_case, the_default, same_place, has_place, one_has_place, alone, AllFound, of_each, of_command, of_commands, in_scope, FRAME_WORDS, at_expression, size, Destination, deeper, SoundEach, SoundDestinations, Spot, labels, labels_at, term_named, terms_named, lvalue_named, lvalues_named, parts, parts_at, parts_onto, parts_from, value_code, store_code, value_codes, store_codes, by_turns, objects, of_expression, Part, parts_in, parts_through, or_parts, RegularEach}
+use Rattle.bk_simulation.proofs.Forms.{words_bound, turns_in, turns_among, same_number, with_names, label_stands, Scene, in_loop, in_switch, owning, Stretch, ByTurns, AreFrom, AreStores, AreActs, IsAct, IsAlone, pushes, IsCode, IsStore, labels_named, Agree, agree_bound, there_in, bases_under, bases_of, IsNumbered, first_of as first_at, home, Bases, bases_so, Lies, written, no_bases, both_bases, lie, data_at, FoundParts, found_front, found_back, HasWords, Around, known, InNames, around_deeper, joined_three}
 use Rattle.bk_simulation.proofs.LaidValues.{ValofsLie, laid_code, laid_store}
 use Rattle.bk_scope.specs.declared.bound.Bound.TheVariants as b
 use Rattle.bk_scope.specs.Places as place
@@ -28,10 +28,10 @@ pub record Findable (own : Placed) (ts : List Target) (bs : List Binding) (d : �
   pub no_default : stands the_default ≡ false → other ≡ None
 
 abbrev pub Finds : Placed → List Target → List Binding → ℕ → Command → ℕ → NamedCommand → (Sought → List Stmt) → Type 0
-Finds own ts bs d a n k at = Findable own ts bs d (λ s. stands_in s (known bs) a) (cases n k) (default_in n k) at
+Finds own ts bs d a n k at = Findable own ts bs d (λ s. has_place s (known bs) a) (cases n k) (default_in n k) at
 
 abbrev pub FindsEach : Placed → List Target → List Binding → ℕ → Commands → ℕ → NamedCommands → (Sought → List Stmt) → Type 0
-FindsEach own ts bs d a n k at = Findable own ts bs d (λ s. stands_in_one s (known bs) a) (cases_through n k) (default_through n k) at
+FindsEach own ts bs d a n k at = Findable own ts bs d (λ s. one_has_place s (known bs) a) (cases_through n k) (default_through n k) at
 
 pub finds_nothing : (own : Placed) (ts : List Target) (bs : List Binding) (d : ℕ) (at : Sought → List Stmt) → Findable own ts bs d (λ s. false) [] None at
 finds_nothing own ts bs d at = grind arith
@@ -54,7 +54,7 @@ pub record Turns (pay : ℕ) (sc : Scene) (i j : ℕ) (xs es : Expressions) (d :
   pub ss : List Stretch
   pub credit : ℕ → ℕ
   pub credit_stored : ℕ → ℕ
-  pub on : StandsAt sc.own d rest
+  pub on : IsNumbered sc.own d rest
   pub from : Bases (home sc pay) j (objects_of_each es) given fe (λ ns. of_each (with_names ns j) es) credit (InNames sc.bindings j (λ g env. AreFrom g sc d env es vs))
   pub stores : Bases (home sc pay) i (objects_of_each xs) stored fx (λ ns. of_each (with_names ns i) xs) credit_stored (InNames sc.bindings i (λ g env. AreStores g sc (d + 1) env xs ss))
   pub paid : (a : ℕ) → credit_stored a + credit a + data_at sc.own a rest ≤ data_at sc.own a c
@@ -73,12 +73,12 @@ drop_more xs [] zs i e = let h : i + 0 ≡ i = omega arith in ap (λ j. drop j x
 drop_more xs (y ∷ ys) zs i e =
     let f = first_at xs i y (ys ++ zs) e in
     let h : i + length (y ∷ ys) ≡ suc i + length ys = omega arith in
-    ap (λ j. drop j xs) h ∙ drop_more xs ys zs (suc i) f.behind
+    ap (λ j. drop j xs) h ∙ drop_more xs ys zs (suc i) f.following
 
 -- the LAB of a label further on
-pub label_ahead : (own : Placed) (d l : ℕ) (c front rest : List Stmt) → StandsAt own d c → c ≡ front ++ (Label l ∷ rest) → from_label own.stmts l ≡ Some (Label l ∷ rest)
+pub label_ahead : (own : Placed) (d l : ℕ) (c front rest : List Stmt) → IsNumbered own d c → c ≡ front ++ (Label l ∷ rest) → from_label own.stmts l ≡ Some (Label l ∷ rest)
 label_ahead own d l c front rest st e =
-    let h = drop_more own.stmts front (Label l ∷ rest) st.place (st.behind ∙ e) in
+    let h = drop_more own.stmts front (Label l ∷ rest) st.place (st.following ∙ e) in
     let f = first_at own.stmts (st.place + length front) (Label l) rest h in
     label_has_one_place own.stmts (st.place + length front) l st.are f.at ∙ ap Some h
 
@@ -218,9 +218,9 @@ alone_lies pay sc i a d n k c rest j q {f} same size done =
     let agrees = agree_labels sc.procedure j xs ns sc.bindings i u in
     let pays = fit.pays in (
       done2.at,
-      (rest, done2.at, done2.at, subst (λ y. IsAct g within d (with_names inner.names y) a done2.at c rest) (sym agrees.1) (v inner.names agrees.0), refl, (λ s. cond_same (stands_in s inner a) (done2.at s))),
+      (rest, done2.at, done2.at, subst (λ y. IsAct g within d (with_names inner.names y) a done2.at c rest) (sym agrees.1) (v inner.names agrees.0), refl, (λ s. cond_same (has_place s inner a) (done2.at s))),
       omega (arith, pays, size),
-      (λ x e. done2.finds.labels x (label_stands x (known within.bindings) env a ∙ or_none (stands_in (the_label x) env a) e)),
+      (λ x e. done2.finds.labels x (label_stands x (known within.bindings) env a ∙ or_none (has_place (the_label x) env a) e)),
     )) said)
     (λ v. done2.lies.paid v)
 
@@ -228,23 +228,23 @@ alone_lies pay sc i a d n k c rest j q {f} same size done =
 abbrev LaidFroms : (pay : ℕ) (sc : Scene) (v : Enclosing) (u : Spot) (j : ℕ) (es : Expressions) (d k : ℕ) → FoundParts sc.own sc.targets (parts_from d k (terms_named 0 sc.bindings v u es)) → Type 0
 LaidFroms pay sc v u j t.none d k f = Unit {0}
 LaidFroms pay sc v u j (t.more e es) d k f =
-    ((c c1 : List Stmt) → c ≡ value_code sc.targets d k (term_named sc.bindings v u e) ++ c1 → StandsAt sc.own d c → Lies (home sc pay) j (objects e) (d + 1) c c1 (parts d k (term_named sc.bindings v u e)) (found_front sc.own sc.targets (parts d k (term_named sc.bindings v u e)) _ f) (λ ns. of_expression (with_names ns j) e)
+    ((c c1 : List Stmt) → c ≡ value_code sc.targets d k (term_named sc.bindings v u e) ++ c1 → IsNumbered sc.own d c → Lies (home sc pay) j (objects e) (d + 1) c c1 (parts d k (term_named sc.bindings v u e)) (found_front sc.own sc.targets (parts d k (term_named sc.bindings v u e)) _ f) (λ ns. of_expression (with_names ns j) e)
     (InNames sc.bindings j (λ g env. IsCode g sc d env pushes e c c1)))
-    × LaidFroms pay sc (deeper 0 v) (spot.behind e u) (j + objects e) es d (k + labels (term_named sc.bindings v u e)) (found_back sc.own sc.targets (parts d k (term_named sc.bindings v u e)) _ f)
+    × LaidFroms pay sc (deeper 0 v) (spot.following e u) (j + objects e) es d (k + labels (term_named sc.bindings v u e)) (found_back sc.own sc.targets (parts d k (term_named sc.bindings v u e)) _ f)
 
 abbrev LaidStores : (pay : ℕ) (sc : Scene) (p : Enclosing) (s : Spot) (i : ℕ) (xs : Expressions) (d n : ℕ) → FoundParts sc.own sc.targets (parts_onto (d + 1) n (lvalues_named sc.bindings (deeper 1 p) s xs)) → Type 0
 LaidStores pay sc p s i t.none d n f = Unit {0}
 LaidStores pay sc p s i (t.more x xs) d n f =
-    ((c c1 : List Stmt) → d + 1 ≤ FRAME_WORDS → c ≡ store_code sc.targets (d + 1) n (lvalue_named sc.bindings (deeper 1 p) s x) ++ c1 → StandsAt sc.own (d + 1) c
+    ((c c1 : List Stmt) → d + 1 ≤ FRAME_WORDS → c ≡ store_code sc.targets (d + 1) n (lvalue_named sc.bindings (deeper 1 p) s x) ++ c1 → IsNumbered sc.own (d + 1) c
     → Lies (home sc pay) i (objects x) d c c1 (parts_at (d + 1) n (lvalue_named sc.bindings (deeper 1 p) s x)) (found_front sc.own sc.targets (parts_at (d + 1) n (lvalue_named sc.bindings (deeper 1 p) s x)) _ f) (λ ns. of_expression (with_names ns i) x)
     (InNames sc.bindings i (λ g env. IsStore g sc (d + 1) env x c c1)))
-    × LaidStores pay sc p (spot.behind x s) (i + objects x) xs d (n + labels_at (lvalue_named sc.bindings (deeper 1 p) s x)) (found_back sc.own sc.targets (parts_at (d + 1) n (lvalue_named sc.bindings (deeper 1 p) s x)) _ f)
+    × LaidStores pay sc p (spot.following x s) (i + objects x) xs d (n + labels_at (lvalue_named sc.bindings (deeper 1 p) s x)) (found_back sc.own sc.targets (parts_at (d + 1) n (lvalue_named sc.bindings (deeper 1 p) s x)) _ f)
 
 -- an assignment: values and where they are stored, by turns
 pub turns_lie : (pay : ℕ) (sc : Scene) (p v : Enclosing) (s u : Spot) (i j : ℕ) (xs es : Expressions) (d n k : ℕ) (c rest : List Stmt)
     (fx : FoundParts sc.own sc.targets (parts_onto (d + 1) n (lvalues_named sc.bindings (deeper 1 p) s xs))) (fe : FoundParts sc.own sc.targets (parts_from d k (terms_named 0 sc.bindings v u es)))
     → size xs ≡ size es → LaidStores pay sc p s i xs d n fx → LaidFroms pay sc v u j es d k fe
-    → c ≡ by_turns (value_codes sc.targets d k (terms_named 0 sc.bindings v u es)) (store_codes sc.targets (d + 1) n (lvalues_named sc.bindings (deeper 1 p) s xs)) ++ rest → StandsAt sc.own d c
+    → c ≡ by_turns (value_codes sc.targets d k (terms_named 0 sc.bindings v u es)) (store_codes sc.targets (d + 1) n (lvalues_named sc.bindings (deeper 1 p) s xs)) ++ rest → IsNumbered sc.own d c
     → Turns pay sc i j xs es d c rest (parts_onto (d + 1) n (lvalues_named sc.bindings (deeper 1 p) s xs)) (parts_from d k (terms_named 0 sc.bindings v u es)) fx fe
 turns_lie pay sc p v s u i j t.none t.none d n k c rest fx fe same hx he e st =
     record { vs = []; ss = []; credit = λ a. 0; credit_stored = λ a. 0; paid = λ a. let w = ap (data_at sc.own a) e in omega (arith, w); on = written sc.own d c rest e st; from = no_bases (home sc pay) j _ (λ g y ns z. tt); stores = no_bases (home sc pay) i _ (λ g y ns z. tt); turns = e }
@@ -255,13 +255,13 @@ turns_lie pay sc p v s u i j (t.more x xs) (t.more e0 es) d n k c rest fx fe sam
     let te = term_named sc.bindings v u e0 in
     let ve = value_code sc.targets d k te in
     let vx = store_code sc.targets (d + 1) n lx in
-    let others = by_turns (value_codes sc.targets d (k + labels te) (terms_named 0 sc.bindings (deeper 0 v) (spot.behind e0 u) es))
-    (store_codes sc.targets (d + 1) (n + labels_at lx) (lvalues_named sc.bindings (deeper 1 p) (spot.behind x s) xs)) in
+    let others = by_turns (value_codes sc.targets d (k + labels te) (terms_named 0 sc.bindings (deeper 0 v) (spot.following e0 u) es))
+    (store_codes sc.targets (d + 1) (n + labels_at lx) (lvalues_named sc.bindings (deeper 1 p) (spot.following x s) xs)) in
     let c2 = others ++ rest in
     let c1 = vx ++ c2 in
     let one = he.0 c c1 (joined_three ve vx others rest c e) st in
     let to = hx.0 c1 c2 one.on.shallow refl one.on in
-    let more = turns_lie pay sc p (deeper 0 v) (spot.behind x s) (spot.behind e0 u) (i + objects x) (j + objects e0) xs es d (n + labels_at lx) (k + labels te) c2 rest (found_back sc.own sc.targets (parts_at (d + 1) n lx) _ fx) (found_back sc.own sc.targets (parts d k te) _ fe) (omega (arith, same)) hx.1 he.1 refl to.on in
+    let more = turns_lie pay sc p (deeper 0 v) (spot.following x s) (spot.following e0 u) (i + objects x) (j + objects e0) xs es d (n + labels_at lx) (k + labels te) c2 rest (found_back sc.own sc.targets (parts_at (d + 1) n lx) _ fx) (found_back sc.own sc.targets (parts d k te) _ fe) (omega (arith, same)) hx.1 he.1 refl to.on in
     record {
       vs = record { from = c; to = c1 } ∷ more.vs;
       ss = record { from = c1; to = c2 } ∷ more.ss;
@@ -282,7 +282,7 @@ laid_froms pay valofs sc v u j t.none d k low a h r m f = tt
 laid_froms pay valofs sc v u j (t.more e es) d k low a h r m f =
     let te = term_named sc.bindings v u e in (
       (λ c c1 e0 st. laid_code pay valofs sc v u j pushes e d k c c1 a h.0 r.0 (omega arith) (found_front sc.own sc.targets (parts d k te) _ f) e0 st),
-      laid_froms pay valofs sc (deeper 0 v) (spot.behind e u) (j + objects e) es d (k + labels te) low (around_deeper sc v d 0 d (omega arith) low a) h.1 r.1 (omega arith) (found_back sc.own sc.targets (parts d k te) _ f),
+      laid_froms pay valofs sc (deeper 0 v) (spot.following e u) (j + objects e) es d (k + labels te) low (around_deeper sc v d 0 d (omega arith) low a) h.1 r.1 (omega arith) (found_back sc.own sc.targets (parts d k te) _ f),
     )
 
 pub laid_stores : (pay : ℕ) (valofs : ValofsLie pay) (sc : Scene) (p : Enclosing) (s : Spot) (i : ℕ) (xs : Expressions) (d n : ℕ) → Around sc p d → SoundDestinations sc.bindings (deeper 1 p) s xs → RegularEach xs → turns_among true xs ≤ pay
@@ -291,5 +291,5 @@ laid_stores pay valofs sc p s i t.none d n a h r m f = tt
 laid_stores pay valofs sc p s i (t.more x xs) d n a h r m f =
     let lx = lvalue_named sc.bindings (deeper 1 p) s x in (
       (λ c c1 low e0 st. laid_store pay valofs sc (deeper 1 p) s i (Destination false (at_expression x)) x d n c c1 (around_deeper sc p d 1 (d + 1) refl low a) h.0 h.1 r.0 (omega arith) (found_front sc.own sc.targets (parts_at (d + 1) n lx) _ f) e0 st),
-      laid_stores pay valofs sc p (spot.behind x s) (i + objects x) xs d (n + labels_at lx) a h.2 r.1 (omega arith) (found_back sc.own sc.targets (parts_at (d + 1) n lx) _ f),
+      laid_stores pay valofs sc p (spot.following x s) (i + objects x) xs d (n + labels_at lx) a h.2 r.1 (omega arith) (found_back sc.own sc.targets (parts_at (d + 1) n lx) _ f),
     )

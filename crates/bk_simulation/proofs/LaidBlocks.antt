@@ -1,5 +1,5 @@
 -- Blocks with declarations are laid where the scheme puts them, and so each form is.
-use Rattle.bk_simulation.proofs.Words.{all_declared-next, Part, false, ◌≡◌, ℕ, zero, suc, ◌+◌, ◌≤◌, true, List, [], ◌∷◌, ◌++◌, length, refl, sym, ap, ◌∙◌, subst, arith, Commands, Declaration, Declarations, Enclosing, labels_of_each, Binding, labels_in_scope, scope_behind, place_behind_all, SoundDone, Spot, behind_declared, Stmt, Stack, NamedCommands, behind_declarations, labels_of_declarations, commands_named, declarations_named, parts_of_declarations, through_code, declarations_code, Named, label, bind_each, labelled, objects_of_commands, objects_of_declarations, Sought, the_label, stands_in_one, Lasting, of_command, of_commands, of_declarations, all_declared, parts_through, RegularCommand}
+use Rattle.bk_simulation.proofs.Words.{all_declared-next, Part, false, ◌≡◌, ℕ, zero, suc, ◌+◌, ◌≤◌, true, List, [], ◌∷◌, ◌++◌, length, refl, sym, ap, ◌∙◌, subst, arith, Commands, Declaration, Declarations, Enclosing, labels_of_each, Binding, labels_in_scope, scope_after, place_after_all, SoundDone, Spot, after_declared, Stmt, Stack, NamedCommands, after_declarations, labels_of_declarations, commands_named, declarations_named, parts_of_declarations, through_code, declarations_code, Named, label, bind_each, labelled, objects_of_commands, objects_of_declarations, Sought, the_label, one_has_place, Lasting, of_command, of_commands, of_declarations, all_declared, parts_through, RegularCommand}
 use Rattle.bk_simulation.proofs.Forms.{turns_in, through_light, turns_through, with_names, label_stands_one, labels_named, Setting, Scene, owning, AreActs, LeadsTo, IsScope, Agree, there_in, passed, home, FoundParts, found_front, found_back, data_within, within_at, Bases, bases_under, bases_of, bases_so, bases_paid, Lies, lie, bases_within, data_at, known, InNames, joined_three}
 use Rattle.bk_tree.specs.Tree as t
 use Rattle.bk_scope.specs.Places as place
@@ -38,7 +38,7 @@ scope_bases pay sc i cs d n k c rest j q {f} {C} same size done less =
 abbrev InBlock : ℕ → Commands → List Stmt → Later
 InBlock d cs rest g sc1 d1 env1 c1 =
     (j : ℕ) × (at1 : Sought → List Stmt) × AreActs g (owning j cs sc1) d1 (labelled cs env1) cs at1 c1 (Stack d ∷ rest) × (turns_through false cs ≤ g.pay)
-    × ((x : List ℕ) → stands_in_one (the_label x) env1 cs ≡ true → LeadsTo (owning j cs sc1) d1 x (at1 (the_label x)))
+    × ((x : List ℕ) → one_has_place (the_label x) env1 cs ≡ true → LeadsTo (owning j cs sc1) d1 x (at1 (the_label x)))
 
 block_lies : (pay : ℕ) (valofs : ValofsLie pay) (blocks : BlocksLie pay) (sc : Scene) (p : Enclosing) (s : Spot) (i l : ℕ) (x : Declaration) (xs : Declarations) (cs : Commands) (d n : ℕ) (c rest : List Stmt) → Doing sc p d
     → SoundDone sc.bindings p s (t.block l (t.declare x xs) cs) → RegularCommand (t.block l (t.declare x xs) cs) → turns_in true (t.block l (t.declare x xs) cs) ≤ suc pay
@@ -46,10 +46,10 @@ block_lies : (pay : ℕ) (valofs : ValofsLie pay) (blocks : BlocksLie pay) (sc :
 block_lies pay valofs blocks sc p s i l x xs cs d n c rest a h r m f k st =
     let hs : Declarations = t.declare x xs in
     let named = declarations_named sc.bindings p s hs in
-    let u : Spot = behind_declared hs s in
-    let bs : List Binding = scope_behind sc.bindings p s hs in
-    let p1 : Enclosing = place_behind_all sc.bindings p s hs in
-    let d1 : ℕ = behind_declarations d named in
+    let u : Spot = after_declared hs s in
+    let bs : List Binding = scope_after sc.bindings p s hs in
+    let p1 : Enclosing = place_after_all sc.bindings p s hs in
+    let d1 : ℕ = after_declarations d named in
     let n1 : ℕ = n + labels_of_declarations named in
     let i1 : ℕ = i + objects_of_declarations hs in
     let sc1 : Scene = record sc { bindings = bs } in
@@ -62,15 +62,15 @@ block_lies pay valofs blocks sc p s i l x xs cs d n c rest a h r m f k st =
     let c1 = code ++ (Stack d ∷ rest) in
     let k1 = joined_three first code (Stack d ∷ []) rest c k in
     let parts_first = found_front sc.own sc.targets (parts_of_declarations d n named) _ f in
-    let behind = declared_behind pay valofs blocks sc p s hs d n c c1 a h.0 r.0 (omega (arith, m)) parts_first k1 st in
-    let doing1 : Doing sc1 p1 d1 = behind.1 in
+    let following = declared_behind pay valofs blocks sc p s hs d n c c1 a h.0 r.0 (omega (arith, m)) parts_first k1 st in
+    let doing1 : Doing sc1 p1 d1 = following.1 in
     let doing : Doing within p2 d1 = record {
       around = record { same = doing1.around.same; at = doing1.around.at; words = words_labels p.procedure (u.number + 1) (labels_of_each cs) bs doing1.around.words };
       loop = doing1.loop;
       switch = doing1.switch;
       valof = doing1.valof;
     } in
-    let done : (g : FoundParts sc.own sc.targets (parts_through d1 n1 ks)) → DoneEach pay within i1 cs d1 n1 ks c1 (Stack d ∷ rest) g = λ g. laid_acts pay valofs blocks within p2 s2 i1 cs d1 n1 c1 (Stack d ∷ rest) doing h.1 r.1 (omega (arith, m)) g refl behind.0 in
+    let done : (g : FoundParts sc.own sc.targets (parts_through d1 n1 ks)) → DoneEach pay within i1 cs d1 n1 ks c1 (Stack d ∷ rest) g = λ g. laid_acts pay valofs blocks within p2 s2 i1 cs d1 n1 c1 (Stack d ∷ rest) doing h.1 r.1 (omega (arith, m)) g refl following.0 in
     let light = through_light cs in
     let D : ℕ → ℕ = λ q. data_within sc.own q code (Stack d ∷ rest) in
     let E : ℕ → ℕ = λ q. data_within sc.own q first c1 + D q in

@@ -1,6 +1,6 @@
 -- Declarations are laid where the scheme puts them, before what is laid in their scope: MANIFEST, STATIC, GLOBAL and LET.
-use Rattle.bk_simulation.proofs.Words.{declared-next, Part, static_item, term_named, parts, ◌≡◌, ℕ, ◌+◌, ◌<◌, ◌≤◌, Bool, true, false, List, [], ◌∷◌, ◌++◌, cond, refl, sym, ap, ◌∙◌, subst, arith, append_assoc, length, Option, Some, None, le-ltb, suc, ◌^◌, slice_get, Sort, Items, Declaration, Declarations, Definitions, Expression, Starts, Enclosing, Binding, bind_all, bound_in, procedures_in_scope, manifests_in_scope, statics_in_scope, globals_in_scope, place_behind_defined, scope_behind_one, place_behind_one, scope_behind, place_behind_all, labels_in_scope, SoundDeclared, SoundOneDeclared, SoundStarted, SoundDefined, HasWord, StaticsSound, Spot, procedures_in, behind_one_declared, Stmt, Store, Address, Stack, DataLabel, DataNumber, behind_definitions, behind_declaration, behind_declarations, has_variables, behind_starts, labels_of_declaration, labels, labels_of_procedure, labels_of_definition, definitions_named, declaration_named, declarations_named, meant, worth, starts_named, definition_named, statics_named, parts_of_definitions, parts_of_declaration, parts_of_declarations, parts_of_starts, parts_of_definition, parts_of_items, outermost, definitions_code, declaration_code, declarations_code, value_code, starts_code, goal, goal_of, Around as Surroundings, Named, Environment, bind_procedures, within_let, objects_of_definitions, objects_of_declaration, objects_of_declarations, objects, objects_of_command, objects_of_starts, count, constant_in, Lasting, declared, all_declared, of_items, of_declaration, of_declarations, of_definitions, of_starts, command, expression, words, static_words, VEC_NUMBER, constant_word, labels_of, with_formals, within, words_of_vector, words_of_start, place_behind, deeper, Local, unwrap_or, signed, Placed, item_words, Goal, first_bytes, EndProcedure, Return, ReturnItem, command_code, foreign, letters, bind_formals, false≢true, of_command, in_scope, of_expression, bind_each, procedure_code, command_named, parts_in, same_defined, RegularItems, RegularDeclaration, RegularDeclarations, RegularDefinitions, RegularStarts, Regular, inl, inr, bind, is_global, procedure_in_scope, Target, behind_definition, target_of_word, AllFound, AmongProcedures, Looked, look_procedure}
-use Rattle.bk_simulation.proofs.Forms.{turns_one_declared, turns_declared, turns_defined, turns_started, of_light, in_light, with_names, Setting, Scene, Exits, Spot as Slot, NamedIn, defines_variables, variables_bound, Renames, IsOneDeclared, AreDeclared, AreDefined, pushes, AreStarts, IsCode, IsAlone, Agree, there_in, StandsAt, passed, written, Home, home, Bases, no_bases, bases_so, bases_of, bases_under, bases_some, Lies, both_bases, new_base, then_bases, lie, bases_within, data_at, FoundParts, found_front, found_back, DataIn, data_within, within_at, HasWords, Around, InNames, joined_two, around_deeper, constants_agree, words_manifests, words_statics, words_globals, words_procedures, BaseOf, constant_small, InData}
+use Rattle.bk_simulation.proofs.Words.{declared-next, Part, static_item, term_named, parts, ◌≡◌, ℕ, ◌+◌, ◌<◌, ◌≤◌, Bool, true, false, List, [], ◌∷◌, ◌++◌, cond, refl, sym, ap, ◌∙◌, subst, arith, append_assoc, length, Option, Some, None, le-ltb, suc, ◌^◌, slice_get, Sort, Items, Declaration, Declarations, Definitions, Expression, Starts, Enclosing, Binding, bind_all, bound_in, procedures_in_scope, manifests_in_scope, statics_in_scope, globals_in_scope, place_after_defined, scope_after_one, place_after_one, scope_after, place_after_all, labels_in_scope, SoundDeclared, SoundOneDeclared, SoundStarted, SoundDefined, HasWord, StaticsSound, Spot, procedures_in, after_one_declared, Stmt, Store, Address, Stack, DataLabel, DataNumber, after_definitions, after_declaration, after_declarations, has_variables, after_starts, labels_of_declaration, labels, labels_of_procedure, labels_of_definition, definitions_named, declaration_named, declarations_named, meant, worth, starts_named, definition_named, statics_named, parts_of_definitions, parts_of_declaration, parts_of_declarations, parts_of_starts, parts_of_definition, parts_of_items, outermost, definitions_code, declaration_code, declarations_code, value_code, starts_code, goal, goal_of, Around as Surroundings, Named, Environment, bind_procedures, within_let, objects_of_definitions, objects_of_declaration, objects_of_declarations, objects, objects_of_command, objects_of_starts, count, constant_in, Lasting, declared, all_declared, of_items, of_declaration, of_declarations, of_definitions, of_starts, command, expression, words, static_words, VEC_NUMBER, constant_word, labels_of, with_formals, within, words_of_vector, words_of_start, place_after, deeper, Local, unwrap_or, signed, Placed, item_words, Goal, first_bytes, EndProcedure, Return, ReturnItem, command_code, foreign, letters, bind_formals, false≢true, of_command, in_scope, of_expression, bind_each, procedure_code, command_named, parts_in, same_defined, RegularItems, RegularDeclaration, RegularDeclarations, RegularDefinitions, RegularStarts, Regular, inl, inr, bind, is_global, procedure_in_scope, Target, after_definition, target_of_word, AllFound, AmongProcedures, Looked, look_procedure}
+use Rattle.bk_simulation.proofs.Forms.{turns_one_declared, turns_declared, turns_defined, turns_started, of_light, in_light, with_names, Setting, Scene, Exits, Spot as Slot, NamedIn, defines_variables, variables_bound, Renames, IsOneDeclared, AreDeclared, AreDefined, pushes, AreStarts, IsCode, IsAlone, Agree, there_in, IsNumbered, passed, written, Home, home, Bases, no_bases, bases_so, bases_of, bases_under, bases_some, Lies, both_bases, new_base, then_bases, lie, bases_within, data_at, FoundParts, found_front, found_back, DataIn, data_within, within_at, HasWords, Around, InNames, joined_two, around_deeper, constants_agree, words_manifests, words_statics, words_globals, words_procedures, BaseOf, constant_small, InData}
 use Rattle.bk_simulation.proofs.LaidAssigned.{Doing, words_labels, alone_lies, names_bound}
 use Rattle.bk_simulation.proofs.Renamed.{static_places, AreBases, renames_manifests, renames_statics, renames_globals, AreProcedures, from_spots, spots_in, variables_in, spots_words, renames_procedures, renames_variables, bound_agree, next_bound, foreign_spots, foreign_agree, foreign_mean, hidden_are, slots_of, itself}
 use Rattle.bk_simulation.proofs.LaidValues.{ValofsLie, laid_code}
@@ -19,12 +19,12 @@ abbrev pub WordsBased : List ℕ → Placed → List Binding → Enclosing → S
 WordsBased all own bs p s i n t.no_definitions = Unit {0}
 WordsBased all own bs p s i n (t.define (t.routine l x fs c) ds) =
     BaseOf all i (word_base own n (meant (bound_in bs x)))
-    × WordsBased all own bs p (spot.behind_one_defined (t.routine l x fs c) s) (i + (1 + objects_of_command c)) (n + labels_of_definition (definition_named bs p s (t.routine l x fs c))) ds
+    × WordsBased all own bs p (spot.after_one_defined (t.routine l x fs c) s) (i + (1 + objects_of_command c)) (n + labels_of_definition (definition_named bs p s (t.routine l x fs c))) ds
 WordsBased all own bs p s i n (t.define (t.function l x fs e) ds) =
     BaseOf all i (word_base own n (meant (bound_in bs x)))
-    × WordsBased all own bs p (spot.behind_one_defined (t.function l x fs e) s) (i + (1 + objects e)) (n + labels_of_definition (definition_named bs p s (t.function l x fs e))) ds
+    × WordsBased all own bs p (spot.after_one_defined (t.function l x fs e) s) (i + (1 + objects e)) (n + labels_of_definition (definition_named bs p s (t.function l x fs e))) ds
 WordsBased all own bs p s i n (t.define (t.variables l xs is) ds) =
-    WordsBased all own bs (place_behind bs p is) (spot.behind_one_defined (t.variables l xs is) s) (i + objects_of_starts is) (n + labels_of_definition (definition_named bs p s (t.variables l xs is))) ds
+    WordsBased all own bs (place_after bs p is) (spot.after_one_defined (t.variables l xs is) s) (i + objects_of_starts is) (n + labels_of_definition (definition_named bs p s (t.variables l xs is))) ds
 
 -- the target of a procedure whose name means a static word
 own_target : (ts : List Target) (n j : ℕ) (bs : List Binding) (x : List ℕ) → bound_in bs x ≡ Some (b.Static j) → AllFound ts (target_of_word (n + 1) (meant (bound_in bs x))) → goal_of ts j ≡ goal (n + 1) 0
@@ -47,17 +47,17 @@ later_target own ts bs p s d n j x (t.define (t.routine l y fs c) ds) e (inl sam
 later_target own ts bs p s d n j x (t.define (t.routine l y fs c) ds) e (inr h) f =
     let one = definition_named bs p s (t.routine l y fs c) in
     later_on ts n (n + labels_of_definition one) j (omega arith)
-    (later_target own ts bs p (spot.behind_one_defined (t.routine l y fs c) s) d (n + labels_of_definition one) j x ds e h (found_back own ts (parts_of_definition d n one) _ f))
+    (later_target own ts bs p (spot.after_one_defined (t.routine l y fs c) s) d (n + labels_of_definition one) j x ds e h (found_back own ts (parts_of_definition d n one) _ f))
 later_target own ts bs p s d n j x (t.define (t.function l y fs c) ds) e (inl same) f =
     record { label = n + 1; later = omega arith; leads = own_target ts n j bs y (ap (bound_in bs) same ∙ e) f.0.0 }
 later_target own ts bs p s d n j x (t.define (t.function l y fs c) ds) e (inr h) f =
     let one = definition_named bs p s (t.function l y fs c) in
     later_on ts n (n + labels_of_definition one) j (omega arith)
-    (later_target own ts bs p (spot.behind_one_defined (t.function l y fs c) s) d (n + labels_of_definition one) j x ds e h (found_back own ts (parts_of_definition d n one) _ f))
+    (later_target own ts bs p (spot.after_one_defined (t.function l y fs c) s) d (n + labels_of_definition one) j x ds e h (found_back own ts (parts_of_definition d n one) _ f))
 later_target own ts bs p s d n j x (t.define (t.variables l xs is) ds) e h f =
     let one = definition_named bs p s (t.variables l xs is) in
     later_on ts n (n + labels_of_definition one) j (omega arith)
-    (later_target own ts bs (place_behind bs p is) (spot.behind_one_defined (t.variables l xs is) s) (behind_definition d one) (n + labels_of_definition one) j x ds e h (found_back own ts (parts_of_definition d n one) _ f))
+    (later_target own ts bs (place_after bs p is) (spot.after_one_defined (t.variables l xs is) s) (after_definition d one) (n + labels_of_definition one) j x ds e h (found_back own ts (parts_of_definition d n one) _ f))
 
 -- one procedure, by what its name means behind it and behind all
 one_word : (all : List ℕ) (own : Placed) (ts : List Target) (bs bl : List Binding) (i n m : ℕ) (x : List ℕ) (ds : Definitions) (q : Bool)
@@ -68,16 +68,16 @@ one_word all own ts bs bl i n m x ds q (inl same) f later base e = grind (arith,
 one_word all own ts bs bl i n m x ds q (inr h) f later base e =
     let l = later h.1 h.2 h.0 in
     let two : labels_of_procedure (meant (bound_in bl x)) ≡ 2 = ap (λ y. labels_of_procedure (meant y)) h.2 in
-    let behind = l.later in
+    let following = l.later in
     let same : m + 1 ≡ l.label = ap (λ (z : Goal). z.label) (sym (own_target ts m h.1 bl x h.2 f) ∙ l.leads) in
-    absurd (omega (arith, two, behind, same))
+    absurd (omega (arith, two, following, same))
 
 pub procedures_based : (all : List ℕ) (own : Placed) (ts : List Target) (bs bl : List Binding) (p : Enclosing) (s : Spot) (i n m d : ℕ) (ds : Definitions) → procedures_in_scope n ds bs ≡ bl → WordsBased all own bl p s i m ds
     → FoundParts own ts (parts_of_definitions d m (definitions_named bl p s ds)) → AreProcedures all own ts bs i n ds
 procedures_based all own ts bs bl p s i n m d t.no_definitions e w f = tt
 procedures_based all own ts bs bl p s i n m d (t.define (t.routine l x fs c) ds) e w f =
     let one = definition_named bl p s (t.routine l x fs c) in
-    let s1 : Spot = spot.behind_one_defined (t.routine l x fs c) s in
+    let s1 : Spot = spot.after_one_defined (t.routine l x fs c) s in
     let others = found_back own ts (parts_of_definition d m one) _ f in
     let bs1 : List Binding = procedure_in_scope n x bs in
     let looked = subst (λ z. Looked (bound_in z x) (bound_in bs1 x) (AmongProcedures x ds) (λ j. b.Static j)) e (look_procedure (n + 1) ds bs1 x) in (
@@ -87,7 +87,7 @@ procedures_based all own ts bs bl p s i n m d (t.define (t.routine l x fs c) ds)
     )
 procedures_based all own ts bs bl p s i n m d (t.define (t.function l x fs c) ds) e w f =
     let one = definition_named bl p s (t.function l x fs c) in
-    let s1 : Spot = spot.behind_one_defined (t.function l x fs c) s in
+    let s1 : Spot = spot.after_one_defined (t.function l x fs c) s in
     let others = found_back own ts (parts_of_definition d m one) _ f in
     let bs1 : List Binding = procedure_in_scope n x bs in
     let looked = subst (λ z. Looked (bound_in z x) (bound_in bs1 x) (AmongProcedures x ds) (λ j. b.Static j)) e (look_procedure (n + 1) ds bs1 x) in (
@@ -97,7 +97,7 @@ procedures_based all own ts bs bl p s i n m d (t.define (t.function l x fs c) ds
     )
 procedures_based all own ts bs bl p s i n m d (t.define (t.variables l xs is) ds) e w f =
     let one = definition_named bl p s (t.variables l xs is) in
-    procedures_based all own ts bs bl (place_behind bl p is) (spot.behind_one_defined (t.variables l xs is) s) (i + objects_of_starts is) n (m + labels_of_definition one) (behind_definition d one) ds e w
+    procedures_based all own ts bs bl (place_after bl p is) (spot.after_one_defined (t.variables l xs is) s) (i + objects_of_starts is) n (m + labels_of_definition one) (after_definition d one) ds e w
     (found_back own ts (parts_of_definition d m one) _ f)
 
 -- ---- Items of STATIC are laid where the scheme puts them: each has a word of its own among the data of its section.
@@ -125,7 +125,7 @@ statics_lie h s i k n t.no_items w r a f = no_bases h i (λ g. Unit {0}) (λ g y
 statics_lie h s i k n (t.item l x e is) w r a f =
     let p : ℕ = h.own.places.label n in
     let code = DataNumber (signed (worth (constant_word h.bindings e))) ∷ f.0.2.rest in
-    let later : Spot = spot.numbered 1 (spot.behind_constant e (spot.past 1 s)) in
+    let later : Spot = spot.numbered 1 (spot.after_constant e (spot.past 1 s)) in
     let same : later.number ≡ s.number + 1 = omega arith in
     let one : i + 1 ≡ suc i = omega arith in
     let leads : goal_of h.targets s.number ≡ goal n 0 = f.0.0.0 in
@@ -145,27 +145,25 @@ statics_lie h s i k n (t.item l x e is) w r a f =
 -- the words of a VEC
 within_most : (most : ℕ) (y : Option ℕ) (k : ℕ) → y ≡ Some k → k ≤ most → words_of_vector (within most y) ≡ k + 1
 within_most most None k e low = absurd (let h : None ≡ Some k = e in cc)
-within_most most (Some v) k e low =
-    let same : v ≡ k = (let h : Some v ≡ Some k = e in cc) in
-    ap (λ q. words_of_vector (cond q None (Some v))) (le-ltb most v (omega (arith, low, same))) ∙ ap (λ z. z + 1) same
+within_most most (Some v) k e low = grind (arith, le-ltb)
 
 vector_words : (bs : List Binding) (e : Expression) (k : ℕ) → constant_word bs e ≡ Some k → k ≤ VEC_NUMBER → words_of_start bs e ≡ k + 1
 vector_words bs e k h low = within_most VEC_NUMBER (constant_word bs e) k h low
 
 -- the values that variables begin with
 pub laid_starts : (pay : ℕ) (valofs : ValofsLie pay) (sc : Scene) (p : Enclosing) (s : Spot) (i : ℕ) (is : Starts) (d n : ℕ) (c rest : List Stmt) → Around sc p d → SoundStarted sc.bindings p s is → RegularStarts is → turns_started true is ≤ pay
-    → (f : FoundParts sc.own sc.targets (parts_of_starts d n (starts_named sc.bindings p s is))) → c ≡ starts_code sc.targets d n (starts_named sc.bindings p s is) ++ rest → StandsAt sc.own d c
-    → Lies (home sc pay) i (objects_of_starts is) (behind_starts d (starts_named sc.bindings p s is)) c rest (parts_of_starts d n (starts_named sc.bindings p s is)) f (λ ns. of_starts (with_names ns i) is)
-    (InNames sc.bindings i (λ g env. AreStarts g sc d env is c rest (behind_starts d (starts_named sc.bindings p s is)) (slots_of sc.bindings d is)))
-    × Around sc (place_behind sc.bindings p is) (behind_starts d (starts_named sc.bindings p s is))
+    → (f : FoundParts sc.own sc.targets (parts_of_starts d n (starts_named sc.bindings p s is))) → c ≡ starts_code sc.targets d n (starts_named sc.bindings p s is) ++ rest → IsNumbered sc.own d c
+    → Lies (home sc pay) i (objects_of_starts is) (after_starts d (starts_named sc.bindings p s is)) c rest (parts_of_starts d n (starts_named sc.bindings p s is)) f (λ ns. of_starts (with_names ns i) is)
+    (InNames sc.bindings i (λ g env. AreStarts g sc d env is c rest (after_starts d (starts_named sc.bindings p s is)) (slots_of sc.bindings d is)))
+    × Around sc (place_after sc.bindings p is) (after_starts d (starts_named sc.bindings p s is))
 laid_starts pay valofs sc p s i t.no_starts d n c rest a h r m f k st = (lie (written sc.own d c rest k st) (no_bases (home sc pay) i _ (λ g y ns u. (k, refl, refl))) (λ q. let v = ap (data_at sc.own q) k in omega (arith, v)), a)
 laid_starts pay valofs sc p s i (t.value e is) d n c rest a h r m f k st =
     let te = term_named sc.bindings p s e in
     let ve = value_code sc.targets d n te in
-    let others = starts_code sc.targets (d + 1) (n + labels te) (starts_named sc.bindings (deeper 1 p) (spot.behind e s) is) in
+    let others = starts_code sc.targets (d + 1) (n + labels te) (starts_named sc.bindings (deeper 1 p) (spot.following e s) is) in
     let c1 = others ++ rest in
     let le = laid_code pay valofs sc p s i pushes e d n c c1 a h.0 r.0 (omega arith) (found_front sc.own sc.targets (parts d n te) _ f) (joined_two ve others rest c k) st in
-    let ls = laid_starts pay valofs sc (deeper 1 p) (spot.behind e s) (i + objects e) is (d + 1) (n + labels te) c1 rest (around_deeper sc p d 1 (d + 1) refl le.on.shallow a) h.1 r.1 (omega arith)
+    let ls = laid_starts pay valofs sc (deeper 1 p) (spot.following e s) (i + objects e) is (d + 1) (n + labels te) c1 rest (around_deeper sc p d 1 (d + 1) refl le.on.shallow a) h.1 r.1 (omega arith)
     (found_back sc.own sc.targets (parts d n te) _ f) refl le.on in (
       lie ls.0.on (bases_so (home sc pay) _ (λ g y v ns u. (c1, slots_of sc.bindings (d + 1) is, v.0 ns u, v.1 ns u, refl)) (both_bases (home sc pay) i (objects e) (objects_of_starts is) (parts d n te) f _ _ le.objects_are ls.0.objects_are))
           (λ q. let u = le.paid q in let v = ls.0.paid q in omega (arith, u, v)),
@@ -177,7 +175,7 @@ laid_starts pay valofs sc p s i (t.vector l e is) d n c rest a h r m f k st =
     let low : size ≤ VEC_NUMBER = subst (λ y. worth y ≤ VEC_NUMBER) (sym h.0.1) h.0.2 in
     let words = vector_words sc.bindings e size is_size low in
     let p1 : Enclosing = deeper (words_of_start sc.bindings e + 1) p in
-    let s1 : Spot = spot.behind_constant e s in
+    let s1 : Spot = spot.after_constant e s in
     let others = starts_code sc.targets (d + size + 2) n (starts_named sc.bindings p1 s1 is) in
     let c0 = others ++ rest in
     let k1 : c ≡ Stack (d + size + 1) ∷ Address (Local d) ∷ c0 = k in
@@ -190,15 +188,15 @@ laid_starts pay valofs sc p s i (t.vector l e is) d n c rest a h r m f k st =
 
 -- the definitions of a LET: values, and procedures that stand elsewhere in the section
 pub laid_defined : (pay : ℕ) (valofs : ValofsLie pay) (blocks : BlocksLie pay) (sc : Scene) (p : Enclosing) (s : Spot) (i : ℕ) (ds : Definitions) (d n : ℕ) (c rest : List Stmt) → Around sc p d → SoundDefined sc.bindings p s ds → RegularDefinitions ds → turns_defined true ds ≤ pay
-    → (f : FoundParts sc.own sc.targets (parts_of_definitions d n (definitions_named sc.bindings p s ds))) → c ≡ definitions_code sc.targets d n (definitions_named sc.bindings p s ds) ++ rest → StandsAt sc.own d c
-    → Lies (home sc pay) i (objects_of_definitions ds) (behind_definitions d (definitions_named sc.bindings p s ds)) c rest (parts_of_definitions d n (definitions_named sc.bindings p s ds)) f (λ ns. of_definitions (with_names ns i) ds)
+    → (f : FoundParts sc.own sc.targets (parts_of_definitions d n (definitions_named sc.bindings p s ds))) → c ≡ definitions_code sc.targets d n (definitions_named sc.bindings p s ds) ++ rest → IsNumbered sc.own d c
+    → Lies (home sc pay) i (objects_of_definitions ds) (after_definitions d (definitions_named sc.bindings p s ds)) c rest (parts_of_definitions d n (definitions_named sc.bindings p s ds)) f (λ ns. of_definitions (with_names ns i) ds)
     (λ g. WordsBased g.lasting sc.own sc.bindings p s i n ds
-    × InNames sc.bindings i (λ g env. AreDefined g sc d env ds c rest (behind_definitions d (definitions_named sc.bindings p s ds)) (spots_in sc.bindings p s d ds)) g)
+    × InNames sc.bindings i (λ g env. AreDefined g sc d env ds c rest (after_definitions d (definitions_named sc.bindings p s ds)) (spots_in sc.bindings p s d ds)) g)
 laid_defined pay valofs blocks sc p s i t.no_definitions d n c rest a h r m f k st =
     lie (written sc.own d c rest k st) (no_bases (home sc pay) i _ (λ g y. (tt, λ ns u. (k, refl, refl)))) (λ q. let v = ap (data_at sc.own q) k in omega (arith, v))
 laid_defined pay valofs blocks sc p s i (t.define (t.routine l x fs a0) ds) d n c rest a h r m f k st =
     let one = definition_named sc.bindings p s (t.routine l x fs a0) in
-    let s1 : Spot = spot.behind_one_defined (t.routine l x fs a0) s in
+    let s1 : Spot = spot.after_one_defined (t.routine l x fs a0) s in
     let own_found = found_front sc.own sc.targets (parts_of_definition d n one) _ f in
     let code = own_found.0.1 in
     let p2 : Enclosing = place.labelled (s.number + 1) (place.called true s.number (length fs)) in
@@ -236,7 +234,7 @@ laid_defined pay valofs blocks sc p s i (t.define (t.routine l x fs a0) ds) d n 
     (λ q. let u = others.paid q in omega (arith, u))
 laid_defined pay valofs blocks sc p s i (t.define (t.function l x fs e) ds) d n c rest a h r m f k st =
     let one = definition_named sc.bindings p s (t.function l x fs e) in
-    let s1 : Spot = spot.behind_one_defined (t.function l x fs e) s in
+    let s1 : Spot = spot.after_one_defined (t.function l x fs e) s in
     let own_found = found_front sc.own sc.targets (parts_of_definition d n one) _ f in
     let code = own_found.0.1 in
     let p2 : Enclosing = place.called false s.number (length fs) in
@@ -269,9 +267,9 @@ laid_defined pay valofs blocks sc p s i (t.define (t.function l x fs e) ds) d n 
 laid_defined pay valofs blocks sc p s i (t.define (t.variables l xs is) ds) d n c rest a h r m f k st =
     let one = definition_named sc.bindings p s (t.variables l xs is) in
     let named = starts_named sc.bindings p (spot.past (length xs) s) is in
-    let p1 : Enclosing = place_behind sc.bindings p is in
-    let s1 : Spot = spot.behind_one_defined (t.variables l xs is) s in
-    let d0 = behind_starts d named in
+    let p1 : Enclosing = place_after sc.bindings p is in
+    let s1 : Spot = spot.after_one_defined (t.variables l xs is) s in
+    let d0 = after_starts d named in
     let n0 = n + labels_of_definition one in
     let code = starts_code sc.targets d n named in
     let more = definitions_code sc.targets d0 n0 (definitions_named sc.bindings p1 s1 ds) in
@@ -325,8 +323,8 @@ constants_then pay sc l o is i d many c bs ps ff L Then P names own others =
 
 pub constants_bases : (pay : ℕ) (sc : Scene) (p : Enclosing) (s : Spot) (l : ℕ) (o : Sort) (is : Items) (i d n many : ℕ) (c : List Stmt) {qs : List Part} {D : ℕ → ℕ} (L : List Named → List Lasting) (Then : Later) → HasWords sc.bindings
     → SoundOneDeclared sc.bindings p s (t.constants l o is) → RegularItems is → (ff : FoundParts sc.own sc.targets (parts_of_declaration d n (declaration_named sc.bindings p s (t.constants l o is)) ++ qs))
-    → Bases (record (home sc pay) { bindings = scope_behind_one sc.bindings p s (t.constants l o is) }) (i + objects_of_declaration (t.constants l o is)) many qs (found_back sc.own sc.targets (parts_of_declaration d n (declaration_named sc.bindings p s (t.constants l o is))) qs ff) L D
-    (LaidLater Then sc (scope_behind_one sc.bindings p s (t.constants l o is)) d (i + objects_of_declaration (t.constants l o is)) c)
+    → Bases (record (home sc pay) { bindings = scope_after_one sc.bindings p s (t.constants l o is) }) (i + objects_of_declaration (t.constants l o is)) many qs (found_back sc.own sc.targets (parts_of_declaration d n (declaration_named sc.bindings p s (t.constants l o is))) qs ff) L D
+    (LaidLater Then sc (scope_after_one sc.bindings p s (t.constants l o is)) d (i + objects_of_declaration (t.constants l o is)) c)
     → Bases (home sc pay) i (objects_of_declaration (t.constants l o is) + many) (parts_of_declaration d n (declaration_named sc.bindings p s (t.constants l o is)) ++ qs) ff (λ ns. of_declaration (with_names ns i) (t.constants l o is) ++ L (declared (t.constants l o is) (with_names ns i)).names)
     D (InNames sc.bindings i (λ g env. IsOneDeclared g sc d env (t.constants l o is) (Then g) c))
 constants_bases pay sc p s l sort.Manifest is i d n many c L Then w h r ff b =
@@ -342,8 +340,8 @@ constants_bases pay sc p s l sort.Global is i d n many c L Then w h r ff b =
 -- ---- LET
 
 variables_here : (bs : List Binding) (p : Enclosing) (s : Spot) (ds : Definitions) → has_variables (definitions_named bs p s ds) ≡ defines_variables ds
-variables_here bs p s (t.define (t.routine l x fs c) ds) = variables_here bs p (spot.behind_one_defined (t.routine l x fs c) s) ds
-variables_here bs p s (t.define (t.function l x fs e) ds) = variables_here bs p (spot.behind_one_defined (t.function l x fs e) s) ds
+variables_here bs p s (t.define (t.routine l x fs c) ds) = variables_here bs p (spot.after_one_defined (t.routine l x fs c) s) ds
+variables_here bs p s (t.define (t.function l x fs e) ds) = variables_here bs p (spot.after_one_defined (t.function l x fs e) s) ds
 variables_here bs p s _ = refl
 
 -- STORE, where there are variables
@@ -351,7 +349,7 @@ stored : (q : Bool) (c : List Stmt) → cond q (Store ∷ []) [] ++ c ≡ cond q
 stored true c = refl
 stored false c = refl
 
-behind_store : (sc : Scene) (q : Bool) (d : ℕ) (c : List Stmt) → StandsAt sc.own d (cond q (Store ∷ []) [] ++ c) → StandsAt sc.own d c
+behind_store : (sc : Scene) (q : Bool) (d : ℕ) (c : List Stmt) → IsNumbered sc.own d (cond q (Store ∷ []) [] ++ c) → IsNumbered sc.own d c
 behind_store sc true d c h = passed sc.own d d Store c h refl
 behind_store sc false d c h = h
 
@@ -366,7 +364,7 @@ abbrev slots_here : Scene → Enclosing → Spot → ℕ → Definitions → Lis
 slots_here sc p s d ds = spots_in (inner sc s ds).bindings p (first_defined s ds) d ds
 
 abbrev pub depth_here : Scene → Enclosing → Spot → ℕ → Definitions → ℕ
-depth_here sc p s d ds = behind_definitions d (definitions_named (inner sc s ds).bindings p (first_defined s ds) ds)
+depth_here sc p s d ds = after_definitions d (definitions_named (inner sc s ds).bindings p (first_defined s ds) ds)
 
 abbrev behind_let : Scene → Enclosing → Spot → ℕ → Definitions → List Stmt → List Stmt
 behind_let sc p s d ds c = cond (has_variables (definitions_named (inner sc s ds).bindings p (first_defined s ds) ds)) (Store ∷ []) [] ++ c
@@ -379,7 +377,7 @@ DefinedHere sc p s i n d ds c c0 setting =
 
 definitions_lie : (pay : ℕ) (valofs : ValofsLie pay) (blocks : BlocksLie pay) (sc : Scene) (p : Enclosing) (s : Spot) (i l : ℕ) (ds : Definitions) (d n : ℕ) (c c1 : List Stmt) → Around sc p d → SoundOneDeclared sc.bindings p s (t.definitions l ds)
     → RegularDefinitions ds → turns_defined true ds ≤ pay → (f : FoundParts sc.own sc.targets (parts_of_declaration d n (declaration_named sc.bindings p s (t.definitions l ds))))
-    → c ≡ declaration_code sc.targets d n (declaration_named sc.bindings p s (t.definitions l ds)) ++ c1 → StandsAt sc.own d c
+    → c ≡ declaration_code sc.targets d n (declaration_named sc.bindings p s (t.definitions l ds)) ++ c1 → IsNumbered sc.own d c
     → Lies (home (inner sc s ds) pay) i (objects_of_definitions ds) (depth_here sc p s d ds) c (behind_let sc p s d ds c1) (parts_of_definitions d n (definitions_named (inner sc s ds).bindings p (first_defined s ds) ds)) f (λ ns. of_definitions (with_names ns i) ds)
     (DefinedHere sc p s i n d ds c (behind_let sc p s d ds c1))
 definitions_lie pay valofs blocks sc p s i l ds d n c c1 a h r m f k st =
@@ -426,9 +424,9 @@ let_after sc p s i l d ds setting k q ns r u =
 -- a LET, and what is laid behind it
 pub let_bases : (pay : ℕ) (valofs : ValofsLie pay) (blocks : BlocksLie pay) (sc : Scene) (p : Enclosing) (s : Spot) (i l : ℕ) (ds : Definitions) (d n many : ℕ) (c c1 : List Stmt) {qs : List Part} {D : ℕ → ℕ} (E : ℕ → ℕ) (L : List Named → List Lasting) (Then : Later) → Around sc p d
     → SoundOneDeclared sc.bindings p s (t.definitions l ds) → RegularDefinitions ds → turns_defined true ds ≤ pay → (ff : FoundParts sc.own sc.targets (parts_of_declaration d n (declaration_named sc.bindings p s (t.definitions l ds)) ++ qs))
-    → c ≡ declaration_code sc.targets d n (declaration_named sc.bindings p s (t.definitions l ds)) ++ c1 → StandsAt sc.own d c → ((a : ℕ) → data_at sc.own a c + D a ≤ E a + data_at sc.own a c1)
-    → Bases (record (home sc pay) { bindings = scope_behind_one sc.bindings p s (t.definitions l ds) }) (i + objects_of_definitions ds) many qs (found_back sc.own sc.targets (parts_of_declaration d n (declaration_named sc.bindings p s (t.definitions l ds))) qs ff) L D
-    (LaidLater Then sc (scope_behind_one sc.bindings p s (t.definitions l ds)) (depth_here sc p s d ds) (i + objects_of_definitions ds) c1)
+    → c ≡ declaration_code sc.targets d n (declaration_named sc.bindings p s (t.definitions l ds)) ++ c1 → IsNumbered sc.own d c → ((a : ℕ) → data_at sc.own a c + D a ≤ E a + data_at sc.own a c1)
+    → Bases (record (home sc pay) { bindings = scope_after_one sc.bindings p s (t.definitions l ds) }) (i + objects_of_definitions ds) many qs (found_back sc.own sc.targets (parts_of_declaration d n (declaration_named sc.bindings p s (t.definitions l ds))) qs ff) L D
+    (LaidLater Then sc (scope_after_one sc.bindings p s (t.definitions l ds)) (depth_here sc p s d ds) (i + objects_of_definitions ds) c1)
     → Bases (home sc pay) i (objects_of_definitions ds + many) (parts_of_declaration d n (declaration_named sc.bindings p s (t.definitions l ds)) ++ qs) ff (λ ns. of_declaration (with_names ns i) (t.definitions l ds) ++ L (declared (t.definitions l ds) (with_names ns i)).names) E
     (InNames sc.bindings i (λ setting env. IsOneDeclared setting sc d env (t.definitions l ds) (Then setting) c))
 let_bases pay valofs blocks sc p s i l ds d n many c c1 {qs} {D} E L Then a h r m ff k st within b =
@@ -489,29 +487,29 @@ at_code pay sc i x d many c c1 bs {qs} {g} {D} L Then k b = subst (λ z. Bases (
 
 pub one_bases : (pay : ℕ) (valofs : ValofsLie pay) (blocks : BlocksLie pay) (sc : Scene) (p : Enclosing) (s : Spot) (i : ℕ) (x : Declaration) (d n many : ℕ) (c c1 : List Stmt) {qs : List Part} {D : ℕ → ℕ} (E : ℕ → ℕ) (L : List Named → List Lasting) (Then : Later) → Around sc p d
     → SoundOneDeclared sc.bindings p s x → RegularDeclaration x → turns_one_declared true x ≤ pay → (f : FoundParts sc.own sc.targets (parts_of_declaration d n (declaration_named sc.bindings p s x) ++ qs))
-    → c ≡ declaration_code sc.targets d n (declaration_named sc.bindings p s x) ++ c1 → StandsAt sc.own d c → ((a : ℕ) → data_at sc.own a c + D a ≤ E a + data_at sc.own a c1)
-    → Bases (record (home sc pay) { bindings = scope_behind_one sc.bindings p s x }) (i + objects_of_declaration x) many qs (found_back sc.own sc.targets (parts_of_declaration d n (declaration_named sc.bindings p s x)) qs f) L D
-    (LaidLater Then sc (scope_behind_one sc.bindings p s x) (behind_declaration d (declaration_named sc.bindings p s x)) (i + objects_of_declaration x) c1)
+    → c ≡ declaration_code sc.targets d n (declaration_named sc.bindings p s x) ++ c1 → IsNumbered sc.own d c → ((a : ℕ) → data_at sc.own a c + D a ≤ E a + data_at sc.own a c1)
+    → Bases (record (home sc pay) { bindings = scope_after_one sc.bindings p s x }) (i + objects_of_declaration x) many qs (found_back sc.own sc.targets (parts_of_declaration d n (declaration_named sc.bindings p s x)) qs f) L D
+    (LaidLater Then sc (scope_after_one sc.bindings p s x) (after_declaration d (declaration_named sc.bindings p s x)) (i + objects_of_declaration x) c1)
     → Bases (home sc pay) i (objects_of_declaration x + many) (parts_of_declaration d n (declaration_named sc.bindings p s x) ++ qs) f (λ ns. of_declaration (with_names ns i) x ++ L (declared x (with_names ns i)).names) E (InNames sc.bindings i (λ g env. IsOneDeclared g sc d env x (Then g) c))
 one_bases pay valofs blocks sc p s i (t.constants l sort.Manifest is) d n many c c1 E L Then a h r m f k st within b =
-    bases_within (home sc pay) (λ q. let v = within q in let e = ap (data_at sc.own q) k in omega (arith, v, e)) (constants_bases pay sc p s l sort.Manifest is i d n many c L Then a.words h r f (at_code pay sc i (t.constants l sort.Manifest is) d many c c1 (scope_behind_one sc.bindings p s (t.constants l sort.Manifest is)) L Then k b))
+    bases_within (home sc pay) (λ q. let v = within q in let e = ap (data_at sc.own q) k in omega (arith, v, e)) (constants_bases pay sc p s l sort.Manifest is i d n many c L Then a.words h r f (at_code pay sc i (t.constants l sort.Manifest is) d many c c1 (scope_after_one sc.bindings p s (t.constants l sort.Manifest is)) L Then k b))
 one_bases pay valofs blocks sc p s i (t.constants l sort.Static is) d n many c c1 E L Then a h r m f k st within b =
-    bases_within (home sc pay) (λ q. let v = within q in let e = ap (data_at sc.own q) k in omega (arith, v, e)) (constants_bases pay sc p s l sort.Static is i d n many c L Then a.words h r f (at_code pay sc i (t.constants l sort.Static is) d many c c1 (scope_behind_one sc.bindings p s (t.constants l sort.Static is)) L Then k b))
+    bases_within (home sc pay) (λ q. let v = within q in let e = ap (data_at sc.own q) k in omega (arith, v, e)) (constants_bases pay sc p s l sort.Static is i d n many c L Then a.words h r f (at_code pay sc i (t.constants l sort.Static is) d many c c1 (scope_after_one sc.bindings p s (t.constants l sort.Static is)) L Then k b))
 one_bases pay valofs blocks sc p s i (t.constants l sort.Global is) d n many c c1 E L Then a h r m f k st within b =
-    bases_within (home sc pay) (λ q. let v = within q in let e = ap (data_at sc.own q) k in omega (arith, v, e)) (constants_bases pay sc p s l sort.Global is i d n many c L Then a.words h r f (at_code pay sc i (t.constants l sort.Global is) d many c c1 (scope_behind_one sc.bindings p s (t.constants l sort.Global is)) L Then k b))
+    bases_within (home sc pay) (λ q. let v = within q in let e = ap (data_at sc.own q) k in omega (arith, v, e)) (constants_bases pay sc p s l sort.Global is i d n many c L Then a.words h r f (at_code pay sc i (t.constants l sort.Global is) d many c c1 (scope_after_one sc.bindings p s (t.constants l sort.Global is)) L Then k b))
 one_bases pay valofs blocks sc p s i (t.definitions l ds) d n many c c1 E L Then a h r m f k st within b = let_bases pay valofs blocks sc p s i l ds d n many c c1 E L Then a h r m f k st within b
 
 -- what stands around code behind constants
-pub behind_constants : (sc : Scene) (p : Enclosing) (s : Spot) (l : ℕ) (o : Sort) (is : Items) (d : ℕ) → Doing sc p d → RegularItems is → Doing (record sc { bindings = scope_behind_one sc.bindings p s (t.constants l o is) }) p d
+pub behind_constants : (sc : Scene) (p : Enclosing) (s : Spot) (l : ℕ) (o : Sort) (is : Items) (d : ℕ) → Doing sc p d → RegularItems is → Doing (record sc { bindings = scope_after_one sc.bindings p s (t.constants l o is) }) p d
 behind_constants sc p s l sort.Manifest is d a r = exits_same p p (refl, refl, refl) sc _ d d a refl a.around.at (words_manifests sc.bindings is a.around.words r)
 behind_constants sc p s l sort.Static is d a r = exits_same p p (refl, refl, refl) sc _ d d a refl a.around.at (words_statics (s.number + 1) is sc.bindings a.around.words)
 behind_constants sc p s l sort.Global is d a r = exits_same p p (refl, refl, refl) sc _ d d a refl a.around.at (words_globals sc.bindings is sc.bindings a.around.words)
 
 -- where code goes on behind it
 pub behind_one : (pay : ℕ) (valofs : ValofsLie pay) (blocks : BlocksLie pay) (sc : Scene) (p : Enclosing) (s : Spot) (x : Declaration) (d n : ℕ) (c c1 : List Stmt) → Doing sc p d → SoundOneDeclared sc.bindings p s x → RegularDeclaration x
-    → turns_one_declared true x ≤ pay → FoundParts sc.own sc.targets (parts_of_declaration d n (declaration_named sc.bindings p s x)) → c ≡ declaration_code sc.targets d n (declaration_named sc.bindings p s x) ++ c1 → StandsAt sc.own d c
-    → StandsAt sc.own (behind_declaration d (declaration_named sc.bindings p s x)) c1
-    × Doing (record sc { bindings = scope_behind_one sc.bindings p s x }) (place_behind_one sc.bindings p s x) (behind_declaration d (declaration_named sc.bindings p s x))
+    → turns_one_declared true x ≤ pay → FoundParts sc.own sc.targets (parts_of_declaration d n (declaration_named sc.bindings p s x)) → c ≡ declaration_code sc.targets d n (declaration_named sc.bindings p s x) ++ c1 → IsNumbered sc.own d c
+    → IsNumbered sc.own (after_declaration d (declaration_named sc.bindings p s x)) c1
+    × Doing (record sc { bindings = scope_after_one sc.bindings p s x }) (place_after_one sc.bindings p s x) (after_declaration d (declaration_named sc.bindings p s x))
 behind_one pay valofs blocks sc p s (t.constants l sort.Manifest is) d n c c1 a h r m f k st = (written sc.own d c c1 k st, behind_constants sc p s l sort.Manifest is d a r)
 behind_one pay valofs blocks sc p s (t.constants l sort.Static is) d n c c1 a h r m f k st = (written sc.own d c c1 k st, behind_constants sc p s l sort.Static is d a r)
 behind_one pay valofs blocks sc p s (t.constants l sort.Global is) d n c c1 a h r m f k st = (written sc.own d c c1 k st, behind_constants sc p s l sort.Global is d a r)
@@ -523,31 +521,31 @@ behind_one pay valofs blocks sc p s (t.definitions l ds) d n c c1 a h r m f k st
     let words : HasWords (bind_all (from_spots p.procedure (slots_here sc p s d ds)) bl) = spots_words (slots_here sc p s d ds) p.procedure bl (words_procedures (s.number + 1) ds sc.bindings a.around.words) in
     let same = (same_defined bl p ds).1 in (
       behind_store sc (has_variables (definitions_named bl p (first_defined s ds) ds)) d1 c1 lies.on,
-      exits_same p (place_behind_defined bl p ds) (ap (λ z. z.loop) same, ap (λ z. z.switch) same, ap (λ z. z.valof) same) sc _ d d1 a vars.procedure vars.depth (subst (λ z. HasWords (bind_all z bl)) (sym vars.are) words),
+      exits_same p (place_after_defined bl p ds) (ap (λ z. z.loop) same, ap (λ z. z.switch) same, ap (λ z. z.valof) same) sc _ d d1 a vars.procedure vars.depth (subst (λ z. HasWords (bind_all z bl)) (sym vars.are) words),
     )
 
 -- ---- declarations in order
 
 pub declared_behind : (pay : ℕ) (valofs : ValofsLie pay) (blocks : BlocksLie pay) (sc : Scene) (p : Enclosing) (s : Spot) (xs : Declarations) (d n : ℕ) (c c1 : List Stmt) → Doing sc p d → SoundDeclared sc.bindings p s xs → RegularDeclarations xs
-    → turns_declared true xs ≤ pay → FoundParts sc.own sc.targets (parts_of_declarations d n (declarations_named sc.bindings p s xs)) → c ≡ declarations_code sc.targets d n (declarations_named sc.bindings p s xs) ++ c1 → StandsAt sc.own d c
-    → StandsAt sc.own (behind_declarations d (declarations_named sc.bindings p s xs)) c1
-    × Doing (record sc { bindings = scope_behind sc.bindings p s xs }) (place_behind_all sc.bindings p s xs) (behind_declarations d (declarations_named sc.bindings p s xs))
+    → turns_declared true xs ≤ pay → FoundParts sc.own sc.targets (parts_of_declarations d n (declarations_named sc.bindings p s xs)) → c ≡ declarations_code sc.targets d n (declarations_named sc.bindings p s xs) ++ c1 → IsNumbered sc.own d c
+    → IsNumbered sc.own (after_declarations d (declarations_named sc.bindings p s xs)) c1
+    × Doing (record sc { bindings = scope_after sc.bindings p s xs }) (place_after_all sc.bindings p s xs) (after_declarations d (declarations_named sc.bindings p s xs))
 declared_behind pay valofs blocks sc p s t.no_declarations d n c c1 a h r m f k st = (written sc.own d c c1 k st, a)
 declared_behind pay valofs blocks sc p s (t.declare x xs) d n c c1 a h r m f k st =
     let one = declaration_named sc.bindings p s x in
-    let bs = scope_behind_one sc.bindings p s x in
-    let p1 : Enclosing = place_behind_one sc.bindings p s x in
-    let s1 : Spot = behind_one_declared x s in
-    let more = declarations_code sc.targets (behind_declaration d one) (n + labels_of_declaration one) (declarations_named bs p1 s1 xs) in
+    let bs = scope_after_one sc.bindings p s x in
+    let p1 : Enclosing = place_after_one sc.bindings p s x in
+    let s1 : Spot = after_one_declared x s in
+    let more = declarations_code sc.targets (after_declaration d one) (n + labels_of_declaration one) (declarations_named bs p1 s1 xs) in
     let first = behind_one pay valofs blocks sc p s x d n c (more ++ c1) a h.0 r.0 (omega (arith, m)) (found_front sc.own sc.targets (parts_of_declaration d n one) _ f) (joined_two (declaration_code sc.targets d n one) more c1 c k) st in
-    declared_behind pay valofs blocks (record sc { bindings = bs }) p1 s1 xs (behind_declaration d one) (n + labels_of_declaration one) (more ++ c1) c1 first.1 h.1 r.1 (omega (arith, m))
+    declared_behind pay valofs blocks (record sc { bindings = bs }) p1 s1 xs (after_declaration d one) (n + labels_of_declaration one) (more ++ c1) c1 first.1 h.1 r.1 (omega (arith, m))
     (found_back sc.own sc.targets (parts_of_declaration d n one) _ f) refl first.0
 
 pub declared_bases : (pay : ℕ) (valofs : ValofsLie pay) (blocks : BlocksLie pay) (sc : Scene) (p : Enclosing) (s : Spot) (i : ℕ) (xs : Declarations) (d n many : ℕ) (c c1 : List Stmt) {qs : List Part} {D : ℕ → ℕ} (E : ℕ → ℕ) (L : List Named → List Lasting) (Then : Later) → Doing sc p d
     → SoundDeclared sc.bindings p s xs → RegularDeclarations xs → turns_declared true xs ≤ pay → (f : FoundParts sc.own sc.targets (parts_of_declarations d n (declarations_named sc.bindings p s xs) ++ qs))
-    → c ≡ declarations_code sc.targets d n (declarations_named sc.bindings p s xs) ++ c1 → StandsAt sc.own d c → ((a : ℕ) → data_at sc.own a c + D a ≤ E a + data_at sc.own a c1)
-    → ((g : FoundParts sc.own sc.targets qs) → Bases (record (home sc pay) { bindings = scope_behind sc.bindings p s xs }) (i + objects_of_declarations xs) many qs g L D
-    (LaidLater Then sc (scope_behind sc.bindings p s xs) (behind_declarations d (declarations_named sc.bindings p s xs)) (i + objects_of_declarations xs) c1))
+    → c ≡ declarations_code sc.targets d n (declarations_named sc.bindings p s xs) ++ c1 → IsNumbered sc.own d c → ((a : ℕ) → data_at sc.own a c + D a ≤ E a + data_at sc.own a c1)
+    → ((g : FoundParts sc.own sc.targets qs) → Bases (record (home sc pay) { bindings = scope_after sc.bindings p s xs }) (i + objects_of_declarations xs) many qs g L D
+    (LaidLater Then sc (scope_after sc.bindings p s xs) (after_declarations d (declarations_named sc.bindings p s xs)) (i + objects_of_declarations xs) c1))
     → Bases (home sc pay) i (objects_of_declarations xs + many) (parts_of_declarations d n (declarations_named sc.bindings p s xs) ++ qs) f (λ ns. of_declarations (with_names ns i) xs ++ L (all_declared xs (with_names ns i)).names) E (InNames sc.bindings i (λ setting env. AreDeclared setting sc d env xs (Then setting) c))
 declared_bases pay valofs blocks sc p s i t.no_declarations d n many c c1 {qs} {D} E L Then a h r m f k st within b =
     let none : i + 0 ≡ i = omega arith in
@@ -558,10 +556,10 @@ declared_bases pay valofs blocks sc p s i t.no_declarations d n many c c1 {qs} {
 declared_bases pay valofs blocks sc p s i (t.declare x xs) d n many c c1 {qs} {D} E L Then a h r m ff k st within b =
     let hm : Home = home sc pay in
     let one = declaration_named sc.bindings p s x in
-    let bs = scope_behind_one sc.bindings p s x in
-    let p1 : Enclosing = place_behind_one sc.bindings p s x in
-    let s1 : Spot = behind_one_declared x s in
-    let d1 : ℕ = behind_declaration d one in
+    let bs = scope_after_one sc.bindings p s x in
+    let p1 : Enclosing = place_after_one sc.bindings p s x in
+    let s1 : Spot = after_one_declared x s in
+    let d1 : ℕ = after_declaration d one in
     let n1 : ℕ = n + labels_of_declaration one in
     let ox : ℕ = objects_of_declaration x in
     let os : ℕ = objects_of_declarations xs in
@@ -580,7 +578,7 @@ declared_bases pay valofs blocks sc p s i (t.declare x xs) d n many c c1 {qs} {D
     let said : (g : FoundParts sc.own sc.targets (own_parts ++ (other_parts ++ qs))) → Bases hm i (ox + (os + many)) (own_parts ++ (other_parts ++ qs)) g objects_said E laid_said = λ f.
     let first = behind_one pay valofs blocks sc p s x d n c (more ++ c1) a h.0 r.0 (omega (arith, m)) (found_front sc.own sc.targets own_parts (other_parts ++ qs) f) k1 st in
     let others = declared_bases pay valofs blocks inside p1 s1 (i + ox) xs d1 n1 many (more ++ c1) c1 E1 L Then first.1 h.1 r.1 (omega (arith, m)) (found_back sc.own sc.targets own_parts (other_parts ++ qs) f) refl first.0
-    (λ q. let w = within_at sc.own q more c1 in omega (arith, w)) (λ g. subst (λ z. Bases (record hm { bindings = scope_behind bs p1 s1 xs }) z many qs g L D (LaidLater Then sc (scope_behind bs p1 s1 xs) (behind_declarations d1 named) z c1)) further (b g)) in
+    (λ q. let w = within_at sc.own q more c1 in omega (arith, w)) (λ g. subst (λ z. Bases (record hm { bindings = scope_after bs p1 s1 xs }) z many qs g L D (LaidLater Then sc (scope_after bs p1 s1 xs) (after_declarations d1 named) z c1)) further (b g)) in
     let whole = one_bases pay valofs blocks sc p s i x d n (os + many) c (more ++ c1) E (λ ns. of_declarations (with_names ns (i + ox)) xs ++ L (all_declared xs (with_names ns (i + ox))).names)
     (λ setting sc0 d0 env0 c0. AreDeclared setting sc0 d0 env0 xs (Then setting) c0) a.around h.0 r.0 (omega (arith, m)) f k1 st (λ q. let v = within q in let w = within_at sc.own q more c1 in omega (arith, v, w)) others in
     bases_of hm _ objects_said (λ ns.

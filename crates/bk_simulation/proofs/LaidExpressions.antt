@@ -1,9 +1,9 @@
 -- What the static side of each form needs: codes for a value or a jump, what stands around code, and how parts are laid together. A call is laid where the
 -- scheme puts it, where its arguments and what it calls are.
-use Rattle.bk_simulation.proofs.Words.{◌≡◌, ℕ, ◌+◌, ◌<◌, ◌≤◌, ◌^◌, Bool, true, false, List, [], ◌∷◌, ◌++◌, Option, Some, None, cond, refl, sym, ap, ◌∙◌, subst, arith, append_assoc, bytes_eq, FRAME_WORDS, Operator, Expression, Expressions, Command, Bound, Enclosing, Role, Truth, Binding, bound_in, named_word, prefix_word, infix_word, constant_word, deeper, Spot, next_depth, Placed, Stmt, JumpIf, Monadic, Dyadic, LoadByte, Target, term_named, condition_named, Part, parts, parts_if, push, infix_code, truth_value, value_code, jump_code, Named, Sense, constant, label, Environment, sense_in, word_named, constant_in, Sought, the_case, same_place, stands_in, Lasting, size, Stack, labels, terms_named, parts_each, each_code, objects, objects_of_each, of_expression, of_each, option_and_then}
+use Rattle.bk_simulation.proofs.Words.{◌≡◌, ℕ, ◌+◌, ◌<◌, ◌≤◌, ◌^◌, Bool, true, false, List, [], ◌∷◌, ◌++◌, Option, Some, None, cond, refl, sym, ap, ◌∙◌, subst, arith, append_assoc, bytes_eq, FRAME_WORDS, Operator, Expression, Expressions, Command, Bound, Enclosing, Role, Truth, Binding, bound_in, named_word, prefix_word, constant_word, deeper, Spot, next_depth, Placed, Stmt, JumpIf, Monadic, Dyadic, LoadByte, Target, term_named, condition_named, Part, parts, parts_if, push, infix_code, truth_value, value_code, jump_code, Named, Sense, constant, label, Environment, sense_in, word_named, constant_in, Sought, the_case, same_place, has_place, Lasting, size, Stack, labels, terms_named, parts_each, each_code, objects, objects_of_each, of_expression, of_each, option_and_then}
 use Rattle.bk_simulation.proofs.Pieces.{with_names, Setting, Scene, Aim, pushes, jumps, ending, count, IsCode, AreValues, Agree, AgreeWords, stands_by}
 use Rattle.bk_simulation.proofs.Terms.{Value, Operator as o, Bound as b, Dyadic as two, Monadic as w}
-use Rattle.bk_simulation.proofs.Standing.{StandsAt, passed, Home, home, Fitting, no_bases, Lies, written, both_bases, bases_so, lie, lies_behind, data_at, FoundParts, found_front, found_back}
+use Rattle.bk_simulation.proofs.Standing.{IsNumbered, passed, Home, home, Fitting, no_bases, Lies, written, both_bases, bases_so, lie, lies_behind, data_at, FoundParts, found_front, found_back}
 use Rattle.bk_tree.specs.Tree as t
 use Rattle.bk_trans.specs.Program as term
 use Rattle.bk_scope.specs.Spots as spot
@@ -47,9 +47,7 @@ pub constants_agree : (ns : List Named) (bs : List Binding) (i : ℕ) → AgreeW
 constants_agree ns bs i a (t.name l x) = a x
 constants_agree ns bs i a (t.parens l e) = constants_agree ns bs i a e
 constants_agree ns bs i a (t.unary l f e) = ap (λ y. option_and_then (prefix_word f) y) (constants_agree ns bs i a e)
-constants_agree ns bs i a (t.binary l f m x y) =
-    ap (λ z. option_and_then (λ v. option_and_then (infix_word f v) (constant_in (with_names ns i) y)) z) (constants_agree ns bs i a x)
-    ∙ ap (λ z. option_and_then (λ v. option_and_then (infix_word f v) z) (constant_word bs x)) (constants_agree ns bs i a y)
+constants_agree ns bs i a (t.binary l f m x y) = grind (arith, (constants_agree ns bs i a x), (constants_agree ns bs i a y))
 constants_agree ns bs i a _ = refl
 
 -- names by what is in scope
@@ -81,7 +79,7 @@ abbrev pub InNames : List Binding → ℕ → (Setting → Environment → Type 
 InNames bs next P setting = (ns : List Named) → Agree ns bs → P setting (with_names ns next)
 
 -- seeking finds the same where constants are the same
-pub stands_agree : (s : Sought) (ns : List Named) (bs : List Binding) (i : ℕ) → Agree ns bs → (c : Command) → stands_in s (with_names ns i) c ≡ stands_in s (known bs) c
+pub stands_agree : (s : Sought) (ns : List Named) (bs : List Binding) (i : ℕ) → Agree ns bs → (c : Command) → has_place s (with_names ns i) c ≡ has_place s (known bs) c
 stands_agree s ns bs i a c = stands_by s (with_names ns i) (known bs) (λ e. ap (λ y. same_place s (the_case y)) (constants_agree ns bs i a.0 e ∙ sym (constants_agree (names_of bs) bs 0 (known_agree bs) e))) c
 
 -- ---- expressions that have no jumps of their own
@@ -100,10 +98,10 @@ plain_laid pay sc p s i d n (jumps u l) e many c rest {L} P h laid f k =
     (laid g (e1 ∙ append_assoc (value_code sc.targets d n (term_named sc.bindings p s e)) (JumpIf u l ∷ []) rest))) f k
 
 -- one statement that pushes
-pub leaf_on : (own : Placed) (d : ℕ) (c rest : List Stmt) (x : Stmt) → c ≡ x ∷ rest → next_depth d x ≡ d + 1 → StandsAt own d c → StandsAt own (d + 1) rest
-leaf_on own d c rest x e m st = passed own d (d + 1) x rest (subst (λ y. StandsAt own d y) e st) m
+pub leaf_on : (own : Placed) (d : ℕ) (c rest : List Stmt) (x : Stmt) → c ≡ x ∷ rest → next_depth d x ≡ d + 1 → IsNumbered own d c → IsNumbered own (d + 1) rest
+leaf_on own d c rest x e m st = passed own d (d + 1) x rest (subst (λ y. IsNumbered own d y) e st) m
 
-pub leaf_lies : (h : Home) (next d : ℕ) (c rest : List Stmt) (x : Stmt) {f : FoundParts h.own h.targets []} (P : Setting → Type 0) → c ≡ x ∷ rest → next_depth d x ≡ d + 1 → StandsAt h.own d c
+pub leaf_lies : (h : Home) (next d : ℕ) (c rest : List Stmt) (x : Stmt) {f : FoundParts h.own h.targets []} (P : Setting → Type 0) → c ≡ x ∷ rest → next_depth d x ≡ d + 1 → IsNumbered h.own d c
     → ((setting : Setting) → Fitting h setting → P setting) → Lies h next 0 (d + 1) c rest [] f (λ ns. []) P
 leaf_lies h next d c rest x P e m st g = lie (leaf_on h.own d c rest x e m st) (no_bases h next P g) (λ a. let k = ap (data_at h.own a) e in omega (arith, k))
 
@@ -116,7 +114,7 @@ truth_depth k true = refl
 truth_depth k false = refl
 
 -- an operator takes two items and gives one
-pub infix_on : (own : Placed) (f : Operator) (d : ℕ) (rest : List Stmt) → StandsAt own (d + 1 + 1) (infix_code f ++ rest) → StandsAt own (d + 1) rest
+pub infix_on : (own : Placed) (f : Operator) (d : ℕ) (rest : List Stmt) → IsNumbered own (d + 1 + 1) (infix_code f ++ rest) → IsNumbered own (d + 1) rest
 infix_on own o.Subscript d rest h = passed own (d + 1) (d + 1) (Monadic w.Contents) rest (passed own (d + 1 + 1) (d + 1) (Dyadic two.Add) (Monadic w.Contents ∷ rest) h (omega arith)) refl
 infix_on own o.Byte d rest h = passed own (d + 1 + 1) (d + 1) LoadByte rest h (omega arith)
 infix_on own _ d rest h = passed own (d + 1 + 1) (d + 1) _ rest h (omega arith)
@@ -138,19 +136,19 @@ size_count (t.more e es) = ap (λ k. k + 1) (size_count es)
 
 count_named : (n : ℕ) (bs : List Binding) (p : Enclosing) (s : Spot) (es : Expressions) → depths.count (terms_named n bs p s es) ≡ count es
 count_named n bs p s t.none = refl
-count_named n bs p s (t.more e es) = ap (λ k. k + 1) (count_named n bs (deeper n p) (spot.behind e s) es)
+count_named n bs p s (t.more e es) = ap (λ k. k + 1) (count_named n bs (deeper n p) (spot.following e s) es)
 
 -- a call: its arguments and what is called
 pub call_lies : (pay : ℕ) (sc : Scene) (p : Enclosing) (s s1 : Spot) (i : ℕ) (call : Stmt) (e : Expression) (es : Expressions) (d n : ℕ) (c rest : List Stmt) → Around sc p d
     → (f : FoundParts sc.own sc.targets (parts (d + 2 + depths.count (terms_named 1 sc.bindings (deeper 2 p) s1 es)) n (term_named sc.bindings (deeper (size es + 2) p) s e)
     ++ parts_each (d + 2) (n + labels (term_named sc.bindings (deeper (size es + 2) p) s e)) (terms_named 1 sc.bindings (deeper 2 p) s1 es)))
     → c ≡ ((Stack (d + 2) ∷ each_code sc.targets (d + 2) (n + labels (term_named sc.bindings (deeper (size es + 2) p) s e)) (terms_named 1 sc.bindings (deeper 2 p) s1 es))
-    ++ value_code sc.targets (d + 2 + depths.count (terms_named 1 sc.bindings (deeper 2 p) s1 es)) n (term_named sc.bindings (deeper (size es + 2) p) s e) ++ (call ∷ [])) ++ rest → StandsAt sc.own d c
+    ++ value_code sc.targets (d + 2 + depths.count (terms_named 1 sc.bindings (deeper 2 p) s1 es)) n (term_named sc.bindings (deeper (size es + 2) p) s e) ++ (call ∷ [])) ++ rest → IsNumbered sc.own d c
     → ((c1 c2 : List Stmt) → Around sc (deeper 2 p) (d + 2) → (g : FoundParts sc.own sc.targets (parts_each (d + 2) (n + labels (term_named sc.bindings (deeper (size es + 2) p) s e)) (terms_named 1 sc.bindings (deeper 2 p) s1 es)))
-    → c1 ≡ each_code sc.targets (d + 2) (n + labels (term_named sc.bindings (deeper (size es + 2) p) s e)) (terms_named 1 sc.bindings (deeper 2 p) s1 es) ++ c2 → StandsAt sc.own (d + 2) c1
+    → c1 ≡ each_code sc.targets (d + 2) (n + labels (term_named sc.bindings (deeper (size es + 2) p) s e)) (terms_named 1 sc.bindings (deeper 2 p) s1 es) ++ c2 → IsNumbered sc.own (d + 2) c1
     → Lies (home sc pay) (i + objects e) (objects_of_each es) (d + 2 + count es) c1 c2 (parts_each (d + 2) (n + labels (term_named sc.bindings (deeper (size es + 2) p) s e)) (terms_named 1 sc.bindings (deeper 2 p) s1 es)) g (λ ns. of_each (with_names ns (i + objects e)) es) (InNames sc.bindings (i + objects e) (λ g env. AreValues g sc (d + 2) env es c1 c2)))
     → ((c2 : List Stmt) → Around sc (deeper (size es + 2) p) (d + 2 + count es) → (g : FoundParts sc.own sc.targets (parts (d + 2 + count es) n (term_named sc.bindings (deeper (size es + 2) p) s e)))
-    → c2 ≡ value_code sc.targets (d + 2 + count es) n (term_named sc.bindings (deeper (size es + 2) p) s e) ++ (call ∷ rest) → StandsAt sc.own (d + 2 + count es) c2
+    → c2 ≡ value_code sc.targets (d + 2 + count es) n (term_named sc.bindings (deeper (size es + 2) p) s e) ++ (call ∷ rest) → IsNumbered sc.own (d + 2 + count es) c2
     → Lies (home sc pay) i (objects e) (d + 2 + count es + 1) c2 (call ∷ rest) (parts (d + 2 + count es) n (term_named sc.bindings (deeper (size es + 2) p) s e)) g (λ ns. of_expression (with_names ns i) e)
     (InNames sc.bindings i (λ g env. IsCode g sc (d + 2 + count es) env pushes e c2 (call ∷ rest))))
     → Lies (home sc pay) i (objects e + objects_of_each es) (d + 2 + count es + 1) c (call ∷ rest) (parts (d + 2 + depths.count (terms_named 1 sc.bindings (deeper 2 p) s1 es)) n (term_named sc.bindings (deeper (size es + 2) p) s e)

@@ -1,6 +1,6 @@
 -- Procedures are laid where the scheme puts them, where their bodies are: their ENTRY and SAVE, and what their formals are.
-use Rattle.bk_simulation.proofs.Words.{◌≡◌, ℕ, suc, ◌+◌, ◌-◌, ◌<◌, ◌≤◌, ◌^◌, false, List, [], ◌∷◌, ◌++◌, length, Option, Some, None, cond, refl, sym, ap, ap₂, ◌∙◌, subst, arith, slice_get, drop, bytes_eq-Decides, FRAME_WORDS, GLOBAL_NUMBER, Mention, Bound, Binding, bound_in, bind, with_formals, Callable, next_depth, depth_behind, Placed, global_place, Program, IsWellPlaced, item_words, Stmt, Entry, Save, EndProcedure, DataLabel, DataAddress, Target, meant, variable, outermost, procedure_code, word_code, Named, Sense, Environment, cell, foreign, bind_each, sense_in, global_named, letters, Body, command, expression, Lasting, code, of_command, of_expression, in_scope, bind_formals, Part, data_code, entries_of, entry_of, entry_setting, joined, map, map-append}
-use Rattle.bk_simulation.proofs.Forms.{words_bound, BaseOf, Codes, with_names, Setting, Scene, IsWord, NamedIn, bound_named, IsBody, InData, HeldWord, HeldList, Agree, SameGlobal, global_of, same_global, own_cell, agree_bound, settings, setting_of, Follow, FollowWords, there_in, bases_under, StandsAt, first_of, passed, written, Home, Suits, Bases, FoundParts, DataIn, data_within, HasWords, joined_two, place_of}
+use Rattle.bk_simulation.proofs.Words.{◌≡◌, ℕ, suc, ◌+◌, ◌-◌, ◌<◌, ◌≤◌, ◌^◌, false, List, [], ◌∷◌, ◌++◌, length, Option, Some, None, cond, refl, sym, ap, ap₂, ◌∙◌, subst, arith, slice_get, drop, bytes_eq-Decides, FRAME_WORDS, Mention, Bound, Binding, bound_in, bind, with_formals, Callable, next_depth, depth_after, Placed, Program, IsWellPlaced, item_words, Stmt, Entry, Save, EndProcedure, DataLabel, DataAddress, Target, meant, variable, outermost, procedure_code, word_code, Named, Sense, Environment, cell, foreign, bind_each, sense_in, global_named, letters, Body, command, expression, Lasting, code, of_command, of_expression, in_scope, bind_formals, Part, data_code, entries_of, entry_of, entry_setting, joined, map, map-append}
+use Rattle.bk_simulation.proofs.Forms.{words_bound, BaseOf, Codes, with_names, Setting, Scene, IsWord, NamedIn, bound_named, IsBody, InData, HeldWord, HeldList, Agree, SameGlobal, global_of, same_global, own_cell, agree_bound, settings, setting_of, Follow, FollowWords, there_in, bases_under, IsNumbered, first_of, passed, written, Home, Suits, Bases, FoundParts, DataIn, data_within, HasWords, joined_two, place_of}
 use Rattle.bk_simulation.proofs.Terms.{Bound as b, procedure}
 use Rattle.bk_scope.specs.Places.{kept}
 use Rattle.bk_meaning.specs.Environment as m
@@ -9,7 +9,7 @@ use Rattle.bk_simulation.proofs.HeldData.{statement_data, statement_below, word_
 -- ---- along a section
 
 -- behind more statements
-pub all_passed : (own : Placed) (d : ℕ) (xs c : List Stmt) → StandsAt own d (xs ++ c) → StandsAt own (depth_behind d xs) c
+pub all_passed : (own : Placed) (d : ℕ) (xs c : List Stmt) → IsNumbered own d (xs ++ c) → IsNumbered own (depth_after d xs) c
 all_passed own d [] c h = h
 all_passed own d (x ∷ xs) c h = all_passed own (next_depth d x) xs c (passed own d (next_depth d x) x (xs ++ c) h refl)
 
@@ -77,7 +77,7 @@ pub record ProcedureLies (pay section : ℕ) (own : Placed) (ts : List Target) (
   pub name : List ℕ
   pub at : slice_get own.stmts place ≡ Some (Entry n name)
   pub code : List Stmt
-  pub behind : drop (suc place) own.stmts ≡ Save (length fs + 2) ∷ code
+  pub following : drop (suc place) own.stmts ≡ Save (length fs + 2) ∷ code
   pub few : length fs + 2 ≤ FRAME_WORDS
   pub objects_are : Bases (record { section = section; own = own; targets = ts; bindings = bs; pay = pay }) i many ps f (λ ns. of_body body (bind_each (letters fs) foreign (with_names ns i))) C
       (λ g. (ns : List Named) → Agree ns bs → (o : ℕ) → 0 < o → IsBody g (scene_of section own ts (with_formals k 2 fs bs) k) (length fs + 2) (bind_formals o 0 (letters fs) (with_names ns i)) body code)
@@ -85,8 +85,8 @@ pub record ProcedureLies (pay section : ℕ) (own : Placed) (ts : List Target) (
 -- It is laid where its statements stand, if its body is.
 pub body_lies : (pay section : ℕ) (own : Placed) (ts : List Target) (bs : List Binding) (k : ℕ) (fs : List Mention) (i many : ℕ) (body : Body) (n : ℕ) (ps : List Part) {f : FoundParts own ts ps} {C : ℕ → ℕ}
     → (d : ℕ) (name : List ℕ) (cs : List Stmt) (last : Stmt) (c rest : List Stmt)
-    → c ≡ (Entry n name ∷ Save (length fs + 2) ∷ cs ++ (last ∷ EndProcedure ∷ [])) ++ rest → StandsAt own d c
-    → (StandsAt own (length fs + 2) (cs ++ (last ∷ EndProcedure ∷ rest))
+    → c ≡ (Entry n name ∷ Save (length fs + 2) ∷ cs ++ (last ∷ EndProcedure ∷ [])) ++ rest → IsNumbered own d c
+    → (IsNumbered own (length fs + 2) (cs ++ (last ∷ EndProcedure ∷ rest))
     → Bases (record { section = section; own = own; targets = ts; bindings = bs; pay = pay }) i many ps f (λ ns. of_body body (bind_each (letters fs) foreign (with_names ns i))) C
     (λ g. (ns : List Named) → Agree ns bs → (o : ℕ) → 0 < o
     → IsBody g (scene_of section own ts (with_formals k 2 fs bs) k) (length fs + 2) (bind_formals o 0 (letters fs) (with_names ns i)) body (cs ++ (last ∷ EndProcedure ∷ rest))))
@@ -95,9 +95,9 @@ body_lies pay section own ts bs k fs i many body n ps d name cs last c rest e st
     let depth = length fs + 2 in
     let all = cs ++ (last ∷ EndProcedure ∷ rest) in
     let st1 = written own d c (Entry n name ∷ Save depth ∷ all) (joined_two (Entry n name ∷ Save depth ∷ cs) (last ∷ EndProcedure ∷ []) rest c e) st in
-    let entry = first_of own.stmts st1.place (Entry n name) (Save depth ∷ all) st1.behind in
+    let entry = first_of own.stmts st1.place (Entry n name) (Save depth ∷ all) st1.following in
     let st3 = passed own 2 depth (Save depth) all (passed own d 2 (Entry n name) (Save depth ∷ all) st1 refl) refl in
-    record { place = st1.place; name = name; at = entry.at; code = all; behind = entry.behind; few = st3.shallow; objects_are = laid st3 }
+    record { place = st1.place; name = name; at = entry.at; code = all; following = entry.following; few = st3.shallow; objects_are = laid st3 }
 
 letters_length : (fs : List Mention) → length (letters fs) ≡ length fs
 letters_length [] = refl
@@ -109,9 +109,7 @@ letters_length (x ∷ xs) = ap (λ k. suc k) (letters_length xs)
 word_held : (setting : Setting) (section : ℕ) (own : Placed) (n number place : ℕ) (name : List ℕ) (y : Option Bound) → slice_get setting.program.sections section ≡ Some own → slice_get own.stmts place ≡ Some (Entry n name)
     → setting.codes.procedure number ≡ own.places.label n → Callable y → DataIn own (word_code n (meant y)) → BaseOf setting.lasting number (word_base own n (meant y)) → HeldWord setting number (global_of y)
 word_held setting section own n number place name (Some (b.Global None)) is at word c d base = absurd (let h : None ≡ Some c.0 = c.1 in cc)
-word_held setting section own n number place name (Some (b.Global (Some v))) is at word c d base =
-    let e = setting.well.entries section place n own name is at in
-    (own.places.label n, base, (let l : global_place GLOBAL_NUMBER < own.places.label n = e.1 in omega (arith, l)), (let l : own.places.label n < setting.first = e.2 in omega (arith, l)))
+word_held setting section own n number place name (Some (b.Global (Some v))) is at word c d base = grind (arith, place)
 word_held setting section own n number place name (Some (b.Static m)) is at word c d base =
     let items = DataAddress n ∷ d.rest in
     let found = statement_data setting.program section own d.depth (DataLabel (n + 1)) items (record { place = own.places.label (n + 1); words = item_words own.places items }) is d.stands refl in
@@ -180,7 +178,7 @@ procedure_bases pay section own ts bs k x fs i many body n part ps f p callable 
             name = p.name;
             at = p.at;
             body = p.code;
-            behind = subst (λ z. drop (suc p.place) own.stmts ≡ Save (z + 2) ∷ p.code) (sym same) p.behind;
+            following = subst (λ z. drop (suc p.place) own.stmts ≡ Save (z + 2) ∷ p.code) (sym same) p.following;
             word = s.words.0;
             few = omega (arith, few, same);
             laid = λ ob above. subst (λ z. IsBody setting (scene_of section own ts (with_formals k 2 fs bs) k) (z + 2) (bind_formals ob 0 (letters fs) (with_names ns (i + 1))) body p.code) (sym same) (o.laid setting (inner setting s) ns u ob above);

@@ -1,6 +1,6 @@
 -- What lasts of a section lies where the scheme puts it.
-use Rattle.bk_simulation.proofs.Words.{declared-next, Part, true, ◌≡◌, ℕ, ◌+◌, ◌≤◌, false, List, [], ◌∷◌, ◌++◌, cond, refl, sym, ap, ◌∙◌, subst, arith, false≢true, Sort, Items, Declaration, Declarations, Definitions, Enclosing, Binding, scope_behind_one, place_behind_one, SoundDeclared, SoundOneDeclared, Spot, behind_one_declared, beginning, joined, Placed, AreFaultless, Stmt, Store, Target, behind_definitions, behind_declaration, has_variables, labels_of_declaration, definitions_named, declaration_named, declarations_named, named_tree, target_of, parts_of_declaration, parts_of_declarations, definitions_code, declaration_code, scheme, scheme_is_accepted, targets_found, objects_of_declaration, objects_of_declarations, declared, of_declaration, of_declarations, section_sound, IsAccepted, RegularDeclarations, RegularDefinitions, DefineNoVariables, DeclareNoVariables, append_assoc, Bound, depth_behind, Placement, item_words, Globals, static_item, static_table, label_place, procedure_code, data_code, word_code, entries_of, section_code, AllFound}
-use Rattle.bk_simulation.proofs.Forms.{turns_declared, turns_defined, with_names, Setting, Scene, FoundParts, found_front, found_back, data_of_parts, StandsAt, passed, home, Bases, no_bases, bases_of, bases_so, data_at, written, within_at}
+use Rattle.bk_simulation.proofs.Words.{declared-next, Part, true, ◌≡◌, ℕ, ◌+◌, ◌≤◌, false, List, [], ◌∷◌, ◌++◌, cond, refl, sym, ap, ◌∙◌, subst, arith, false≢true, Sort, Items, Declaration, Declarations, Definitions, Enclosing, Binding, scope_after_one, place_after_one, SoundDeclared, SoundOneDeclared, Spot, after_one_declared, beginning, joined, Placed, AreFaultless, Stmt, Store, Target, after_definitions, after_declaration, has_variables, labels_of_declaration, definitions_named, declaration_named, declarations_named, named_tree, target_of, parts_of_declaration, parts_of_declarations, definitions_code, declaration_code, scheme, scheme_is_accepted, targets_found, objects_of_declaration, objects_of_declarations, declared, of_declaration, of_declarations, section_sound, IsAccepted, RegularDeclarations, RegularDefinitions, DefineNoVariables, DeclareNoVariables, append_assoc, Bound, depth_after, Placement, item_words, Globals, static_item, static_table, label_place, procedure_code, data_code, word_code, entries_of, section_code, AllFound}
+use Rattle.bk_simulation.proofs.Forms.{turns_declared, turns_defined, with_names, Setting, Scene, FoundParts, found_front, found_back, data_of_parts, IsNumbered, passed, home, Bases, no_bases, bases_of, bases_so, data_at, written, within_at}
 use Rattle.bk_simulation.proofs.LaidAssigned.{Doing}
 use Rattle.bk_simulation.proofs.LaidProcedures.{scene_of, all_passed}
 use Rattle.bk_simulation.proofs.LaidDeclarations.{Later, inner, first_defined, constants_bases, behind_constants, let_bases, behind_one}
@@ -39,14 +39,14 @@ labels_first places [] rest e = e
 labels_first places (x ∷ xs) rest e = ap (item_words places) (append_assoc (data_code x) (joined data_code xs) rest) ∙ label_first places x (joined data_code xs ++ rest) (labels_first places xs rest e)
 
 -- Parts one behind the other.
-abbrev parts_from : (own : Placed) (ts : List Target) (xs : List Part) (d e : ℕ) (c r : List Stmt) → AllFound ts (joined target_of xs) → StandsAt own d (joined (procedure_code ts) xs ++ c) → StandsAt own e (joined data_code xs ++ r)
+abbrev parts_from : (own : Placed) (ts : List Target) (xs : List Part) (d e : ℕ) (c r : List Stmt) → AllFound ts (joined target_of xs) → IsNumbered own d (joined (procedure_code ts) xs ++ c) → IsNumbered own e (joined data_code xs ++ r)
     → item_words own.places r ≡ [] → FoundParts own ts xs
 parts_from own ts [] d e c r f h i z = tt
 parts_from own ts (x ∷ xs) d e c r f h i z =
     let code = written own d _ _ (append_assoc (procedure_code ts x) (joined (procedure_code ts) xs) c) h in
     let items = written own e _ _ (append_assoc (data_code x) (joined data_code xs) r) i in (
       (targets_front ts (target_of x) _ f, record { depth = d; rest = joined (procedure_code ts) xs ++ c; stands = code }, record { depth = e; rest = joined data_code xs ++ r; stands = items; ends = labels_first own.places xs r z }),
-      parts_from own ts xs (depth_behind d (procedure_code ts x)) (depth_behind e (data_code x)) c r (targets_back ts (target_of x) _ f) (all_passed own d (procedure_code ts x) (joined (procedure_code ts) xs ++ c) code)
+      parts_from own ts xs (depth_after d (procedure_code ts x)) (depth_after e (data_code x)) c r (targets_back ts (target_of x) _ f) (all_passed own d (procedure_code ts x) (joined (procedure_code ts) xs ++ c) code)
           (all_passed own e (data_code x) (joined data_code xs ++ r) items) z,
     )
 
@@ -57,18 +57,18 @@ section_parts own xs are e f =
     let codes = joined (procedure_code ts) xs in
     let items = joined data_code xs in
     let last = Globals (joined entries_of xs) ∷ [] in
-    let start : StandsAt own 0 own.stmts = record { are = are; place = 0; behind = refl; same_depth = refl; shallow = omega arith } in
-    let whole : StandsAt own 0 (codes ++ (items ++ last)) = written own 0 own.stmts _ (e ∙ append_assoc codes items last) start in
-    parts_from own ts xs 0 (depth_behind 0 codes) (items ++ last) last f whole (all_passed own 0 codes (items ++ last) whole) refl
+    let start : IsNumbered own 0 own.stmts = record { are = are; place = 0; following = refl; same_depth = refl; shallow = omega arith } in
+    let whole : IsNumbered own 0 (codes ++ (items ++ last)) = written own 0 own.stmts _ (e ∙ append_assoc codes items last) start in
+    parts_from own ts xs 0 (depth_after 0 codes) (items ++ last) last f whole (all_passed own 0 codes (items ++ last) whole) refl
 
 -- their data are data of the section
-parts_data : (own : Placed) (ts : List Target) (xs : List Part) (d e : ℕ) (c r : List Stmt) (f : AllFound ts (joined target_of xs)) (h : StandsAt own d (joined (procedure_code ts) xs ++ c)) (i : StandsAt own e (joined data_code xs ++ r))
+parts_data : (own : Placed) (ts : List Target) (xs : List Part) (d e : ℕ) (c r : List Stmt) (f : AllFound ts (joined target_of xs)) (h : IsNumbered own d (joined (procedure_code ts) xs ++ c)) (i : IsNumbered own e (joined data_code xs ++ r))
     (z : item_words own.places r ≡ []) (a : ℕ) → data_of_parts own ts a xs (parts_from own ts xs d e c r f h i z) + data_at own a c + data_at own a r ≡ data_at own a (joined (procedure_code ts) xs ++ c) + data_at own a (joined data_code xs ++ r)
 parts_data own ts [] d e c r f h i z a = omega arith
 parts_data own ts (x ∷ xs) d e c r f h i z a =
     let code = written own d _ _ (append_assoc (procedure_code ts x) (joined (procedure_code ts) xs) c) h in
     let items = written own e _ _ (append_assoc (data_code x) (joined data_code xs) r) i in
-    let more = parts_data own ts xs (depth_behind d (procedure_code ts x)) (depth_behind e (data_code x)) c r (targets_back ts (target_of x) _ f) (all_passed own d (procedure_code ts x) (joined (procedure_code ts) xs ++ c) code)
+    let more = parts_data own ts xs (depth_after d (procedure_code ts x)) (depth_after e (data_code x)) c r (targets_back ts (target_of x) _ f) (all_passed own d (procedure_code ts x) (joined (procedure_code ts) xs ++ c) code)
     (all_passed own e (data_code x) (joined data_code xs ++ r) items) z a in
     let u = ap (data_at own a) (append_assoc (procedure_code ts x) (joined (procedure_code ts) xs) c) in
     let v = ap (data_at own a) (append_assoc (data_code x) (joined data_code xs) r) in
@@ -84,9 +84,9 @@ section_data own xs are e f a =
     let codes = joined (procedure_code ts) xs in
     let items = joined data_code xs in
     let last = Globals (joined entries_of xs) ∷ [] in
-    let start : StandsAt own 0 own.stmts = record { are = are; place = 0; behind = refl; same_depth = refl; shallow = omega arith } in
-    let whole : StandsAt own 0 (codes ++ (items ++ last)) = written own 0 own.stmts _ (e ∙ append_assoc codes items last) start in
-    let q = parts_data own ts xs 0 (depth_behind 0 codes) (items ++ last) last f whole (all_passed own 0 codes (items ++ last) whole) refl a in
+    let start : IsNumbered own 0 own.stmts = record { are = are; place = 0; following = refl; same_depth = refl; shallow = omega arith } in
+    let whole : IsNumbered own 0 (codes ++ (items ++ last)) = written own 0 own.stmts _ (e ∙ append_assoc codes items last) start in
+    let q = parts_data own ts xs 0 (depth_after 0 codes) (items ++ last) last f whole (all_passed own 0 codes (items ++ last) whole) refl a in
     let w = ap (data_at own a) (e ∙ append_assoc codes items last) in
     omega (arith, q, w)
 
@@ -95,13 +95,13 @@ section_data own xs are e f a =
 -- procedures have no code of their own where they are declared, and leave the frame as it is
 record NoCode (ts : List Target) (bs : List Binding) (p : Enclosing) (s : Spot) (d n : ℕ) (ds : Definitions) : Type 0 where
   pub code : definitions_code ts d n (definitions_named bs p s ds) ≡ []
-  pub depth : behind_definitions d (definitions_named bs p s ds) ≡ d
+  pub depth : after_definitions d (definitions_named bs p s ds) ≡ d
   pub variables : has_variables (definitions_named bs p s ds) ≡ false
 
 no_code : (ts : List Target) (bs : List Binding) (p : Enclosing) (s : Spot) (d n : ℕ) (ds : Definitions) → DefineNoVariables ds → NoCode ts bs p s d n ds
 no_code ts bs p s d n t.no_definitions h = record { code = refl; depth = refl; variables = refl }
-no_code ts bs p s d n (t.define (t.routine l x fs c) ds) h = let o = no_code ts bs p (spot.behind_one_defined (t.routine l x fs c) s) d _ ds h in record { code = o.code; depth = o.depth; variables = o.variables }
-no_code ts bs p s d n (t.define (t.function l x fs e) ds) h = let o = no_code ts bs p (spot.behind_one_defined (t.function l x fs e) s) d _ ds h in record { code = o.code; depth = o.depth; variables = o.variables }
+no_code ts bs p s d n (t.define (t.routine l x fs c) ds) h = let o = no_code ts bs p (spot.after_one_defined (t.routine l x fs c) s) d _ ds h in record { code = o.code; depth = o.depth; variables = o.variables }
+no_code ts bs p s d n (t.define (t.function l x fs e) ds) h = let o = no_code ts bs p (spot.after_one_defined (t.function l x fs e) s) d _ ds h in record { code = o.code; depth = o.depth; variables = o.variables }
 no_code ts bs p s d n (t.define (t.variables l xs is) ds) h = absurd h
 
 -- nothing is laid behind declarations outside procedures
@@ -121,26 +121,26 @@ outside_both pay sc i x xs a =
     bases_so (home sc pay) (λ setting. Unit {0}) (λ setting y v. tt) (bases_of (home sc pay) _ (λ ns. of_declarations (with_names ns i) (t.declare x xs))
     (λ ns. ap (λ z. of_declaration (with_names ns i) x ++ of_declarations (with_names (declared x (with_names ns i)).names z) xs) (sym (declared-next x (with_names ns i)))) a)
 
-constants_depth : (bs : List Binding) (p : Enclosing) (s : Spot) (l : ℕ) (o : Sort) (is : Items) (d : ℕ) → behind_declaration d (declaration_named bs p s (t.constants l o is)) ≡ d
+constants_depth : (bs : List Binding) (p : Enclosing) (s : Spot) (l : ℕ) (o : Sort) (is : Items) (d : ℕ) → after_declaration d (declaration_named bs p s (t.constants l o is)) ≡ d
 constants_depth bs p s l sort.Manifest is d = refl
 constants_depth bs p s l _ is d = refl
 
 -- a LET of procedures, by a place in the section with this depth
 procedures_lie : (pay : ℕ) (sc : Scene) (p : Enclosing) (s : Spot) (i l : ℕ) (ds : Definitions) (xs : Declarations) (d n : ℕ) (c : List Stmt) {qs : List Part} → DefineNoVariables ds → Doing sc p d → SoundOneDeclared sc.bindings p s (t.definitions l ds) → RegularDefinitions ds
-    → turns_defined true ds ≤ pay → (f : FoundParts sc.own sc.targets (parts_of_declaration d n (declaration_named sc.bindings p s (t.definitions l ds)) ++ qs)) → StandsAt sc.own d c
-    → (Doing (record sc { bindings = scope_behind_one sc.bindings p s (t.definitions l ds) }) (place_behind_one sc.bindings p s (t.definitions l ds)) d
-    → Bases (home (record sc { bindings = scope_behind_one sc.bindings p s (t.definitions l ds) }) pay) (i + objects_of_declaration (t.definitions l ds)) (objects_of_declarations xs) qs (found_back sc.own sc.targets (parts_of_declaration d n (declaration_named sc.bindings p s (t.definitions l ds))) qs f) (λ ns. of_declarations (with_names ns (i + objects_of_declaration (t.definitions l ds))) xs) (λ a. 0) (λ g. Unit {0}))
+    → turns_defined true ds ≤ pay → (f : FoundParts sc.own sc.targets (parts_of_declaration d n (declaration_named sc.bindings p s (t.definitions l ds)) ++ qs)) → IsNumbered sc.own d c
+    → (Doing (record sc { bindings = scope_after_one sc.bindings p s (t.definitions l ds) }) (place_after_one sc.bindings p s (t.definitions l ds)) d
+    → Bases (home (record sc { bindings = scope_after_one sc.bindings p s (t.definitions l ds) }) pay) (i + objects_of_declaration (t.definitions l ds)) (objects_of_declarations xs) qs (found_back sc.own sc.targets (parts_of_declaration d n (declaration_named sc.bindings p s (t.definitions l ds))) qs f) (λ ns. of_declarations (with_names ns (i + objects_of_declaration (t.definitions l ds))) xs) (λ a. 0) (λ g. Unit {0}))
     → Bases (home sc pay) i (objects_of_declarations (t.declare (t.definitions l ds) xs)) (parts_of_declaration d n (declaration_named sc.bindings p s (t.definitions l ds)) ++ qs) f (λ ns. of_declarations (with_names ns i) (t.declare (t.definitions l ds) xs))
     (λ a. 0) (λ g. Unit {0})
 procedures_lie pay sc p s i l ds xs d n c {qs} only a h r m f st others =
     let x : Declaration = t.definitions l ds in
-    let bs = scope_behind_one sc.bindings p s x in
+    let bs = scope_after_one sc.bindings p s x in
     let none = no_code sc.targets (inner sc s ds).bindings p (first_defined s ds) d n ds only in
     let named = definitions_named (inner sc s ds).bindings p (first_defined s ds) ds in
     let k : c ≡ declaration_code sc.targets d n (declaration_named sc.bindings p s x) ++ c =
     sym (ap (λ z. (z ++ cond (has_variables named) (Store ∷ []) []) ++ c) none.code ∙ ap (λ z. cond z (Store ∷ []) [] ++ c) none.variables) in
-    let behind = behind_one pay (valofs_lie pay) (blocks_lie pay) sc p s x d n c c a h r m (found_front sc.own sc.targets (parts_of_declaration d n (declaration_named sc.bindings p s (t.definitions l ds))) qs f) k st in
-    let doing = subst (λ z. Doing (record sc { bindings = bs }) (place_behind_one sc.bindings p s x) z) none.depth behind.1 in
+    let following = behind_one pay (valofs_lie pay) (blocks_lie pay) sc p s x d n c c a h r m (found_front sc.own sc.targets (parts_of_declaration d n (declaration_named sc.bindings p s (t.definitions l ds))) qs f) k st in
+    let doing = subst (λ z. Doing (record sc { bindings = bs }) (place_after_one sc.bindings p s x) z) none.depth following.1 in
     outside_both pay sc i x xs (let_bases pay (valofs_lie pay) (blocks_lie pay) sc p s i l ds d n (objects_of_declarations xs) c c (λ q. 0) (λ ns. of_declarations (with_names ns (i + objects_of_declaration x)) xs) Nothing a.around h r m f k st (λ q. omega arith)
     (bases_so (home (record sc { bindings = bs }) pay) _ (λ g y v ns u. tt) (others doing)))
 
@@ -151,8 +151,8 @@ outside_bases pay sc p s i t.no_declarations n only a h r m f = no_bases (home s
 outside_bases pay sc p s i (t.declare (t.constants l o is) xs) n only a h r m f =
     let x : Declaration = t.constants l o is in
     let one = declaration_named sc.bindings p s x in
-    let bs = scope_behind_one sc.bindings p s x in
-    let s1 : Spot = behind_one_declared x s in
+    let bs = scope_after_one sc.bindings p s x in
+    let s1 : Spot = after_one_declared x s in
     let doing = behind_constants sc p s l o is 2 a r.0 in
     let others = subst (λ z. OutsideLie pay (record sc { bindings = bs }) p s1 (i + objects_of_declaration x) xs z (n + labels_of_declaration one)) (sym (constants_depth sc.bindings p s l o is 2))
     (λ g. outside_bases pay (record sc { bindings = bs }) p s1 (i + objects_of_declaration x) xs (n + labels_of_declaration one) only doing h.1 r.1 (omega (arith, m)) g) (found_back sc.own sc.targets (parts_of_declaration 2 n one) _ f) in
@@ -162,8 +162,8 @@ outside_bases pay sc p s i (t.declare (t.definitions l t.no_definitions) xs) n o
     let x : Declaration = t.definitions l t.no_definitions in
     let one = declaration_named sc.bindings p s x in
     let os : ℕ = objects_of_declarations xs in
-    let others = outside_bases pay sc p (behind_one_declared x s) (i + 0) xs (n + labels_of_declaration one) only.1 a h.1 r.1 (omega (arith, m)) f in
-    let qs : List Part = parts_of_declarations 2 (n + labels_of_declaration one) (declarations_named sc.bindings p (behind_one_declared x s) xs) in
+    let others = outside_bases pay sc p (after_one_declared x s) (i + 0) xs (n + labels_of_declaration one) only.1 a h.1 r.1 (omega (arith, m)) f in
+    let qs : List Part = parts_of_declarations 2 (n + labels_of_declaration one) (declarations_named sc.bindings p (after_one_declared x s) xs) in
     let here : i + 0 ≡ i = omega arith in
     let same : os ≡ 0 + os = omega arith in
     let moved = subst (λ z. Bases (home sc pay) z os qs f (λ ns. of_declarations (with_names ns (i + 0)) xs) (λ a. 0) (λ g. Unit {0})) here others in
@@ -174,8 +174,8 @@ outside_bases pay sc p s i (t.declare (t.definitions l (t.define (t.routine k y 
     let code = f.0.1 in
     let none = no_code sc.targets (inner sc s (t.define (t.routine k y fs c) ds)).bindings p (first_defined s (t.define (t.routine k y fs c) ds)) 2 n (t.define (t.routine k y fs c) ds) only.0 in
     procedures_lie pay sc p s i l (t.define (t.routine k y fs c) ds) xs 2 n _ only.0 a h.0 r.0 (omega (arith, m)) f (passed sc.own code.depth 2 _ _ code.stands refl)
-    (λ doing. subst (λ z. OutsideLie pay (record sc { bindings = scope_behind_one sc.bindings p s x }) (place_behind_one sc.bindings p s x) (behind_one_declared x s) (i + objects_of_declaration x) xs z (n + labels_of_declaration one)) (sym none.depth)
-    (λ g. outside_bases pay (record sc { bindings = scope_behind_one sc.bindings p s x }) (place_behind_one sc.bindings p s x) (behind_one_declared x s) (i + objects_of_declaration x) xs (n + labels_of_declaration one) only.1 doing h.1 r.1 (omega (arith, m)) g)
+    (λ doing. subst (λ z. OutsideLie pay (record sc { bindings = scope_after_one sc.bindings p s x }) (place_after_one sc.bindings p s x) (after_one_declared x s) (i + objects_of_declaration x) xs z (n + labels_of_declaration one)) (sym none.depth)
+    (λ g. outside_bases pay (record sc { bindings = scope_after_one sc.bindings p s x }) (place_after_one sc.bindings p s x) (after_one_declared x s) (i + objects_of_declaration x) xs (n + labels_of_declaration one) only.1 doing h.1 r.1 (omega (arith, m)) g)
     (found_back sc.own sc.targets (parts_of_declaration 2 n one) _ f))
 outside_bases pay sc p s i (t.declare (t.definitions l (t.define (t.function k y fs e) ds)) xs) n only a h r m f =
     let x : Declaration = t.definitions l (t.define (t.function k y fs e) ds) in
@@ -183,8 +183,8 @@ outside_bases pay sc p s i (t.declare (t.definitions l (t.define (t.function k y
     let code = f.0.1 in
     let none = no_code sc.targets (inner sc s (t.define (t.function k y fs e) ds)).bindings p (first_defined s (t.define (t.function k y fs e) ds)) 2 n (t.define (t.function k y fs e) ds) only.0 in
     procedures_lie pay sc p s i l (t.define (t.function k y fs e) ds) xs 2 n _ only.0 a h.0 r.0 (omega (arith, m)) f (passed sc.own code.depth 2 _ _ code.stands refl)
-    (λ doing. subst (λ z. OutsideLie pay (record sc { bindings = scope_behind_one sc.bindings p s x }) (place_behind_one sc.bindings p s x) (behind_one_declared x s) (i + objects_of_declaration x) xs z (n + labels_of_declaration one)) (sym none.depth)
-    (λ g. outside_bases pay (record sc { bindings = scope_behind_one sc.bindings p s x }) (place_behind_one sc.bindings p s x) (behind_one_declared x s) (i + objects_of_declaration x) xs (n + labels_of_declaration one) only.1 doing h.1 r.1 (omega (arith, m)) g)
+    (λ doing. subst (λ z. OutsideLie pay (record sc { bindings = scope_after_one sc.bindings p s x }) (place_after_one sc.bindings p s x) (after_one_declared x s) (i + objects_of_declaration x) xs z (n + labels_of_declaration one)) (sym none.depth)
+    (λ g. outside_bases pay (record sc { bindings = scope_after_one sc.bindings p s x }) (place_after_one sc.bindings p s x) (after_one_declared x s) (i + objects_of_declaration x) xs (n + labels_of_declaration one) only.1 doing h.1 r.1 (omega (arith, m)) g)
     (found_back sc.own sc.targets (parts_of_declaration 2 n one) _ f))
 outside_bases pay sc p s i (t.declare (t.definitions l (t.define (t.variables k ys is) ds)) xs) n only a h r m f = absurd only.0
 

@@ -1,7 +1,7 @@
 -- Each expression of an accepted section is laid where the scheme puts it, for a value and for a jump. That VALOFs are is taken here as
 -- an argument.
 use Rattle.bk_simulation.proofs.Words.{ap, Operator, Binding, Environment, Lasting, past, ◌≡◌, ℕ, ◌+◌, ◌≤◌, true, false, not, List, [], ◌∷◌, ◌++◌, length, map, Bool, Some, refl, sym, ◌∙◌, subst, arith, slice_get, false≢true, first_bytes, signed, at_expression, size, Expression, Expressions, Command, Enclosing, Role, bound_in, parenthesised, deeper, Sound, SoundEach, HaveWords, Spot, Datum, item_words, Static, Stmt, DataLabel, DataNumber, Number, Query, Address, Text, Monadic, Dyadic, Assign, AssignAt, AssignByte, Label, GiveResult, TakeResult, CallFunction, labels, labels_if, meant, term_named, terms_named, condition_named, lvalue_named, words_named, static_table, parts, parts_each, parts_if, parts_at, push, infix_code, truth_value, value_code, each_code, jump_code, address_code, store_code, variable, data_code, Named, objects, objects_of_each, of_expression, of_each, constant_words, text_words, Part, cond, is_in, role_of_operands, place_of_second, addressed, Regular, RegularEach}
-use Rattle.bk_simulation.proofs.Forms.{turns_of, turns_among, with_names, Setting, Scene, Aim, pushes, jumps, ending, count, LabelAt, IsCode, AreValues, IsAddress, IsStore, InData, Agree, StandsAt, passed, at_depth, written, label_at, call_at, home, no_bases, new_base, both_bases, three_bases, bases_so, Lies, lie, lies_behind, data_at, FoundParts, found_front, found_back, DataIn, within_at, coded, own_parts, role, level, HasWords, Around, around_deeper, InNames, plain_laid, leaf_on, leaf_lies, pushed_depth, truth_depth, infix_on, joined_two, joined_three, joined_choice, call_lies}
+use Rattle.bk_simulation.proofs.Forms.{turns_of, turns_among, with_names, Setting, Scene, Aim, pushes, jumps, ending, count, LabelAt, IsCode, AreValues, IsAddress, IsStore, InData, Agree, IsNumbered, passed, at_depth, written, label_at, call_at, home, no_bases, new_base, both_bases, three_bases, bases_so, Lies, lie, lies_behind, data_at, FoundParts, found_front, found_back, DataIn, within_at, coded, own_parts, role, level, HasWords, Around, around_deeper, InNames, plain_laid, leaf_on, leaf_lies, pushed_depth, truth_depth, infix_on, joined_two, joined_three, joined_choice, call_lies}
 use Rattle.bk_simulation.proofs.Terms.{Operator as o, Prefix as q, Dyadic as two, Monadic as w}
 use Rattle.bk_tree.specs.Tree as t
 use Rattle.bk_scope.specs.declared.role.Role.TheVariants.{Address as Addressed, Value}
@@ -20,7 +20,7 @@ table_held setting sc n l es i ns u words r h f own =
 
 -- the code of an expression is laid from statements on before those
 abbrev pub CodeLies : ℕ → Scene → Enclosing → Spot → ℕ → Aim → Expression → ℕ → ℕ → List Stmt → List Stmt → Type 0
-CodeLies pay sc p s i aim e d n c rest = (f : FoundParts sc.own sc.targets (own_parts sc p s d n aim e)) → c ≡ coded sc p s d n aim e ++ rest → StandsAt sc.own d c
+CodeLies pay sc p s i aim e d n c rest = (f : FoundParts sc.own sc.targets (own_parts sc p s d n aim e)) → c ≡ coded sc p s d n aim e ++ rest → IsNumbered sc.own d c
     → Lies (home sc pay) i (objects e) (level aim d) c rest (own_parts sc p s d n aim e) f (λ ns. of_expression (with_names ns i) e) (InNames sc.bindings i (λ g env. IsCode g sc d env aim e c rest))
 
 -- expressions that are VALOFs are laid
@@ -29,7 +29,7 @@ ValofsLie pay = (sc : Scene) (p : Enclosing) (s : Spot) (i : ℕ) (aim : Aim) (l
     → turns_of true (t.valof l x) ≤ pay → CodeLies pay sc p s i aim (t.valof l x) d n c rest
 
 abbrev second : Expression → Spot → Spot
-second x s = spot.past 1 (spot.behind x s)
+second x s = spot.past 1 (spot.following x s)
 
 operands_sound : (f : Operator) (bs : List Binding) (p : Enclosing) (s u : Spot) (x y : Expression)
     → Sound (role_of_operands f Value) bs p s x × Sound (role_of_operands f Value) bs (place_of_second f Value p) u y
@@ -42,7 +42,7 @@ two_values : (pay : ℕ) (sc : Scene) (p : Enclosing) (s : Spot) (i : ℕ) (x y 
     → (f : FoundParts sc.own sc.targets (own_parts sc p s d n pushes x
     ++ own_parts sc (deeper 1 p) (second x s) (d + 1) (n + labels (term_named sc.bindings p s x)) pushes y))
     → c ≡ coded sc p s d n pushes x ++ (coded sc (deeper 1 p) (second x s) (d + 1) (n + labels (term_named sc.bindings p s x)) pushes y ++ rest)
-    → StandsAt sc.own d c → ((c0 r0 : List Stmt) → CodeLies pay sc p s i pushes x d n c0 r0)
+    → IsNumbered sc.own d c → ((c0 r0 : List Stmt) → CodeLies pay sc p s i pushes x d n c0 r0)
     → ((c0 r0 : List Stmt) → Around sc (deeper 1 p) (d + 1)
     → CodeLies pay sc (deeper 1 p) (second x s) (i + objects x) pushes y (d + 1) (n + labels (term_named sc.bindings p s x)) c0 r0)
     → Lies (home sc pay) i (objects x + objects y) (d + 1 + 1) c rest
@@ -61,7 +61,7 @@ operator_lies : (pay : ℕ) (sc : Scene) (p : Enclosing) (s : Spot) (i : ℕ) (f
     → (g : FoundParts sc.own sc.targets (own_parts sc p s d n pushes x
     ++ own_parts sc (deeper 1 p) (second x s) (d + 1) (n + labels (term_named sc.bindings p s x)) pushes y))
     → c ≡ (coded sc p s d n pushes x ++ coded sc (deeper 1 p) (second x s) (d + 1) (n + labels (term_named sc.bindings p s x)) pushes y ++ infix_code f)
-    ++ rest → StandsAt sc.own d c → ((c0 r0 : List Stmt) → CodeLies pay sc p s i pushes x d n c0 r0)
+    ++ rest → IsNumbered sc.own d c → ((c0 r0 : List Stmt) → CodeLies pay sc p s i pushes x d n c0 r0)
     → ((c0 r0 : List Stmt) → Around sc (deeper 1 p) (d + 1)
     → CodeLies pay sc (deeper 1 p) (second x s) (i + objects x) pushes y (d + 1) (n + labels (term_named sc.bindings p s x)) c0 r0)
     → Lies (home sc pay) i (objects x + objects y) (d + 1) c rest
@@ -78,7 +78,7 @@ two_jumps : (pay : ℕ) (sc : Scene) (p : Enclosing) (s : Spot) (i : ℕ) (x y :
     → (f : FoundParts sc.own sc.targets (own_parts sc p s d (n + 1) (jumps u j) x
     ++ own_parts sc p (second x s) d (n + 1 + labels_if (condition_named sc.bindings p s x)) (jumps v l) y))
     → c ≡ coded sc p s d (n + 1) (jumps u j) x ++ (coded sc p (second x s) d (n + 1 + labels_if (condition_named sc.bindings p s x)) (jumps v l) y ++ rest)
-    → StandsAt sc.own d c → ((c0 r0 : List Stmt) → CodeLies pay sc p s i (jumps u j) x d (n + 1) c0 r0)
+    → IsNumbered sc.own d c → ((c0 r0 : List Stmt) → CodeLies pay sc p s i (jumps u j) x d (n + 1) c0 r0)
     → ((c0 r0 : List Stmt) → CodeLies pay sc p (second x s) (i + objects x) (jumps v l) y d (n + 1 + labels_if (condition_named sc.bindings p s x)) c0 r0)
     → Lies (home sc pay) i (objects x + objects y) d c rest
     (own_parts sc p s d (n + 1) (jumps u j) x ++ own_parts sc p (second x s) d (n + 1 + labels_if (condition_named sc.bindings p s x)) (jumps v l) y) f
@@ -95,9 +95,7 @@ two_jumps pay sc p s i x y u v j l d n c rest f k st on_x on_y =
 labelled_lies : (sc : Scene) (pay i d n : ℕ) (rest : List Stmt) {many : ℕ} {c : List Stmt} {ps : List Part} {f : FoundParts sc.own sc.targets ps} {L : List Named → List Lasting}
     (P Q : Setting → Environment → Type 0) → Lies (home sc pay) i many d c (Label n ∷ rest) ps f L (InNames sc.bindings i P)
     → ((setting : Setting) (env : Environment) → P setting env → LabelAt setting sc d n rest → Q setting env) → Lies (home sc pay) i many d c rest ps f L (InNames sc.bindings i Q)
-labelled_lies sc pay i d n rest P Q a h =
-    lie (passed sc.own d d (Label n) rest a.on refl) (bases_so (home sc pay) _ (λ setting z v ns u. h setting (with_names ns i) (v ns u) (label_at setting sc d n rest z.own a.on)) a.objects_are)
-    (λ q. let u = a.paid q in omega (arith, u))
+labelled_lies sc pay i d n rest P Q a h = grind (arith, passed, label_at)
 
 mutual
   pub laid_code : (pay : ℕ) (valofs : ValofsLie pay) (sc : Scene) (p : Enclosing) (s : Spot) (i : ℕ) (aim : Aim) (e : Expression) (d n : ℕ) (c rest : List Stmt) → Around sc p d → Sound (role aim) sc.bindings p s e → Regular e → turns_of true e ≤ pay
@@ -172,8 +170,8 @@ mutual
       (λ c0 r0 f0 k0 st0. laid_code pay valofs sc p s i pushes x d n c0 r0 a h.0 r.0 (omega arith) f0 k0 st0)
       (λ c0 r0 b0 f0 k0 st0. laid_code pay valofs sc (deeper 1 p) _ (i + objects x) pushes y (d + 1) _ c0 r0 b0 h.1 r.1 (omega arith) f0 k0 st0)) f k
   laid_code pay valofs sc p s i aim (t.choice l m0 e x y) d n c rest a h r m f k st =
-      let e0 : Spot = spot.past 1 (spot.behind e s) in
-      let e1 : Spot = spot.behind x e0 in
+      let e0 : Spot = spot.past 1 (spot.following e s) in
+      let e1 : Spot = spot.following x e0 in
       let ce = condition_named sc.bindings p s e in
       let tx = term_named sc.bindings p e0 x in
       let ty = term_named sc.bindings p e1 y in
@@ -198,7 +196,7 @@ mutual
       (λ q. let u = le.paid q in let v = lx.paid q in let w = ly.paid q in omega (arith, u, v, w))) f k
   laid_code pay valofs sc p s i aim (t.apply l m0 e es) d n c rest a h r m f k st =
       plain_laid pay sc p s i d n aim (t.apply l m0 e es) (objects e + objects_of_each es) c rest _ refl (λ f1 k1.
-      let s1 : Spot = spot.past 1 (spot.behind e s) in
+      let s1 : Spot = spot.past 1 (spot.following e s) in
       let z : Enclosing = deeper (size es + 2) p in
       let g1 = call_lies pay sc p s s1 i (CallFunction d) e es d n c (ending aim rest) a f1 k1 st
       (λ c1 c2 b0 f0 k0 st0. laid_each pay valofs sc (deeper 2 p) s1 (i + objects e) es (d + 2) (n + labels (term_named sc.bindings z s e)) c1 c2 b0 h.1 r.1 (omega arith) f0 k0 st0)
@@ -219,7 +217,7 @@ mutual
       (λ q. let v = ap (data_at sc.own q) k1 in omega (arith, v))) f k
 
   pub laid_each : (pay : ℕ) (valofs : ValofsLie pay) (sc : Scene) (p : Enclosing) (s : Spot) (i : ℕ) (es : Expressions) (d n : ℕ) (c rest : List Stmt) → Around sc p d → SoundEach 1 sc.bindings p s es → RegularEach es → turns_among true es ≤ pay
-      → (f : FoundParts sc.own sc.targets (parts_each d n (terms_named 1 sc.bindings p s es))) → c ≡ each_code sc.targets d n (terms_named 1 sc.bindings p s es) ++ rest → StandsAt sc.own d c
+      → (f : FoundParts sc.own sc.targets (parts_each d n (terms_named 1 sc.bindings p s es))) → c ≡ each_code sc.targets d n (terms_named 1 sc.bindings p s es) ++ rest → IsNumbered sc.own d c
       → Lies (home sc pay) i (objects_of_each es) (d + count es) c rest (parts_each d n (terms_named 1 sc.bindings p s es)) f (λ ns. of_each (with_names ns i) es) (InNames sc.bindings i (λ g env. AreValues g sc d env es c rest))
   laid_each pay valofs sc p s i t.none d n c rest a h r m f k st =
       let e : d ≡ d + 0 = omega arith in
@@ -227,10 +225,10 @@ mutual
   laid_each pay valofs sc p s i (t.more e es) d n c rest a h r m f k st =
       let te = term_named sc.bindings p s e in
       let ve = value_code sc.targets d n te in
-      let ves = each_code sc.targets (d + 1) (n + labels te) (terms_named 1 sc.bindings (deeper 1 p) (spot.behind e s) es) in
+      let ves = each_code sc.targets (d + 1) (n + labels te) (terms_named 1 sc.bindings (deeper 1 p) (spot.following e s) es) in
       let c1 = ves ++ rest in
       let le = laid_code pay valofs sc p s i pushes e d n c c1 a h.0 r.0 (omega arith) (found_front sc.own sc.targets (parts d n te) _ f) (joined_two ve ves rest c k) st in
-      let les = laid_each pay valofs sc (deeper 1 p) (spot.behind e s) (i + objects e) es (d + 1) (n + labels te) c1 rest (around_deeper sc p d 1 (d + 1) refl le.on.shallow a) h.1 r.1 (omega arith)
+      let les = laid_each pay valofs sc (deeper 1 p) (spot.following e s) (i + objects e) es (d + 1) (n + labels te) c1 rest (around_deeper sc p d 1 (d + 1) refl le.on.shallow a) h.1 r.1 (omega arith)
       (found_back sc.own sc.targets (parts d n te) _ f) refl le.on in
       let deep : d + 1 + count es ≡ d + (count es + 1) = omega arith in
       lie (at_depth sc.own (d + 1 + count es) (d + (count es + 1)) rest deep les.on)
@@ -239,7 +237,7 @@ mutual
 
   -- an address
   pub laid_address : (pay : ℕ) (valofs : ValofsLie pay) (sc : Scene) (p : Enclosing) (s : Spot) (i : ℕ) (z : Role) (e : Expression) (d n : ℕ) (c rest : List Stmt) → Around sc p d → addressed sc.bindings e ≡ true → Sound z sc.bindings p s e → Regular e
-      → turns_of true e ≤ pay → (f : FoundParts sc.own sc.targets (parts_at d n (lvalue_named sc.bindings p s e))) → c ≡ address_code sc.targets d n (lvalue_named sc.bindings p s e) ++ rest → StandsAt sc.own d c
+      → turns_of true e ≤ pay → (f : FoundParts sc.own sc.targets (parts_at d n (lvalue_named sc.bindings p s e))) → c ≡ address_code sc.targets d n (lvalue_named sc.bindings p s e) ++ rest → IsNumbered sc.own d c
       → Lies (home sc pay) i (objects e) (d + 1) c rest (parts_at d n (lvalue_named sc.bindings p s e)) f (λ ns. of_expression (with_names ns i) e) (InNames sc.bindings i (λ g env. IsAddress g sc d env e c rest))
   laid_address pay valofs sc p s i z (t.name l x) d n c rest a y h r m f k st = leaf_lies (home sc pay) i d c rest _ _ k refl st (λ g v ns u. k)
   laid_address pay valofs sc p s i z (t.parens l e) d n c rest a y h r m f k st = laid_address pay valofs sc p (spot.past 1 s) i (parenthesised z) e d n c rest a y h r (omega arith) f k st
@@ -253,7 +251,7 @@ mutual
 
   -- what is stored
   pub laid_store : (pay : ℕ) (valofs : ValofsLie pay) (sc : Scene) (p : Enclosing) (s : Spot) (i : ℕ) (z : Role) (e : Expression) (d n : ℕ) (c rest : List Stmt) → Around sc p (d + 1) → assigned sc.bindings e ≡ true → Sound z sc.bindings p s e → Regular e
-      → turns_of true e ≤ pay → (f : FoundParts sc.own sc.targets (parts_at (d + 1) n (lvalue_named sc.bindings p s e))) → c ≡ store_code sc.targets (d + 1) n (lvalue_named sc.bindings p s e) ++ rest → StandsAt sc.own (d + 1) c
+      → turns_of true e ≤ pay → (f : FoundParts sc.own sc.targets (parts_at (d + 1) n (lvalue_named sc.bindings p s e))) → c ≡ store_code sc.targets (d + 1) n (lvalue_named sc.bindings p s e) ++ rest → IsNumbered sc.own (d + 1) c
       → Lies (home sc pay) i (objects e) d c rest (parts_at (d + 1) n (lvalue_named sc.bindings p s e)) f (λ ns. of_expression (with_names ns i) e) (InNames sc.bindings i (λ g env. IsStore g sc (d + 1) env e c rest))
   laid_store pay valofs sc p s i z (t.name l x) d n c rest a y h r m f k st =
       lie (passed sc.own (d + 1) d (Assign (variable sc.targets (meant (bound_in sc.bindings x)))) rest (written sc.own (d + 1) c _ k st) (omega arith)) (no_bases (home sc pay) i _ (λ g v ns u. k))

@@ -1,5 +1,5 @@
 -- The store before START is called fits what lasts.
-use Rattle.bk_simulation.proofs.Words.{◌≡◌, ◌≢◌, ℕ, zero, suc, ◌+◌, ◌-◌, ◌<◌, ◌≤◌, ◌==◌, nat_le, nat_lt, Bool, true, false, List, [], ◌∷◌, ◌++◌, length, map, fold, replicate, Option, Some, None, refl, sym, ap, ◌∙◌, subst, if◌then◌else◌, arith, ◌⊎◌, ⊎_elim, inl, inr, slice_get, eq-eqb, ne_eqb, length-append, slice_set, option_and_then, option_map_or, length-map, slice_get_within, FRAME_WORDS, GLOBAL_NUMBER, Unset, Word, Variable, Link, Cell, Free, Held, content_of, Content, global_place, Placed, Placement, Program, Datum, is_in, datum_word, GlobalSetting, entry_setting, stmt_globals, globals_of, all_data, all_globals, unset_cells, with_global, first_cells, chosen-true, chosen-false, number, address, procedure, routine, unset, holds, places, value_in, stop, rdch, wrch, newline, writes, writen, writed, getbyte, putbyte, writef, Object, living, cells_at, Procedure, Lasting, global_vector, words, code, library_cells, set_global, procedures_set, global_cells, entry_cells, object_of, objects_from, first_memory, IsWellPlaced, AreFaultless, GlobalEntry, Stmt, Globals, and_from, and_right, le-leb, length-replicate, length-set, lt-leb, lt-ltb, library_globals, InRange}
+use Rattle.bk_simulation.proofs.Words.{◌≡◌, ◌≢◌, ℕ, zero, suc, ◌+◌, ◌-◌, ◌<◌, ◌≤◌, ◌==◌, nat_le, Bool, true, false, List, [], ◌∷◌, ◌++◌, length, map, fold, replicate, Option, Some, None, refl, sym, ap, ◌∙◌, subst, if◌then◌else◌, arith, ◌⊎◌, ⊎_elim, inl, inr, slice_get, eq-eqb, length-append, slice_set, option_and_then, option_map_or, length-map, slice_get_within, FRAME_WORDS, GLOBAL_NUMBER, Unset, Word, Variable, Link, Cell, Free, Held, content_of, Content, global_place, Placed, Placement, Program, Datum, is_in, datum_word, GlobalSetting, entry_setting, stmt_globals, globals_of, all_data, all_globals, unset_cells, with_global, first_cells, chosen-true, chosen-false, number, address, procedure, routine, unset, holds, places, value_in, stop, rdch, wrch, newline, writes, writen, writed, getbyte, putbyte, writef, Object, living, cells_at, Procedure, Lasting, global_vector, words, code, library_cells, set_global, procedures_set, global_cells, entry_cells, object_of, objects_from, first_memory, IsWellPlaced, AreFaultless, GlobalEntry, Stmt, Globals, and_from, and_right, le-leb, length-replicate, length-set, lt-leb, lt-ltb, library_globals, InRange}
 use Rattle.bk_simulation.proofs.Pieces.{either_way, by_option, Codes, BaseOf, Alive, IsCell, Fits, get_at, StandsCell, alive_is, cell_in, object_there, get_set, get_replicate, AreBytes, AllBytes, Setting, untouched}
 use Rattle.bk_ocode.specs.ProgramStart.{is_global}
 use Rattle.bk_meaning.specs.Values as value
@@ -205,9 +205,7 @@ module _ (codes : Codes) where
 datum_word_at : (ds : List Datum) (j : ℕ) (d : Datum) (place : ℕ) → slice_get ds j ≡ Some d → is_in place d ≡ true → ((k : ℕ) (e : Datum) → slice_get ds k ≡ Some e → is_in place e ≡ true → k ≡ j)
     → datum_word ds place ≡ slice_get d.words (place - d.place)
 datum_word_at [] j d place h is only = absurd (let z : None ≡ Some d = h in cc)
-datum_word_at (e ∷ ds) zero d place h is only =
-    let same : e ≡ d = (let z : Some e ≡ Some d = h in cc) in
-    chosen-true (is_in place e) _ _ (ap (λ (y : Datum). is_in place y) same ∙ is) ∙ ap (λ (y : Datum). slice_get y.words (place - y.place)) same
+datum_word_at (e ∷ ds) zero d place h is only = grind (arith, chosen-true, is, words)
 datum_word_at (e ∷ ds) (suc j) d place h is only =
     by_test (is_in place e) refl (datum_word_at ds j d place h is (λ k x hk ik. let z : suc k ≡ suc j = only (suc k) x hk ik in omega arith)) (λ t. only 0 e refl t)
   where
@@ -217,9 +215,7 @@ datum_word_at (e ∷ ds) (suc j) d place h is only =
     by_test false t r n = r
 
 pub in_datum : (d : Datum) (i : ℕ) → i < length d.words → is_in (d.place + i) d ≡ true
-in_datum d i lt =
-    and_from (nat_le d.place (d.place + i)) (nat_lt (d.place + i) (d.place + length d.words)) (le-leb d.place (d.place + i) (omega arith))
-    (lt-ltb (d.place + i) (d.place + length d.words) (omega arith))
+in_datum d i lt = grind (arith, and_from, length, words, le-leb, lt-ltb)
 
 module _ (program : Program) (first : ℕ) (well : IsWellPlaced program first FRAME_WORDS) where
   abbrev given : List Datum
@@ -235,22 +231,13 @@ module _ (program : Program) (first : ℕ) (well : IsWellPlaced program first FR
   link_first = let lt = well.is_program.above_globals in above_same first lt ∙ chosen-true (first == first) _ _ (eq-eqb first first refl)
 
   pub link_next : first_cells program first (suc first) ≡ Held Link (Word program.home)
-  link_next =
-      let lt = well.is_program.above_globals in
-      let ne : suc first ≢ first = omega arith in
-      above_same (suc first) (omega arith) ∙ chosen-false (suc first == first) _ _ (ne_eqb (suc first) first ne) ∙ chosen-true (suc first == suc first) _ _ (eq-eqb (suc first) (suc first) refl)
+  link_next = grind (arith, above_same, chosen-false, chosen-true, eq-eqb)
 
   base_low : (place : ℕ) → place < first → base place ≡ (if is_global place then Held Variable Unset else option_map_or (λ w. Held Variable (Word w)) (datum_word given place) Free)
-  base_low place lt =
-      let ne : place ≢ first = omega arith in
-      let ne1 : place ≢ suc first = omega arith in
-      chosen-false (place == first) _ _ (ne_eqb place first ne) ∙ chosen-false (place == suc first) _ _ (ne_eqb place (suc first) ne1)
+  base_low place lt = grind (arith, chosen-false)
 
   pub global_unset : (i : ℕ) → i < 1000 → base (16 + i) ≡ Held Variable Unset
-  global_unset i lt =
-      let above : global_place GLOBAL_NUMBER < first = well.is_program.above_globals in
-      base_low (16 + i) (omega arith)
-      ∙ chosen-true (is_global (16 + i)) _ _ (and_from (nat_le (global_place 0) (16 + i)) (nat_le (16 + i) (global_place GLOBAL_NUMBER)) (le-leb (global_place 0) (16 + i) (omega arith)) (le-leb (16 + i) (global_place GLOBAL_NUMBER) (omega arith)))
+  global_unset i lt = grind (arith, base_low, chosen-true, and_from, le-leb)
 
   pub datum_cell : (j : ℕ) (d : Datum) (i w : ℕ) → slice_get given j ≡ Some d → slice_get d.words i ≡ Some w → first_cells program first (d.place + i) ≡ Held Variable (Word w)
   datum_cell j d i w at is =

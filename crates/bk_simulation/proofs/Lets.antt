@@ -1,6 +1,6 @@
 -- The values of a LET's variables, definition by definition.
 use Rattle.bk_simulation.proofs.Words.{length-replicate, ◌≡◌, ℕ, zero, suc, ◌+◌, ◌-◌, ◌*◌, ◌<◌, ◌≤◌, Bool, true, false, List, [], ◌∷◌, ◌++◌, Some, sym, ap, ◌∙◌, subst, arith, slice_get, ◌≢◌, length, refl, ⊎_elim, length-append, ◌%◌, ◌^◌, Option, None, FRAME_WORDS, Definitions, Starts, Binding, State, Placed, Inside, Stmt, World, Outcome, gives, making, Environment, past, past_definition, letters, cell, constant_in, history, After, Throughout, Meanings, adds, stays, with_after, turn_after, Content, Variable, Cell, Held, content_of, Word, Temporary, write, below, settle, Value, holds, address, unset, living, made, Local, Stack, Address, Start, paired, let_values, bind_variables, vec_cells, make_vec, Cell_of}
-use Rattle.bk_simulation.proofs.Pieces.{Store, BaseOf, Alive, limit, Codes, Stands, StandsCell, Grown, Fits, stands_grown, Like, like_refl, like_on, fits_more, turns_started, turns_defined, turns_of, Setting, Scene, NamedIn, Spot, spots_of, defines_variables, AreStarts, AreDefined, KeepsLabels, variables_bound, AreAt, Configuration, Ready, Account, Ran, went, so, with_ran, OpenCompleted, store_at, named_grown, state, further, ran_same, Completed, named_again, Simulates, completed_more, out_more, turn_there, OpenExited, open_ticked, with_objects, open_configuration, open_ready, open_wider, open_step, open_on, ran_open, Since, since_refl, since_on, IsFree, make, make_fits_in, grown_made, lying, since_cells, since_moved, since_made, make_fits, get_new, get_replicate, Moves, does, untouched, below_at, below_like, settle_like, settle_at, value_run}
+use Rattle.bk_simulation.proofs.Pieces.{Store, BaseOf, Alive, limit, Codes, Applies, StandsCell, Grown, Fits, stands_grown, Like, like_refl, like_on, fits_more, turns_started, turns_defined, turns_of, Setting, Scene, NamedIn, Spot, spots_of, defines_variables, AreStarts, AreDefined, KeepsLabels, variables_bound, AreAt, Configuration, Ready, Account, Ran, went, so, with_ran, OpenCompleted, store_at, named_grown, state, further, ran_same, Completed, named_again, Simulates, completed_more, out_more, turn_there, OpenExited, open_ticked, with_objects, open_configuration, open_ready, open_wider, open_step, open_on, ran_open, Since, since_refl, since_on, IsFree, make, make_fits_in, grown_made, lying, since_cells, since_moved, since_made, make_fits, get_new, get_replicate, Moves, does, untouched, below_at, below_like, settle_like, settle_at, value_run}
 use Rattle.bk_tree.specs.Tree as t
 use Rattle.bk_simulation.proofs.Terms.{bind, starts}
 use Rattle.bk_simulation.proofs.WrittenCells.{written}
@@ -12,7 +12,7 @@ use Rattle.bk_simulation.proofs.WrittenCells.{written}
 -- values in their slots
 abbrev pub ItemsAt : Codes → Store → ℕ → ℕ → List Value → List ℕ → Type 0
 ItemsAt codes h frame top [] [] = Unit {0}
-ItemsAt codes h frame top (v ∷ vs) (n ∷ ns) = Stands codes h.bases v (content_of (h.cells (frame + n))) × IsFree h (frame + n) × (n < top) × ItemsAt codes h frame top vs ns
+ItemsAt codes h frame top (v ∷ vs) (n ∷ ns) = Applies codes h.bases v (content_of (h.cells (frame + n))) × IsFree h (frame + n) × (n < top) × ItemsAt codes h frame top vs ns
 ItemsAt codes h frame top _ _ = ⊥
 
 -- slots, each above those before
@@ -65,7 +65,7 @@ starts_after inner grows (t.vector x e is) env w =
 pub record VecDone (setting : Setting) (s : State) (A : Account) (z : Configuration) (w : World) (c rest : List Stmt) (d k : ℕ) (w1 : World) (a : OpenCompleted setting s A z w c d (z.frame + d) w1) : Type 0 where
   pub arr : OpenCompleted setting s (record { most = A.most + 2; least = A.least }) z w rest (d + k + 2) (z.frame + (d + k + 2)) (making (vec_cells k) w1)
   pub since : Since (z.frame + d) (store_at a) (store_at arr)
-  pub stands : Stands setting.codes arr.bases1 (address (length w1.memory) 0) (content_of (arr.cells1 (z.frame + (d + k + 1))))
+  pub stands : Applies setting.codes arr.bases1 (address (length w1.memory) 0) (content_of (arr.cells1 (z.frame + (d + k + 1))))
   pub free : IsFree (store_at arr) (z.frame + (d + k + 1))
 
 pub vec_done : (setting : Setting) (s : State) (A : Account) (z : Configuration) (w : World) (c rest : List Stmt) (d k : ℕ) (w1 : World) → Ready setting z w → z.depth ≤ d → d + k + 2 ≤ FRAME_WORDS → c ≡ Stack (d + k + 1) ∷ Address (Local d) ∷ rest
@@ -126,7 +126,7 @@ vec_done setting s A z w c rest d k w1 r le fw ec a =
 pub record NextItem (setting : Setting) (s : State) (A : Account) (z : Configuration) (w : World) (h : Store) (d n : ℕ) (rest : List Stmt) (d0 : ℕ) (v : Value) (w1 : World) : Type 0 where
   pub arr : OpenCompleted setting s A z w rest d0 (z.frame + d0) w1
   pub since : Since (z.frame + d) h (store_at arr)
-  pub stands : Stands setting.codes arr.bases1 v (content_of (arr.cells1 (z.frame + n)))
+  pub stands : Applies setting.codes arr.bases1 v (content_of (arr.cells1 (z.frame + n)))
   pub free : IsFree (store_at arr) (z.frame + n)
 
 -- and those behind it
@@ -139,7 +139,7 @@ item_before setting s A B z w h d n c rest d0 d1 slots v vs w1 w2 le lt le1 i l 
       arr = l.arr;
       since = since_on (omega arith) i.since l.since;
       items = (
-        subst (λ y. Stands setting.codes h2.bases v y) (sym (l.since.like (z.frame + n) (omega arith) i.free).content)
+        subst (λ y. Applies setting.codes h2.bases v y) (sym (l.since.like (z.frame + n) (omega arith) i.free).content)
             (stands_grown setting.codes h1.bases h2.bases v _ l.since.grown i.stands),
         l.since.free (z.frame + n) (omega arith) i.free,
         (let q : n < d1 = omega arith in q),
@@ -160,8 +160,7 @@ pub starts_run : (setting : Setting) (inner : Meanings) → Simulates setting in
     → Ready setting z w → z.depth ≤ d → KeepsLabels z.scene.bindings bs → d1 ≤ FRAME_WORDS → A.most ≤ B.most → B.least ≤ A.least - turns_started false is → AreStarts setting (record z.scene { bindings = bs }) d env is c rest d1 slots
     → (a : OpenCompleted setting s A z w c d (z.frame + d) w1) → NamedIn (record z.scene { bindings = bs }) env a.bases1 z.frame
     → Ran setting s B (Started setting s B z w (store_at a) d rest d1 slots) (OpenExited setting s B z w) (starts inner is env w1)
-starts_run setting inner sim t.no_starts env bs s A B z w c rest d d1 slots w1 r le keeps few le1 le2 l a named =
-    went (no_item setting s A B z w c rest d d1 slots w1 le1 (omega arith) l.0 l.1 l.2 a)
+starts_run setting inner sim t.no_starts env bs s A B z w c rest d d1 slots w1 r le keeps few le1 le2 l a named = grind (arith, went, (no_item setting s A B z w c rest d d1 slots w1 le1 (omega arith) l.0 l.1 l.2 a))
 starts_run setting inner sim (t.value e is) env bs s A B z w c rest d d1 slots w1 r le keeps few le1 le2 l a named =
     let c0 = l.0 in
     let A1 : Account = record { most = A.most; least = A.least - turns_of false e } in
@@ -217,7 +216,7 @@ free_made h b c a long ne free o n b1 i l e lt z = ⊎_elim
 
 abbrev pub SpotsAt : Codes → Store → ℕ → ℕ → List Start → List Spot → Type 0
 SpotsAt codes h frame top [] [] = Unit {0}
-SpotsAt codes h frame top (s ∷ ss) (p ∷ ps) = (s.name ≡ p.name) × Stands codes h.bases s.value (content_of (h.cells (frame + p.slot))) × IsFree h (frame + p.slot) × (p.slot < top) × SpotsAt codes h frame top ss ps
+SpotsAt codes h frame top (s ∷ ss) (p ∷ ps) = (s.name ≡ p.name) × Applies codes h.bases s.value (content_of (h.cells (frame + p.slot))) × IsFree h (frame + p.slot) × (p.slot < top) × SpotsAt codes h frame top ss ps
 SpotsAt codes h frame top _ _ = ⊥
 
 abbrev pub RisingSpots : ℕ → List Spot → Type 0
@@ -241,7 +240,7 @@ spots_carried codes h h1 frame d d1 [] [] le c at = tt
 spots_carried codes h h1 frame d d1 (s ∷ ss) (p ∷ ps) le c at =
     let lt : p.slot < d = at.3 in (
       at.0,
-      subst (λ y. Stands codes h1.bases s.value y) (sym (c.like (frame + p.slot) (omega arith) at.2).content) (stands_grown codes h.bases h1.bases s.value _ c.grown at.1),
+      subst (λ y. Applies codes h1.bases s.value y) (sym (c.like (frame + p.slot) (omega arith) at.2).content) (stands_grown codes h.bases h1.bases s.value _ c.grown at.1),
       c.free (frame + p.slot) (omega arith) at.2,
       omega arith,
       spots_carried codes h h1 frame d d1 ss ps le c at.4,
@@ -308,7 +307,7 @@ bind_run (st ∷ ss) (p ∷ ps) from env setting s A z w c d top w1 high le lim 
     begun : (i : ℕ) (x : Cell_of) → slice_get (holds st.value ∷ []) i ≡ Some x → StandsCell setting.codes a.bases1 x (content_of (a.cells1 (z.frame + p.slot + i)))
     begun zero x e =
         subst (λ y. StandsCell setting.codes a.bases1 y (content_of (a.cells1 (z.frame + p.slot + 0)))) (let q : holds st.value ≡ x = cc in q)
-        (subst (λ y. Stands setting.codes a.bases1 st.value (content_of (a.cells1 y))) (let q : z.frame + p.slot ≡ z.frame + p.slot + 0 = omega arith in q) at.1)
+        (subst (λ y. Applies setting.codes a.bases1 st.value (content_of (a.cells1 y))) (let q : z.frame + p.slot ≡ z.frame + p.slot + 0 = omega arith in q) at.1)
     begun (suc i) x e = absurd (cc)
 bind_run _ _ from env setting s A z w c d top w1 high le lim a at rise vars = absurd at
 
@@ -327,9 +326,7 @@ pub record Lets (setting : Setting) (s : State) (B : Account) (z : Configuration
   pub spare : vars ≡ true → arr.steps + 16 * w1.turns + 1 ≤ B.most
 
 slots_low : (setting : Setting) (sc : Scene) (is : t.Starts) (d : ℕ) (env : Environment) (c rest : List Stmt) (d1 : ℕ) (slots : List ℕ) → AreStarts setting sc d env is c rest d1 slots → (i n : ℕ) → slice_get slots i ≡ Some n → n < d1
-slots_low setting sc t.no_starts d env c rest d1 slots l i n e =
-    let none_there : (i n : ℕ) → slice_get [] i ≡ Some n → ⊥ = λ i n q. absurd (cc) in
-    absurd (let q : slice_get [] i ≡ Some n = sym (ap (λ y. slice_get y i) l.2) ∙ e in none_there i n q)
+slots_low setting sc t.no_starts d env c rest d1 slots l i n e = grind arith
 slots_low setting sc (t.value e1 is) d env c rest d1 slots l i n e =
     let rise = (starts_rise setting sc is (d + 1) (past e1 env) l.0 rest d1 l.1 l.3).0 in
     at_place i (sym (ap (λ y. slice_get y i) l.4) ∙ e) (λ j q. slots_low setting sc is (d + 1) (past e1 env) l.0 rest d1 l.1 l.3 j n q) rise
@@ -385,8 +382,7 @@ pub let_run : (setting : Setting) (inner : Meanings) → Simulates setting inner
     → Ready setting z w → z.depth ≤ d → KeepsLabels z.scene.bindings bs → d1 ≤ FRAME_WORDS → A.most ≤ B.most → B.least ≤ A.least - turns_defined false ds → AreDefined setting (record z.scene { bindings = bs }) d env ds c rest d1 ps
     → (a : OpenCompleted setting s A z w c d (z.frame + d) w1) → NamedIn (record z.scene { bindings = bs }) env a.bases1 z.frame
     → Ran setting s B (Lets setting s B z w (store_at a) d rest d1 ps (defines_variables ds)) (OpenExited setting s B z w) (let_values inner ds env w1)
-let_run setting inner sim t.no_definitions env bs s A B z w c rest d d1 ps w1 r le keeps few le1 le2 l a named =
-    went (no_let setting s A B z w c rest d d1 ps w1 le1 (omega arith) l.0 l.1 l.2 a)
+let_run setting inner sim t.no_definitions env bs s A B z w c rest d d1 ps w1 r le keeps few le1 le2 l a named = grind (arith, went, (no_let setting s A B z w c rest d d1 ps w1 le1 (omega arith) l.0 l.1 l.2 a))
 let_run setting inner sim (t.define (t.routine x y fs b) ds) env bs s A B z w c rest d d1 ps w1 r le keeps few le1 le2 l a named =
     let_run setting inner sim ds (past_definition (t.routine x y fs b) env) bs s A B z w c rest d d1 ps w1 r le keeps few le1 (omega arith) l a (record { each = named.each })
 let_run setting inner sim (t.define (t.function x y fs e) ds) env bs s A B z w c rest d d1 ps w1 r le keeps few le1 le2 l a named =

@@ -1,6 +1,6 @@
 -- The routines of the library are called: each does its step, and goes back.
-use Rattle.bk_simulation.proofs.Words.{ltb-true, ◌≡◌, ◌≢◌, ℕ, suc, ◌+◌, ◌-◌, ◌*◌, ◌<◌, ◌≤◌, ◌%◌, ◌^◌, ◌==◌, nat_lt, Bool, false, List, [], ◌∷◌, length, Option, Some, None, pos, refl, sym, ap, ◌∙◌, subst, if◌then◌else◌, arith, slice_get, zero, ◌++◌, option_and_then, option_map, option_map_or, Status, signed, word_sum, byte_distance, byte_place, Content, Word, Variable, Cell, Held, content_of, with_byte, write, number_in, variable_in, variable_at, byte_at, word_with_byte_at, string_at, bytes_from, At, State, Ends, Wild, slot, on_number, on_some, tells, routine_step, step, step_from, Program, resumed_in, in_hand, program_step, program_step_from, Stmt, Value, number, address, procedure, routine, unset, read_byte, write_byte, World, Outcome, gives, given, with, changes, writing, remembering, calls_back, spelling, aligned, FormatPart, format_bytes, in_front, library, writes_text, takes_byte, eqb-true}
-use Rattle.bk_simulation.proofs.Pieces.{by_option, by_truth, return_goes, call_stmt, Stands, Store, Moved, Fits, moved_on, moved_refl, Codes, untouched, AreBytes, read_byte_at, write_byte_at, word_number, HasBytes, Setting, CallAt, Configuration, store, Ready, Account, Comes, Ran, went}
+use Rattle.bk_simulation.proofs.Words.{ltb-true, ◌≡◌, ◌≢◌, ℕ, suc, ◌+◌, ◌-◌, ◌*◌, ◌<◌, ◌≤◌, ◌%◌, ◌^◌, ◌==◌, nat_lt, Bool, false, List, [], ◌∷◌, length, Option, Some, None, refl, sym, ap, ◌∙◌, subst, if◌then◌else◌, arith, slice_get, zero, ◌++◌, option_and_then, option_map, Status, signed, word_sum, byte_distance, Content, Word, Variable, Cell, Held, content_of, write, number_in, variable_in, variable_at, byte_at, word_with_byte_at, string_at, bytes_from, At, State, Ends, slot, on_number, on_some, tells, routine_step, step, Program, in_hand, program_step, Stmt, Value, number, address, procedure, routine, unset, read_byte, write_byte, World, Outcome, gives, given, with, changes, writing, remembering, calls_back, spelling, aligned, FormatPart, format_bytes, in_front, library, writes_text, takes_byte, eqb-true}
+use Rattle.bk_simulation.proofs.Pieces.{by_option, by_truth, return_goes, call_stmt, Applies, Store, Moved, Fits, moved_on, moved_refl, Codes, untouched, AreBytes, read_byte_at, write_byte_at, word_number, HasBytes, Setting, CallAt, Configuration, store, Ready, Account, Comes, Ran, went}
 use Rattle.bk_base.specs.Format.{parts}
 use Rattle.bk_ocode.specs.OcodeState as ocode
 use Rattle.bk_ocode.specs.OcodeStep.{return, read_byte as takes_input}
@@ -13,13 +13,13 @@ use Rattle.bk_base.specs.Format as f
 
 module _ (codes : Codes) (h : Store) (top : ℕ) (fits : Fits codes h top) where
   -- a byte that is read
-  byte_read : (a : Value) (w i b : ℕ) → Stands codes h.bases a (Word w) → read_byte h.mem a (number i) ≡ Some b → byte_at top h.cells w i ≡ Some b
+  byte_read : (a : Value) (w i b : ℕ) → Applies codes h.bases a (Word w) → read_byte h.mem a (number i) ≡ Some b → byte_at top h.cells w i ≡ Some b
   byte_read a w i b st e =
       let r = read_byte_at codes h top a (number i) (Word w) (Word i) b fits st refl e in
       ap (λ y. byte_at top h.cells y i) (word_number w r.word r.is_word) ∙ ap (λ y. byte_at top h.cells r.word y) (word_number i r.index r.is_index) ∙ r.reads
 
   -- several
-  bytes_read : (n : ℕ) (a : Value) (w i : ℕ) (bs : List ℕ) → Stands codes h.bases a (Word w) → m.bytes_from n h.mem a i ≡ Some bs → bytes_from n top h.cells w i ≡ Some bs
+  bytes_read : (n : ℕ) (a : Value) (w i : ℕ) (bs : List ℕ) → Applies codes h.bases a (Word w) → m.bytes_from n h.mem a i ≡ Some bs → bytes_from n top h.cells w i ≡ Some bs
   bytes_read zero a w i bs st e = e
   bytes_read (suc n) a w i bs st e = by_byte (read_byte h.mem a (number i)) refl e (λ rest h. bytes_read n a w (i + 1) rest st h)
     where
@@ -35,13 +35,11 @@ module _ (codes : Codes) (h : Store) (top : ℕ) (fits : Fits codes h top) where
           ∙ by_rest b (m.bytes_from n h.mem a (i + 1)) (bytes_from n top h.cells w (i + 1)) go e
 
   -- a string
-  pub string_read : (a : Value) (w : ℕ) (bs : List ℕ) → Stands codes h.bases a (Word w) → m.string_at h.mem a ≡ Some bs → string_at top h.cells w ≡ Some bs
-  string_read a w bs st e =
-      by_option (λ o. option_and_then (λ n. m.bytes_from n h.mem a 1) o ≡ Some bs → string_at top h.cells w ≡ Some bs) (read_byte h.mem a (number 0)) (λ _ e. absurd (cc))
-      (λ n eo e. ap (λ y. option_and_then (λ n. bytes_from n top h.cells w 1) y) (byte_read a w 0 n st eo) ∙ bytes_read n a w 1 bs st e) e
+  pub string_read : (a : Value) (w : ℕ) (bs : List ℕ) → Applies codes h.bases a (Word w) → m.string_at h.mem a ≡ Some bs → string_at top h.cells w ≡ Some bs
+  string_read a w bs st e = grind (arith, by_option, number, byte_read, bytes_read)
 
   -- a string's address is a word
-  pub string_word : (a : Value) (x : Content) (bs : List ℕ) → Stands codes h.bases a x → m.string_at h.mem a ≡ Some bs → (w : ℕ) × (x ≡ Word w)
+  pub string_word : (a : Value) (x : Content) (bs : List ℕ) → Applies codes h.bases a x → m.string_at h.mem a ≡ Some bs → (w : ℕ) × (x ≡ Word w)
   string_word (address o k) x bs st e = ((st.0 + k) % 2 ^ 32, st.3)
   string_word (number n) x bs st e = (n, st)
   string_word (procedure n) x bs st e = (codes.procedure n, st)
@@ -52,47 +50,45 @@ module _ (codes : Codes) (h : Store) (top : ℕ) (fits : Fits codes h top) where
 
   -- the arguments from a slot on
   abbrev pub ArgumentsAt : (ℕ → Content) → ℕ → List Value → Type 0
-  ArgumentsAt slots k vs = (i : ℕ) (v : Value) → slice_get vs i ≡ Some v → Stands codes h.bases v (slots (k + i))
+  ArgumentsAt slots k vs = (i : ℕ) (v : Value) → slice_get vs i ≡ Some v → Applies codes h.bases v (slots (k + i))
 
-  first_argument : (slots : ℕ → Content) (k : ℕ) (v : Value) (vs : List Value) → ArgumentsAt slots k (v ∷ vs) → Stands codes h.bases v (slots k)
-  first_argument slots k v vs args = subst (λ y. Stands codes h.bases v (slots y)) (let e : k + 0 ≡ k = omega arith in e) (args 0 v refl)
+  first_argument : (slots : ℕ → Content) (k : ℕ) (v : Value) (vs : List Value) → ArgumentsAt slots k (v ∷ vs) → Applies codes h.bases v (slots k)
+  first_argument slots k v vs args = subst (λ y. Applies codes h.bases v (slots y)) (let e : k + 0 ≡ k = omega arith in e) (args 0 v refl)
 
   later_arguments : (slots : ℕ → Content) (k : ℕ) (v : Value) (vs : List Value) → ArgumentsAt slots k (v ∷ vs) → ArgumentsAt slots (k + 1) vs
-  later_arguments slots k v vs args i u e = subst (λ y. Stands codes h.bases u (slots y)) (let q : k + suc i ≡ k + 1 + i = omega arith in q) (args (suc i) u e)
+  later_arguments slots k v vs args i u e = subst (λ y. Applies codes h.bases u (slots y)) (let q : k + suc i ≡ k + 1 + i = omega arith in q) (args (suc i) u e)
 
   -- what a part writes of an argument
-  abbrev told_of : (slots : ℕ → Content) (k : ℕ) → FormatPart → Option (List ℕ)
-  told_of slots k f.String = option_and_then (string_at top h.cells) (number_in (slots k))
-  told_of slots k f.Number = option_map (λ w. spelling (signed w)) (number_in (slots k))
-  told_of slots k f.Character = option_map (λ w. w % 256 ∷ []) (number_in (slots k))
-  told_of slots k (f.Column n) = option_map (λ w. aligned w n) (number_in (slots k))
-  told_of slots k _ = None
+  abbrev reported_of : (slots : ℕ → Content) (k : ℕ) → FormatPart → Option (List ℕ)
+  reported_of slots k f.String = option_and_then (string_at top h.cells) (number_in (slots k))
+  reported_of slots k f.Number = option_map (λ w. spelling (signed w)) (number_in (slots k))
+  reported_of slots k f.Character = option_map (λ w. w % 256 ∷ []) (number_in (slots k))
+  reported_of slots k (f.Column n) = option_map (λ w. aligned w n) (number_in (slots k))
+  reported_of slots k _ = None
 
-  part_told : (slots : ℕ → Content) (k : ℕ) (p : FormatPart) (v : Value) (text : List ℕ) → Stands codes h.bases v (slots k) → m.argument_text h.mem p v ≡ Some text → told_of slots k p ≡ Some text
-  part_told slots k f.String v text st e =
-      let w = string_word v (slots k) text st e in
-      ap (λ y. option_and_then (string_at top h.cells) (number_in y)) w.1 ∙ string_read v w.0 text (subst (λ y. Stands codes h.bases v y) w.1 st) e
+  part_told : (slots : ℕ → Content) (k : ℕ) (p : FormatPart) (v : Value) (text : List ℕ) → Applies codes h.bases v (slots k) → m.argument_text h.mem p v ≡ Some text → reported_of slots k p ≡ Some text
+  part_told slots k f.String v text st e = grind (arith, string_word, string_read)
   part_told slots k f.Number (number n) text st e = ap (λ y. option_map (λ w. spelling (signed w)) (number_in y)) st ∙ e
   part_told slots k f.Character (number n) text st e = ap (λ y. option_map (λ w. w % 256 ∷ []) (number_in y)) st ∙ e
   part_told slots k (f.Column d) (number n) text st e = ap (λ y. option_map (λ w. aligned w d) (number_in y)) st ∙ e
   part_told slots k _ _ text st e = absurd (let z : None ≡ Some text = e in cc)
 
   -- a part, and what is behind it
-  in_front_is : (told more : Option (List ℕ)) (first : List ℕ) (rest : Option (List ℕ)) (text : List ℕ) → told ≡ Some first → ((t : List ℕ) → rest ≡ Some t → more ≡ Some t) → option_map (λ t. first ++ t) rest ≡ Some text
-      → in_front told more ≡ Some text
-  in_front_is told more first None text et go e = absurd (cc)
-  in_front_is told more first (Some t) text et go e = ap (λ y. in_front y more) et ∙ ap (option_map (λ t. first ++ t)) (go t refl) ∙ e
+  in_front_is : (reported more : Option (List ℕ)) (first : List ℕ) (rest : Option (List ℕ)) (text : List ℕ) → reported ≡ Some first → ((t : List ℕ) → rest ≡ Some t → more ≡ Some t) → option_map (λ t. first ++ t) rest ≡ Some text
+      → in_front reported more ≡ Some text
+  in_front_is reported more first None text et go e = absurd (cc)
+  in_front_is reported more first (Some t) text et go e = ap (λ y. in_front y more) et ∙ ap (option_map (λ t. first ++ t)) (go t refl) ∙ e
 
   abbrev FormatGoes : (ℕ → Content) → List FormatPart → ℕ → List Value → Type 0
   FormatGoes slots ps k vs = (text : List ℕ) → m.written h.mem ps vs ≡ Some text → format_bytes (λ a. number_in (slots a)) (string_at top h.cells) ps k ≡ Some text
 
   taken_part : (slots : ℕ → Content) (p : FormatPart) (ps : List FormatPart) (k : ℕ) (v : Value) (vs : List Value) (text : List ℕ) → ArgumentsAt slots k (v ∷ vs) → FormatGoes slots ps (k + 1) vs
       → option_and_then (λ first. option_map (λ text. first ++ text) (m.written h.mem ps vs)) (m.argument_text h.mem p v) ≡ Some text
-      → in_front (told_of slots k p) (format_bytes (λ a. number_in (slots a)) (string_at top h.cells) ps (k + 1)) ≡ Some text
+      → in_front (reported_of slots k p) (format_bytes (λ a. number_in (slots a)) (string_at top h.cells) ps (k + 1)) ≡ Some text
   taken_part slots p ps k v vs text args go e =
-      by_option (λ o. option_and_then (λ first. option_map (λ text. first ++ text) (m.written h.mem ps vs)) o ≡ Some text → in_front (told_of slots k p) (format_bytes (λ a. number_in (slots a)) (string_at top h.cells) ps (k + 1)) ≡ Some text)
+      by_option (λ o. option_and_then (λ first. option_map (λ text. first ++ text) (m.written h.mem ps vs)) o ≡ Some text → in_front (reported_of slots k p) (format_bytes (λ a. number_in (slots a)) (string_at top h.cells) ps (k + 1)) ≡ Some text)
       (m.argument_text h.mem p v) (λ _ e. absurd (cc))
-      (λ first eo e. in_front_is (told_of slots k p) _ first (m.written h.mem ps vs) text (part_told slots k p v first (first_argument slots k v vs args) eo) go e) e
+      (λ first eo e. in_front_is (reported_of slots k p) _ first (m.written h.mem ps vs) text (part_told slots k p v first (first_argument slots k v vs args) eo) go e) e
 
   pub format_told : (slots : ℕ → Content) (ps : List FormatPart) (k : ℕ) (vs : List Value) → ArgumentsAt slots k vs → FormatGoes slots ps k vs
   format_told slots [] k vs args text e = e
@@ -132,7 +128,7 @@ pub record AtRoutine (setting : Setting) (s : State) (A : Account) (z : Configur
   pub link1 : content_of (cells1 (z.frame + z.depth + 1)) ≡ Word back
   pub fits : Fits setting.codes (record { bases = bases1; mem = w1.memory; cells = cells1 }) (z.frame + z.depth)
   pub moved : Moved (z.frame + z.depth) (store z w) (record { bases = bases1; mem = w1.memory; cells = cells1 })
-  pub each : (i : ℕ) (u : Value) → slice_get vs i ≡ Some u → Stands setting.codes bases1 u (content_of (cells1 (z.frame + z.depth + (2 + i))))
+  pub each : (i : ℕ) (u : Value) → slice_get vs i ≡ Some u → Applies setting.codes bases1 u (content_of (cells1 (z.frame + z.depth + (2 + i))))
 
 not_home : (program : Program) (n : ℕ) (r : ocode.Routine) → program.callables.routine program.home ≡ None → program.callables.routine n ≡ Some r → (n == program.home) ≡ false
 not_home program n r none some = grind (arith, by_truth, eqb-true)
@@ -168,7 +164,7 @@ module _ (of : Bool) (setting : Setting) (s : State) (A B : Account) (z : Config
   stepped = routine_stepped setting.program here (setting.codes.routine r) (named_there r) setting.well.is_program.home_apart refl known
 
   -- the routine goes back with a result, these cells, and the world's bytes
-  back_with : (v : Value) (result : Option Content) (w3 : World) (cells3 : ℕ → Cell) (written3 : List ℕ) → w3.turns ≡ w1.turns → Stands setting.codes at.bases1 v (in_hand result)
+  back_with : (v : Value) (result : Option Content) (w3 : World) (cells3 : ℕ → Cell) (written3 : List ℕ) → w3.turns ≡ w1.turns → Applies setting.codes at.bases1 v (in_hand result)
       → routine_step here (named_there r) ≡ return (record here { cells = cells3; input = w3.input; output = w3.output; written = written3 }) result
       → content_of (cells3 (top + 0)) ≡ Word z.frame → content_of (cells3 (top + 1)) ≡ Word back
       → Fits setting.codes (record { bases = at.bases1; mem = w3.memory; cells = cells3 }) top → Moved top held (record { bases = at.bases1; mem = w3.memory; cells = cells3 }) → RanHere (gives v w3)
@@ -192,7 +188,7 @@ module _ (of : Bool) (setting : Setting) (s : State) (A B : Account) (z : Config
       }) st)
 
   -- with the cells as they were
-  back_same : (v : Value) (result : Option Content) (w3 : World) → w3.turns ≡ w1.turns → w3.memory ≡ w1.memory → Stands setting.codes at.bases1 v (in_hand result)
+  back_same : (v : Value) (result : Option Content) (w3 : World) → w3.turns ≡ w1.turns → w3.memory ≡ w1.memory → Applies setting.codes at.bases1 v (in_hand result)
       → routine_step here (named_there r) ≡ return (record here { input = w3.input; output = w3.output }) result → RanHere (gives v w3)
   back_same v result w3 et em st e =
       back_with v result w3 at.cells1 at.written1 et st e at.link0 at.link1
@@ -203,9 +199,7 @@ low_place : (top p : ℕ) (cells : ℕ → Cell) (k : Content) → variable_at t
 low_place top p cells k e = by_truth (λ b. (if b then variable_in (cells p) else None) ≡ Some k → p < top) (nat_lt p top) (λ h e. ltb-true p top h) (λ h e. absurd (cc)) e
 
 low_byte : (top w i b : ℕ) (cells : ℕ → Cell) (k : Content) → word_with_byte_at top cells w i b ≡ Some k → word_sum w (byte_distance i) < top
-low_byte top w i b cells k e =
-    by_option (λ o. option_map (λ content. with_byte content (byte_place i) (b % 256)) o ≡ Some k → word_sum w (byte_distance i) < top) (variable_at top cells (word_sum w (byte_distance i)))
-    (λ _ e. absurd (cc)) (λ x eo e. low_place top (word_sum w (byte_distance i)) cells x eo) e
+low_byte top w i b cells k e = grind (arith, by_option, variable_at, low_place)
 
 pub library_runs : (of : Bool) (setting : Setting) (s : State) (A B : Account) (z : Configuration) (rest : List Stmt) (w w1 : World) (vs : List Value) (r : value.Routine) (n : ℕ) → A.most + 1 ≤ B.most → B.least ≤ A.least → n ≡ w.calls → Ready setting z w
     → CallAt setting z.scene (call_stmt of z.depth) rest → setting.program.callables.routine (setting.codes.routine r) ≡ Some (named_there r) → AtRoutine setting s A z w vs (z.scene.own.places.call (length rest)) (setting.codes.routine r) w1
@@ -247,7 +241,7 @@ library_runs of setting s A B z rest w w1 (a ∷ vs) value.writes n le le' en re
     (m.string_at w1.memory a) (λ _. went tt) (λ text e.
     let hs : Store = record { bases = at.bases1; mem = w1.memory; cells = at.cells1 } in
     let x = string_word setting.codes hs (z.frame + z.depth) at.fits a _ text (at.each 0 a refl) e in
-    let st = subst (λ y. Stands setting.codes at.bases1 a y) x.1 (at.each 0 a refl) in
+    let st = subst (λ y. Applies setting.codes at.bases1 a y) x.1 (at.each 0 a refl) in
     back_same of setting s A B z rest w w1 (a ∷ vs) value.writes n le le' en ready call known at unset None (writing text w1) refl refl tt
     (ap (λ y. on_number y (λ a. on_some (string_at h.frame h.cells a) (λ bytes. tells h bytes))) x.1
     ∙ ap (λ y. on_some y (λ bytes. tells h bytes)) (string_read setting.codes hs (z.frame + z.depth) at.fits a x.0 text st e)))
@@ -296,11 +290,11 @@ library_runs of setting s A B z rest w w1 (a ∷ vs) value.writef n le le' en re
     let h = here of setting s A B z rest w w1 (a ∷ vs) value.writef n le le' en ready call known at in
     let hs : Store = record { bases = at.bases1; mem = w1.memory; cells = at.cells1 } in
     let x = string_word setting.codes hs (z.frame + z.depth) at.fits a _ bytes (at.each 0 a refl) eb in
-    let st = subst (λ y. Stands setting.codes at.bases1 a y) x.1 (at.each 0 a refl) in
-    let told = format_told setting.codes hs (z.frame + z.depth) at.fits (slot h) (parts bytes) 3 vs
-    (λ i v ev. subst (λ k. Stands setting.codes at.bases1 v (content_of (at.cells1 (z.frame + z.depth + k)))) (let q : 2 + suc i ≡ 3 + i = omega arith in q) (at.each (suc i) v ev)) text e in
+    let st = subst (λ y. Applies setting.codes at.bases1 a y) x.1 (at.each 0 a refl) in
+    let reported = format_told setting.codes hs (z.frame + z.depth) at.fits (slot h) (parts bytes) 3 vs
+    (λ i v ev. subst (λ k. Applies setting.codes at.bases1 v (content_of (at.cells1 (z.frame + z.depth + k)))) (let q : 2 + suc i ≡ 3 + i = omega arith in q) (at.each (suc i) v ev)) text e in
     back_same of setting s A B z rest w w1 (a ∷ vs) value.writef n le le' en ready call known at unset None (writing text w1) refl refl tt
     (ap (λ y. on_number y (λ f. on_some (string_at h.frame h.cells f) (λ format. on_some (format_bytes (λ a. number_in (slot h a)) (string_at h.frame h.cells) (parts format) 3) (λ bytes. tells h bytes)))) x.1
     ∙ ap (λ y. on_some y (λ format. on_some (format_bytes (λ a. number_in (slot h a)) (string_at h.frame h.cells) (parts format) 3) (λ bytes. tells h bytes))) (string_read setting.codes hs (z.frame + z.depth) at.fits a x.0 bytes st eb)
-    ∙ ap (λ y. on_some y (λ bytes. tells h bytes)) told)))
+    ∙ ap (λ y. on_some y (λ bytes. tells h bytes)) reported)))
 library_runs of setting s A B z rest w w1 _ _ n le le' en ready call known at = went tt

@@ -1,6 +1,6 @@
 -- What lasts of a program lies apart: two objects with words have different bases.
-use Rattle.bk_simulation.proofs.Words.{◌≡◌, ℕ, zero, suc, ◌+◌, ◌≤◌, ◌==◌, Bool, true, false, cond, List, [], ◌∷◌, Option, Some, None, slice_get, option_map_or, eq-eqb, refl, sym, ap, ◌∙◌, subst, arith, Declarations, Placed, Program, Datum, is_in, all_data, data_of, objects_of_declarations, Lasting, global_vector, words, code, of_declarations, of_sections}
-use Rattle.bk_simulation.proofs.Forms.{by_option, with_names, HasEntry, data_with, data_both, data_is, with_base, base_both, Setting}
+use Rattle.bk_simulation.proofs.Words.{◌≡◌, ℕ, zero, suc, ◌+◌, ◌≤◌, Bool, true, false, cond, List, [], ◌∷◌, Option, Some, None, slice_get, eq-eqb, refl, sym, ap, ◌∙◌, subst, arith, Declarations, Placed, Program, Datum, is_in, all_data, data_of, objects_of_declarations, Lasting, global_vector, words, code, of_declarations, of_sections}
+use Rattle.bk_simulation.proofs.Forms.{by_option, with_names, data_with, data_both, data_is, with_base, base_both, Setting}
 use Rattle.bk_simulation.proofs.LastingFits.{HasWords}
 use Rattle.bk_simulation.proofs.SectionsLie.{SectionsLie, HasAll, all_bases, others_suit, first_suits, no_names, none_mean}
 use Rattle.bk_simulation.proofs.ProgramLaid.{Together, LieApart, pay_of, own_bases, lie_together, setting_together, has_all}
@@ -46,8 +46,7 @@ one_at_most a (d ∷ ds) f =
 first_base : (q v : ℕ) (x : Lasting) (xs : List Lasting) (vs : List ℕ) → HasWords (Some x) → v ≡ q → with_base q (x ∷ xs) (v ∷ vs) ≡ 1 + with_base q xs vs
 first_base q v (words []) xs vs h e = absurd h
 first_base q v (words (y ∷ ys)) xs vs h e = ap (λ (z : Bool). cond z 1 0 + with_base q xs vs) (eq-eqb v q e)
-first_base q v (code f) xs vs h e =
-    by_option (λ g. HasEntry g → option_map_or (λ _. 0) g (cond (v == q) 1 0) + with_base q xs vs ≡ 1 + with_base q xs vs) f.global (λ _ h. ap (λ (z : Bool). cond z 1 0 + with_base q xs vs) (eq-eqb v q e)) (λ _ _ h. absurd h) h
+first_base q v (code f) xs vs h e = grind (arith, by_option, eq-eqb)
 first_base q v global_vector xs vs h e = absurd h
 
 less_base : (q v : ℕ) (x : Lasting) (xs : List Lasting) (vs : List ℕ) → with_base q xs vs ≤ with_base q (x ∷ xs) (v ∷ vs)
@@ -61,9 +60,7 @@ abbrev IsThere : ℕ → List Lasting → List ℕ → ℕ → Type 0
 IsThere q xs vs o = (x : Lasting) × (slice_get xs o ≡ Some x) × HasWords (Some x) × (slice_get vs o ≡ Some q)
 
 here_base : (q v : ℕ) (x : Lasting) (xs : List Lasting) (vs : List ℕ) → IsThere q (x ∷ xs) (v ∷ vs) 0 → with_base q (x ∷ xs) (v ∷ vs) ≡ 1 + with_base q xs vs
-here_base q v x xs vs h =
-    let same : x ≡ h.0 = (let z : Some x ≡ Some h.0 = h.1 in cc) in
-    first_base q v x xs vs (subst (λ y. HasWords (Some y)) (sym same) h.2) (let z : Some v ≡ Some q = h.3 in cc)
+here_base q v x xs vs h = grind (arith, first_base)
 
 some_base : (q : ℕ) (xs : List Lasting) (vs : List ℕ) (o : ℕ) → IsThere q xs vs o → 1 ≤ with_base q xs vs
 some_base q [] vs o h = absurd (let z : None ≡ Some h.0 = h.1 in cc)

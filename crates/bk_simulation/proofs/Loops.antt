@@ -1,6 +1,6 @@
 -- Scopes: commands that own their labels; and VALOF. WHILE, UNTIL, REPEAT, REPEATWHILE and REPEATUNTIL. SWITCHON.
-use Rattle.bk_simulation.proofs.Words.{◌≡◌, ℕ, ◌+◌, ◌≤◌, Bool, true, false, List, refl, sym, ◌∙◌, subst, arith, ◌-◌, ◌*◌, ◌∷◌, Some, bound_in, State, Stmt, meant, goal_in, Commands, Command, Environment, labelled, Sought, the_label, Mode, seeking, stands_in_one, forwards, World, Exit, goto, leaves, either, break, result, return, history, Meanings, landing, scope_of, alone, Adds, adds, stays, either_after, Unset, option_map_or, Label, TakeResult, Around, Value, result_exit, result_of, cond, suc, Jump, goal, Expression, past, past_command, stands_in, loop, Outcome, Done, done, turn, round_exit, again, same_truth, where_truth, rounds_of, with_after, turn_after, each_way_after, None, ap, below, from_label, case_label, Case, Switch, number, the_case, the_default, is_label, endcase, with, case_exit, ended_case, choose_case, labels_of_each}
-use Rattle.bk_simulation.proofs.Pieces.{by_test, not_true, turns_through, turns_in, turns_of, label_stands_one, same_stands, Setting, Scene, owning, goal_named, IsLabelHere, IsScopeAt, EnteredAny, Exits, in_valof, LabelAt, IsScope, in_loop, IsJump, IsAct, IsLoop, Entered, EnteredBody, in_switch, Configuration, start, Ready, Account, went, each_way_ran, CompletedAt, GoesTo, Leads, Out, next, ready_in, ready_next, Ran, so, Has, Handed, paying, with_ran, there, comes_to, outside, completed_turn, completed_on, turn_there, ran_on, stay, completed_more, ran_first, links_below, completed_paid, Simulates, for_scope, RanDid, for_act, turns_in_round, for_rounds, HasTruth, for_value, caught_at, label_on, taken_on, landed_on, jump_on, jumped_on, order_run, ready_at, not_owned, around_named, Stands, some_is, switch_moves, below_like, one_run, labels_named}
+use Rattle.bk_simulation.proofs.Words.{◌≡◌, ℕ, ◌+◌, ◌≤◌, Bool, true, false, List, refl, sym, ◌∙◌, subst, arith, ◌-◌, ◌*◌, ◌∷◌, Some, bound_in, State, Stmt, meant, goal_in, Commands, Command, Environment, labelled, Sought, the_label, Mode, seeking, one_has_place, forwards, World, Exit, goto, leaves, either, break, result, return, history, Meanings, landing, scope_of, alone, Adds, adds, stays, either_after, Unset, option_map_or, Label, TakeResult, Around, Value, result_exit, result_of, cond, suc, Jump, goal, Expression, past, past_command, has_place, loop, Outcome, Done, done, turn, round_exit, again, same_truth, where_truth, rounds_of, with_after, turn_after, each_way_after, None, ap, below, from_label, case_label, Case, Switch, number, the_case, the_default, is_label, endcase, with, case_exit, ended_case, choose_case, labels_of_each}
+use Rattle.bk_simulation.proofs.Pieces.{by_test, not_true, turns_through, turns_in, turns_of, label_stands_one, same_stands, Setting, Scene, owning, goal_named, IsLabelHere, IsScopeAt, EnteredAny, Exits, in_valof, LabelAt, IsScope, in_loop, IsJump, IsAct, IsLoop, Entered, EnteredBody, in_switch, Configuration, start, Ready, Account, went, each_way_ran, CompletedAt, GoesTo, Leads, Out, next, ready_in, ready_next, Ran, so, Has, Handed, paying, with_ran, there, comes_to, outside, completed_turn, completed_on, turn_there, ran_on, stay, completed_more, ran_first, links_below, completed_paid, Simulates, for_scope, RanDid, for_act, turns_in_round, for_rounds, HasTruth, for_value, caught_at, label_on, taken_on, landed_on, jump_on, jumped_on, order_run, ready_at, not_owned, around_named, Applies, some_is, switch_moves, below_like, one_run, labels_named}
 use Rattle.bk_simulation.proofs.Branches.{jump_evaluation}
 use Rattle.bk_tree.specs.Tree as t
 
@@ -18,7 +18,7 @@ passes_out : (setting : Setting) (s : State) (B : Account) (z : Configuration) (
 passes_out setting s B z j cs x w w1 e o = record { control = o.control; depth1 = o.depth1; leads = leads_out z.scene j cs x o.control e o.leads; arr = o.arr; later = o.later; hands = o.hands }
 
 pub landing_adds : (setting : Setting) (inner : Meanings) → Simulates setting inner → (cs : Commands) (env : Environment) (x : Exit) → Adds (landing cs env (λ x w. inner.scope cs (seeking (the_label x)) env w) x)
-landing_adds setting inner sim cs env (goto y) = adds _ (λ w. either_after (stands_in_one (the_label y) env cs) _ _ (adds _ (λ w1. sim.grows.scope cs (seeking (the_label y)) env w1)) (adds _ (λ w1. stays (history w1))) w)
+landing_adds setting inner sim cs env (goto y) = adds _ (λ w. either_after (one_has_place (the_label y) env cs) _ _ (adds _ (λ w1. sim.grows.scope cs (seeking (the_label y)) env w1)) (adds _ (λ w1. stays (history w1))) w)
 landing_adds setting inner sim cs env _ = adds _ (λ w. stays (history w))
 
 -- The commands of a scope, and those again to which a GOTO leads.
@@ -31,8 +31,8 @@ scope_runs setting inner sim cs mode z j at c rest e w l en r =
   where
     out : (x : Exit) (w1 : World) → Out setting (start z e w) (for_scope cs w) (in_scope j cs z) w x w1
         → RanDid setting (start z e w) (for_scope cs w) z rest w (landing cs z.env (λ x w. inner.scope cs (seeking (the_label x)) z.env w) x w1)
-    out (goto y) w1 o = by_test (stands_in_one (the_label y) z.env cs)
-        (λ (h : stands_in_one (the_label y) z.env cs ≡ true).
+    out (goto y) w1 o = by_test (one_has_place (the_label y) z.env cs)
+        (λ (h : one_has_place (the_label y) z.env cs ≡ true).
         subst (λ (b : Bool). RanDid setting (start z e w) (for_scope cs w) z rest w (either b (λ w. inner.scope cs (seeking (the_label y)) z.env w) (λ w. leaves (goto y) w) w1)) (sym h)
         (let s = start z e w in
         let B = for_scope cs w in
@@ -44,7 +44,7 @@ scope_runs setting inner sim cs mode z j at c rest e w l en r =
         let m0 = ar.most in
         comes_to (omega arith) (omega arith) r (omega arith) ar
         (sim.scope cs (seeking (the_label y)) (next setting s A z (at (the_label y)) z.depth w w1 z.env z.depth ar) j at c rest (at (the_label y)) w1 l (label_stands_one y (labelled cs z.env) z.env cs ∙ h, refl) (ready_next z.env z.depth ar refl (omega arith) r))))
-        (λ (h : stands_in_one (the_label y) z.env cs ≡ false).
+        (λ (h : one_has_place (the_label y) z.env cs ≡ false).
         subst (λ (b : Bool). RanDid setting (start z e w) (for_scope cs w) z rest w (either b (λ w. inner.scope cs (seeking (the_label y)) z.env w) (λ w. leaves (goto y) w) w1)) (sym h)
         (went (passes_out setting (start z e w) (for_scope cs w) z j cs (goto y) w w1 (λ u eu. let same : y ≡ u = cc in subst (λ v. bound_in (owning j cs z.scene).bindings v ≡ bound_in z.scene.bindings v) same (not_owned y cs z.env z.scene j h)) o)))
     out x w1 o = went (passes_out setting (start z e w) (for_scope cs w) z j cs x w w1 (λ u eu. absurd (cc)) o)
@@ -65,7 +65,7 @@ result_adds _ = adds _ (λ w. stays (history w))
 -- the result in hand, or none, becomes the item on top
 takes_up : {setting : Setting} {s : State} {A B : Account} {z : Configuration} {n k : ℕ} {rest : List Stmt} {w w1 : World} {v : Value} → A.most + 2 ≤ B.most → B.least ≤ A.least
     → Ready setting z w → LabelAt setting z.scene z.depth n (TakeResult z.depth ∷ rest)
-    → (a : CompletedAt setting s A z (Label n ∷ TakeResult z.depth ∷ rest) k w w1) → Stands setting.codes a.bases1 v (option_map_or (λ y. y) a.hand1 Unset) → Has setting s B z rest (z.depth + 1) w v w1
+    → (a : CompletedAt setting s A z (Label n ∷ TakeResult z.depth ∷ rest) k w w1) → Applies setting.codes a.bases1 v (option_map_or (λ y. y) a.hand1 Unset) → Has setting s B z rest (z.depth + 1) w v w1
 takes_up le le' r l a st = taken_on (omega arith) (omega arith) r (label_on l a) st
 
 pub valof_run : (setting : Setting) (inner : Meanings) → Simulates setting inner → (B : Account) (x : Command) (z : Configuration) (n j : ℕ) (c rest : List Stmt) (w : World) → 16 * w.turns + 12 ≤ B.most → B.least ≤ w.turns - turns_in false x
@@ -85,7 +85,7 @@ valof_run setting inner sim B x z n j c rest w le le' l ln r =
         λ control e a h.
         let b : (y : CompletedAt setting (start z c w) (for_scope (alone x) w) z (Label n ∷ TakeResult z.depth ∷ rest) o.depth1 w w1) × Handed setting y.bases1 (result v) y.hand1 =
         subst (λ k. (y : CompletedAt setting (start z c w) (for_scope (alone x) w) z k o.depth1 w w1) × Handed setting y.bases1 (result v) y.hand1) e (a, h) in
-        takes_up (omega arith) (omega arith) r ln b.0 (subst (λ y. Stands setting.codes b.0.bases1 v (option_map_or (λ y. y) y Unset)) (sym b.1.1) b.1.2) in
+        takes_up (omega arith) (omega arith) r ln b.0 (subst (λ y. Applies setting.codes b.0.bases1 v (option_map_or (λ y. y) y Unset)) (sym b.1.1) b.1.2) in
         let at_label : o.control ≡ Label n ∷ TakeResult z.depth ∷ rest = some_is o.control (Label n ∷ TakeResult z.depth ∷ rest) (sym o.leads ∙ ln.found) in
         went (at_result o.control at_label o.arr o.hands)
     out _ w1 o = not_true o.leads.1
@@ -110,13 +110,13 @@ further_round setting inner sim s A B x z n at body rest w w1 le0 le1 le ll la l
     (sim.rounds x forwards (next setting s D z body z.depth w (record w1 { turns = k }) z.env z.depth ar) at body rest body (record w1 { turns = k }) l en (ready_next z.env z.depth ar refl (omega arith) r)))
 
 -- A round whose body is done or left: what follows it at the place where LOOP goes, and at the place where BREAK goes.
-round_run : (setting : Setting) (inner : Meanings) → Simulates setting inner → (B : Account) (a : Command) (mode : Mode) (z : Configuration) (env : Environment) (again_at out_at : ℕ) (at : Sought → List Stmt) (body mid behind rest e : List Stmt) (w : World) (next_one : World → Outcome Done)
+round_run : (setting : Setting) (inner : Meanings) → Simulates setting inner → (B : Account) (a : Command) (mode : Mode) (z : Configuration) (env : Environment) (again_at out_at : ℕ) (at : Sought → List Stmt) (body mid following rest e : List Stmt) (w : World) (next_one : World → Outcome Done)
     → ((w1 : World) → Adds next_one) → 16 * w.turns + 1 ≤ B.most → B.least ≤ w.turns - turns_in false a → env.names ≡ z.env.names → IsAct setting (in_loop again_at out_at z.depth z.scene) z.depth env a at body mid
-    → Entered mode env a at body e → LabelAt setting z.scene z.depth again_at behind → LabelAt setting z.scene z.depth out_at rest → Ready setting z w
+    → Entered mode env a at body e → LabelAt setting z.scene z.depth again_at following → LabelAt setting z.scene z.depth out_at rest → Ready setting z w
     → ((A : Account) (w1 : World) → A.most ≤ 16 * w.turns → w.turns - turns_in false a ≤ A.least → CompletedAt setting (start z e w) A z mid z.depth w w1 → RanDid setting (start z e w) B z rest w (next_one w1))
-    → ((A : Account) (w1 : World) → A.most ≤ 16 * w.turns → w.turns - turns_in false a ≤ A.least → CompletedAt setting (start z e w) A z (Label again_at ∷ behind) z.depth w w1 → RanDid setting (start z e w) B z rest w (next_one w1))
+    → ((A : Account) (w1 : World) → A.most ≤ 16 * w.turns → w.turns - turns_in false a ≤ A.least → CompletedAt setting (start z e w) A z (Label again_at ∷ following) z.depth w w1 → RanDid setting (start z e w) B z rest w (next_one w1))
     → RanDid setting (start z e w) B z rest w (again (inner.act a mode env w) next_one)
-round_run setting inner sim B a mode z env again_at out_at at body mid behind rest e w next_one ad le le' en l ent la lo r ends go =
+round_run setting inner sim B a mode z env again_at out_at at body mid following rest e w next_one ad le le' en l ent la lo r ends go =
     each_way_ran (λ _. ad w) exit_adds
     (so (omega arith) (omega arith) (λ _ w1 q. q) (λ x w1 q. q) (sim.act a mode (record (looping again_at out_at z) { env = env }) at body mid e w l ent
     (ready_at setting (looping again_at out_at z) w env en (around_ready setting (in_loop again_at out_at z.depth z.scene).around (in_loop again_at out_at z.depth z.scene).exits z w r))))
@@ -129,7 +129,7 @@ round_run setting inner sim B a mode z env again_at out_at at body mid behind re
     out : (x : Exit) (w1 : World) → Out setting (start z e w) (for_act a w) (looping again_at out_at z) w x w1 → RanDid setting (start z e w) B z rest w (round_exit next_one x w1)
     out loop w1 o = let dp = r.deep in
         go (record { most = 16 * w.turns; least = (w.turns - turns_in false a) + setting.pay + setting.pay }) w1 (omega arith) (omega arith)
-        (caught_at o (goal again_at z.depth) z.depth (Label again_at ∷ behind) refl o.leads.0 la.found refl (omega arith) (omega arith))
+        (caught_at o (goal again_at z.depth) z.depth (Label again_at ∷ following) refl o.leads.0 la.found refl (omega arith) (omega arith))
     out break w1 o = let dp = r.deep in
         went (landed_on (omega arith) (omega arith) lo
         (caught_at o (goal out_at z.depth) z.depth (Label out_at ∷ rest) refl o.leads.0 lo.found refl (omega arith) (omega arith)))
@@ -166,11 +166,11 @@ pub while_rounds : (setting : Setting) (inner : Meanings) → Simulates setting 
     → IsLoop setting z.scene z.depth z.env (t.while l b e a) at body rest → EnteredBody mode z.env (t.while l b e a) at body e1 → Ready setting z w
     → RanDid setting (start z e1 w) (for_rounds (t.while l b e a) w) z rest w (rounds_of inner (t.while l b e a) mode z.env w)
 while_rounds setting inner sim l b e a mode z at body rest e1 w lx ent r =
-    round_run setting inner sim (for_rounds (t.while l b e a) w) a mode z (past e z.env) lx.0 lx.2 at body (Label lx.0 ∷ lx.3) lx.3 rest e1 w _ (λ _. while_adds setting inner sim (t.while l b e a) e z.env z.env b) (omega arith) (omega arith) refl lx.4 (entered mode ent) lx.6 lx.8 r behind behind
+    round_run setting inner sim (for_rounds (t.while l b e a) w) a mode z (past e z.env) lx.0 lx.2 at body (Label lx.0 ∷ lx.3) lx.3 rest e1 w _ (λ _. while_adds setting inner sim (t.while l b e a) e z.env z.env b) (omega arith) (omega arith) refl lx.4 (entered mode ent) lx.6 lx.8 r following following
   where
-    behind : (A : Account) (w1 : World) → A.most ≤ 16 * w.turns → w.turns - turns_in false a ≤ A.least → CompletedAt setting (start z e1 w) A z (Label lx.0 ∷ lx.3) z.depth w w1
+    following : (A : Account) (w1 : World) → A.most ≤ 16 * w.turns → w.turns - turns_in false a ≤ A.least → CompletedAt setting (start z e1 w) A z (Label lx.0 ∷ lx.3) z.depth w w1
         → RanDid setting (start z e1 w) (for_rounds (t.while l b e a) w) z rest w (where_truth inner b e z.env (λ w. turn w (λ w. inner.rounds (t.while l b e a) forwards z.env w)) w1)
-    behind A w1 lm ll q = let dp = r.deep in
+    following A w1 lm ll q = let dp = r.deep in
         test_behind setting inner sim (start z e1 w) (record { most = 16 * w.turns + 1; least = A.least }) (for_rounds (t.while l b e a) w) (t.while l b e a) b e z z.env lx.1 lx.2 at body lx.3 rest w w1 (omega arith) (omega arith) (omega arith) (omega arith) (omega arith) lx.9 refl lx refl lx.5 lx.7 lx.8 r
         (landed_on (omega arith) (omega arith) lx.6 q)
 
@@ -183,11 +183,11 @@ pub repeat_while_rounds : (setting : Setting) (inner : Meanings) → Simulates s
     → IsLoop setting z.scene z.depth z.env (t.repeat_while l b a e) at body rest → EnteredBody mode z.env (t.repeat_while l b a e) at body e1 → Ready setting z w
     → RanDid setting (start z e1 w) (for_rounds (t.repeat_while l b a e) w) z rest w (rounds_of inner (t.repeat_while l b a e) mode z.env w)
 repeat_while_rounds setting inner sim l b a e mode z at body rest e1 w lx ent r =
-    round_run setting inner sim (for_rounds (t.repeat_while l b a e) w) a mode z z.env lx.1 lx.2 at body (Label lx.1 ∷ lx.3) lx.3 rest e1 w _ (λ _. while_adds setting inner sim (t.repeat_while l b a e) e z.env (past_command a z.env) b) (omega arith) (omega arith) refl lx.4 (entered mode ent) lx.7 lx.8 r behind behind
+    round_run setting inner sim (for_rounds (t.repeat_while l b a e) w) a mode z z.env lx.1 lx.2 at body (Label lx.1 ∷ lx.3) lx.3 rest e1 w _ (λ _. while_adds setting inner sim (t.repeat_while l b a e) e z.env (past_command a z.env) b) (omega arith) (omega arith) refl lx.4 (entered mode ent) lx.7 lx.8 r following following
   where
-    behind : (A : Account) (w1 : World) → A.most ≤ 16 * w.turns → w.turns - turns_in false a ≤ A.least → CompletedAt setting (start z e1 w) A z (Label lx.1 ∷ lx.3) z.depth w w1
+    following : (A : Account) (w1 : World) → A.most ≤ 16 * w.turns → w.turns - turns_in false a ≤ A.least → CompletedAt setting (start z e1 w) A z (Label lx.1 ∷ lx.3) z.depth w w1
         → RanDid setting (start z e1 w) (for_rounds (t.repeat_while l b a e) w) z rest w (where_truth inner b e (past_command a z.env) (λ w. turn w (λ w. inner.rounds (t.repeat_while l b a e) forwards z.env w)) w1)
-    behind A w1 lm ll q = let dp = r.deep in
+    following A w1 lm ll q = let dp = r.deep in
         test_behind setting inner sim (start z e1 w) (record { most = 16 * w.turns + 1; least = A.least }) (for_rounds (t.repeat_while l b a e) w) (t.repeat_while l b a e) b e z (past_command a z.env) lx.0 lx.2 at body lx.3 rest w w1 (omega arith) (omega arith) (omega arith) (omega arith) (omega arith) lx.9 refl lx refl lx.5 lx.6 lx.8 r
         (landed_on (omega arith) (omega arith) lx.7 q)
 
@@ -202,7 +202,7 @@ repeat_adds setting inner sim x env = adds _ (λ w. turn_after _ (adds _ (λ w1.
 pub repeat_rounds : (setting : Setting) (inner : Meanings) → Simulates setting inner → (l : ℕ) (a : Command) (mode : Mode) (z : Configuration) (at : Sought → List Stmt) (body rest e1 : List Stmt) (w : World) → IsLoop setting z.scene z.depth z.env (t.repeat l a) at body rest
     → EnteredBody mode z.env (t.repeat l a) at body e1 → Ready setting z w → RanDid setting (start z e1 w) (for_rounds (t.repeat l a) w) z rest w (rounds_of inner (t.repeat l a) mode z.env w)
 repeat_rounds setting inner sim l a mode z at body rest e1 w lx ent r =
-    let behind : (A : Account) (w1 : World) → A.most ≤ 16 * w.turns → w.turns - turns_in false a ≤ A.least → CompletedAt setting (start z e1 w) A z (Label lx.0 ∷ body) z.depth w w1
+    let following : (A : Account) (w1 : World) → A.most ≤ 16 * w.turns → w.turns - turns_in false a ≤ A.least → CompletedAt setting (start z e1 w) A z (Label lx.0 ∷ body) z.depth w w1
     → RanDid setting (start z e1 w) (for_rounds (t.repeat l a) w) z rest w (turn w1 (λ w. inner.rounds (t.repeat l a) forwards z.env w)) = λ A w1 lm ll q.
     further_round setting inner sim (start z e1 w) A (for_rounds (t.repeat l a) w) (t.repeat l a) z lx.0 at body rest w w1 (omega arith) (omega arith) (omega arith) (omega arith) (omega arith) (omega arith) lx.5 lx refl lx.3 r q in
     let ends : (A : Account) (w1 : World) → A.most ≤ 16 * w.turns → w.turns - turns_in false a ≤ A.least → CompletedAt setting (start z e1 w) A z (Jump lx.0 ∷ Label lx.1 ∷ rest) z.depth w w1
@@ -210,7 +210,7 @@ repeat_rounds setting inner sim l a mode z at body rest e1 w lx ent r =
     let dp = r.deep in
     further_round setting inner sim (start z e1 w) (paying setting A) (for_rounds (t.repeat l a) w) (t.repeat l a) z lx.0 at body rest w w1 (omega arith) (omega arith) (omega arith) (omega arith) (omega arith) (omega arith) lx.5 lx refl lx.3 r
     (jump_on (omega arith) (omega arith) lx.3.found q) in
-    round_run setting inner sim (for_rounds (t.repeat l a) w) a mode z z.env lx.0 lx.1 at body (Jump lx.0 ∷ Label lx.1 ∷ rest) body rest e1 w _ (λ _. repeat_adds setting inner sim (t.repeat l a) z.env) (omega arith) (omega arith) refl lx.2 (entered mode ent) lx.3 lx.4 r ends behind
+    round_run setting inner sim (for_rounds (t.repeat l a) w) a mode z z.env lx.0 lx.1 at body (Jump lx.0 ∷ Label lx.1 ∷ rest) body rest e1 w _ (λ _. repeat_adds setting inner sim (t.repeat l a) z.env) (omega arith) (omega arith) refl lx.2 (entered mode ent) lx.3 lx.4 r ends following
   where
     entered : (mode : Mode) → EnteredBody mode z.env (t.repeat l a) at body e1 → Entered mode z.env a at body e1
     entered forwards h = h
@@ -285,7 +285,7 @@ while_run setting inner sim B l b e a z at c rest w le le' lx r =
     goes false w2 q = went (landed_on (omega arith) (omega arith) lx.10 q)
 
 pub while_sought : (setting : Setting) (inner : Meanings) → Simulates setting inner → (B : Account) (l : ℕ) (b : Bool) (e : Expression) (a : Command) (s : Sought) (z : Configuration) (at : Sought → List Stmt) (c rest e1 : List Stmt) (w : World) → 16 * w.turns + 2 ≤ B.most
-    → B.least ≤ w.turns - suc (turns_of false e + turns_in false a) → IsAct setting z.scene z.depth z.env (t.while l b e a) at c rest → (stands_in s z.env a ≡ true) × (e1 ≡ at s) → Ready setting z w
+    → B.least ≤ w.turns - suc (turns_of false e + turns_in false a) → IsAct setting z.scene z.depth z.env (t.while l b e a) at c rest → (has_place s z.env a ≡ true) × (e1 ≡ at s) → Ready setting z w
     → RanDid setting (start z e1 w) B z rest w (rounds_of inner (t.while l b e a) (seeking s) z.env w)
 while_sought setting inner sim B l b e a s z at c rest e1 w le le' lx en r =
     rounds_sought setting inner (t.while l b e a) (λ mode z at body rest e1 w. while_rounds setting inner sim l b e a mode z at body rest e1 w) B s z at lx.3 rest e1 w le le' (lx.0, lx.1, lx.2, lx.4, lx.6, lx.7, lx.8, lx.9, lx.10, lx.11)
@@ -344,8 +344,8 @@ ended_behind setting inner sim st A B a s z env n at c1 rest e w w1 le ll en l e
     (ended_run setting inner sim (record { most = 16 * w1.turns + 1; least = w1.turns - turns_in false a }) a s (next setting st A z e z.depth w w1 z.env z.depth ar) env n at c1 rest e w1 (omega arith) (omega arith) en l ent ln (ready_next z.env z.depth ar refl (omega arith) r))
 
 choose_adds : (setting : Setting) (inner : Meanings) → Simulates setting inner → (v : Value) (a : Command) (env : Environment) → Adds (choose_case inner v a env)
-choose_adds setting inner sim (number k) a env = adds _ (λ w. either_after (stands_in (the_case (Some k)) env a) _ _ (ended_adds setting inner sim a (seeking (the_case (Some k))) env)
-    (adds _ (λ w1. either_after (stands_in the_default env a) _ _ (ended_adds setting inner sim a (seeking the_default) env) (adds _ (λ w2. stays (history w2))) w1)) w)
+choose_adds setting inner sim (number k) a env = adds _ (λ w. either_after (has_place (the_case (Some k)) env a) _ _ (ended_adds setting inner sim a (seeking (the_case (Some k))) env)
+    (adds _ (λ w1. either_after (has_place the_default env a) _ _ (ended_adds setting inner sim a (seeking the_default) env) (adds _ (λ w2. stays (history w2))) w1)) w)
 choose_adds setting inner sim _ a env = adds _ (λ w. tt)
 
 -- the switch itself
@@ -363,21 +363,21 @@ switch_run setting inner sim B l e a z at c rest w le le' lx r =
   where
     by_number : (k : ℕ) (w1 : World) → Has setting (start z c w) (for_value e w) z (Switch lx.1 lx.2 ∷ lx.3) (z.depth + 1) w (number k) w1 → RanDid setting (start z c w) B z rest w (choose_case inner (number k) a (past e z.env) w1)
     by_number k w1 q = let dp = r.deep in let m0 = q.arr.most in
-        by_test (stands_in (the_case (Some k)) (past e z.env) a)
-        (λ (h : stands_in (the_case (Some k)) (past e z.env) a ≡ true).
+        by_test (has_place (the_case (Some k)) (past e z.env) a)
+        (λ (h : has_place (the_case (Some k)) (past e z.env) a ≡ true).
         subst (λ (b : Bool). RanDid setting (start z c w) B z rest w (either b (λ w. ended_case (inner.act a (seeking (the_case (Some k))) (past e z.env) w))
-        (λ w. either (stands_in the_default (past e z.env) a) (λ w. ended_case (inner.act a (seeking the_default) (past e z.env) w)) done w) w1)) (sym h)
+        (λ w. either (has_place the_default (past e z.env) a) (λ w. ended_case (inner.act a (seeking the_default) (past e z.env) w)) done w) w1)) (sym h)
         (ended_behind setting inner sim (start z c w) (paying setting (for_value e w)) B a (the_case (Some k)) z (past e z.env) lx.0 at lx.3 rest (at (the_case (Some k))) w w1 (omega arith) (omega arith) refl lx.5 (h, refl) lx.6 r
         (switched r q (lx.7 k h))))
-        (λ (h : stands_in (the_case (Some k)) (past e z.env) a ≡ false).
+        (λ (h : has_place (the_case (Some k)) (past e z.env) a ≡ false).
         subst (λ (b : Bool). RanDid setting (start z c w) B z rest w (either b (λ w. ended_case (inner.act a (seeking (the_case (Some k))) (past e z.env) w))
-        (λ w. either (stands_in the_default (past e z.env) a) (λ w. ended_case (inner.act a (seeking the_default) (past e z.env) w)) done w) w1)) (sym h)
-        (by_test (stands_in the_default (past e z.env) a)
-        (λ (i : stands_in the_default (past e z.env) a ≡ true).
+        (λ w. either (has_place the_default (past e z.env) a) (λ w. ended_case (inner.act a (seeking the_default) (past e z.env) w)) done w) w1)) (sym h)
+        (by_test (has_place the_default (past e z.env) a)
+        (λ (i : has_place the_default (past e z.env) a ≡ true).
         subst (λ (b : Bool). RanDid setting (start z c w) B z rest w (either b (λ w. ended_case (inner.act a (seeking the_default) (past e z.env) w)) done w1)) (sym i)
         (ended_behind setting inner sim (start z c w) (paying setting (for_value e w)) B a the_default z (past e z.env) lx.0 at lx.3 rest (at the_default) w w1 (omega arith) (omega arith) refl lx.5 (i, refl) lx.6 r
         (switched r q (lx.8 k h i))))
-        (λ (i : stands_in the_default (past e z.env) a ≡ false).
+        (λ (i : has_place the_default (past e z.env) a ≡ false).
         subst (λ (b : Bool). RanDid setting (start z c w) B z rest w (either b (λ w. ended_case (inner.act a (seeking the_default) (past e z.env) w)) done w1)) (sym i)
         (went (landed_on (omega arith) (omega arith) lx.6
         (switched r q (ap (λ n. from_label z.scene.own.stmts n) (lx.9 k h i) ∙ lx.6.found)))))))
@@ -396,4 +396,4 @@ label_only s b h = by_kind (is_label s) h
 pub switch_sought : (setting : Setting) (inner : Meanings) → Simulates setting inner → (B : Account) (l : ℕ) (e : Expression) (a : Command) (s : Sought) (z : Configuration) (at : Sought → List Stmt) (c rest e1 : List Stmt) (w : World) → 16 * w.turns + 1 ≤ B.most → B.least ≤ w.turns - turns_in false a
     → IsAct setting z.scene z.depth z.env (t.switch l e a) at c rest → Entered (seeking s) z.env (t.switch l e a) at c e1 → Ready setting z w → RanDid setting (start z e1 w) B z rest w (ended_case (inner.act a (seeking s) (past e z.env) w))
 switch_sought setting inner sim B l e a s z at c rest e1 w le le' lx en r =
-    ended_run setting inner sim B a s z (past e z.env) lx.0 at lx.3 rest e1 w le le' refl lx.5 (same_stands s z.env.names (past e z.env).next z.env.next a ∙ label_only s (stands_in s z.env a) en.0, en.1) lx.6 r
+    ended_run setting inner sim B a s z (past e z.env) lx.0 at lx.3 rest e1 w le le' refl lx.5 (same_stands s z.env.names (past e z.env).next z.env.next a ∙ label_only s (has_place s z.env a) en.0, en.1) lx.6 r

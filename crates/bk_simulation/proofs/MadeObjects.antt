@@ -26,15 +26,13 @@ pub get_last : {A : Type 0} (xs : List A) (y : A) (i : ℕ) (x : A) → slice_ge
 get_last [] y zero x h = inr (refl, cc)
 get_last [] y (suc i) x h = absurd (cc)
 get_last (z ∷ xs) y zero x h = inl h
-get_last (z ∷ xs) y (suc i) x h =
-    ⊎_elim (λ (e : slice_get xs i ≡ Some x). inl e) (λ (e : (i ≡ length xs) × (x ≡ y)). inr (ap (λ n. suc n) e.0, e.1)) (get_last xs y i x h)
+get_last (z ∷ xs) y (suc i) x h = grind (arith, length, (get_last xs y i x h))
 
 -- where one was set, it stands there and the others where they stood
 pub get_set : {A : Type 0} (xs : List A) (i j : ℕ) (x y : A) → slice_get (slice_set xs i x) j ≡ Some y → ((j ≡ i) × (y ≡ x)) ⊎ ((j ≢ i) × (slice_get xs j ≡ Some y))
 get_set [] i j x y h = absurd (cc)
 get_set (z ∷ xs) zero zero x y h = inl (refl, cc)
-get_set (z ∷ xs) (suc i) (suc j) x y h =
-    ⊎_elim (λ (e : (j ≡ i) × (y ≡ x)). inl (ap (λ n. suc n) e.0, e.1)) (λ (e : (j ≢ i) × (slice_get xs j ≡ Some y)). let ne : j ≢ i = e.0 in inr (omega arith, e.1)) (get_set xs i j x y h)
+get_set (z ∷ xs) (suc i) (suc j) x y h = grind (arith, (get_set xs i j x y h))
 get_set (z ∷ xs) _ _ x y h = inr (omega arith, h)
 
 -- no living object has this word
@@ -143,9 +141,7 @@ pub alive_before : (o : ℕ) (mem : Memory) (o1 n : ℕ) → Alive (dead_from o 
 alive_before o mem o1 n a = grind (arith, alive_is, lives_before, alive_from)
 
 pub cell_before : (o : ℕ) (mem : Memory) (o1 i : ℕ) (c : Cell_of) → IsCell (dead_from o mem) o1 i c → IsCell mem o1 i c
-cell_before o mem o1 i c h =
-    let x = cell_in (cells_at (dead_from o mem) o1) i c h in
-    ap (λ y. option_and_then (λ cells. slice_get cells i) y) (lives_before o mem o1 x.0 x.1).1 ∙ x.2
+cell_before o mem o1 i c h = grind (arith, cell_in, lives_before)
 
 -- ---- what a run keeps
 

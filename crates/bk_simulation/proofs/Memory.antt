@@ -43,15 +43,15 @@ HoldsByte (Some b) f = f ≡ Some b
 
 module _ (codes : Codes) where
   -- a word's content is a value, and is a cell
-  abbrev pub Stands : List ℕ → Value → Content → Type 0
-  Stands bases (number n) x = x ≡ Word n
-  Stands bases (address o i) x = (b : ℕ) × BaseOf bases o b × (i < 2 ^ 32) × (x ≡ Word ((b + i) % 2 ^ 32))
-  Stands bases (procedure n) x = x ≡ Word (codes.procedure n)
-  Stands bases (routine r) x = x ≡ Word (codes.routine r)
-  Stands bases unset x = Unit {0}
+  abbrev pub Applies : List ℕ → Value → Content → Type 0
+  Applies bases (number n) x = x ≡ Word n
+  Applies bases (address o i) x = (b : ℕ) × BaseOf bases o b × (i < 2 ^ 32) × (x ≡ Word ((b + i) % 2 ^ 32))
+  Applies bases (procedure n) x = x ≡ Word (codes.procedure n)
+  Applies bases (routine r) x = x ≡ Word (codes.routine r)
+  Applies bases unset x = Unit {0}
 
   abbrev pub StandsCell : List ℕ → value.Cell → Content → Type 0
-  StandsCell bases (holds v) x = Stands bases v x
+  StandsCell bases (holds v) x = Applies bases v x
   StandsCell bases (places a b c d) x = HoldsByte a (byte_in x 0) × HoldsByte b (byte_in x 1) × HoldsByte c (byte_in x 2) × HoldsByte d (byte_in x 3)
 
 -- bases, objects and the store
@@ -120,7 +120,7 @@ pub one_base : (bases : List ℕ) (o b b1 : ℕ) → BaseOf bases o b → BaseOf
 one_base bases o b b1 e e1 = cc
 
 -- values stand where bases grow, and where words are alike
-pub stands_grown : (codes : Codes) (bases bases1 : List ℕ) (v : Value) (x : Content) → Grown bases bases1 → Stands codes bases v x → Stands codes bases1 v x
+pub stands_grown : (codes : Codes) (bases bases1 : List ℕ) (v : Value) (x : Content) → Grown bases bases1 → Applies codes bases v x → Applies codes bases1 v x
 stands_grown codes bases bases1 (address o i) x g s = (s.0, g.each o s.0 s.1, s.2, s.3)
 stands_grown codes bases bases1 _ x g s = s
 

@@ -1,5 +1,5 @@
 -- Moves: a step, and the state as which the one that it comes to goes on. What each statement moves to.
-use Rattle.bk_simulation.proofs.Words.{Next, Ends, ◌⊎◌, inl, inr, rest_of, step_by, CallFunction, CallRoutine, ◌≡◌, ℕ, suc, ◌+◌, ◌-◌, ◌==◌, nat_lt, ◌^◌, Bool, true, false, List, ◌∷◌, length, Some, None, take, drop, slice_get, if◌then◌else◌, refl, ap, ◌∙◌, zero, [], Option, ne_eqb, pos, sym, subst, ◌++◌, not, arith, option_map_or, Word, Temporary, Held, write, below, Content, Variable, Link, Cell, kind_of, depth_behind, next_depth, AreFaultless, Placed, Routine, Inside, Behind, At, State, Goes, Placement, Control, Ends, Wild, slot, can_be_called, step, on_number, on_some, named_place, has_word, dyadic_word, operated, jump, from_label, case_label, step_by, step_from, Program, resumed_in, program_step, Rest, rest_of, or_rest, rests, rests_of, resumed, resumed_by, find_rest, label_rest, program_step_from, Stmt, Label, Entry, CallFunction, CallRoutine, ReturnItem, Return, Monadic, Dyadic, LoadByte, Assign, AssignAt, AssignByte, Jump, JumpIf, GiveResult, Switch, Finish, IsWellPlaced, not_before, Status, DivideByZero, word_sum, byte_distance, variable_at, byte_at, word_with_byte_at, Case, label_rest-at, Contents}
+use Rattle.bk_simulation.proofs.Words.{Next, Ends, ◌⊎◌, inl, inr, rest_of, step_by, CallFunction, CallRoutine, ◌≡◌, ℕ, suc, ◌+◌, ◌-◌, ◌==◌, nat_lt, ◌^◌, Bool, true, false, List, ◌∷◌, length, Some, None, take, drop, slice_get, if◌then◌else◌, refl, ap, ◌∙◌, zero, [], Option, pos, sym, subst, ◌++◌, not, arith, option_map_or, Word, Temporary, Held, write, below, Content, Variable, Link, Cell, kind_of, depth_after, next_depth, AreFaultless, Placed, Routine, Inside, Following, At, State, Goes, Placement, Control, Ends, Wild, slot, can_be_called, step, on_number, on_some, named_place, has_word, dyadic_word, operated, jump, from_label, case_label, step_by, step_from, Program, resumed_in, program_step, Rest, rest_of, or_rest, rests, rests_of, resumed, resumed_by, find_rest, label_rest, program_step_from, Stmt, Label, Entry, CallFunction, CallRoutine, ReturnItem, Return, Monadic, Dyadic, LoadByte, Assign, AssignAt, AssignByte, Jump, JumpIf, GiveResult, Switch, Finish, IsWellPlaced, not_before, Status, DivideByZero, word_sum, byte_distance, variable_at, byte_at, word_with_byte_at, Case, label_rest-at, Contents}
 use Rattle.bk_ocode.specs.OcodeStep.{call, return}
 pub use Rattle.bk_simulation.specs.GoingOn.{settled, settled_from}
 use Rattle.bk_simulation.proofs.Terms.{Variable as Named, Dyadic as DyadicOperator}
@@ -50,7 +50,7 @@ going program s P wild over itself resumes = by_control s.control
 
     by_control : (c : Control) → P (settled_from program s c) (program_step_from program s c)
     by_control (Inside own k rest) = itself
-    by_control (Behind own l) = by_label own l (label_rest own.places 0 own.stmts l) refl
+    by_control (Following own l) = by_label own l (label_rest own.places 0 own.stmts l) refl
     by_control (At n) = by_home n (n == program.home) (program.callables.routine n)
 
 -- so it steps as the state as which it goes on
@@ -64,18 +64,16 @@ more_rests None rs i r e = (i, e)
 more_rests (Some q) rs i r e = (suc i, e)
 
 pub rest_among : (places : Placement) (k : ℕ) (stmts : List Stmt) (i : ℕ) (s : Stmt) (r : Rest) → slice_get stmts i ≡ Some s
-    → rest_of places (depth_behind k (take i stmts)) s (drop (suc i) stmts) ≡ Some r → (j : ℕ) × (slice_get (rests places k stmts) j ≡ Some r)
+    → rest_of places (depth_after k (take i stmts)) s (drop (suc i) stmts) ≡ Some r → (j : ℕ) × (slice_get (rests places k stmts) j ≡ Some r)
 rest_among places k [] i s r at e = absurd (let h : None ≡ Some s = at in cc)
-rest_among places k (t ∷ rest) zero s r at e =
-    let same : t ≡ s = (let h : Some t ≡ Some s = at in cc) in
-    (0, ap (λ o. slice_get (or_rest o (rests places (next_depth k t) rest)) 0) (ap (λ x. rest_of places k x rest) same ∙ e))
+rest_among places k (t ∷ rest) zero s r at e = grind (arith, rests, rest_of)
 rest_among places k (t ∷ rest) (suc i) s r at e =
     let h = rest_among places (next_depth k t) rest i s r at e in
     more_rests (rest_of places k t rest) (rests places (next_depth k t) rest) h.0 r h.1
 
 -- behind a LAB, with what is in hand
-pub label_settled : (program : Program) (s : State) (own : Placed) (i l : ℕ) → AreFaultless own.stmts → slice_get own.stmts i ≡ Some (Label l) → s.control ≡ Behind own l
-    → settled program s ≡ record s { control = Inside own (depth_behind 0 (take i own.stmts)) (drop (suc i) own.stmts) }
+pub label_settled : (program : Program) (s : State) (own : Placed) (i l : ℕ) → AreFaultless own.stmts → slice_get own.stmts i ≡ Some (Label l) → s.control ≡ Following own l
+    → settled program s ≡ record s { control = Inside own (depth_after 0 (take i own.stmts)) (drop (suc i) own.stmts) }
 label_settled program s own i l are at is =
     ap (settled_from program s) is
     ∙ ap (λ (r : Option Rest). option_map_or (λ (x : Rest). resumed own x s) r s)
@@ -89,31 +87,26 @@ call_stmt false n = CallRoutine n
 module _ (program : Program) (first F : ℕ) (well : IsWellPlaced program first F) (section : ℕ) (own : Placed) (is_own : slice_get program.sections section ≡ Some own) where
   -- at the number of a rest that is no LAB's
   pub rest_settled : (s : State) (j : ℕ) (r : Rest) → slice_get (rests_of own) j ≡ Some r → r.keeps ≡ false → s.control ≡ At r.place → settled program s ≡ resumed own r s
-  rest_settled s j r at keeps is =
-      let apart = well.is_program.rests_apart section j own r is_own at in
-      ap (settled_from program s) is
-      ∙ ap (λ y. if y then s else option_map_or (λ _. s) (program.callables.routine r.place) (option_map_or (λ t. t) (resumed_in program.sections r.place s) s)) (ne_eqb r.place program.home apart.1)
-      ∙ ap (λ y. option_map_or (λ _. s) y (option_map_or (λ t. t) (resumed_in program.sections r.place s) s)) apart.0
-      ∙ ap (λ y. option_map_or (λ t. t) y s) (well.resumes section j own r s is_own at keeps)
+  rest_settled s j r at keeps is = grind arith
 
   -- at an entry
   pub entry_settled : (s : State) (i l : ℕ) (name : List ℕ) → slice_get own.stmts i ≡ Some (Entry l name) → s.control ≡ At (own.places.label l)
       → settled program s ≡ record s { control = Inside own 2 (Entry l name ∷ drop (suc i) own.stmts); hand = None }
   entry_settled s i l name at is =
-      let r : Rest = record { place = own.places.label l; depth = 2; takes = false; keeps = false; behind = Entry l name ∷ drop (suc i) own.stmts } in
+      let r : Rest = record { place = own.places.label l; depth = 2; takes = false; keeps = false; following = Entry l name ∷ drop (suc i) own.stmts } in
       let among = rest_among own.places 0 own.stmts i (Entry l name) r at refl in
       rest_settled s among.0 r among.1 refl is
 
   -- behind a call: what is in hand becomes an item where a function was called, and is dropped where a routine was
   pub call_settled : (of : Bool) (s : State) (i n : ℕ) → slice_get own.stmts i ≡ Some (call_stmt of n) → s.control ≡ At (own.places.call (length (drop (suc i) own.stmts)))
-      → settled program s ≡ resumed own (record { place = own.places.call (length (drop (suc i) own.stmts)); depth = n; takes = of; keeps = false; behind = drop (suc i) own.stmts }) s
+      → settled program s ≡ resumed own (record { place = own.places.call (length (drop (suc i) own.stmts)); depth = n; takes = of; keeps = false; following = drop (suc i) own.stmts }) s
   call_settled of s i n at is =
-      let r : Rest = record { place = own.places.call (length (drop (suc i) own.stmts)); depth = n; takes = of; keeps = false; behind = drop (suc i) own.stmts } in
+      let r : Rest = record { place = own.places.call (length (drop (suc i) own.stmts)); depth = n; takes = of; keeps = false; following = drop (suc i) own.stmts } in
       let among = rest_among own.places 0 own.stmts i (call_stmt of n) r at (by_kind of) in
       rest_settled s among.0 r among.1 refl is
     where
-      by_kind : (of : Bool) → rest_of own.places (depth_behind 0 (take i own.stmts)) (call_stmt of n) (drop (suc i) own.stmts)
-          ≡ Some (record { place = own.places.call (length (drop (suc i) own.stmts)); depth = n; takes = of; keeps = false; behind = drop (suc i) own.stmts })
+      by_kind : (of : Bool) → rest_of own.places (depth_after 0 (take i own.stmts)) (call_stmt of n) (drop (suc i) own.stmts)
+          ≡ Some (record { place = own.places.call (length (drop (suc i) own.stmts)); depth = n; takes = of; keeps = false; following = drop (suc i) own.stmts })
       by_kind true = refl
       by_kind false = refl
 
@@ -166,8 +159,7 @@ returning s result c p = record s { control = At c; cells = below s.frame s.cell
 
 -- back, by the links of the frame
 pub return_goes : (s : State) (result : Option Content) (c p : ℕ) → slot s 1 ≡ Word c → slot s 0 ≡ Word p → return s result ≡ Goes (returning s result c p)
-return_goes s result c p e1 e0 =
-    ap (λ y. on_number y (λ c. on_number (slot s 0) (λ p. Goes (returning s result c p)))) e1 ∙ ap (λ y. on_number y (λ p. Goes (returning s result c p))) e0
+return_goes s result c p e1 e0 = grind arith
 
 -- from a state to another in a step
 abbrev pub Moves : Program → State → State → Type 0
@@ -268,14 +260,13 @@ module _ (program : Program) (s : State) (own : Placed) (rest : List Stmt) where
   give_result_moves d l to e el = moves_to (step_at (d + 1) (GiveResult l) e ∙ rw (one_off d, el)) refl
 
   -- a LAB goes on behind it
-  pub label_step : (k l : ℕ) → s.control ≡ Inside own k (Label l ∷ rest) → program_step program s ≡ Goes (record s { control = Behind own l })
+  pub label_step : (k l : ℕ) → s.control ≡ Inside own k (Label l ∷ rest) → program_step program s ≡ Goes (record s { control = Following own l })
   label_step k l e = step_at k (Label l) e
 
   -- ---- calls and returns
   calls : (d n e : ℕ) → can_be_called program.callables e ≡ true → nat_lt (2 ^ 31 - 65536) (s.frame + n) ≡ false
       → call program.callables s own (d + 1) n e rest ≡ Goes (entering s own d n e rest)
-  calls d n e eb el =
-      rw (eb, el, one_off d)
+  calls d n e eb el = grind (arith, one_off)
 
   pub call_step : (of : Bool) (d n e : ℕ) → s.control ≡ Inside own (d + 1) (call_stmt of n ∷ rest) → slot s d ≡ Word e → can_be_called program.callables e ≡ true
       → nat_lt (2 ^ 31 - 65536) (s.frame + n) ≡ false → program_step program s ≡ Goes (entering s own d n e rest)
@@ -291,8 +282,7 @@ module _ (program : Program) (s : State) (own : Placed) (rest : List Stmt) where
 
   pub return_item_step : (d c p : ℕ) → s.control ≡ Inside own (d + 1) (ReturnItem ∷ rest) → slot s 1 ≡ Word c → slot s 0 ≡ Word p
       → program_step program s ≡ Goes (returning s (Some (slot s d)) c p)
-  return_item_step d c p e e1 e0 =
-      step_at (d + 1) ReturnItem e ∙ ap (λ y. return s (Some (slot s y))) (one_off d) ∙ return_goes s (Some (slot s d)) c p e1 e0
+  return_item_step d c p e e1 e0 = grind (arith, step_at, one_off, return_goes)
 
   pub return_step : (k c p : ℕ) → s.control ≡ Inside own k (Return ∷ rest) → slot s 1 ≡ Word c → slot s 0 ≡ Word p → program_step program s ≡ Goes (returning s None c p)
   return_step k c p e e1 e0 = step_at k Return e ∙ return_goes s None c p e1 e0
@@ -312,5 +302,5 @@ at_routine program s n routine e er = ap (settled_from program s) e ∙ by_home 
 module _ (program : Program) (s : State) (own : Placed) (rest : List Stmt) where
   -- Behind a LAB, with what is in hand; the depth is that of the text.
   pub label_moves : (k l i : ℕ) → AreFaultless own.stmts → slice_get own.stmts i ≡ Some (Label l) → s.control ≡ Inside own k (Label l ∷ rest)
-      → Moves program s (record s { control = Inside own (depth_behind 0 (take i own.stmts)) (drop (suc i) own.stmts) })
-  label_moves k l i are at e = (record s { control = Behind own l }, label_step program s own rest k l e, label_settled program (record s { control = Behind own l }) own i l are at refl)
+      → Moves program s (record s { control = Inside own (depth_after 0 (take i own.stmts)) (drop (suc i) own.stmts) })
+  label_moves k l i are at e = (record s { control = Following own l }, label_step program s own rest k l e, label_settled program (record s { control = Following own l }) own i l are at refl)

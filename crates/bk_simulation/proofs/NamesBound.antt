@@ -1,5 +1,5 @@
 -- Names that come into scope: one more, and the labels of a scope.
-use Rattle.bk_simulation.proofs.Words.{◌≡◌, ℕ, ◌+◌, Bool, true, false, cond, List, [], ◌∷◌, ◌++◌, Option, Some, refl, sym, ap, ◌∙◌, subst, bytes_eq, bytes_eq-Decides, Command, Commands, Bound, Binding, bound_in, bind as bind_bound, labels_of, labels_of_each, labels_in_scope, meant, variable, Environment, Sense, constant, cell, label, sense_in, bind_each, the_label, stands_in, stands_in_one, Around, or_parts}
+use Rattle.bk_simulation.proofs.Words.{◌≡◌, ℕ, ◌+◌, Bool, true, false, cond, List, [], ◌∷◌, ◌++◌, Option, Some, refl, sym, ap, ◌∙◌, subst, bytes_eq, bytes_eq-Decides, Command, Commands, Bound, Binding, bound_in, bind as bind_bound, labels_of, labels_of_each, labels_in_scope, meant, variable, Environment, Sense, constant, cell, label, sense_in, bind_each, the_label, has_place, one_has_place, Around, or_parts}
 use Rattle.bk_simulation.proofs.Situations.{by_test, not_true, Exits, Scene, owning, place_of, NameAt, IsWord, NamedIn}
 use Rattle.bk_tree.specs.Tree as t
 use Rattle.bk_scope.specs.declared.bound.Bound.TheVariants.{Label}
@@ -48,13 +48,13 @@ other_evaluation x y e = by_test (bytes_eq x y)
 
 -- a label that does not stand there is none of the scope's
 mutual
-  absent_in : (y : List ℕ) (env : Environment) (c : Command) → stands_in (the_label y) env c ≡ false → Absent y (labels_of c)
-  absent_in y env (t.label l x c) h = (other_evaluation x y (or_parts (bytes_eq y x) (stands_in (the_label y) env c) h).0, absent_in y env c (or_parts (bytes_eq y x) (stands_in (the_label y) env c) h).1)
+  absent_in : (y : List ℕ) (env : Environment) (c : Command) → has_place (the_label y) env c ≡ false → Absent y (labels_of c)
+  absent_in y env (t.label l x c) h = (other_evaluation x y (or_parts (bytes_eq y x) (has_place (the_label y) env c) h).0, absent_in y env c (or_parts (bytes_eq y x) (has_place (the_label y) env c) h).1)
   absent_in y env (t.case_of l e c) h = absent_in y env c h
   absent_in y env (t.default l c) h = absent_in y env c h
   absent_in y env (t.when l b e c) h = absent_in y env c h
   absent_in y env (t.test l e a b) h =
-      absent_both y (labels_of a) (labels_of b) (absent_in y env a (or_parts (stands_in (the_label y) env a) (stands_in (the_label y) env b) h).0) (absent_in y env b (or_parts (stands_in (the_label y) env a) (stands_in (the_label y) env b) h).1)
+      absent_both y (labels_of a) (labels_of b) (absent_in y env a (or_parts (has_place (the_label y) env a) (has_place (the_label y) env b) h).0) (absent_in y env b (or_parts (has_place (the_label y) env a) (has_place (the_label y) env b) h).1)
   absent_in y env (t.while l b e c) h = absent_in y env c h
   absent_in y env (t.switch l e c) h = absent_in y env c h
   absent_in y env (t.block l t.no_declarations cs) h = absent_in_each y env cs h
@@ -62,18 +62,18 @@ mutual
   absent_in y env (t.repeat_while l b c e) h = absent_in y env c h
   absent_in y env _ h = tt
 
-  absent_in_each : (y : List ℕ) (env : Environment) (cs : Commands) → stands_in_one (the_label y) env cs ≡ false → Absent y (labels_of_each cs)
+  absent_in_each : (y : List ℕ) (env : Environment) (cs : Commands) → one_has_place (the_label y) env cs ≡ false → Absent y (labels_of_each cs)
   absent_in_each y env t.no_commands h = tt
   absent_in_each y env (t.also c cs) h =
-      absent_both y (labels_of c) (labels_of_each cs) (absent_in y env c (or_parts (stands_in (the_label y) env c) (stands_in_one (the_label y) env cs) h).0)
-      (absent_in_each y env cs (or_parts (stands_in (the_label y) env c) (stands_in_one (the_label y) env cs) h).1)
+      absent_both y (labels_of c) (labels_of_each cs) (absent_in y env c (or_parts (has_place (the_label y) env c) (one_has_place (the_label y) env cs) h).0)
+      (absent_in_each y env cs (or_parts (has_place (the_label y) env c) (one_has_place (the_label y) env cs) h).1)
 
 bound_past : (y : List ℕ) (xs : List (List ℕ)) (k j : ℕ) (bs : List Binding) → Absent y xs → bound_in (labels_in_scope k j xs bs) y ≡ bound_in bs y
 bound_past y [] k j bs a = refl
 bound_past y (x ∷ xs) k j bs a = bound_past y xs k (j + 1) (bind_bound x (Label k j) bs) a.1 ∙ ap (λ (q : Bool). cond q (Some (Label k j)) (bound_in bs y)) a.0
 
 -- so it means outside what it means in the scope
-pub not_owned : (y : List ℕ) (cs : Commands) (env : Environment) (sc : Scene) (j : ℕ) → stands_in_one (the_label y) env cs ≡ false → bound_in (owning j cs sc).bindings y ≡ bound_in sc.bindings y
+pub not_owned : (y : List ℕ) (cs : Commands) (env : Environment) (sc : Scene) (j : ℕ) → one_has_place (the_label y) env cs ≡ false → bound_in (owning j cs sc).bindings y ≡ bound_in sc.bindings y
 not_owned y cs env sc j h = bound_past y (labels_of_each cs) sc.procedure j sc.bindings (absent_in_each y env cs h)
 
 -- what stands around code binds no name

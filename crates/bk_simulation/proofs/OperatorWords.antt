@@ -2,7 +2,7 @@
 use Rattle.bk_simulation.proofs.Lists.{by_option}
 use Rattle.bk_simulation.proofs.Words.{◌≡◌, ◌≢◌, ℕ, ◌+◌, ◌-◌, ◌<◌, ◌≤◌, ◌%◌, ◌^◌, ◌==◌, nat_lt, nat_le, Bool, true, false, not, cond, pos, int_lt, List, length, Option, Some, None, refl, sym, ap, ◌∙◌, subst, if◌then◌else◌, arith, int_le, option_map, ints, nat_tests, signed, truth, word_sum, word_difference, word_quotient, word_remainder, word_less, word_greater, word_at_most, word_at_least, word_negation, word_not, infix_word, Operator, Value, number, address, procedure, routine, unset, cells_at, lives, World, Outcome, gives, ends, undefined, divide_by_zero, given, either, sum, difference, lies_within, truth_of_value, equals_zero, equal, ordered, on_numbers, truth_number, operate, operate_prefix, Content, Word, Cell, quotient, dyadic_word, cond_some, leb-true, eqb-true}
 use Rattle.bk_simulation.proofs.Terms.{Operator as o, Prefix as q, within, Dyadic, Dyadic as d}
-use Rattle.bk_simulation.proofs.Memory.{BaseOf, Alive, Codes, Stands, Fits, one_base}
+use Rattle.bk_simulation.proofs.Memory.{BaseOf, Alive, Codes, Applies, Fits, one_base}
 use Rattle.bk_simulation.proofs.MadeObjects.{alive_from}
 
 -- the operator of OCODE for each but `!` and `%`
@@ -96,7 +96,7 @@ module _ (codes : Codes) (bases : List ℕ) (cells : ℕ → Cell) (top : ℕ) (
     pub is_word : x ≡ Word word
     pub zero_if : (word == 0) ≡ not t
 
-  pub judged_word : (v : Value) (x : Content) (t : Bool) → Stands codes bases v x → truth_of_value w.memory v ≡ Some t → Judged x t
+  pub judged_word : (v : Value) (x : Content) (t : Bool) → Applies codes bases v x → truth_of_value w.memory v ≡ Some t → Judged x t
   judged_word (number n) x t s e = record { word = n; is_word = s; zero_if = twice_not (n == 0) ∙ ap not (some_is _ t e) }
   judged_word (address a i) x t s e =
       let h = cond_some (within w.memory a i) true t e in
@@ -115,7 +115,7 @@ module _ (codes : Codes) (bases : List ℕ) (cells : ℕ → Cell) (top : ℕ) (
     pub is_left : x ≡ Word left
     pub is_right : y ≡ Word right
     pub applies : dyadic_word op left right ≡ Some result
-    pub stands : Stands codes bases v (Word result)
+    pub stands : Applies codes bases v (Word result)
 
   pub record Undivided (op : Dyadic) (x y : Content) : Type 0 where
     pub left : ℕ
@@ -125,13 +125,13 @@ module _ (codes : Codes) (bases : List ℕ) (cells : ℕ → Cell) (top : ℕ) (
     pub none : dyadic_word op left right ≡ None
 
   numbers_applied : (op : Dyadic) (a b r : ℕ) (x y : Content) (v : Value) → x ≡ Word a → y ≡ Word b → dyadic_word op a b ≡ Some r → number r ≡ v → Applied op x y v
-  numbers_applied op a b r x y v ex ey ed ev = record { left = a; right = b; result = r; is_left = ex; is_right = ey; applies = ed; stands = subst (λ z. Stands codes bases z (Word r)) ev refl }
+  numbers_applied op a b r x y v ex ey ed ev = record { left = a; right = b; result = r; is_left = ex; is_right = ey; applies = ed; stands = subst (λ z. Applies codes bases z (Word r)) ev refl }
 
   address_applied : (op : Dyadic) (l r a i b : ℕ) (x y : Content) (v : Value) → x ≡ Word l → y ≡ Word r → BaseOf bases a b → i < 2 ^ 32 → dyadic_word op l r ≡ Some ((b + i) % 2 ^ 32) → address a i ≡ v → Applied op x y v
   address_applied op l r a i b x y v ex ey eb lt ed ev =
-      record { left = l; right = r; result = (b + i) % 2 ^ 32; is_left = ex; is_right = ey; applies = ed; stands = subst (λ z. Stands codes bases z (Word ((b + i) % 2 ^ 32))) ev (b, eb, lt, refl) }
+      record { left = l; right = r; result = (b + i) % 2 ^ 32; is_left = ex; is_right = ey; applies = ed; stands = subst (λ z. Applies codes bases z (Word ((b + i) % 2 ^ 32))) ev (b, eb, lt, refl) }
 
-  pub sum_applied : (u v r : Value) (x y : Content) → Stands codes bases u x → Stands codes bases v y → sum w.memory u v ≡ Some r → Applied d.Add x y r
+  pub sum_applied : (u v r : Value) (x y : Content) → Applies codes bases u x → Applies codes bases v y → sum w.memory u v ≡ Some r → Applied d.Add x y r
   sum_applied (number a) (number b) r x y su sv e = numbers_applied d.Add a b (word_sum a b) x y r su sv refl (some_is _ r e)
   sum_applied (address a i) (number n) r x y su sv e =
       address_applied d.Add ((su.0 + i) % 2 ^ 32) n a (word_sum i n) su.0 x y r su.3 sv su.1 (low_word (i + n)) (ap (λ z. Some z) (add_offset su.0 i n))
@@ -141,7 +141,7 @@ module _ (codes : Codes) (bases : List ℕ) (cells : ℕ → Cell) (top : ℕ) (
       (cond_some (lives w.memory b) (address b (word_sum n j)) r e).1
   sum_applied _ _ r x y su sv e = absurd (let z : None ≡ Some r = e in cc)
 
-  difference_applied : (u v r : Value) (x y : Content) → Stands codes bases u x → Stands codes bases v y → difference w.memory u v ≡ Some r → Applied d.Subtract x y r
+  difference_applied : (u v r : Value) (x y : Content) → Applies codes bases u x → Applies codes bases v y → difference w.memory u v ≡ Some r → Applied d.Subtract x y r
   difference_applied (number a) (number b) r x y su sv e = numbers_applied d.Subtract a b (word_difference a b) x y r su sv refl (some_is _ r e)
   difference_applied (address a i) (number n) r x y su sv e =
       address_applied d.Subtract ((su.0 + i) % 2 ^ 32) n a (word_difference i n) su.0 x y r su.3 sv su.1 (low_word (i + (2 ^ 32 - n))) (ap (λ z. Some z) (add_offset su.0 i (2 ^ 32 - n)))
@@ -163,7 +163,7 @@ module _ (codes : Codes) (bases : List ℕ) (cells : ℕ → Cell) (top : ℕ) (
     is_right : y ≡ Word right
     same : (left == right) ≡ t
 
-  zero_words : (n : ℕ) (v : Value) (x y : Content) (t : Bool) → x ≡ Word n → Stands codes bases v y → equals_zero w.memory n v ≡ Some t → EqualWords x y t
+  zero_words : (n : ℕ) (v : Value) (x y : Content) (t : Bool) → x ≡ Word n → Applies codes bases v y → equals_zero w.memory n v ≡ Some t → EqualWords x y t
   zero_words n v x y t ex sv e =
       let h = if_there (n == 0) (option_map not (truth_of_value w.memory v)) t e in
       let ez = eqb-true n 0 h.0 in
@@ -174,7 +174,7 @@ module _ (codes : Codes) (bases : List ℕ) (cells : ℕ → Cell) (top : ℕ) (
   other_words : (x y : Content) (t : Bool) → EqualWords x y t → EqualWords y x t
   other_words x y t h = record { left = h.right; right = h.left; is_left = h.is_right; is_right = h.is_left; same = turned h.right h.left ∙ h.same }
 
-  equal_words : (u v : Value) (x y : Content) (t : Bool) → Stands codes bases u x → Stands codes bases v y → equal w.memory u v ≡ Some t → EqualWords x y t
+  equal_words : (u v : Value) (x y : Content) (t : Bool) → Applies codes bases u x → Applies codes bases v y → equal w.memory u v ≡ Some t → EqualWords x y t
   equal_words (number a) (number b) x y t su sv e = record { left = a; right = b; is_left = su; is_right = sv; same = some_is _ t e }
   equal_words (address a i) (address b j) x y t su sv e =
       let h = if_there (a == b) (cond (lives w.memory a) (Some (i == j)) None) t e in
@@ -197,7 +197,7 @@ module _ (codes : Codes) (bases : List ℕ) (cells : ℕ → Cell) (top : ℕ) (
   equal_words unset (number b) x y t su sv e = other_words y x t (zero_words b unset y x t sv su e)
   equal_words _ _ x y t su sv e = absurd (let z : None ≡ Some t = e in cc)
 
-  equal_applied : (op : Dyadic) (g : Bool → Bool) → ((a b : ℕ) → dyadic_word op a b ≡ Some (truth (g (a == b)))) → (u v r : Value) (x y : Content) → Stands codes bases u x → Stands codes bases v y
+  equal_applied : (op : Dyadic) (g : Bool → Bool) → ((a b : ℕ) → dyadic_word op a b ≡ Some (truth (g (a == b)))) → (u v r : Value) (x y : Content) → Applies codes bases u x → Applies codes bases v y
       → option_map (λ b. truth_number (g b)) (equal w.memory u v) ≡ Some r → Applied op x y r
   equal_applied op g is u v r x y su sv e =
       by_option (λ o. option_map (λ b. truth_number (g b)) o ≡ Some r → Applied op x y r) (equal w.memory u v) (λ _ e. absurd (cc)) (λ t eo e.
@@ -208,9 +208,8 @@ module _ (codes : Codes) (bases : List ℕ) (cells : ℕ → Cell) (top : ℕ) (
 
   ordered_applied : (q : Operator) (op : Dyadic) (g : ℕ → ℕ → ℕ) → ((a b : ℕ) → infix_word q a b ≡ Some (g a b)) → ((a b : ℕ) → dyadic_word op a b ≡ Some (g a b))
       → ((b i j : ℕ) → b + i < 2 ^ 31 → b + j < 2 ^ 31 → g (b + i) (b + j) ≡ g i j)
-      → (u v r : Value) (x y : Content) → Stands codes bases u x → Stands codes bases v y → ordered q w.memory u v ≡ Some r → Applied op x y r
-  ordered_applied q op g eq ed shift (number a) (number b) r x y su sv e =
-      numbers_applied op a b (g a b) x y r su sv (ed a b) (some_is _ r (sym (ap (option_map number) (eq a b)) ∙ e))
+      → (u v r : Value) (x y : Content) → Applies codes bases u x → Applies codes bases v y → ordered q w.memory u v ≡ Some r → Applied op x y r
+  ordered_applied q op g eq ed shift (number a) (number b) r x y su sv e = grind (arith, numbers_applied, some_is, number)
   ordered_applied q op g eq ed shift (address a i) (address b j) r x y su sv e =
       let h = if_there (a == b) (cond (lives w.memory a) (cond (within w.memory a i) (cond (within w.memory a j) (option_map number (infix_word q i j)) None) None) None) r e in
       let k = if_there (lives w.memory a) (cond (within w.memory a i) (cond (within w.memory a j) (option_map number (infix_word q i j)) None) None) r h.1 in
@@ -223,22 +222,22 @@ module _ (codes : Codes) (bases : List ℕ) (cells : ℕ → Cell) (top : ℕ) (
       (ed (su.0 + i) (su.0 + j) ∙ ap (λ z. Some z) (shift su.0 i j si.small sj.small)) (some_is _ r (sym (ap (option_map number) (eq i j)) ∙ m.1))
   ordered_applied q op g eq ed shift _ _ r x y su sv e = absurd (let z : None ≡ Some r = e in cc)
 
-  less_applied : (u v r : Value) (x y : Content) → Stands codes bases u x → Stands codes bases v y → ordered o.Less w.memory u v ≡ Some r → Applied d.Less x y r
+  less_applied : (u v r : Value) (x y : Content) → Applies codes bases u x → Applies codes bases v y → ordered o.Less w.memory u v ≡ Some r → Applied d.Less x y r
   less_applied u v r x y su sv e =
       ordered_applied o.Less d.Less word_less (λ a b. refl) (λ a b. refl)
       (λ b i j hi hj. less_small (b + i) (b + j) hi hj ∙ ap truth (shift_less b i j) ∙ sym (less_small i j (omega arith) (omega arith))) u v r x y su sv e
 
-  greater_applied : (u v r : Value) (x y : Content) → Stands codes bases u x → Stands codes bases v y → ordered o.Greater w.memory u v ≡ Some r → Applied d.Greater x y r
+  greater_applied : (u v r : Value) (x y : Content) → Applies codes bases u x → Applies codes bases v y → ordered o.Greater w.memory u v ≡ Some r → Applied d.Greater x y r
   greater_applied u v r x y su sv e =
       ordered_applied o.Greater d.Greater word_greater (λ a b. refl) (λ a b. refl)
       (λ b i j hi hj. less_small (b + j) (b + i) hj hi ∙ ap truth (shift_less b j i) ∙ sym (less_small j i (omega arith) (omega arith))) u v r x y su sv e
 
-  at_most_applied : (u v r : Value) (x y : Content) → Stands codes bases u x → Stands codes bases v y → ordered o.AtMost w.memory u v ≡ Some r → Applied d.AtMost x y r
+  at_most_applied : (u v r : Value) (x y : Content) → Applies codes bases u x → Applies codes bases v y → ordered o.AtMost w.memory u v ≡ Some r → Applied d.AtMost x y r
   at_most_applied u v r x y su sv e =
       ordered_applied o.AtMost d.AtMost word_at_most (λ a b. refl) (λ a b. refl)
       (λ b i j hi hj. most_small (b + i) (b + j) hi hj ∙ ap truth (shift_most b i j) ∙ sym (most_small i j (omega arith) (omega arith))) u v r x y su sv e
 
-  at_least_applied : (u v r : Value) (x y : Content) → Stands codes bases u x → Stands codes bases v y → ordered o.AtLeast w.memory u v ≡ Some r → Applied d.AtLeast x y r
+  at_least_applied : (u v r : Value) (x y : Content) → Applies codes bases u x → Applies codes bases v y → ordered o.AtLeast w.memory u v ≡ Some r → Applied d.AtLeast x y r
   at_least_applied u v r x y su sv e =
       ordered_applied o.AtLeast d.AtLeast word_at_least (λ a b. refl) (λ a b. refl)
       (λ b i j hi hj. most_small (b + j) (b + i) hj hi ∙ ap truth (shift_most b j i) ∙ sym (most_small j i (omega arith) (omega arith))) u v r x y su sv e
@@ -259,14 +258,13 @@ module _ (codes : Codes) (bases : List ℕ) (cells : ℕ → Cell) (top : ℕ) (
       → OperatedAs op x y (either t (λ w. ends divide_by_zero w) (λ w. given (option_map number (cond t None (Some (g a b)))) w) w)
   divided op g a b x y ex ey ed true et =
       (refl, refl, record { left = a; right = b; is_left = ex; is_right = ey; none = ed a b ∙ ap (λ (z : Bool). if z then None else Some (g a b)) et })
-  divided op g a b x y ex ey ed false et =
-      (refl, numbers_applied op a b (g a b) x y (number (g a b)) ex ey (ed a b ∙ ap (λ (z : Bool). if z then None else Some (g a b)) et) refl)
+  divided op g a b x y ex ey ed false et = grind (arith, numbers_applied, number)
 
   -- operators on numbers alone
   abbrev OnNumbers : Operator → Dyadic → Type 0
   OnNumbers q op = (a b : ℕ) (x y : Content) → x ≡ Word a → y ≡ Word b → OperatedAs op x y (on_numbers q (number a) (number b) w)
 
-  on_numbers_as : (q : Operator) (op : Dyadic) → OnNumbers q op → (u v : Value) (x y : Content) → Stands codes bases u x → Stands codes bases v y → OperatedAs op x y (on_numbers q u v w)
+  on_numbers_as : (q : Operator) (op : Dyadic) → OnNumbers q op → (u v : Value) (x y : Content) → Applies codes bases u x → Applies codes bases v y → OperatedAs op x y (on_numbers q u v w)
   on_numbers_as q op go (number a) (number b) x y su sv = go a b x y su sv
   on_numbers_as q op go _ _ x y su sv = tt
 
@@ -274,7 +272,7 @@ module _ (codes : Codes) (bases : List ℕ) (cells : ℕ → Cell) (top : ℕ) (
   ByOperator None x y u = Unit {0}
   ByOperator (Some op) x y u = OperatedAs op x y u
 
-  pub operates : (q : Operator) (u v : Value) (x y : Content) → Stands codes bases u x → Stands codes bases v y → ByOperator (dyadic_of q) x y (operate q u v w)
+  pub operates : (q : Operator) (u v : Value) (x y : Content) → Applies codes bases u x → Applies codes bases v y → ByOperator (dyadic_of q) x y (operate q u v w)
   operates o.Add u v x y su sv = given_as d.Add x y (sum w.memory u v) (λ r e. sum_applied u v r x y su sv e)
   operates o.Subtract u v x y su sv = given_as d.Subtract x y (difference w.memory u v) (λ r e. difference_applied u v r x y su sv e)
   operates o.Equal u v x y su sv = given_as d.Equal x y _ (λ r e. equal_applied d.Equal (λ b. b) (λ a b. refl) u v r x y su sv e)
@@ -297,14 +295,14 @@ module _ (codes : Codes) (bases : List ℕ) (cells : ℕ → Cell) (top : ℕ) (
   -- ---- an operand with an operator before it
 
   abbrev pub PrefixedAs : (ℕ → ℕ) → Content → Outcome Value → Type 0
-  PrefixedAs g x (gives v w1) = (w1 ≡ w) × (n : ℕ) × (x ≡ Word n) × Stands codes bases v (Word (g n))
+  PrefixedAs g x (gives v w1) = (w1 ≡ w) × (n : ℕ) × (x ≡ Word n) × Applies codes bases v (Word (g n))
   PrefixedAs g x undefined = Unit {0}
   PrefixedAs g x _ = ⊥
 
-  pub negates : (v : Value) (x : Content) → Stands codes bases v x → PrefixedAs word_negation x (operate_prefix q.Minus v w)
+  pub negates : (v : Value) (x : Content) → Applies codes bases v x → PrefixedAs word_negation x (operate_prefix q.Minus v w)
   negates (number n) x s = (refl, n, s, refl)
   negates _ x s = tt
 
-  pub inverts : (v : Value) (x : Content) → Stands codes bases v x → PrefixedAs word_not x (operate_prefix q.Not v w)
+  pub inverts : (v : Value) (x : Content) → Applies codes bases v x → PrefixedAs word_not x (operate_prefix q.Not v w)
   inverts (number n) x s = (refl, n, s, refl)
   inverts _ x s = tt

@@ -1,6 +1,6 @@
 -- What is done with one value and with two: `!`, `@`, signs, NOT, and the operators. Truth where it is asked for: values, NOT, `&` and `|`; and `->`.
-use Rattle.bk_simulation.proofs.Words.{on_number, step_by, slot, Goes, ◌≡◌, ℕ, ◌+◌, ◌<◌, ◌≤◌, List, ◌∷◌, ◌++◌, Option, Some, None, refl, sym, ap, subst, arith, ◌-◌, ◌*◌, ◌%◌, ◌^◌, Bool, true, false, length, ◌∙◌, option_map, signed, word_of, truth as truth_word, Operator, Word, content_of, Content, Unset, Temporary, Held, write, below, Inside, State, dyadic_word, named_place, DivideByZero, Stmt, Monadic, Dyadic, LoadByte, Number, True, False, Query, Load, Address, Text, infix_code, variable, push, truth_value, Value, number, address, unset, read, read_byte, World, Outcome, gives, ends, undefined, given, with, sum, operate, operate_prefix, fetch, Meanings, named, combined, Expression, past, Sense, constant, cell, sense_of, Adds, adds, with_after, of_z-to_z, Bound, bound_in, Local, Static, Target, meant, not, from_label, Label, GiveResult, TakeResult, Environment, either, history, stays, either_after, w32}
-use Rattle.bk_simulation.proofs.Situations.{by_option, contents_moves, dyadic_moves, load_byte_moves, Moves, dyadic_ends, does, one_off, pushed, Stands, fits_more, BaseOf, Grown, Store, read_at, variable_found, read_here, read_byte_at, operates, sum_applied, PrefixedAs, OperatedAs, Setting, IsValue, named_word, Scene, LabelAt, IsJump, Configuration, Account, there, Has, went, start, Ready, Ran, with_ran, CompletedAt, Out, next, ready_next, store, state, place_of, NameAt, Completed, turns_of, IsWord}
+use Rattle.bk_simulation.proofs.Words.{on_number, step_by, slot, Goes, ◌≡◌, ℕ, ◌+◌, ◌<◌, ◌≤◌, List, ◌∷◌, ◌++◌, Option, Some, None, refl, sym, ap, subst, arith, ◌-◌, ◌*◌, ◌^◌, Bool, true, false, length, ◌∙◌, option_map, signed, word_of, truth as truth_word, Operator, Word, content_of, Content, Unset, Temporary, Held, write, below, Inside, State, dyadic_word, named_place, DivideByZero, Stmt, Monadic, Dyadic, LoadByte, Number, True, False, Query, Load, Address, Text, infix_code, variable, push, truth_value, Value, number, address, unset, read, read_byte, World, Outcome, gives, ends, undefined, given, with, sum, operate, operate_prefix, fetch, Meanings, named, combined, Expression, past, Sense, constant, cell, sense_of, Adds, adds, with_after, of_z-to_z, Bound, bound_in, Local, Static, Target, meant, not, from_label, Label, GiveResult, TakeResult, Environment, either, history, stays, either_after, w32}
+use Rattle.bk_simulation.proofs.Situations.{by_option, contents_moves, dyadic_moves, load_byte_moves, Moves, dyadic_ends, does, one_off, pushed, Applies, fits_more, BaseOf, Grown, Store, read_at, variable_found, read_here, read_byte_at, operates, sum_applied, PrefixedAs, OperatedAs, Setting, IsValue, named_word, Scene, LabelAt, IsJump, Configuration, Account, there, Has, went, start, Ready, Ran, with_ran, CompletedAt, Out, next, ready_next, store, state, place_of, NameAt, Completed, turns_of, IsWord}
 use Rattle.bk_simulation.proofs.Terms.{Dyadic as Two_word, Monadic as Monadic_word, Variable as Named, Operator as o, Prefix as q, Dyadic as two, Monadic as m, Bound as b}
 use Rattle.bk_simulation.proofs.Compose.{topped, completed_more, completed_on, ran_on, ran_first, ran_more, above, stay}
 use Rattle.bk_simulation.proofs.Simulates.{Simulates, for_value, for_truth, where_to, HasTruth}
@@ -16,7 +16,7 @@ abbrev with_item : Configuration → Content → List Stmt → World → State
 with_item z x rest w = state z.scene.own (z.depth + 1) rest (below (z.frame + (z.depth + 1)) (write z.cells (z.frame + z.depth) (Held Temporary x))) z.frame None ((z.frame + z.depth) ∷ z.written) w
 
 pub pushes_item : (setting : Setting) (B : Account) (z : Configuration) (c : List Stmt) (i : Stmt) (rest : List Stmt) (w : World) (v : Value) (x : Content) → 16 * w.turns + 1 ≤ B.most → B.least ≤ w.turns → c ≡ i ∷ rest → Ready setting z w
-    → Stands setting.codes z.bases v x → Moves setting.program (start z (i ∷ rest) w) (with_item z x rest w) → Has setting (start z c w) B z rest (z.depth + 1) w v w
+    → Applies setting.codes z.bases v x → Moves setting.program (start z (i ∷ rest) w) (with_item z x rest w) → Has setting (start z c w) B z rest (z.depth + 1) w v w
 pushes_item setting B z c i rest w v x le le' ec r st e =
     let A : Account = record { most = 16 * w.turns; least = w.turns } in
     subst (λ l. Has setting (start z l w) B z rest (z.depth + 1) w v w) (sym ec)
@@ -45,7 +45,7 @@ query_runs setting B z c rest w le le' ec r =
     went (pushes_item setting B z c Query rest w unset Unset le le' ec r tt (does setting.program (start z (Query ∷ rest) w) z.scene.own rest z.depth Query refl refl refl))
 
 -- the address of an object that lasts
-lasting_stands : (setting : Setting) (bases : List ℕ) (o base : ℕ) → Grown setting.lasting bases → BaseOf setting.lasting o base → Stands setting.codes bases (address o 0) (Word base)
+lasting_stands : (setting : Setting) (bases : List ℕ) (o base : ℕ) → Grown setting.lasting bases → BaseOf setting.lasting o base → Applies setting.codes bases (address o 0) (Word base)
 lasting_stands setting bases o base grown e = grind arith
 
 pub text_runs : (setting : Setting) (B : Account) (z : Configuration) (c : List Stmt) (bytes : List ℕ) (rest : List Stmt) (w : World) (o : ℕ) → 16 * w.turns + 1 ≤ B.most → B.least ≤ w.turns → c ≡ Text bytes ∷ rest
@@ -80,7 +80,7 @@ cell_runs setting B z c x rest w o i base le le' ec r eb ep (Some v) h =
     let s = start z (Load (named_word z.scene x) ∷ rest) w in
     let here : z.cells (named_place s z.scene.own (named_word z.scene x)) ≡ z.cells (base + i) = ap z.cells (named_at z (Load (named_word z.scene x) ∷ rest) w (named_word z.scene x) ∙ sym ep) in
     went (pushes_item setting B z c (Load (named_word z.scene x)) rest w v (content_of (z.cells (named_place s z.scene.own (named_word z.scene x)))) le le' ec r
-    (subst (λ k. Stands setting.codes z.bases v k) (sym (ap content_of (here ∙ f.there))) f.stands)
+    (subst (λ k. Applies setting.codes z.bases v k) (sym (ap content_of (here ∙ f.there))) f.stands)
     (does setting.program s z.scene.own rest z.depth (Load (named_word z.scene x)) refl refl refl))
 
 pub name_runs : (setting : Setting) (B : Account) (z : Configuration) (c : List Stmt) (x : List ℕ) (rest : List Stmt) (w : World) → 16 * w.turns + 1 ≤ B.most → B.least ≤ w.turns → c ≡ push z.scene.targets (meant (bound_in z.scene.bindings x)) ∷ rest
@@ -109,8 +109,8 @@ one_run setting inner sim B e z c rest w L go ad le le' l r h = with_ran ad (ran
 -- two values are on top
 pub record Two (setting : Setting) (s : State) (A : Account) (z : Configuration) (c : List Stmt) (w : World) (u v : Value) (w2 : World) : Type 0 where
   pub arr : CompletedAt setting s A z c (z.depth + 1 + 1) w w2
-  pub first : Stands setting.codes arr.bases1 u (content_of (arr.cells1 (z.frame + z.depth)))
-  pub second : Stands setting.codes arr.bases1 v (content_of (arr.cells1 (z.frame + (z.depth + 1))))
+  pub first : Applies setting.codes arr.bases1 u (content_of (arr.cells1 (z.frame + z.depth)))
+  pub second : Applies setting.codes arr.bases1 v (content_of (arr.cells1 (z.frame + (z.depth + 1))))
 
 abbrev pub for_two : Expression → Expression → World → Account
 for_two a b w = record { most = 16 * w.turns - 4; least = w.turns - (turns_of false a + turns_of false b) }
@@ -163,7 +163,7 @@ two_on z c = ap (λ k. Inside z.scene.own k c) (omega arith)
 
 pub dyadic_topped : (setting : Setting) (s : State) (A B : Account) (z : Configuration) (op : Two_word) (rest : List Stmt) (w w1 : World) (u v r : Value) (x y n : ℕ) → A.most + 1 ≤ B.most → B.least ≤ A.least → 2 ≤ z.depth
     → (t : Two setting s A z (Dyadic op ∷ rest) w u v w1) → content_of (t.arr.cells1 (z.frame + z.depth)) ≡ Word x → content_of (t.arr.cells1 (z.frame + (z.depth + 1))) ≡ Word y → dyadic_word op x y ≡ Some n
-    → Stands setting.codes t.arr.bases1 r (Word n) → Has setting s B z rest (z.depth + 1) w r w1
+    → Applies setting.codes t.arr.bases1 r (Word n) → Has setting s B z rest (z.depth + 1) w r w1
 dyadic_topped setting s A B z op rest w w1 u v r x y n le le' dp t ex ey en st =
     topped _ le le' dp t.arr st
     (dyadic_moves setting.program (there setting s A z (Dyadic op ∷ rest) (z.depth + 1 + 1) w w1 t.arr) z.scene.own rest z.depth op x y n (two_on z (Dyadic op ∷ rest)) ex ey en)
@@ -322,16 +322,16 @@ over_run setting inner sim B a b z u n k to c c1 rest w le le' la lb lk f r =
 
 -- ---- `->`: one of two values, which goes by way of the result in hand
 branch_run : (setting : Setting) (inner : Meanings) → Simulates setting inner → (s : State) (A D C : Account) (e : Expression) (z : Configuration) (env : Environment) (n : ℕ)
-    (c1 rest behind : List Stmt) (w w1 : World) → A.most ≤ D.most → D.most + 3 ≤ C.most
+    (c1 rest following : List Stmt) (w w1 : World) → A.most ≤ D.most → D.most + 3 ≤ C.most
     → D.least ≤ (w1.turns - turns_of false e) + (A.least - w1.turns) → C.least ≤ D.least → env.names ≡ z.env.names → IsValue setting z.scene z.depth env e c1
-    (GiveResult n ∷ behind) → LabelAt setting z.scene z.depth n (TakeResult z.depth ∷ rest)
+    (GiveResult n ∷ following) → LabelAt setting z.scene z.depth n (TakeResult z.depth ∷ rest)
     → Ready setting z w → CompletedAt setting s A z c1 z.depth w w1 → Ran setting s C (Has setting s C z rest (z.depth + 1) w) (Out setting s C z w) (inner.value e env w1)
-branch_run setting inner sim s A D C e z env n c1 rest behind w w1 le1 le2 ll lc en l ln r ar =
+branch_run setting inner sim s A D C e z env n c1 rest following w w1 le1 le2 ll lc en l ln r ar =
     ran_on (omega arith) (omega arith) r (omega arith) ar
     (λ v w2 q.
-    let x : Has setting s D z (GiveResult n ∷ behind) (z.depth + 1) w v w2 = record { arr = completed_on (omega arith) (omega arith) r (omega arith) ar q.arr; stands = q.stands } in
+    let x : Has setting s D z (GiveResult n ∷ following) (z.depth + 1) w v w2 = record { arr = completed_on (omega arith) (omega arith) r (omega arith) ar q.arr; stands = q.stands } in
     taken_on (omega arith) (omega arith) r (label_on ln (result_on r ln.found x)) q.stands)
-    (value_run setting inner sim e (next setting s A z c1 z.depth w w1 env z.depth ar) c1 (GiveResult n ∷ behind) w1 l (ready_next env z.depth ar en (omega arith) r))
+    (value_run setting inner sim e (next setting s A z c1 z.depth w w1 env z.depth ar) c1 (GiveResult n ∷ following) w1 l (ready_next env z.depth ar en (omega arith) r))
 
 pub choice_run : (setting : Setting) (inner : Meanings) → Simulates setting inner → (B : Account) (e a b : Expression) (z : Configuration) (n n1 : ℕ) (c c1 c2 rest : List Stmt) (w : World)
     → 16 * w.turns + 12 ≤ B.most

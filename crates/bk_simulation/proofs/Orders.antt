@@ -1,5 +1,5 @@
 -- Commands in order, and what seeking finds in them.
-use Rattle.bk_simulation.proofs.Words.{◌≡◌, Bool, true, false, ◌||◌, cond, List, refl, sym, ap, ◌∙◌, subst, arith, Stmt, Command, Commands, Environment, past_command, Sought, Mode, forwards, seeking, stands_in, stands_in_one, World, with, either, history, Meanings, in_order, Adds, adds, stays, with_after, either_after}
+use Rattle.bk_simulation.proofs.Words.{◌≡◌, Bool, true, false, ◌||◌, cond, List, refl, sym, ap, ◌∙◌, subst, arith, Stmt, Command, Commands, Environment, past_command, Sought, Mode, forwards, seeking, has_place, one_has_place, World, with, either, history, Meanings, in_order, Adds, adds, stays, with_after, either_after}
 use Rattle.bk_simulation.proofs.Situations.{by_test, not_true, same_stands_one, Setting, IsAct, AreActs, Entered, EnteredAny, Configuration, start, Ready, went, with_ran, next, named_again, ready_in, ready_next}
 use Rattle.bk_tree.specs.Tree as t
 use Rattle.bk_simulation.proofs.Compose.{stay, comes_to, ran_first, ran_more, completed_more}
@@ -13,7 +13,7 @@ pub order_adds : (setting : Setting) (inner : Meanings) → Simulates setting in
 order_adds setting inner sim t.no_commands mode env = adds _ (λ w. stays (history w))
 order_adds setting inner sim (t.also c cs) forwards env = adds _ (λ w. with_after _ _ _ (sim.grows.act c forwards env w) (λ _. order_adds setting inner sim cs forwards (past_command c env)))
 order_adds setting inner sim (t.also c cs) (seeking s) env =
-    adds _ (λ w. either_after (stands_in s env c) _ _
+    adds _ (λ w. either_after (has_place s env c) _ _
     (adds _ (λ w1. with_after _ _ _ (sim.grows.act c (seeking s) env w1) (λ _. order_adds setting inner sim cs forwards (past_command c env))))
     (order_adds setting inner sim cs (seeking s) (past_command c env)) w)
 
@@ -51,17 +51,17 @@ order_run setting inner sim (t.also a cs) forwards z at c rest e w l en r =
     then_run setting inner sim a forwards cs z l.1 l.2 c l.0 rest e w l.3 en r (λ z1 w1 r1 ez l1. subst (λ y. RanDid setting (start z1 l.0 w1) (for_scope cs w1) z1 rest w1 (in_order inner cs forwards y w1)) ez
     (order_run setting inner sim cs forwards z1 l.2 l.0 rest l.0 w1 l1 refl r1)) l.4
 order_run setting inner sim (t.also a cs) (seeking s) z at c rest e w l en r =
-    by_test (stands_in s z.env a)
-    (λ (h : stands_in s z.env a ≡ true).
+    by_test (has_place s z.env a)
+    (λ (h : has_place s z.env a ≡ true).
     subst (λ (b : Bool). RanDid setting (start z e w) (for_scope (t.also a cs) w) z rest w
     (either b (λ w. with (inner.act a (seeking s) z.env w) (λ _ w. in_order inner cs forwards (past_command a z.env) w)) (λ w. in_order inner cs (seeking s) (past_command a z.env) w) w)) (sym h)
     (then_run setting inner sim a (seeking s) cs z l.1 l.2 c l.0 rest e w l.3 (h, en.1 ∙ l.5 s ∙ ap (λ (b : Bool). cond b (l.1 s) (l.2 s)) h) r
     (λ z1 w1 r1 ez l1. subst (λ y. RanDid setting (start z1 l.0 w1) (for_scope cs w1) z1 rest w1 (in_order inner cs forwards y w1)) ez
     (order_run setting inner sim cs forwards z1 l.2 l.0 rest l.0 w1 l1 refl r1)) l.4))
-    (λ (h : stands_in s z.env a ≡ false).
+    (λ (h : has_place s z.env a ≡ false).
     let z1 = record z { env = past_command a z.env } in
     subst (λ (b : Bool). RanDid setting (start z e w) (for_scope (t.also a cs) w) z rest w
     (either b (λ w. with (inner.act a (seeking s) z.env w) (λ _ w. in_order inner cs forwards (past_command a z.env) w)) (λ w. in_order inner cs (seeking s) (past_command a z.env) w) w)) (sym h)
     (ran_first (omega arith) (omega arith) (λ _ w1 q. completed_more (omega arith) (omega arith) q)
-    (order_run setting inner sim cs (seeking s) z1 l.2 l.0 rest e w l.4 (same_stands_one s z.env.names (past_command a z.env).next z.env.next cs ∙ or_second (stands_in s z.env a) (stands_in_one s z.env cs) en.0 h, en.1 ∙ l.5 s ∙ ap (λ (b : Bool). cond b (l.1 s) (l.2 s)) h)
+    (order_run setting inner sim cs (seeking s) z1 l.2 l.0 rest e w l.4 (same_stands_one s z.env.names (past_command a z.env).next z.env.next cs ∙ or_second (has_place s z.env a) (one_has_place s z.env cs) en.0 h, en.1 ∙ l.5 s ∙ ap (λ (b : Bool). cond b (l.1 s) (l.2 s)) h)
     (ready_at setting z w (past_command a z.env) refl r))))

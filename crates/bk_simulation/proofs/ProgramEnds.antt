@@ -85,8 +85,7 @@ module _ (setting : Setting) (s0 s : State) (is : settled setting.program s0 ≡
   does_those : (n k : ℕ) (B : Account) (o : Outcome Value) → B.most ≤ 16 * n + 16
       → calls_of (run_of (each_way (λ v after. gives v (calls_back k after)) (λ x w. undefined) o)) ≡ setting.cap → Went setting s B (Over setting s B) AnyExit o ⊎ Falls setting s o
       → Does setting.program setting.first n s0 (run_of (each_way (λ v after. gives v (calls_back k after)) (λ x w. undefined) o))
-  does_those n k B (gives v w) le ec r =
-      subst (λ c. DoesEnd setting.program setting.first n s0 w.output w.input c (end_of (status 0))) (sym ec) (at_end n B (status 0) w le ec (end_of (status 0)) refl r)
+  does_those n k B (gives v w) le ec r = grind (arith, (at_end n B (status 0) w le ec (end_of (status 0)) refl r))
   does_those n k B (ends e w) le ec r = subst (λ c. DoesEnd setting.program setting.first n s0 w.output w.input c (end_of e)) (sym ec) (at_end n B e w le ec (end_of e) refl r)
   does_those n k B (going w) le ec (inl q) = subst (λ c. Does setting.program setting.first n s0 (Going w.output w.input c)) (sym ec) (inl (reached_comes B w (16 * n + 16) le q))
   does_those n k B (going w) le ec (inr f) = subst (λ c. Does setting.program setting.first n s0 (Going w.output w.input c)) (sym ec) (inr (falls_out w.output w.most_calls ec f))

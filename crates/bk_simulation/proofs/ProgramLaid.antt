@@ -1,5 +1,5 @@
 -- A program whose sections stand for accepted ones is laid.
-use Rattle.bk_simulation.proofs.Words.{◌≡◌, ℕ, zero, suc, ◌+◌, ◌<◌, ◌≤◌, ◌^◌, List, [], ◌∷◌, ◌++◌, length, Option, Some, None, refl, sym, ap, subst, arith, slice_get, append_assoc, FRAME_WORDS, Declarations, Placed, Program, AreFaultless, IsWellPlaced, scheme_is_accepted, stop, Lasting, Procedure, global_vector, words, code, of_sections, program_of, procedure_of, procedure_in, AreAccepted, StandFor}
+use Rattle.bk_simulation.proofs.Words.{◌≡◌, ℕ, zero, suc, ◌+◌, ◌<◌, ◌≤◌, ◌^◌, List, [], ◌∷◌, ◌++◌, length, Option, Some, None, refl, sym, ap, subst, arith, slice_get, append_assoc, FRAME_WORDS, Declarations, Placed, Program, AreFaultless, IsWellPlaced, scheme_is_accepted, stop, Lasting, Procedure, global_vector, words, code, of_sections, program_of, procedure_of, procedure_in, AreAccepted, Represent}
 use Rattle.bk_simulation.proofs.Forms.{all_at, each_at, one_more, each_itself, Codes, BaseOf, one_base, Setting, HeldWord, HeldOne, HeldList, IsProcedure, library_word, IsSized, HoldsEntry, HoldsOne, InData, all_set_same, FollowWords, AreBelow, AreSet}
 use Rattle.bk_meaning.specs.Values as value
 use Rattle.bk_simulation.proofs.LaidPrograms.{setting, AreLaid}
@@ -51,7 +51,7 @@ held_holds setting o b (code f) base h = entry_holds setting f.global o b base h
 
 -- ---- the program
 
-sections_faultless : (sections : List Declarations) (owns : List Placed) → AreAccepted sections → StandFor sections owns → (i : ℕ) (own : Placed) → slice_get owns i ≡ Some own → AreFaultless own.stmts
+sections_faultless : (sections : List Declarations) (owns : List Placed) → AreAccepted sections → Represent sections owns → (i : ℕ) (own : Placed) → slice_get owns i ≡ Some own → AreFaultless own.stmts
 sections_faultless [] [] ok st i own e = absurd (cc)
 sections_faultless (ds ∷ rest) (x ∷ xs) ok st zero own e =
     let same : x ≡ own = (let k : Some x ≡ Some own = e in cc) in
@@ -63,7 +63,7 @@ sections_faultless _ _ ok st i own e = absurd st
 pub record Together (program : Program) (first : ℕ) (sections : List Declarations) : Type 0 where
   pub well : IsWellPlaced program first FRAME_WORDS
   pub accepted : AreAccepted sections
-  pub stand : StandFor sections program.sections
+  pub stand : Represent sections program.sections
 
 abbrev pub pay_of : List Declarations → ℕ
 pay_of sections = weights sections
@@ -121,10 +121,7 @@ held_together program first sections t most =
 holds_each : (program : Program) (first : ℕ) (sections : List Declarations) (t : Together program first sections) (o b : ℕ) (x : Lasting) → slice_get (program_of sections) o ≡ Some x → BaseOf (lasting_of program first sections t) o b
     → HoldsOne program first (codes_together program first sections t) x o b
 holds_each program first sections t zero b x e base = grind arith
-holds_each program first sections t (suc o) b x e base =
-    let g = setting_together program first sections t 0 in
-    let there : 1 + o ≡ suc o = omega arith in
-    held_holds g (suc o) b x base (subst (λ n. HeldOne g n x) there (each_at (HeldOne g) 1 o (of_sections 1 sections) x (held_together program first sections t 0) e))
+holds_each program first sections t (suc o) b x e base = grind (arith, held_holds, each_at, (held_together program first sections t 0))
 
 procedure_here : (x : Option Lasting) (f : Procedure) → procedure_in x ≡ Some f → x ≡ Some (code f)
 procedure_here (Some (code p)) f e = ap (λ y. Some (code y)) (let k : Some p ≡ Some f = e in cc)
@@ -133,10 +130,7 @@ procedure_here _ f e = absurd (cc)
 procedures_together : (program : Program) (first : ℕ) (sections : List Declarations) (t : Together program first sections) (most n : ℕ) (f : Procedure) → procedure_of (program_of sections) n ≡ Some f
     → IsProcedure (setting_together program first sections t most) n f
 procedures_together program first sections t most zero f e = absurd (cc)
-procedures_together program first sections t most (suc n) f e =
-    let g = setting_together program first sections t most in
-    let there : 1 + n ≡ suc n = omega arith in
-    subst (λ k. IsProcedure g k f) there (each_at (HeldOne g) 1 n (of_sections 1 sections) (code f) (held_together program first sections t most) (procedure_here (slice_get (of_sections 1 sections) n) f e)).0
+procedures_together program first sections t most (suc n) f e = grind (arith, each_at, (code f), (held_together program first sections t most), (procedure_here (slice_get (of_sections 1 sections) n) f e))
 
 -- A PROGRAM IS LAID whose sections stand for accepted ones
 pub laid_together : (program : Program) (first : ℕ) (sections : List Declarations) (t : Together program first sections) → LieApart program first sections t → AreLaid program first t.well sections

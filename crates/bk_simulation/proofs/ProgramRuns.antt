@@ -5,9 +5,7 @@ use Rattle.bk_simulation.proofs.Situations.{settled, settled_step, going, IsRest
 -- ---- a rest that takes up a result has slot 2 at least
 
 takes_here : (places : Placement) (k : ℕ) (s : Stmt) (rest : List Stmt) (r : Rest) → InRange s → rest_of places k s rest ≡ Some r → r.takes ≡ true → 2 ≤ r.depth
-takes_here places k (CallFunction n) rest r range e t =
-    let some_rest : (q r : Rest) → Some q ≡ Some r → q ≡ r = λ q r e. cc in
-    subst (λ (x : Rest). 2 ≤ x.depth) (some_rest _ r e) range.0
+takes_here places k (CallFunction n) rest r range e t = grind arith
 takes_here places k (Entry l name) rest r range e t = absurd (let z : false ≡ true = ap (λ o. option_map_or (λ (x : Rest). x.takes) o true) e ∙ t in cc)
 takes_here places k (Label l) rest r range e t = absurd (let z : false ≡ true = ap (λ o. option_map_or (λ (x : Rest). x.takes) o true) e ∙ t in cc)
 takes_here places k (CallRoutine n) rest r range e t = absurd (let z : false ≡ true = ap (λ o. option_map_or (λ (x : Rest). x.takes) o true) e ∙ t in cc)

@@ -1,7 +1,7 @@
 -- What MANIFEST, STATIC and GLOBAL bring into scope: names that agree, labels that stay, and words that stand where the names say. What a LET brings into
 -- scope: its procedures, and behind it its variables; names that agree, labels that stay, and words that stand where the names say.
-use Rattle.bk_simulation.proofs.Words.{◌≡◌, ℕ, suc, ◌+◌, ◌<◌, ◌≤◌, ◌^◌, Bool, true, false, List, [], ◌∷◌, Option, Some, None, cond, refl, sym, ap, ◌∙◌, subst, arith, bytes_eq, bytes_eq-Decides, GLOBAL_NUMBER, Mention, Expression, Items, Definitions, Starts, Bound, Binding, bound_in, bind, named_word, constant_word, within, manifests_in_scope, statics_in_scope, globals_in_scope, ManifestsSound, GlobalsSound, Placed, Target, meant, goal_of, variable, Named, Environment, Sense, cell, foreign, sense_in, word_named, constant_in, global_named, bind_procedure_as, bind_procedures, objects, objects_of_command, objects_of_starts, sense_of_constant, sense_of_global, letters, manifests, statics, ◌-◌, ◌++◌, length, FRAME_WORDS, VEC_NUMBER, bind_all, is_global, Enclosing, deeper, Spot as ScopeSpot, words_of_vector, words_of_start, variables_of, place_behind, place_behind_defined, variables_in_scope, procedure_in_scope, procedures_in_scope, HasWordUpTo, SoundStarted, SoundDefined, behind_starts, behind_definitions, worth, starts_named, definitions_named, variables_hidden, bind_each, le-ltb, RegularItems, starts, RegularDefinitions}
-use Rattle.bk_simulation.proofs.Forms.{Each, BaseOf, Grown, with_names, Setting, Scene, IsWord, IsLabelHere, NamedIn, KeepsLabels, Spot, spots_of, variables_bound, AreAt, RenamesVariables, bound_named, Agree, AgreeWords, SameGlobal, own_cell, agree_bound, HasWords, constants_agree, constant_small, words_constant, words_bound, place_of, NameAt}
+use Rattle.bk_simulation.proofs.Words.{◌≡◌, ℕ, suc, ◌+◌, ◌<◌, ◌≤◌, ◌^◌, Bool, true, false, List, [], ◌∷◌, Option, Some, None, cond, refl, sym, ap, ◌∙◌, subst, arith, bytes_eq, bytes_eq-Decides, GLOBAL_NUMBER, Mention, Expression, Items, Definitions, Starts, Bound, Binding, bound_in, bind, named_word, constant_word, within, manifests_in_scope, statics_in_scope, globals_in_scope, ManifestsSound, GlobalsSound, Placed, Target, goal_of, variable, Named, Environment, Sense, cell, foreign, sense_in, word_named, constant_in, global_named, bind_procedure_as, bind_procedures, objects, objects_of_command, objects_of_starts, sense_of_constant, sense_of_global, letters, manifests, statics, ◌-◌, ◌++◌, length, FRAME_WORDS, VEC_NUMBER, bind_all, is_global, Enclosing, deeper, Spot as ScopeSpot, words_of_start, variables_of, place_after, place_after_defined, variables_in_scope, procedure_in_scope, procedures_in_scope, HasWordUpTo, SoundStarted, SoundDefined, after_starts, after_definitions, worth, starts_named, definitions_named, variables_hidden, bind_each, le-ltb, RegularItems, starts, RegularDefinitions}
+use Rattle.bk_simulation.proofs.Forms.{Each, BaseOf, Grown, with_names, Setting, Scene, IsLabelHere, NamedIn, KeepsLabels, Spot, spots_of, variables_bound, AreAt, RenamesVariables, bound_named, Agree, AgreeWords, SameGlobal, own_cell, agree_bound, HasWords, constants_agree, constant_small, words_constant, words_bound, NameAt}
 use Rattle.bk_tree.specs.Tree as t
 use Rattle.bk_scope.specs.declared.bound.Bound.TheVariants as b
 use Rattle.bk_meaning.specs.Environment as m
@@ -30,22 +30,22 @@ abbrev pub MeanThere : Setting → Scene → Environment → List Binding → En
 MeanThere setting sc env bs env1 = (bases : List ℕ) (frame : ℕ) → Grown setting.lasting bases → NamedIn sc env bases frame → NamedIn (record sc { bindings = bs }) env1 bases frame
 
 -- What stands behind declarations: names that agree, labels that stay, and, where this holds, names that mean what they should.
-pub record Behind (setting : Setting) (sc : Scene) (ns : List Named) (i : ℕ) (P : Type 0) (bs : List Binding) (env : Environment) : Type 0 where
+pub record Following (setting : Setting) (sc : Scene) (ns : List Named) (i : ℕ) (P : Type 0) (bs : List Binding) (env : Environment) : Type 0 where
   pub agree : Agree env.names bs
   pub keeps : KeepsLabels sc.bindings bs
   pub means : P → MeanThere setting sc (with_names ns i) bs env
 
-none_behind : {setting : Setting} {sc : Scene} {ns : List Named} {i : ℕ} {P : Type 0} → Agree ns sc.bindings → Behind setting sc ns i P sc.bindings (with_names ns i)
+none_behind : {setting : Setting} {sc : Scene} {ns : List Named} {i : ℕ} {P : Type 0} → Agree ns sc.bindings → Following setting sc ns i P sc.bindings (with_names ns i)
 none_behind {sc = sc} a = record { agree = a; keeps = keeps_same sc.bindings; means = λ u bases frame grown n. n }
 
 -- the number of the next object does not matter
-more_behind : {setting : Setting} {sc : Scene} {ns : List Named} {i j : ℕ} {P Q : Type 0} {bs : List Binding} {env : Environment} → (P → Q) → Behind setting sc ns j Q bs env → Behind setting sc ns i P bs env
+more_behind : {setting : Setting} {sc : Scene} {ns : List Named} {i j : ℕ} {P Q : Type 0} {bs : List Binding} {env : Environment} → (P → Q) → Following setting sc ns j Q bs env → Following setting sc ns i P bs env
 more_behind go a = record { agree = a.agree; keeps = a.keeps; means = λ u bases frame grown n. a.means (go u) bases frame grown (record { each = n.each }) }
 
 -- one name, which is no label, and what stands behind it
 one_behind : {setting : Setting} {sc : Scene} {ns : List Named} {i j : ℕ} {P Q : Type 0} {bs : List Binding} {env : Environment} (x : List ℕ) (y : Bound) (s : Sense) → (IsLabelHere (Some y) → ⊥) → (P → Q)
     → ((bases : List ℕ) (frame : ℕ) → Grown setting.lasting bases → P → NameAt (record sc { bindings = bind x y sc.bindings }) bases frame x (Some s))
-    → Behind setting (record sc { bindings = bind x y sc.bindings }) (record { name = x; sense = s } ∷ ns) j Q bs env → Behind setting sc ns i P bs env
+    → Following setting (record sc { bindings = bind x y sc.bindings }) (record { name = x; sense = s } ∷ ns) j Q bs env → Following setting sc ns i P bs env
 one_behind {sc = sc} {ns} {i} {bs = bs} x y s f go at more = record {
   agree = more.agree;
   keeps = keeps_both sc.bindings (bind x y sc.bindings) bs (keeps_bound x y sc.bindings f) more.keeps;
@@ -67,7 +67,7 @@ bound_constant : (y : Option Bound) (u : Option ℕ) (sc : Scene) (bases : List 
 bound_constant y u sc bases frame x w e h k = subst (λ z. NameAt sc bases frame x (Some (sense_of_constant z))) (sym k) (e, h)
 
 pub renames_manifests : (is : Items) (setting : Setting) (sc : Scene) (ns : List Named) (i : ℕ) → HasWords sc.bindings → Agree ns sc.bindings → RegularItems is → ManifestsSound sc.bindings is
-    → Behind setting sc ns i (Unit {0}) (manifests_in_scope sc.bindings is) (manifests is (with_names ns i))
+    → Following setting sc ns i (Unit {0}) (manifests_in_scope sc.bindings is) (manifests is (with_names ns i))
 renames_manifests t.no_items setting sc ns i h a r k = none_behind a
 renames_manifests (t.item l x e is) setting sc ns i h a r k =
     let bs : List Binding = sc.bindings in
@@ -96,7 +96,7 @@ pub static_at : (setting : Setting) (sc : Scene) (bases : List ℕ) (frame : ℕ
 static_at setting sc bases frame x i n grown base e = grind arith
 
 pub renames_statics : (is : Items) (setting : Setting) (sc : Scene) (ns : List Named) (i n : ℕ) → 0 < i → Agree ns sc.bindings
-    → Behind setting sc ns i (AreBases setting.lasting i (static_places sc.own sc.targets n is)) (statics_in_scope n is sc.bindings) (statics is (with_names ns i))
+    → Following setting sc ns i (AreBases setting.lasting i (static_places sc.own sc.targets n is)) (statics_in_scope n is sc.bindings) (statics is (with_names ns i))
 renames_statics t.no_items setting sc ns i n some a = none_behind a
 renames_statics (t.item l x e is) setting sc ns i n some a =
     let bs : List Binding = sc.bindings in
@@ -113,12 +113,10 @@ within_most : (w : ℕ) → w ≤ GLOBAL_NUMBER → within GLOBAL_NUMBER (Some w
 within_most w h = ap (λ (q : Bool). cond q None (Some w)) (le-ltb GLOBAL_NUMBER w h)
 
 global_at : (setting : Setting) (sc : Scene) (bases : List ℕ) (frame : ℕ) (x : List ℕ) (w : ℕ) → Grown setting.lasting bases → BaseOf setting.lasting 0 16 → w ≤ GLOBAL_NUMBER → bound_in sc.bindings x ≡ Some (b.Global (Some w)) → NameAt sc bases frame x (Some (cell 0 w))
-global_at setting sc bases frame x w grown base low e =
-    let small : 16 + w < 2 ^ 32 = omega (arith, low) in
-    (16, grown.each 0 16 base, small, ap (λ y. place_of sc.own frame (variable sc.targets (meant y))) (sym e), subst (λ y. IsWord y) (sym e) tt)
+global_at setting sc bases frame x w grown base low e = grind (arith, variable)
 
 pub renames_globals : (is : Items) (setting : Setting) (sc : Scene) (outer : List Named) (os : List Binding) (ns : List Named) (i : ℕ) → AgreeWords outer os → Agree ns sc.bindings → GlobalsSound os is
-    → Behind setting sc ns i (BaseOf setting.lasting 0 16) (globals_in_scope os is sc.bindings) (m.globals (with_names outer i) is (with_names ns i))
+    → Following setting sc ns i (BaseOf setting.lasting 0 16) (globals_in_scope os is sc.bindings) (m.globals (with_names outer i) is (with_names ns i))
 renames_globals t.no_items setting sc outer os ns i ao a k = none_behind a
 renames_globals (t.item l x e is) setting sc outer os ns i ao a k =
     let bs : List Binding = sc.bindings in
@@ -130,8 +128,8 @@ renames_globals (t.item l x e is) setting sc outer os ns i ao a k =
     let sc1 : Scene = record sc { bindings = bind x y bs } in
     let more = renames_globals is setting sc1 outer os (record { name = x; sense = s } ∷ ns) i ao (agree_bound x s y ns bs refl refl a) k.1 in
     let whole = one_behind {i = i} x y s (λ z. z) (λ u. u) (λ bases frame grown u. global_at setting sc1 bases frame x w grown u k.0.2 (itself x y bs)) more in
-    subst (λ z. Behind setting sc ns i (BaseOf setting.lasting 0 16) (globals_in_scope os is (bind x (b.Global (within GLOBAL_NUMBER (constant_word os e))) bs)) (m.globals (with_names outer i) is (m.bind x z (with_names ns i)))) (sym s_is)
-    (subst (λ z. Behind setting sc ns i (BaseOf setting.lasting 0 16) (globals_in_scope os is (bind x z bs)) (m.globals (with_names outer i) is (m.bind x s (with_names ns i)))) (sym y_is) whole)
+    subst (λ z. Following setting sc ns i (BaseOf setting.lasting 0 16) (globals_in_scope os is (bind x (b.Global (within GLOBAL_NUMBER (constant_word os e))) bs)) (m.globals (with_names outer i) is (m.bind x z (with_names ns i)))) (sym s_is)
+    (subst (λ z. Following setting sc ns i (BaseOf setting.lasting 0 16) (globals_in_scope os is (bind x z bs)) (m.globals (with_names outer i) is (m.bind x s (with_names ns i)))) (sym y_is) whole)
 
 -- ---- the procedures of a LET
 
@@ -154,14 +152,14 @@ global_there s _ w h e k = absurd (cc)
 
 -- what stands behind procedures, with these in scope and these names in the run
 abbrev BehindProcedures : Setting → Scene → List Named → ℕ → ℕ → Definitions → Type 0 → List Binding → Environment → Type 0
-BehindProcedures setting sc ns i n ds P bs env = Behind setting sc ns i P (procedures_in_scope n ds bs) (bind_procedures ds env)
+BehindProcedures setting sc ns i n ds P bs env = Following setting sc ns i P (procedures_in_scope n ds bs) (bind_procedures ds env)
 
 -- one procedure, and those behind it
 one_procedure : (setting : Setting) (sc : Scene) (ns : List Named) (i n k : ℕ) (ds : Definitions) (x : List ℕ) (u : Option ℕ) (q : Bool) → global_named (sense_in ns x) ≡ u → is_global (bound_in sc.bindings x) ≡ q → 0 < i → Agree ns sc.bindings
     → ((sc1 : Scene) (ns1 : List Named) → Agree ns1 sc1.bindings → BehindProcedures setting sc1 ns1 (i + k) (n + 1) ds (AreProcedures setting.lasting sc1.own sc1.targets sc1.bindings (i + k) (n + 1) ds) sc1.bindings (with_names ns1 (i + k)))
     → BehindProcedures setting sc ns i (n + 1) ds
     ((q ≡ false → BaseOf setting.lasting i (sc.own.places.label ((goal_of sc.targets n).label))) × AreProcedures setting.lasting sc.own sc.targets (cond q sc.bindings (bind x (b.Static n) sc.bindings)) (i + k) (n + 1) ds)
-    (cond q sc.bindings (bind x (b.Static n) sc.bindings)) (m.behind k (bind_procedure_as u x (with_names ns i)))
+    (cond q sc.bindings (bind x (b.Static n) sc.bindings)) (m.following k (bind_procedure_as u x (with_names ns i)))
 one_procedure setting sc ns i n k ds x None true e f some a more = absurd (global_here (sense_in ns x) (bound_in sc.bindings x) (a.1 x) f e)
 one_procedure setting sc ns i n k ds x None false e f some a more =
     let y : Bound = b.Static n in
@@ -172,7 +170,7 @@ one_procedure setting sc ns i n k ds x (Some v) true e f some a more = more_behi
 one_procedure setting sc ns i n k ds x (Some v) false e f some a more = absurd (global_there (sense_in ns x) (bound_in sc.bindings x) v (a.1 x) f e)
 
 pub renames_procedures : (ds : Definitions) (setting : Setting) (sc : Scene) (ns : List Named) (i n : ℕ) → 0 < i → Agree ns sc.bindings
-    → Behind setting sc ns i (AreProcedures setting.lasting sc.own sc.targets sc.bindings i n ds) (procedures_in_scope n ds sc.bindings) (bind_procedures ds (with_names ns i))
+    → Following setting sc ns i (AreProcedures setting.lasting sc.own sc.targets sc.bindings i n ds) (procedures_in_scope n ds sc.bindings) (bind_procedures ds (with_names ns i))
 renames_procedures t.no_definitions setting sc ns i n some a = none_behind a
 renames_procedures (t.define (t.routine l x fs c) ds) setting sc ns i n some a =
     one_procedure setting sc ns i n (1 + objects_of_command c) ds x (global_named (sense_in ns x)) (is_global (bound_in sc.bindings x)) refl refl some a
@@ -261,17 +259,15 @@ keeps_spots (p ∷ ps) k bs = keeps_both bs (bind p.name (b.Variable k p.slot) b
 
 -- the names of a LET's variables mean their words
 pub renames_variables : (ps : List Spot) (sc : Scene) (bl : List Binding) (env : Environment) (n k : ℕ) → KeepsLabels sc.bindings bl → InFrame ps
-    → RenamesVariables sc bl env (bind_all (from_spots k ps) bl) ps (m.behind n env)
+    → RenamesVariables sc bl env (bind_all (from_spots k ps) bl) ps (m.following n env)
 renames_variables ps sc bl env n k keeps f = (
   keeps_both sc.bindings bl (bind_all (from_spots k ps) bl) keeps (keeps_spots ps k bl),
-  λ o bases frame low at r. variables_mean ps (record sc { bindings = bl }) (m.behind n env) o k bases frame f low at (record { each = r.each }),
+  λ o bases frame low at r. variables_mean ps (record sc { bindings = bl }) (m.following n env) o k bases frame f low at (record { each = r.each }),
 )
 
 -- the variables that scoping binds
 vector_size : (bs : List Binding) (e : Expression) → HasWordUpTo VEC_NUMBER (constant_word bs e) → words_of_start bs e ≡ worth (constant_word bs e) + 1
-vector_size bs e h =
-    let is_word = h.1 in
-    ap (λ y. words_of_vector (within VEC_NUMBER y)) is_word ∙ ap (λ (q : Bool). words_of_vector (cond q None (Some h.0))) (le-ltb VEC_NUMBER h.0 h.2) ∙ ap (λ y. worth y + 1) (sym is_word)
+vector_size bs e h = grind (arith, within, le-ltb)
 
 pub depth_grows : (bs : List Binding) (d : ℕ) (is : Starts) → d ≤ depth_past bs d is
 depth_grows bs d t.no_starts = omega arith
@@ -286,15 +282,15 @@ VectorsSound bs (t.vector l e is) = HasWordUpTo VEC_NUMBER (constant_word bs e) 
 
 pub vectors_sound : (bs : List Binding) (p : Enclosing) (s : ScopeSpot) (is : Starts) → SoundStarted bs p s is → VectorsSound bs is
 vectors_sound bs p s t.no_starts h = tt
-vectors_sound bs p s (t.value e is) h = vectors_sound bs (deeper 1 p) (scope_spot.behind e s) is h.1
-vectors_sound bs p s (t.vector l e is) h = (h.0, vectors_sound bs (deeper (words_of_start bs e + 1) p) (scope_spot.behind_constant e s) is h.1)
+vectors_sound bs p s (t.value e is) h = vectors_sound bs (deeper 1 p) (scope_spot.following e s) is h.1
+vectors_sound bs p s (t.vector l e is) h = (h.0, vectors_sound bs (deeper (words_of_start bs e + 1) p) (scope_spot.after_constant e s) is h.1)
 
 -- what one definition of variables binds
 pub record VariablesOf (bs : List Binding) (p : Enclosing) (d : ℕ) (xs : List Mention) (is : Starts) : Type 0 where
   pub are : variables_of bs p xs is ≡ from_spots p.procedure (spots_of (letters xs) (slots_of bs d is))
   pub fit : InFrame (spots_of (letters xs) (slots_of bs d is))
-  pub procedure : (place_behind bs p is).procedure ≡ p.procedure
-  pub depth : (place_behind bs p is).depth ≡ depth_past bs d is
+  pub procedure : (place_after bs p is).procedure ≡ p.procedure
+  pub depth : (place_after bs p is).depth ≡ depth_past bs d is
 
 pub variables_are : (bs : List Binding) (p : Enclosing) (d : ℕ) (xs : List Mention) (is : Starts) → p.depth ≡ d → length xs ≡ starts is → VectorsSound bs is → depth_past bs d is ≤ FRAME_WORDS → VariablesOf bs p d xs is
 variables_are bs p d [] t.no_starts at few h low = record { are = refl; fit = tt; procedure = refl; depth = at }
@@ -329,51 +325,51 @@ variables_are bs p d (x ∷ xs) (t.vector l e is) at few h low =
     }
 variables_are bs p d _ _ at few h low = absurd (omega (arith, few))
 
-pub past_is : (bs : List Binding) (p : Enclosing) (s : ScopeSpot) (d : ℕ) (is : Starts) → depth_past bs d is ≡ behind_starts d (starts_named bs p s is)
+pub past_is : (bs : List Binding) (p : Enclosing) (s : ScopeSpot) (d : ℕ) (is : Starts) → depth_past bs d is ≡ after_starts d (starts_named bs p s is)
 past_is bs p s d t.no_starts = refl
-past_is bs p s d (t.value e is) = past_is bs (deeper 1 p) (scope_spot.behind e s) (d + 1) is
-past_is bs p s d (t.vector l e is) = past_is bs (deeper (words_of_start bs e + 1) p) (scope_spot.behind_constant e s) (d + worth (constant_word bs e) + 2) is
+past_is bs p s d (t.value e is) = past_is bs (deeper 1 p) (scope_spot.following e s) (d + 1) is
+past_is bs p s d (t.vector l e is) = past_is bs (deeper (words_of_start bs e + 1) p) (scope_spot.after_constant e s) (d + worth (constant_word bs e) + 2) is
 
 -- all variables of a LET
 abbrev pub spots_in : List Binding → Enclosing → ScopeSpot → ℕ → Definitions → List Spot
 spots_in bs p s d t.no_definitions = []
 spots_in bs p s d (t.define (t.variables l xs is) ds) =
-    spots_of (letters xs) (slots_of bs d is) ++ spots_in bs (place_behind bs p is) (scope_spot.behind_one_defined (t.variables l xs is) s) (behind_starts d (starts_named bs p (scope_spot.past (length xs) s) is)) ds
-spots_in bs p s d (t.define (t.routine l x fs c) ds) = spots_in bs p (scope_spot.behind_one_defined (t.routine l x fs c) s) d ds
-spots_in bs p s d (t.define (t.function l x fs e) ds) = spots_in bs p (scope_spot.behind_one_defined (t.function l x fs e) s) d ds
+    spots_of (letters xs) (slots_of bs d is) ++ spots_in bs (place_after bs p is) (scope_spot.after_one_defined (t.variables l xs is) s) (after_starts d (starts_named bs p (scope_spot.past (length xs) s) is)) ds
+spots_in bs p s d (t.define (t.routine l x fs c) ds) = spots_in bs p (scope_spot.after_one_defined (t.routine l x fs c) s) d ds
+spots_in bs p s d (t.define (t.function l x fs e) ds) = spots_in bs p (scope_spot.after_one_defined (t.function l x fs e) s) d ds
 
-pub definitions_grow : (bs : List Binding) (p : Enclosing) (s : ScopeSpot) (d : ℕ) (ds : Definitions) → d ≤ behind_definitions d (definitions_named bs p s ds)
+pub definitions_grow : (bs : List Binding) (p : Enclosing) (s : ScopeSpot) (d : ℕ) (ds : Definitions) → d ≤ after_definitions d (definitions_named bs p s ds)
 definitions_grow bs p s d t.no_definitions = omega arith
-definitions_grow bs p s d (t.define (t.routine l x fs c) ds) = definitions_grow bs p (scope_spot.behind_one_defined (t.routine l x fs c) s) d ds
-definitions_grow bs p s d (t.define (t.function l x fs e) ds) = definitions_grow bs p (scope_spot.behind_one_defined (t.function l x fs e) s) d ds
+definitions_grow bs p s d (t.define (t.routine l x fs c) ds) = definitions_grow bs p (scope_spot.after_one_defined (t.routine l x fs c) s) d ds
+definitions_grow bs p s d (t.define (t.function l x fs e) ds) = definitions_grow bs p (scope_spot.after_one_defined (t.function l x fs e) s) d ds
 definitions_grow bs p s d (t.define (t.variables l xs is) ds) =
-    let d1 : ℕ = behind_starts d (starts_named bs p (scope_spot.past (length xs) s) is) in
+    let d1 : ℕ = after_starts d (starts_named bs p (scope_spot.past (length xs) s) is) in
     let first = depth_grows bs d is in
     let same : depth_past bs d is ≡ d1 = past_is bs p (scope_spot.past (length xs) s) d is in
-    let others = definitions_grow bs (place_behind bs p is) (scope_spot.behind_one_defined (t.variables l xs is) s) d1 ds in
+    let others = definitions_grow bs (place_after bs p is) (scope_spot.after_one_defined (t.variables l xs is) s) d1 ds in
     omega (arith, first, same, others)
 
 pub record VariablesIn (bs : List Binding) (p : Enclosing) (s : ScopeSpot) (d : ℕ) (ds : Definitions) : Type 0 where
   pub are : variables_in_scope bs p ds ≡ from_spots p.procedure (spots_in bs p s d ds)
   pub fit : InFrame (spots_in bs p s d ds)
-  pub procedure : (place_behind_defined bs p ds).procedure ≡ p.procedure
-  pub depth : (place_behind_defined bs p ds).depth ≡ behind_definitions d (definitions_named bs p s ds)
+  pub procedure : (place_after_defined bs p ds).procedure ≡ p.procedure
+  pub depth : (place_after_defined bs p ds).depth ≡ after_definitions d (definitions_named bs p s ds)
 
-pub variables_in : (bs : List Binding) (p : Enclosing) (s : ScopeSpot) (d : ℕ) (ds : Definitions) → p.depth ≡ d → SoundDefined bs p s ds → RegularDefinitions ds → behind_definitions d (definitions_named bs p s ds) ≤ FRAME_WORDS → VariablesIn bs p s d ds
+pub variables_in : (bs : List Binding) (p : Enclosing) (s : ScopeSpot) (d : ℕ) (ds : Definitions) → p.depth ≡ d → SoundDefined bs p s ds → RegularDefinitions ds → after_definitions d (definitions_named bs p s ds) ≤ FRAME_WORDS → VariablesIn bs p s d ds
 variables_in bs p s d t.no_definitions at h r low = record { are = refl; fit = tt; procedure = refl; depth = at }
 variables_in bs p s d (t.define (t.routine l x fs c) ds) at h r low =
-    let more = variables_in bs p (scope_spot.behind_one_defined (t.routine l x fs c) s) d ds at h.1 r.1 low in
+    let more = variables_in bs p (scope_spot.after_one_defined (t.routine l x fs c) s) d ds at h.1 r.1 low in
     record { are = more.are; fit = more.fit; procedure = more.procedure; depth = more.depth }
 variables_in bs p s d (t.define (t.function l x fs e) ds) at h r low =
-    let more = variables_in bs p (scope_spot.behind_one_defined (t.function l x fs e) s) d ds at h.1 r.1 low in
+    let more = variables_in bs p (scope_spot.after_one_defined (t.function l x fs e) s) d ds at h.1 r.1 low in
     record { are = more.are; fit = more.fit; procedure = more.procedure; depth = more.depth }
 variables_in bs p s d (t.define (t.variables l xs is) ds) at h r low =
     let s0 : ScopeSpot = scope_spot.past (length xs) s in
-    let s1 : ScopeSpot = scope_spot.behind_one_defined (t.variables l xs is) s in
-    let p1 : Enclosing = place_behind bs p is in
-    let d1 : ℕ = behind_starts d (starts_named bs p s0 is) in
+    let s1 : ScopeSpot = scope_spot.after_one_defined (t.variables l xs is) s in
+    let p1 : Enclosing = place_after bs p is in
+    let d1 : ℕ = after_starts d (starts_named bs p s0 is) in
     let same : depth_past bs d is ≡ d1 = past_is bs p s0 d is in
-    let grows : d1 ≤ behind_definitions d1 (definitions_named bs p1 s1 ds) = definitions_grow bs p1 s1 d1 ds in
+    let grows : d1 ≤ after_definitions d1 (definitions_named bs p1 s1 ds) = definitions_grow bs p1 s1 d1 ds in
     let low0 : depth_past bs d is ≤ FRAME_WORDS = omega (arith, same, grows, low) in
     let first = variables_are bs p d xs is at r.0.0 (vectors_sound bs p s0 is h.0) low0 in
     let more = variables_in bs p1 s1 d1 ds (first.depth ∙ same) h.1 r.1 low in
@@ -397,10 +393,10 @@ foreign_started bs d _ _ ps env few = absurd (omega (arith, few))
 
 pub hidden_are : (bs : List Binding) (p : Enclosing) (s : ScopeSpot) (d : ℕ) (ds : Definitions) (env : Environment) → RegularDefinitions ds → foreign_spots (spots_in bs p s d ds) env ≡ variables_hidden ds env
 hidden_are bs p s d t.no_definitions env r = refl
-hidden_are bs p s d (t.define (t.routine l x fs c) ds) env r = hidden_are bs p (scope_spot.behind_one_defined (t.routine l x fs c) s) d ds env r.1
-hidden_are bs p s d (t.define (t.function l x fs e) ds) env r = hidden_are bs p (scope_spot.behind_one_defined (t.function l x fs e) s) d ds env r.1
+hidden_are bs p s d (t.define (t.routine l x fs c) ds) env r = hidden_are bs p (scope_spot.after_one_defined (t.routine l x fs c) s) d ds env r.1
+hidden_are bs p s d (t.define (t.function l x fs e) ds) env r = hidden_are bs p (scope_spot.after_one_defined (t.function l x fs e) s) d ds env r.1
 hidden_are bs p s d (t.define (t.variables l xs is) ds) env r =
-    let p1 : Enclosing = place_behind bs p is in
-    let s1 : ScopeSpot = scope_spot.behind_one_defined (t.variables l xs is) s in
-    let d1 : ℕ = behind_starts d (starts_named bs p (scope_spot.past (length xs) s) is) in
+    let p1 : Enclosing = place_after bs p is in
+    let s1 : ScopeSpot = scope_spot.after_one_defined (t.variables l xs is) s in
+    let d1 : ℕ = after_starts d (starts_named bs p (scope_spot.past (length xs) s) is) in
     foreign_started bs d xs is (spots_in bs p1 s1 d1 ds) env r.0.0 ∙ hidden_are bs p1 s1 d1 ds (bind_each (letters xs) foreign env) r.1

@@ -1,5 +1,5 @@
 -- The globals that a section sets are those of the one GLOBAL at its end; settings, section by section.
-use Rattle.bk_simulation.proofs.Words.{◌≡◌, ℕ, suc, ◌+◌, Bool, true, false, not, List, [], ◌∷◌, ◌++◌, length, map, Some, None, refl, sym, ap, ◌∙◌, subst, if◌then◌else◌, arith, slice_get, take, append_assoc, append-nil, Declarations, AreFaultless, joined, Placement, Placed, entry_setting, stmt_globals, globals_of, all_globals, GlobalEntry, Stmt, Number, Globals, named_tree, Part, target_of, parts_of_declarations, procedure_code, data_code, entries_of, scheme, objects_of_declarations, Lasting, global_vector, words, code, of_declarations, of_sections, Context, at_start, after, after_all, context_of, misplaced, label_not_set, label_set_twice, depths_disagree, slot_above, too_long, stmt_fault, role, may_stand, position_behind, StandFor}
+use Rattle.bk_simulation.proofs.Words.{◌≡◌, ℕ, suc, ◌+◌, Bool, true, false, not, List, [], ◌∷◌, ◌++◌, length, map, Some, None, refl, sym, ap, ◌∙◌, subst, if◌then◌else◌, arith, slice_get, take, append_assoc, append-nil, Declarations, AreFaultless, joined, Placement, Placed, entry_setting, stmt_globals, globals_of, all_globals, GlobalEntry, Stmt, Number, Globals, named_tree, Part, target_of, parts_of_declarations, procedure_code, data_code, entries_of, scheme, objects_of_declarations, Lasting, global_vector, words, code, of_declarations, of_sections, Context, at_start, after, after_all, context_of, misplaced, label_not_set, label_set_twice, depths_disagree, slot_above, too_long, stmt_fault, role, may_stand, position_after, Represent}
 use Rattle.bk_simulation.proofs.Pieces.{Codes}
 use Rattle.bk_base.specs.declared.ocode_fault.OcodeKind.TheVariants as kind
 use Rattle.bk_simulation.proofs.LastingFits.{setting_of, settings}
@@ -10,7 +10,7 @@ use Rattle.bk_simulation.proofs.LastingFits.{setting_of, settings}
 abbrev Standing : Context → List Stmt → Type 0
 Standing c stmts = (k : ℕ) (t : Stmt) → slice_get stmts k ≡ Some t → misplaced (after_all c (take k stmts)) t ≡ false
 
-no_more : (fs : List GlobalEntry) (t : Stmt) → not (may_stand (position_behind (Globals fs)) (role t)) ≡ true
+no_more : (fs : List GlobalEntry) (t : Stmt) → not (may_stand (position_after (Globals fs)) (role t)) ≡ true
 no_more fs (Number v) = refl
 no_more fs _ = refl
 
@@ -30,12 +30,12 @@ globals_last : (places : Placement) (c : Context) (xs : List Stmt) (es : List Gl
 globals_last places c [] es are = append-nil (map (entry_setting places) es)
 globals_last places c (s ∷ xs) es are = ap (λ y. y ++ globals_of places (xs ++ Globals es ∷ [])) (by_stmt s are) ∙ globals_last places (after c s) xs es (λ k t at. are (suc k) t at)
   where
-    behind : (fs : List GlobalEntry) (ys : List Stmt) → Standing c (Globals fs ∷ ys ++ Globals es ∷ []) → ⊥
-    behind fs [] are = behind_global c fs (Globals es) [] are
-    behind fs (y ∷ ys) are = behind_global c fs y (ys ++ Globals es ∷ []) are
+    following : (fs : List GlobalEntry) (ys : List Stmt) → Standing c (Globals fs ∷ ys ++ Globals es ∷ []) → ⊥
+    following fs [] are = behind_global c fs (Globals es) [] are
+    following fs (y ∷ ys) are = behind_global c fs y (ys ++ Globals es ∷ []) are
 
     by_stmt : (s : Stmt) → Standing c (s ∷ xs ++ Globals es ∷ []) → stmt_globals places s ≡ []
-    by_stmt (Globals fs) are = absurd (behind fs xs are)
+    by_stmt (Globals fs) are = absurd (following fs xs are)
     by_stmt s are = refl
 
 pub section_globals : (places : Placement) (ds : Declarations) → AreFaultless (scheme (named_tree ds))
@@ -68,7 +68,7 @@ SetSame codes n [] [] = Unit {0}
 SetSame codes n (ds ∷ rest) (own ∷ others) = SetsSame codes own n ds × SetSame codes (n + objects_of_declarations ds) rest others
 SetSame codes n _ _ = ⊥
 
-pub all_set_same : (codes : Codes) (n : ℕ) (sections : List Declarations) (owns : List Placed) → StandFor sections owns → ((i : ℕ) (own : Placed) → slice_get owns i ≡ Some own → AreFaultless own.stmts) → SetSame codes n sections owns
+pub all_set_same : (codes : Codes) (n : ℕ) (sections : List Declarations) (owns : List Placed) → Represent sections owns → ((i : ℕ) (own : Placed) → slice_get owns i ≡ Some own → AreFaultless own.stmts) → SetSame codes n sections owns
     → all_globals owns ≡ settings codes n (of_sections n sections)
 all_set_same codes n [] [] st are h = refl
 all_set_same codes n (ds ∷ rest) (own ∷ others) st are h =

@@ -1,5 +1,5 @@
 -- What lasts of all sections of a program, one behind the other.
-use Rattle.bk_simulation.proofs.Words.{true, length-append, ◌≡◌, ℕ, suc, ◌+◌, ◌<◌, ◌≤◌, List, [], ◌∷◌, ◌++◌, length, Some, refl, arith, slice_get, sym, FRAME_WORDS, Declarations, Placed, Program, IsWellPlaced, objects_of_declarations, of_declarations, of_sections, words, AreAccepted, StandFor}
+use Rattle.bk_simulation.proofs.Words.{true, length-append, ◌≡◌, ℕ, suc, ◌+◌, ◌<◌, ◌≤◌, List, [], ◌∷◌, ◌++◌, length, Some, refl, arith, slice_get, sym, FRAME_WORDS, Declarations, Placed, Program, IsWellPlaced, objects_of_declarations, of_declarations, of_sections, words, AreAccepted, Represent}
 use Rattle.bk_simulation.proofs.Forms.{Each, all_both, each_front, each_back, each_both, turns_declared, with_names, Setting, HeldOne, HeldList, Agree, home, Follow, FollowWords, Suits, Mean, AreBelow, AreSet, BaseOf, SetSame}
 use Rattle.bk_simulation.proofs.LaidSections.{section_scene, SectionLies, section_lies}
 use Rattle.bk_scope.specs.declared.bound.Bound.TheVariants as b
@@ -15,7 +15,7 @@ abbrev pub weights : List Declarations → ℕ
 weights [] = 0
 weights (ds ∷ rest) = turns_declared true ds + weights rest
 
-pub sections_lie : (pay k i : ℕ) (sections : List Declarations) (owns : List Placed) → AreAccepted sections → StandFor sections owns → weights sections ≤ pay → SectionsLie pay k i sections owns
+pub sections_lie : (pay k i : ℕ) (sections : List Declarations) (owns : List Placed) → AreAccepted sections → Represent sections owns → weights sections ≤ pay → SectionsLie pay k i sections owns
 sections_lie pay k i [] owns ok st m = tt
 sections_lie pay k i (ds ∷ rest) [] ok st m = absurd st
 sections_lie pay k i (ds ∷ rest) (own ∷ others) ok st m = (section_lies k own ds pay i ok.0 st.0 (omega (arith, m)), sections_lie pay (suc k) (i + objects_of_declarations ds) rest others ok.1 st.1 (omega (arith, m)))
@@ -106,7 +106,7 @@ all_held setting pay k i (ds ∷ rest) (own ∷ others) h a =
 -- ---- The globals that sections set are those that their procedures set in the meaning.
 
 -- EACH SECTION SETS what its procedures set
-pub sections_set : (setting : Setting) (pay k i : ℕ) (sections : List Declarations) (owns : List Placed) (h : SectionsLie pay k i sections owns) → HasAll setting pay k i sections owns h → StandFor sections owns → SetSame setting.codes i sections owns
+pub sections_set : (setting : Setting) (pay k i : ℕ) (sections : List Declarations) (owns : List Placed) (h : SectionsLie pay k i sections owns) → HasAll setting pay k i sections owns h → Represent sections owns → SetSame setting.codes i sections owns
 sections_set setting pay k i [] [] h a st = tt
 sections_set setting pay k i (ds ∷ rest) (own ∷ others) h a st = (
   record {

@@ -1,6 +1,6 @@
 -- What is proved of each form: its code, where it is laid, does what the form means, within an account.
 use Rattle.bk_simulation.proofs.Words.{◌≡◌, ◌≢◌, ◌<◌, ℕ, suc, ◌+◌, ◌-◌, ◌*◌, ◌≤◌, Bool, true, false, List, ◌∷◌, Some, content_of, State, from_label, Stmt, Assign, AssignAt, AssignByte, Expression, Expressions, Command, Commands, Value, address, labelled, Sought, Mode, World, Outcome, Done, history, After, Throughout, at, Meanings}
-use Rattle.bk_simulation.proofs.Situations.{BaseOf, Alive, Stands, turns_of, turns_among, turns_in, turns_through, Setting, IsValue, IsJump, IsAddress, IsStore, IsAct, IsScopeAt, IsLoop, IsForLoop, Entered, EnteredAny, EnteredBody, Configuration, start, place_of, Ready, Account, Ran, CompletedAt, Has, Out}
+use Rattle.bk_simulation.proofs.Situations.{BaseOf, Alive, Applies, turns_of, turns_among, turns_in, turns_through, Setting, IsValue, IsJump, IsAddress, IsStore, IsAct, IsScopeAt, IsLoop, IsForLoop, Entered, EnteredAny, EnteredBody, Configuration, start, place_of, Ready, Account, Ran, CompletedAt, Has, Out}
 use Rattle.bk_simulation.proofs.Terms.{Variable, Target, byte_at}
 use Rattle.bk_tree.specs.Tree as t
 
@@ -57,13 +57,13 @@ pub data Destined (setting : Setting) (s : State) (B : Account) (z : Configurati
   word : (v : Variable) (o i b : ℕ) (w1 : World) (a : CompletedAt setting s B z (Assign v ∷ rest) z.depth w w1) → BaseOf a.bases1 o b → b + i ≡ place_of z.scene.own z.frame v
       → Destined setting s B z rest w (at (address o i)) w1
   through : (a : Value) (w1 : World) → Has setting s B z (AssignAt ∷ rest) (z.depth + 1) w a w1 → Destined setting s B z rest w (at a) w1
-  byte : (a i : Value) (w1 : World) (arr : CompletedAt setting s B z (AssignByte ∷ rest) (z.depth + 1 + 1) w w1) → Stands setting.codes arr.bases1 a (content_of (arr.cells1 (z.frame + z.depth)))
-      → Stands setting.codes arr.bases1 i (content_of (arr.cells1 (z.frame + (z.depth + 1)))) → Destined setting s B z rest w (byte_at a i) w1
+  byte : (a i : Value) (w1 : World) (arr : CompletedAt setting s B z (AssignByte ∷ rest) (z.depth + 1 + 1) w w1) → Applies setting.codes arr.bases1 a (content_of (arr.cells1 (z.frame + z.depth)))
+      → Applies setting.codes arr.bases1 i (content_of (arr.cells1 (z.frame + (z.depth + 1)))) → Destined setting s B z rest w (byte_at a i) w1
 
 -- the variable and the limit of a FOR
 pub record Limit (setting : Setting) (z : Configuration) (w : World) (d o : ℕ) (u : Value) : Type 0 where
   pub base : BaseOf z.bases o (z.frame + d)
-  pub limit : Stands setting.codes z.bases u (content_of (z.cells (z.frame + (d + 1))))
+  pub limit : Applies setting.codes z.bases u (content_of (z.cells (z.frame + (d + 1))))
   pub free : (o1 n b i : ℕ) → Alive w.memory o1 n → BaseOf z.bases o1 b → i < n → b + i ≢ z.frame + (d + 1)
 
 abbrev pub for_counts : Command → World → Account

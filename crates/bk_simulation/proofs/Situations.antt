@@ -4,7 +4,7 @@ pub use Rattle.bk_simulation.proofs.Moves.{IsRest, Moves, assign_at_moves, assig
 pub use Rattle.bk_simulation.proofs.Sought.{label_stands, label_stands_one, same_stands, same_stands_one, stands_by, with_names}
 pub use Rattle.bk_simulation.proofs.Weights.{in_light, of_light, through_light, turns_among, turns_declared, turns_defined, turns_in, turns_of, turns_one_declared, turns_started, turns_through}
 pub use Rattle.bk_simulation.proofs.FramesKept.{LinksFrom, frames_called, links_kept, links_settled, links_through}
-pub use Rattle.bk_simulation.proofs.Memory.{Alive, BaseOf, Codes, Fits, Grown, IsCell, Like, Moved, Stands, StandsCell, Store, fits_above, fits_less, fits_more, get_at, like_on, like_refl, limit, moved_above, moved_less, moved_on, moved_refl, one_base, stands_grown}
+pub use Rattle.bk_simulation.proofs.Memory.{Alive, BaseOf, Codes, Fits, Grown, IsCell, Like, Moved, Applies, StandsCell, Store, fits_above, fits_less, fits_more, get_at, like_on, like_refl, limit, moved_above, moved_less, moved_on, moved_refl, one_base, stands_grown}
 pub use Rattle.bk_simulation.proofs.Laid.{Aim, AreActs, AreAt, AreDeclared, AreDefined, AreFrom, AreStarts, AreStores, AreValues, ByTurns, CallAt, Entered, EnteredAny, EnteredBody, Exits, IsAct, IsAddress, IsAlone, IsCode, IsForLoop, IsJump, IsLabelHere, IsLoop, IsOneDeclared, IsScope, IsScopeAt, IsStore, IsValue, IsWord, KeepsLabels, LabelAt, LeadsTo, NamedIn, PlaceOf, Renames, RenamesVariables, Scene, Setting, Spot, Stretch, behind_body, count, defines_variables, ending, goal_named, in_loop, in_switch, in_valof, jumps, named_word, owning, pushes, spots_of, variables_bound}
 pub use Rattle.bk_simulation.proofs.MadeObjects.{IsFree, Since, alive_is, cell_in, closed_fits, closed_moved, get_first, get_new, get_replicate, get_set, grown_made, lying, make, make_fits, make_fits_in, object_there, since_cells, since_made, since_moved, since_on, since_refl}
 pub use Rattle.bk_simulation.proofs.OperatorWords.{OperatedAs, PrefixedAs, inverts, judged_word, negates, operates, some_is, sum_applied}

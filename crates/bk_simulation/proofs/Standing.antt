@@ -1,6 +1,6 @@
 -- Where code stands in a section, with the depth before it; what a label and a call have from that; and the bases of lasting objects
 -- one behind the other.
-use Rattle.bk_simulation.proofs.Words.{length-append, sym, cond, Datum, is_in, datum_of, data_of, ◌≡◌, ℕ, false, zero, suc, ◌+◌, ◌<◌, ◌≤◌, List, [], ◌∷◌, ◌++◌, length, Some, take, drop, slice_get, refl, ap, ◌∙◌, subst, arith, FRAME_WORDS, next_depth, depth_behind, AreFaultless, Placed, Program, IsWellPlaced, from_label, Stmt, Label, label_has_one_place, Binding, Target, outermost, Named, Lasting, Part, target_of, procedure_code, data_code, AllFound, entries_of, joined, entry_setting, map, map-append, ap₂, append_assoc, item_words, option_map_or, global_vector, words, code, ◌==◌, depth_within, Option, None}
+use Rattle.bk_simulation.proofs.Words.{length-append, sym, cond, Datum, is_in, datum_of, data_of, ◌≡◌, ℕ, false, zero, suc, ◌+◌, ◌<◌, ◌≤◌, List, [], ◌∷◌, ◌++◌, length, Some, take, drop, slice_get, refl, ap, ◌∙◌, subst, arith, FRAME_WORDS, next_depth, depth_after, AreFaultless, Placed, Program, IsWellPlaced, from_label, Stmt, Label, label_has_one_place, Binding, Target, outermost, Named, Lasting, Part, target_of, procedure_code, data_code, AllFound, entries_of, joined, entry_setting, map, map-append, ap₂, append_assoc, item_words, option_map_or, global_vector, words, code, ◌==◌, depth_within, Option, None}
 use Rattle.bk_simulation.proofs.Pieces.{All, Each, all_both, each_front, each_back, each_both, BaseOf, Grown, with_names, Setting, Scene, LabelAt, CallAt, NamedIn, Agree}
 use Rattle.bk_simulation.proofs.LastingFits.{InData, settings}
 use Rattle.bk_simulation.proofs.SectionGlobals.{settings_append}
@@ -39,11 +39,11 @@ data_below program first well base ws d =
     omega (arith, h, e)
 
 -- these statements stand in the section, and this is the depth before them
-pub record StandsAt (own : Placed) (depth : ℕ) (c : List Stmt) : Type 0 where
+pub record IsNumbered (own : Placed) (depth : ℕ) (c : List Stmt) : Type 0 where
   pub are : AreFaultless own.stmts
   pub place : ℕ
-  pub behind : drop place own.stmts ≡ c
-  pub same_depth : depth_behind 0 (take place own.stmts) ≡ depth
+  pub following : drop place own.stmts ≡ c
+  pub same_depth : depth_after 0 (take place own.stmts) ≡ depth
   pub shallow : depth ≤ FRAME_WORDS
 
 -- how many of these data have the address
@@ -67,44 +67,44 @@ data_is own a (x ∷ rest) = let h = data_is own a rest in let e = data_both a (
 -- the first statement of what stands from a place on
 pub record FirstOf (xs : List Stmt) (i : ℕ) (s : Stmt) (c : List Stmt) : Type 0 where
   pub at : slice_get xs i ≡ Some s
-  pub behind : drop (suc i) xs ≡ c
-  pub deeper : (k : ℕ) → depth_behind k (take (suc i) xs) ≡ next_depth (depth_behind k (take i xs)) s
+  pub following : drop (suc i) xs ≡ c
+  pub deeper : (k : ℕ) → depth_after k (take (suc i) xs) ≡ next_depth (depth_after k (take i xs)) s
 
 pub first_of : (xs : List Stmt) (i : ℕ) (s : Stmt) (c : List Stmt) → drop i xs ≡ s ∷ c → FirstOf xs i s c
 first_of [] zero s c e = absurd (let h : [] ≡ s ∷ c = e in cc)
 first_of [] (suc i) s c e = absurd (let h : [] ≡ s ∷ c = e in cc)
 first_of (x ∷ xs) zero s c e = grind arith
-first_of (x ∷ xs) (suc i) s c e = let h = first_of xs i s c e in record { at = h.at; behind = h.behind; deeper = λ k. h.deeper (next_depth k x) }
+first_of (x ∷ xs) (suc i) s c e = let h = first_of xs i s c e in record { at = h.at; following = h.following; deeper = λ k. h.deeper (next_depth k x) }
 
 -- behind the first statement
-pub passed : (own : Placed) (d m : ℕ) (s : Stmt) (c : List Stmt) → StandsAt own d (s ∷ c) → next_depth d s ≡ m → StandsAt own m c
+pub passed : (own : Placed) (d m : ℕ) (s : Stmt) (c : List Stmt) → IsNumbered own d (s ∷ c) → next_depth d s ≡ m → IsNumbered own m c
 passed own d m s c h e =
-    let f = first_of own.stmts h.place s c h.behind in
+    let f = first_of own.stmts h.place s c h.following in
     let within = depth_within own.stmts h.are h.place s f.at in
-    let same : next_depth (depth_behind 0 (take h.place own.stmts)) s ≡ m = ap (λ k. next_depth k s) h.same_depth ∙ e in
-    record { are = h.are; place = suc h.place; behind = f.behind; same_depth = f.deeper 0 ∙ same; shallow = subst (λ k. k ≤ FRAME_WORDS) same within }
+    let same : next_depth (depth_after 0 (take h.place own.stmts)) s ≡ m = ap (λ k. next_depth k s) h.same_depth ∙ e in
+    record { are = h.are; place = suc h.place; following = f.following; same_depth = f.deeper 0 ∙ same; shallow = subst (λ k. k ≤ FRAME_WORDS) same within }
 
-pub at_depth : (own : Placed) (d m : ℕ) (c : List Stmt) → d ≡ m → StandsAt own d c → StandsAt own m c
-at_depth own d m c e h = subst (λ k. StandsAt own k c) e h
+pub at_depth : (own : Placed) (d m : ℕ) (c : List Stmt) → d ≡ m → IsNumbered own d c → IsNumbered own m c
+at_depth own d m c e h = subst (λ k. IsNumbered own k c) e h
 
-pub written : (own : Placed) (d : ℕ) (c k : List Stmt) → c ≡ k → StandsAt own d c → StandsAt own d k
-written own d c k e h = subst (λ x. StandsAt own d x) e h
+pub written : (own : Placed) (d : ℕ) (c k : List Stmt) → c ≡ k → IsNumbered own d c → IsNumbered own d k
+written own d c k e h = subst (λ x. IsNumbered own d x) e h
 
 -- a jump comes to its LAB
-pub label_found : (own : Placed) (d l : ℕ) (rest : List Stmt) → StandsAt own d (Label l ∷ rest) → from_label own.stmts l ≡ Some (Label l ∷ rest)
+pub label_found : (own : Placed) (d l : ℕ) (rest : List Stmt) → IsNumbered own d (Label l ∷ rest) → from_label own.stmts l ≡ Some (Label l ∷ rest)
 label_found own d l rest h =
-    let f = first_of own.stmts h.place (Label l) rest h.behind in
-    label_has_one_place own.stmts h.place l h.are f.at ∙ ap Some h.behind
+    let f = first_of own.stmts h.place (Label l) rest h.following in
+    label_has_one_place own.stmts h.place l h.are f.at ∙ ap Some h.following
 
-pub label_at : (setting : Setting) (sc : Scene) (d l : ℕ) (rest : List Stmt) → slice_get setting.program.sections sc.section ≡ Some sc.own → StandsAt sc.own d (Label l ∷ rest) → LabelAt setting sc d l rest
+pub label_at : (setting : Setting) (sc : Scene) (d l : ℕ) (rest : List Stmt) → slice_get setting.program.sections sc.section ≡ Some sc.own → IsNumbered sc.own d (Label l ∷ rest) → LabelAt setting sc d l rest
 label_at setting sc d l rest own h =
-    let f = first_of sc.own.stmts h.place (Label l) rest h.behind in
-    record { is_own = own; place = h.place; at = f.at; same_depth = h.same_depth; behind = f.behind; found = label_found sc.own d l rest h }
+    let f = first_of sc.own.stmts h.place (Label l) rest h.following in
+    record { is_own = own; place = h.place; at = f.at; same_depth = h.same_depth; following = f.following; found = label_found sc.own d l rest h }
 
-pub call_at : (setting : Setting) (sc : Scene) (d : ℕ) (call : Stmt) (rest : List Stmt) → slice_get setting.program.sections sc.section ≡ Some sc.own → StandsAt sc.own d (call ∷ rest) → CallAt setting sc call rest
+pub call_at : (setting : Setting) (sc : Scene) (d : ℕ) (call : Stmt) (rest : List Stmt) → slice_get setting.program.sections sc.section ≡ Some sc.own → IsNumbered sc.own d (call ∷ rest) → CallAt setting sc call rest
 call_at setting sc d call rest own h =
-    let f = first_of sc.own.stmts h.place call rest h.behind in
-    record { is_own = own; place = h.place; at = f.at; behind = f.behind }
+    let f = first_of sc.own.stmts h.place call rest h.following in
+    record { is_own = own; place = h.place; at = f.at; following = f.following }
 
 -- ---- parts, with what stands behind them
 
@@ -112,13 +112,13 @@ call_at setting sc d call rest own h =
 pub record StandsIn (own : Placed) (cs : List Stmt) : Type 0 where
   pub depth : ℕ
   pub rest : List Stmt
-  pub stands : StandsAt own depth (cs ++ rest)
+  pub stands : IsNumbered own depth (cs ++ rest)
 
 -- data that stand so, with no item behind them
 pub record DataIn (own : Placed) (cs : List Stmt) : Type 0 where
   pub depth : ℕ
   pub rest : List Stmt
-  pub stands : StandsAt own depth (cs ++ rest)
+  pub stands : IsNumbered own depth (cs ++ rest)
   pub ends : item_words own.places rest ≡ []
 
 -- a part whose targets are found, and whose code and data stand in the section
@@ -384,11 +384,11 @@ bases_paid h more {P = P} low a = bases_as (record h { pay = more }) h.bindings 
 -- them are no more than the data of the statements and of the parts.
 pub record Lies (h : Home) (next many depth : ℕ) (c rest : List Stmt) (ps : List Part) (f : FoundParts h.own h.targets ps) (objects : List Named → List Lasting) (P : Setting → Type 0) : Type 0 where
   pub credit : ℕ → ℕ
-  pub on : StandsAt h.own depth rest
+  pub on : IsNumbered h.own depth rest
   pub objects_are : Bases h next many ps f objects credit P
   pub paid : (a : ℕ) → credit a + data_at h.own a rest ≤ data_at h.own a c
 
-pub lie : {h : Home} {next many depth : ℕ} {c rest : List Stmt} {ps : List Part} {f : FoundParts h.own h.targets ps} {L : List Named → List Lasting} {B : ℕ → ℕ} {P : Setting → Type 0} → StandsAt h.own depth rest → Bases h next many ps f L B P
+pub lie : {h : Home} {next many depth : ℕ} {c rest : List Stmt} {ps : List Part} {f : FoundParts h.own h.targets ps} {L : List Named → List Lasting} {B : ℕ → ℕ} {P : Setting → Type 0} → IsNumbered h.own depth rest → Bases h next many ps f L B P
     → ((a : ℕ) → B a + data_at h.own a rest ≤ data_at h.own a c) → Lies h next many depth c rest ps f L P
 lie {B = B} on objects paid = record { credit = B; on = on; objects_are = objects; paid = paid }
 

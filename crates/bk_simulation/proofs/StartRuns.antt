@@ -1,5 +1,5 @@
 -- START is called: into its frame, through its body, and home.
-use Rattle.bk_simulation.proofs.Words.{Save, ◌≡◌, ℕ, suc, ◌+◌, ◌-◌, ◌*◌, ◌<◌, ◌≤◌, ◌^◌, List, [], ◌∷◌, ◌++◌, length, Some, None, pos, refl, sym, ap, ◌∙◌, subst, if◌then◌else◌, arith, ⊎_elim, slice_get, option_map_or, slice_get_within, FRAME_WORDS, GLOBAL_NUMBER, Status, Word, Link, Cell, Held, content_of, below, settle, Placed, Inside, At, State, Ends, Wild, global_place, step, Program, resumed_in, program_step, program_step_from, HasFrames, start, called, Entry, Value, unset, holds, Memory, World, making, forgetting, calling, status, Environment, Procedure, Meanings, formal_cells, bind_formals, enter, settle-kept, settled, settled_from, drop, eq-eqb, Cell_of}
+use Rattle.bk_simulation.proofs.Words.{Save, ◌≡◌, ℕ, suc, ◌+◌, ◌-◌, ◌*◌, ◌<◌, ◌≤◌, ◌^◌, List, [], ◌∷◌, ◌++◌, length, Some, None, pos, refl, sym, ap, ◌∙◌, subst, arith, ⊎_elim, slice_get, slice_get_within, FRAME_WORDS, GLOBAL_NUMBER, Status, Word, Link, Cell, Held, content_of, below, settle, Placed, Inside, At, State, Ends, global_place, step, Program, program_step, HasFrames, start, called, Entry, Value, unset, holds, Memory, World, making, forgetting, calling, status, Environment, Procedure, Meanings, formal_cells, bind_formals, enter, settle-kept, settled, drop, eq-eqb, Cell_of}
 use Rattle.bk_simulation.proofs.Pieces.{Moves, returning, does, links_kept, links_through, links_settled, BaseOf, Like, like_on, StandsCell, Store, Grown, Fits, fits_above, fits_more, make, grown_made, make_fits, get_new, below_at, below_like, settle_like, settle_at, HasBytes, AllBytes, moves_bytes, Setting, Configuration, state, FewFrames, Ready, Account, Comes, here, go_on, comes_on, one, Ran, ran_from, there, Stopped, roomy, Simulates, formals_long, formal_is}
 use Rattle.bk_simulation.proofs.FramesKept.{links_below}
 use Rattle.bk_simulation.proofs.Calls.{AnyExit, Yielded, AloneRuns, for_body, body_small, body_runs, closing_ran, IsProcedure, in_body, links_free}
@@ -13,21 +13,15 @@ pub record FirstStore (setting : Setting) (mem : Memory) (cells : ℕ → Cell) 
 
 -- at home a state goes on as itself, and the run ends
 pub home_settled : (program : Program) (s : State) → s.control ≡ At program.home → settled program s ≡ s
-home_settled program s e =
-    ap (λ c. settled_from program s c) e
-    ∙ ap (λ b. if b then s else option_map_or (λ _. s) (program.callables.routine program.home) (option_map_or (λ t. t) (resumed_in program.sections program.home s) s)) (eq-eqb program.home program.home refl)
+home_settled program s e = grind (arith, eq-eqb)
 
 pub home_ends : (program : Program) (s : State) → s.control ≡ At program.home → program_step program s ≡ Ends (Status (pos 0)) s
-home_ends program s e =
-    ap (λ c. program_step_from program s c) e
-    ∙ ap (λ b. if b then Ends (Status (pos 0)) s else option_map_or (λ _. step program.callables s) (program.callables.routine program.home) (option_map_or (λ t. step program.callables t) (resumed_in program.sections program.home s) Wild)) (eq-eqb program.home program.home refl)
+home_ends program s e = grind (arith, step, eq-eqb)
 
 -- START's frame is the lowest
 pub few_first : (program : Program) (first F : ℕ) (cells : ℕ → Cell) (frame m : ℕ) → frame ≡ first → cells frame ≡ Held Link (Word first) → HasFrames program first F cells frame m → m ≤ 1
 few_first program first F cells _ _ same link (start e h) = omega arith
-few_first program first F cells _ _ same link (called caller frame back d e h none low high under) =
-    let z : caller ≡ first = (let y : Held Link (Word caller) ≡ Held Link (Word first) = sym e ∙ link in cc) in
-    absurd (omega arith)
+few_first program first F cells _ _ same link (called caller frame back d e h none low high under) = grind arith
 
 -- what the call of START comes to
 abbrev pub Over : Setting → State → Account → Value → World → Type 0
@@ -98,7 +92,7 @@ start_runs setting inner sim alone_runs k f ip c0 w0 fs no_calls cap1 B leB leB'
     let cap0 : FewFrames setting c0 top setting.cap = roomy setting c0 top 1 few0 cap1 in
     let cap3 : FewFrames setting c3 top setting.cap = roomy setting c3 top 1 few3 cap1 in
     let m2 : Moves setting.program s1 s2 = does setting.program s1 own (drop (suc ip.place) own.stmts) 2 (Entry ip.label ip.name) refl refl refl in
-    let m3 : Moves setting.program s2 s3 = does setting.program s2 own ip.body 2 (Save size) (ap (λ y. Inside own 2 y) ip.behind) refl refl in
+    let m3 : Moves setting.program s2 s3 = does setting.program s2 own ip.body 2 (Save size) (ap (λ y. Inside own 2 y) ip.following) refl refl in
     let to_body : Comes setting 2 (setting.pay + (setting.pay + 0)) s1 s3 = go_on 1 _ s1 s2 s3 m2 cap0 (go_on 0 0 s2 s3 s3 m3 cap3 (here s3)) in
     let has1 : HasBytes s1 = record { words = fs.words; hand = tt } in
     let has3 : HasBytes s3 = moves_bytes setting.program s2 s3 m3 (moves_bytes setting.program s1 s2 m2 has1) in

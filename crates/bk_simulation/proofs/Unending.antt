@@ -1,5 +1,5 @@
 -- Where the sections mean a run without an end, the program goes on with it.
-use Rattle.bk_simulation.proofs.Words.{ltb-false, ◌≡◌, ℕ, zero, suc, ◌+◌, ◌*◌, ◌≤◌, nat_lt, true, false, List, [], Option, Some, None, refl, sym, ap, ◌∙◌, subst, arith, ◌⊎◌, ⊎_elim, inl, inr, FRAME_WORDS, option_map, Declarations, number_in, State, Goes, Program, run, first_state, Value, procedure, World, Outcome, gives, undefined, going, each_way, calling, calls_back, Procedure, program_of, procedure_of, Meanings, enter, Going, Undefined, means, meaning, started, run_of, first_world, IsWellPlaced, ltb-true, cut_only_without_turns, settled, Begin, RunsOut, StillGoes, RunsOutOnTheWay, IsWithoutEnd, StepsDoWhatSourcesMean, StepsGoOnWithTheirSource, StartsWithTheirSource, AreAccepted, StandFor}
+use Rattle.bk_simulation.proofs.Words.{ltb-false, ◌≡◌, ℕ, zero, suc, ◌+◌, ◌*◌, ◌≤◌, nat_lt, true, false, List, [], Option, Some, None, refl, sym, ap, ◌∙◌, subst, arith, ◌⊎◌, ⊎_elim, inl, inr, FRAME_WORDS, option_map, Declarations, number_in, State, Goes, Program, run, first_state, Value, procedure, World, Outcome, gives, undefined, going, each_way, calling, calls_back, Procedure, program_of, procedure_of, Meanings, enter, Going, Undefined, means, meaning, started, run_of, first_world, IsWellPlaced, ltb-true, cut_only_without_turns, settled, Begin, RunsOut, StillGoes, RunsOutOnTheWay, IsWithoutEnd, StepsDoWhatSourcesMean, StepsGoOnWithTheirSource, StartsWithTheirSource, AreAccepted, Represent}
 use Rattle.bk_simulation.proofs.Forms.{by_option, by_test, Setting, Account, FewFrames, Comes, here, go_on, FallsThose, Reaches, Ran, Simulates, AnyExit, Procedures, goes_on_so, comes_run, Over, calls_of, fell_out, NoStart, HasStart, called_at, some_calls, enter_after, entered_so, first_store, start_there}
 use Rattle.bk_meaning.specs.Lasting as lasting
 use Rattle.bk_simulation.proofs.All.{alone_runs, alone_adds, simulates}
@@ -107,7 +107,7 @@ laid_goes_on sections program first input s well laid es without j =
 
 -- ---- THE LAWS OF PROGRAMS: the steps of OCODE do what the source means.
 
-are_laid : (program : Program) (first : ℕ) (sections : List Declarations) → AreAccepted sections → StandFor sections program.sections → (well : IsWellPlaced program first FRAME_WORDS) → AreLaid program first well sections
+are_laid : (program : Program) (first : ℕ) (sections : List Declarations) → AreAccepted sections → Represent sections program.sections → (well : IsWellPlaced program first FRAME_WORDS) → AreLaid program first well sections
 are_laid program first sections accepted stand well =
     let t : Together program first sections = record { well = well; accepted = accepted; stand = stand } in
     laid_together program first sections t (apart_together program first sections t)

@@ -1,7 +1,7 @@
 -- Reading and writing the words of living objects.
 use Rattle.bk_simulation.proofs.Lists.{either_way}
 use Rattle.bk_simulation.proofs.Words.{◌≡◌, ◌≢◌, ℕ, ◌+◌, ◌-◌, ◌<◌, ◌≤◌, ◌%◌, ◌^◌, ◌==◌, Bool, cond, List, length, Option, Some, None, refl, sym, ap, ◌∙◌, subst, if◌then◌else◌, arith, ◌⊎◌, ⊎_elim, inl, inr, nat_lt, slice_get, slice_set, is_some, option_and_then, nat_tests, slice_get_within, Value, number, address, unset, holds, places, value_in, Memory, living, cells_of, cells_at, cell_at, replaced, with_cell, read, Content, Word, Variable, Link, Cell, Free, Held, content_of, write, below, settle, variable_in, variable_at, le-ltb, length-set, lt-ltb, Cell_of}
-use Rattle.bk_simulation.proofs.Memory.{Like, like_refl, BaseOf, size_in, Alive, IsCell, Store, Moved, cell_alive, one_base, Codes, Stands, StandsCell, Fits}
+use Rattle.bk_simulation.proofs.Memory.{Like, like_refl, BaseOf, size_in, Alive, IsCell, Store, Moved, cell_alive, one_base, Codes, Applies, StandsCell, Fits}
 use Rattle.bk_simulation.proofs.MadeObjects.{alive_is, alive_from, cell_in, object_there, get_set}
 
 -- ---- cells of the store
@@ -21,8 +21,7 @@ below_like top cells a lt = like_refl _ _ (below_at top cells a lt)
 
 -- an item that is pushed leaves the words below it, and stands there
 pub pushed_below : (frame k : ℕ) (cells : ℕ → Cell) (c : Cell) (a : ℕ) → a < frame + k → below (frame + (k + 1)) (write cells (frame + k) c) a ≡ cells a
-pushed_below frame k cells c a lt =
-    let ne : a ≢ frame + k = omega arith in below_at (frame + (k + 1)) (write cells (frame + k) c) a (omega arith) ∙ untouched cells (frame + k) c a ne
+pushed_below frame k cells c a lt = grind (arith, below_at, untouched)
 
 pub pushed_like : (frame k : ℕ) (cells : ℕ → Cell) (c : Cell) (a : ℕ) → a < frame + k → Like (below (frame + (k + 1)) (write cells (frame + k) c) a) (cells a)
 pushed_like frame k cells c a lt = like_refl _ _ (pushed_below frame k cells c a lt)
@@ -208,14 +207,14 @@ pub record FoundAt (codes : Codes) (h : Store) (top : ℕ) (a : Value) (x : Cont
   pub word : x ≡ Word (base + offset)
   pub cell : Found codes h top object offset base c
 
-pub found_at : (codes : Codes) (h : Store) (top : ℕ) (a : Value) (x : Content) (c : Cell_of) → Fits codes h top → Stands codes h.bases a x → cell_at h.mem a ≡ Some c → FoundAt codes h top a x c
+pub found_at : (codes : Codes) (h : Store) (top : ℕ) (a : Value) (x : Content) (c : Cell_of) → Fits codes h top → Applies codes h.bases a x → cell_at h.mem a ≡ Some c → FoundAt codes h top a x c
 found_at codes h top (address o i) x c f s e =
     let g = found codes h top o i s.0 c f s.1 e in
     record { object = o; offset = i; base = s.0; address_is = refl; word = s.3 ∙ ap Word g.is_word; cell = g }
 found_at codes h top (number n) x c f s e = absurd (let z : None ≡ Some c = e in cc)
 found_at codes h top _ x c f s e = absurd (let z : None ≡ Some c = e in cc)
 
-pub read_at : (codes : Codes) (h : Store) (top : ℕ) (a v : Value) (x : Content) → Fits codes h top → Stands codes h.bases a x → read h.mem a ≡ Some v → FoundAt codes h top a x (holds v)
+pub read_at : (codes : Codes) (h : Store) (top : ℕ) (a v : Value) (x : Content) → Fits codes h top → Applies codes h.bases a x → read h.mem a ≡ Some v → FoundAt codes h top a x (holds v)
 read_at codes h top a v x f s e = found_at codes h top a x (holds v) f s (cell_read (cell_at h.mem a) v e)
 
 -- ---- a cell is changed in the store too
@@ -254,7 +253,7 @@ pub record WrittenAt (codes : Codes) (h : Store) (top : ℕ) (a : Value) (x : Co
   pub word : x ≡ Word (base + offset)
   pub cell : Written codes h top object offset base c mem1
 
-pub write_at : (codes : Codes) (h : Store) (top : ℕ) (a : Value) (x : Content) (c : Cell_of) (mem1 : Memory) → Fits codes h top → Stands codes h.bases a x → with_cell h.mem a c ≡ Some mem1
+pub write_at : (codes : Codes) (h : Store) (top : ℕ) (a : Value) (x : Content) (c : Cell_of) (mem1 : Memory) → Fits codes h top → Applies codes h.bases a x → with_cell h.mem a c ≡ Some mem1
     → WrittenAt codes h top a x c mem1
 write_at codes h top (address o i) x c mem1 f s e =
     let g = write_here codes h top o i s.0 c mem1 f s.1 e in
@@ -269,6 +268,4 @@ settle_like from to cells a = either_way (λ c. Like c (cells a)) (nat_lt a from
     (record { content = refl; variable = λ k e. ap (λ (z : Cell). Held Variable (content_of z)) e; link = λ w e. absurd (no_link (content_of (cells a)) w e) }) (like_refl _ _ refl))
 
 pub settle_at : (from to : ℕ) (cells : ℕ → Cell) (a : ℕ) → from ≤ a → a < to → settle from to cells a ≡ Held Variable (content_of (cells a))
-settle_at from to cells a le lt =
-    ap (λ (t : Bool). if t then cells a else if nat_lt a to then Held Variable (content_of (cells a)) else cells a) (le-ltb a from le)
-    ∙ ap (λ (t : Bool). if t then Held Variable (content_of (cells a)) else cells a) (lt-ltb a to lt)
+settle_at from to cells a le lt = grind (arith, le-ltb, lt-ltb)

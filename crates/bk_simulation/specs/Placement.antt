@@ -1,4 +1,4 @@
--- Accepted sections, and the statements that stand for them.
+-- Accepted sections, and the statements that represent them.
 use Rattle.std.specs.Prelude.{◌≡◌, List, [], ◌∷◌}
 use Rattle.bk_tree.specs.Tree.{Declarations}
 use Rattle.bk_tree.specs.Limits.{Within}
@@ -21,7 +21,7 @@ AreAccepted [] = Unit {0}
 AreAccepted (ds ∷ rest) = IsAccepted ds × AreAccepted rest
 
 -- Section by section, the statements are those of the scheme.
-abbrev pub StandFor : List Declarations → List Placed → Type 0
-StandFor [] [] = Unit {0}
-StandFor (ds ∷ rest) (own ∷ others) = (own.stmts ≡ scheme (named_tree ds)) × StandFor rest others
-StandFor _ _ = ⊥
+abbrev pub Represent : List Declarations → List Placed → Type 0
+Represent [] [] = Unit {0}
+Represent (ds ∷ rest) (own ∷ others) = (own.stmts ≡ scheme (named_tree ds)) × Represent rest others
+Represent _ _ = ⊥

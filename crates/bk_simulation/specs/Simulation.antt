@@ -21,7 +21,7 @@ use Rattle.bk_meaning.specs.World as m
 use Rattle.bk_meaning.specs.Program.{Run, Ends as Finishes, Going, Undefined, meaning}
 use Rattle.bk_simulation.specs.GoingOn.{settled}
 use Rattle.bk_ocode.specs.WellPlaced.{IsWellPlaced}
-use Rattle.bk_simulation.specs.Placement.{AreAccepted, StandFor}
+use Rattle.bk_simulation.specs.Placement.{AreAccepted, Represent}
 
 -- bytes that begin others
 pub record Begin (bytes all : List ℕ) : Type 0 where
@@ -119,7 +119,7 @@ module _ (program : Program) (first : ℕ) where
 -- The law of programs.
 abbrev pub StepsDoWhatSourcesMean : Type 0
 StepsDoWhatSourcesMean = (sections : List Declarations) (program : Program) (first n : ℕ) (input : List ℕ) → AreAccepted sections
-    → StandFor sections program.sections → IsWellPlaced program first FRAME_WORDS → DoesFrom program first n (first_state program first input) (meaning sections input n)
+    → Represent sections program.sections → IsWellPlaced program first FRAME_WORDS → DoesFrom program first n (first_state program first input) (meaning sections input n)
 
 -- Runs without an end.
 abbrev pub IsWithoutEnd : List Declarations → List ℕ → Type 0
@@ -127,7 +127,7 @@ IsWithoutEnd sections input = (n : ℕ) → (bytes left : List ℕ) × (calls : 
 
 abbrev pub StepsGoOnWithTheirSource : Type 0
 StepsGoOnWithTheirSource = (sections : List Declarations) (program : Program) (first : ℕ) (input : List ℕ) (s : State) → AreAccepted sections
-    → StandFor sections program.sections → IsWellPlaced program first FRAME_WORDS → first_state program first input ≡ Some s → IsWithoutEnd sections input
+    → Represent sections program.sections → IsWellPlaced program first FRAME_WORDS → first_state program first input ≡ Some s → IsWithoutEnd sections input
     → (j : ℕ) → StillGoes program first sections input s j ⊎ RunsOutOnTheWay program first sections input s
 
 -- What a program has of START: a first state, where global 1 can be read when the run begins; and none, where it cannot.
@@ -137,4 +137,4 @@ pub data StartsSo (program : Program) (first : ℕ) (input : List ℕ) (sections
 
 abbrev pub StartsWithTheirSource : Type 0
 StartsWithTheirSource = (sections : List Declarations) (program : Program) (first : ℕ) (input : List ℕ) → AreAccepted sections
-    → StandFor sections program.sections → IsWellPlaced program first FRAME_WORDS → StartsSo program first input sections
+    → Represent sections program.sections → IsWellPlaced program first FRAME_WORDS → StartsSo program first input sections

@@ -1,7 +1,7 @@
 //! Laws of programs.
 ghost use Rattle.bk_simulation.specs.Simulation.{StartsWithTheirSource, StepsDoWhatSourcesMean, StepsGoOnWithTheirSource};
 
-/// Where sections stand for accepted sources, and the program is well placed, the steps end where and as n turns of the
+/// Where sections represent accepted sources, and the program is well placed, the steps end where and as n turns of the
 /// meaning end, or come as far, with the same bytes written and the same input left, within 16 n + 16 steps, unless a
 /// frame would begin too high.
 pub fn steps_do_what_sources_mean()

@@ -7,7 +7,7 @@ use Rattle.bk_tree.specs.Tree.{Expression, Expressions, Command, Commands, Decla
 use Rattle.bk_scope.specs.declared.bound.Bound.{Bound}
 use Rattle.bk_scope.specs.declared.place.Enclosing.{Enclosing}
 use Rattle.bk_scope.specs.Scope.{Binding}
-use Rattle.bk_scope.specs.Spots.{Spot, numbered, behind_constant, past}
+use Rattle.bk_scope.specs.Spots.{Spot, numbered, after_constant, past}
 use Rattle.bk_ocode.specs.Lists.{joined}
 use Rattle.bk_trans.specs.declared.around.Target.{Target}
 use Rattle.bk_trans.specs.Program as program
@@ -54,7 +54,7 @@ weigh_items : (ts : List Target) (k : Kind) (bs : List Binding) (s : Spot) (n : 
 weigh_items ts Procedures bs s n no_items = refl
 weigh_items ts Procedures bs s n (item l x e is) = weigh_items ts Procedures bs _ (n + 1) is
 weigh_items ts Words bs s n no_items = refl
-weigh_items ts Words bs s n (item l x e is) = omega (arith, weigh_items ts Words bs (numbered 1 (behind_constant e (past 1 s))) (n + 1) is)
+weigh_items ts Words bs s n (item l x e is) = omega (arith, weigh_items ts Words bs (numbered 1 (after_constant e (past 1 s))) (n + 1) is)
 
 weigh_manifest : (ts : List Target) (k : Kind) (is : Items) → weigh ts k (parts_of_items 0 []) ≡ length (static_places k sort.Manifest is)
 weigh_manifest ts Procedures is = refl

@@ -1,8 +1,8 @@
 -- Each way on that is counted from a state of the machine is one of a section.
-use Rattle.bk_syntax.proofs.Terms.{◌<◌, ℕ, ◌+◌, ◌-◌, max, min, Bool, true, false, cond, List, [], ◌∷◌, ◌++◌, length, length-append, refl, ap, inl, inr, arith, nat_lt, Label, Call, Mention, Expression, Command, Commands, Declaration, Declarations, Items, Definition, parens, unary, binary, choice, apply, valof, none, more, empty, goto, label, default, test, for_loop, result, block, repeat_while, no_commands, also, constants, definitions, no_declarations, declare, no_items, item, routine, function, no_definitions, define, no_starts, depth, depth_of_command, depth_of_commands, depth_of_declaration, depth_of_declarations, depth_of_items, depth_of_definition, depth_of_definitions, nodes, nodes_of_command, nodes_of_commands, nodes_of_declaration, nodes_of_declarations, nodes_of_items, nodes_of_definition, nodes_of_definitions, inner, behind, at_expression, at_command, Stack, in_section, in_block, in_let, at_name, at_formals, at_formal, at_formal_end, at_head, at_variable, at_variable_end, at_starts, at_opening, at_items, at_sign, at_goto, at_for, at_forward, at_default, in_parens, in_unary, in_binary, in_chain, in_then, in_else, in_args, in_table, in_start, in_dests, in_values, in_guard, in_test, in_result, in_while, in_from, in_to, in_by, in_item, in_function, in_value, in_vector, in_valof, in_label, in_guarded, in_default, in_do, in_or, in_for, in_routine, State, want, have, begin, maybe, did, due, push, guarded, give, commands_then, declarations_then, items_then, definitions_then, form_of, Lookahead, closing, assigning, listing, going, repeating, operating, Any, Gives, Does, Operates, Defines, Declares, Wants, Misses, Lists, Due, Completes, pushes, falls, behind_ok, inner_ok, Tagged, ForExpression, ForCommand, ForDefinition, ForDeclaration, ForSymbol, Fits, more_names, unary_done, binary_done, guarded_depth, guarded_nodes, commands_depth, commands_nodes, declarations_depth, declarations_nodes, definitions_depth, definitions_nodes, items_depth, items_nodes, Kind as k}
+use Rattle.bk_syntax.proofs.Terms.{◌<◌, ℕ, ◌+◌, ◌-◌, max, min, Bool, true, false, cond, List, [], ◌∷◌, ◌++◌, length, length-append, refl, ap, inl, inr, arith, nat_lt, Label, Call, Mention, Expression, Command, Commands, Declaration, Declarations, Items, Definition, parens, unary, binary, choice, apply, valof, none, more, empty, goto, label, default, test, for_loop, result, block, repeat_while, no_commands, also, constants, definitions, no_declarations, declare, no_items, item, routine, function, no_definitions, define, no_starts, depth, depth_of_command, depth_of_commands, depth_of_declaration, depth_of_declarations, depth_of_items, depth_of_definition, depth_of_definitions, nodes, nodes_of_command, nodes_of_commands, nodes_of_declaration, nodes_of_declarations, nodes_of_items, nodes_of_definition, nodes_of_definitions, inner, following, at_expression, at_command, Stack, in_section, in_block, in_let, at_name, at_formals, at_formal, at_formal_end, at_head, at_variable, at_variable_end, at_starts, at_opening, at_items, at_sign, at_goto, at_for, at_forward, at_default, in_parens, in_unary, in_binary, in_chain, in_then, in_else, in_args, in_table, in_start, in_dests, in_values, in_guard, in_test, in_result, in_while, in_from, in_to, in_by, in_item, in_function, in_value, in_vector, in_valof, in_label, in_guarded, in_default, in_do, in_or, in_for, in_routine, State, want, have, begin, maybe, did, due, push, guarded, give, commands_then, declarations_then, items_then, definitions_then, form_of, Lookahead, closing, assigning, listing, going, repeating, operating, Any, Gives, Does, Operates, Defines, Declares, Wants, Misses, Lists, Due, Completes, pushes, falls, behind_ok, inner_ok, Tagged, ForExpression, ForCommand, ForDefinition, ForDeclaration, ForSymbol, Fits, more_names, unary_done, binary_done, guarded_depth, guarded_nodes, commands_depth, commands_nodes, declarations_depth, declarations_nodes, definitions_depth, definitions_nodes, items_depth, items_nodes, Kind as k}
 use Rattle.bk_tree.specs.declared.tree.Operator.TheVariants.{Both}
 use Rattle.bk_tree.specs.declared.tree.Sort.{Sort}
-use Rattle.bk_syntax.proofs.Behind.{run_end}
+use Rattle.bk_syntax.proofs.Following.{run_end}
 use Rattle.bk_syntax.proofs.Onward.{Completion, CompletionBy, sized, step_on, step_by, open_on, shut_by, end_completion, same_by, leaves_command, at_close, at_comma, at_assignment, GivesOn, DoesOn, DefinedCompletion, DefinesOn, DeclaredCompletion, given, done, name_here, mention_here, break_here, name_on, break_on}
 use Rattle.bk_syntax.proofs.Operands.{gives_as, calls_by, whole_completion, whole_sized, args_completion, choice_completion, table_completion, prefix_tight, operates_by, operand_completion}
 use Rattle.bk_syntax.proofs.Attaining.{does_as, does_sized, closed_completion, missing_completion, break_there, value_completion, dests_end, dests_go, start_completion, guard_completion, or_completion, test_completion, to_completion, by_completion, from_completion, starts_completion, start_value, start_vector}
@@ -14,7 +14,7 @@ mutual
   give_completion P os (in_parens m st) e c f h =
       at_close os (have (in_parens m st) e) c h (λ w. step_by closing k.Close os (have (in_parens m st) e) (have st (parens m e)) (refl, refl, refl, refl) refl refl refl
       (whole_completion os st (parens m e) (λ x y i. give_completion P os st x y f i) w))
-  give_completion P os (in_unary m q st) e c f h = gives_as os (in_unary m q st) st e (unary m q e) (λ x y i. give_completion P os st x y f i) (λ l s t j. unary_done m q st e l s t (falls (behind q) 12 t (behind_ok q).1 j)) c h
+  give_completion P os (in_unary m q st) e c f h = gives_as os (in_unary m q st) st e (unary m q e) (λ x y i. give_completion P os st x y f i) (λ l s t j. unary_done m q st e l s t (falls (following q) 12 t (behind_ok q).1 j)) c h
   give_completion P os (in_binary q s a st) e c f h =
       gives_as os (in_binary q s a st) st e (binary (at_expression a) q s a e) (λ x y i. give_completion P os st x y f i) (λ l y t j. binary_done q s a st e l y t (falls (inner q) 12 t (inner_ok q).1 j)) c h
   give_completion P os (in_chain q s a b st) e c f h =
@@ -99,7 +99,7 @@ mutual
       let p = definitions_depth ds d in
       let q = definitions_nodes ds d in
       let r = declare_completion P os st (definitions m zs) f (sized (Declares P st) (max (depth_of_definitions ds) (depth_of_definition d)) (depth_of_definitions zs) (nodes_of_definitions ds + nodes_of_definition d) (nodes_of_definitions zs) (omega (arith, p)) (omega (arith, q)) h) in
-      record { next = r.behind; takes = r.goes; completion = r.rest }
+      record { next = r.following; takes = r.goes; completion = r.rest }
   define_completion P os _ d f h = absurd f
 
   declare_completion : (P : ℕ → ℕ → Type 0) (os : List (List ℕ)) (st : Stack) (d : Declaration) → ForDeclaration st os → Declares P st (depth_of_declaration d) (nodes_of_declaration d) → DeclaredCompletion P os st d
@@ -109,7 +109,7 @@ mutual
       let q = declarations_nodes ds d in
       let end = end_completion os (due (in_section es)) es (run_end (due (in_section es)))
       (sized P (max (depth_of_declarations ds) (depth_of_declaration d)) (depth_of_declarations es) (nodes_of_declarations ds + nodes_of_declaration d) (nodes_of_declarations es) (omega (arith, p)) (omega (arith, q)) h) in
-      record { next = due (in_section es); takes = refl; completion = end; behind = due (in_section es); goes = refl; rest = end }
+      record { next = due (in_section es); takes = refl; completion = end; following = due (in_section es); goes = refl; rest = end }
   declare_completion P [] (in_block l b ds cs st) d f h = absurd f
   declare_completion P (tag ∷ os) (in_block l b ds cs st) d f h =
       let es : Declarations = declarations_then ds (declare d no_declarations) in
@@ -122,7 +122,7 @@ mutual
         next = due (in_block l false es cs st);
         takes = refl;
         completion = (shut_by tag os (due (in_block l false es cs st)) (did st whole) f.0 (λ m s. refl) end).completion;
-        behind = due (in_block l true es cs st);
+        following = due (in_block l true es cs st);
         goes = refl;
         rest = (shut_by tag os (due (in_block l true es cs st)) (did st whole) f.0 (λ m s. refl) end).completion;
       }

@@ -1,7 +1,7 @@
 -- What is read to its end is in the grammar; with what the grammar has being read, the two are one.
-use Rattle.bk_syntax.proofs.Terms.{◌≡◌, ℕ, ◌+◌, ◌≤◌, Bool, true, false, List, [], ◌∷◌, Option, Some, None, Result, Ok, ◌==◌, length, refl, ap, subst, inl, inr, arith, Symbol, Guard, Expression, Command, Declaration, Declarations, Definition, unary, binary, choice, valof, table, none, more, empty, assign, label, case_of, default, test, for_loop, result, repeat_while, no_commands, definitions, no_declarations, declare, no_items, item, routine, function, variables, no_definitions, define, no_starts, value, vector, row, inner, behind, at_expression, at_expressions, at_names, at_command, size, start_count, each_then, declarations_then, definitions_then, starts_then, size_then, count_then, in_block_is, At_head, Ready, Before, May_miss, Inv, mono, split, limit_ok, semis_refl, definitions_all, each_of, value_last, vector_last, full_of, ends_of, guarded_does, guarded_filled, added, inside_of, of_let, complete, build_binary, call_filled, call_does, step_sound, reading, eq_is, Kind as k, Operator as o, Guard as g}
+use Rattle.bk_syntax.proofs.Terms.{◌≡◌, ℕ, ◌+◌, ◌≤◌, Bool, true, false, List, [], ◌∷◌, Option, Some, None, Result, Ok, ◌==◌, length, refl, ap, subst, inl, inr, arith, Symbol, Guard, Expression, Command, Declaration, Declarations, Definition, unary, binary, choice, valof, table, none, more, empty, assign, label, case_of, default, test, for_loop, result, repeat_while, no_commands, definitions, no_declarations, declare, no_items, item, routine, function, variables, no_definitions, define, no_starts, value, vector, row, inner, following, at_expression, at_expressions, at_names, at_command, size, start_count, each_then, declarations_then, definitions_then, starts_then, size_then, count_then, in_block_is, At_head, Ready, Before, May_miss, Inv, mono, split, limit_ok, semis_refl, definitions_all, each_of, value_last, vector_last, full_of, ends_of, guarded_does, guarded_filled, added, inside_of, of_let, complete, build_binary, call_filled, call_does, step_sound, reading, eq_is, Kind as k, Operator as o, Guard as g}
 use Rattle.bk_grammar.specs.Grammar.{Filled, Reads, Does, Declares, Defines, Section}
-use Rattle.bk_grammar.specs.Machine.{Stack, in_section, in_block, in_let, at_name, at_items, in_unary, in_binary, in_chain, in_else, in_table, in_start, in_values, in_guard, in_result, in_while, in_function, in_value, in_vector, in_valof, in_label, in_guarded, in_default, in_or, in_for, in_routine, State, want, have, begin, maybe, did, due, limit, is_sign_of, if_is, guarded, behind_sign, declared_by, defined_by, is_call, call_of, give, finish, without, inside, take_due, stepped_by, step, whole, going, run}
+use Rattle.bk_grammar.specs.Machine.{Stack, in_section, in_block, in_let, at_name, at_items, in_unary, in_binary, in_chain, in_else, in_table, in_start, in_values, in_guard, in_result, in_while, in_function, in_value, in_vector, in_valof, in_label, in_guarded, in_default, in_or, in_for, in_routine, State, want, have, begin, maybe, did, due, limit, is_sign_of, if_is, guarded, after_sign, declared_by, defined_by, is_call, call_of, give, finish, without, inside, take_due, stepped_by, step, whole, going, run}
 
 abbrev ended_as : Declarations → Option State
 ended_as ds = Some (due (in_section ds))
@@ -29,7 +29,7 @@ defined_end _ d a ms ds b r h = absurd cc
 
 mutual
   pub give_end : (st : Stack) (e : Expression) (a ms : List Symbol) (j : ℕ) (ds : Declarations) → Before st a ms → j ≤ limit st → Reads j e ms [] → give st e 1 [] k.Semicolon ≡ ended_as ds → Section ds a
-  give_end (in_unary l p st) e a ms j ds b lo r h = give_end st (unary l p e) a (b.0 ∷ ms) 1 ds b.1 (limit_ok st).0 (omega arith, b.0, ms, refl, b.2, b.3, mono j (behind p) e ms [] lo r, tt) h
+  give_end (in_unary l p st) e a ms j ds b lo r h = give_end st (unary l p e) a (b.0 ∷ ms) 1 ds b.1 (limit_ok st).0 (omega arith, b.0, ms, refl, b.2, b.3, mono j (following p) e ms [] lo r, tt) h
   give_end (in_binary q s y st) e a ms j ds b lo r h = give_end st (binary (at_expression y) q s y e) a b.0 (row q) ds b.2 b.5 (build_binary (row q) q s y e b.0 ms [] b.1 (omega arith) b.3 b.4 b.6 (mono j (inner q) e ms [] lo r) tt) h
   give_end (in_chain q s y z st) e a ms j ds b lo r h = give_end st (binary (at_expression y) o.Both s y (binary (at_expression z) q s z e)) a b.0 6 ds b.2 b.5 (inr (omega arith, b.1, ms, b.3, b.4, refl, refl, refl, b.6, b.7, b.8, mono j 5 e ms [] lo r, tt)) h
   give_end (in_else s c y st) e a ms j ds b lo r h = give_end st (choice (at_expression c) s c y e) a b.0 12 ds b.4 b.7 (omega arith, b.1, b.2, b.3, ms, b.5, b.6, refl, b.9, b.8, b.10, mono j 12 e ms [] lo r, tt) h
@@ -43,7 +43,7 @@ mutual
         (b.1, b.2, b.4, omega (arith, eq_is (size xs) (size ys + 1) z.0, size_then ys (more e none)), refl, b.5, each_of ys e b.2 ms [] b.6 (mono j 12 e ms [] lo r) tt) z.1
     | inr z ↦ absurd cc
   ]
-  give_end (in_guard gd l st) e a ms j ds b lo r h = absurd (if_none (is_sign_of gd k.Semicolon) (behind_sign gd (in_guarded gd l e st)) (due (in_section ds)) (no_sign gd) h)
+  give_end (in_guard gd l st) e a ms j ds b lo r h = absurd (if_none (is_sign_of gd k.Semicolon) (after_sign gd (in_guarded gd l e st)) (due (in_section ds)) (no_sign gd) h)
   give_end (in_result l st) e a ms j ds b lo r h = finish_end st (result l e) a (b.0 ∷ ms) ds b.1.0 b.1.1 tt (b.0, ms, refl, b.2, b.3, mono j 12 e ms [] lo r, tt) h
   give_end (in_while f c st) e a ms j ds b lo r h = finish_end st (repeat_while (at_command c) f c e) a b.0 ds b.2.0 b.2.1 tt (b.1, ms, b.3, refl, b.4, b.5, mono j 12 e ms [] lo r, tt) h
   give_end (in_function y fs st) e a ms j ds b lo r h = defined_end st (function y.at y.letters fs e) a b.0 ds b.3 (b.4.0, b.4.1, b.1, b.2, ms, b.4.2, b.4.3, b.4.4, b.5, b.6, mono j 12 e ms [] lo r, tt) h

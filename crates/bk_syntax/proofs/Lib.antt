@@ -1,12 +1,12 @@
 mod Terms
-mod Stands
+mod Applies
 mod Tags
 mod Rows
 mod Exact
 mod Openings
-mod Behind
+mod Following
 mod Unfinished
-mod Told
+mod Reported
 mod Onward
 mod Operands
 mod Attaining

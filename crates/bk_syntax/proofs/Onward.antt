@@ -1,7 +1,7 @@
 -- Ways on: symbols that lead from a state of the machine to the end of a section, by the class of the first of them.
 use Rattle.bk_syntax.proofs.Terms.{◌≡◌, ◌≤◌, ℕ, arith, false, cond, List, [], ◌∷◌, Option, Some, None, Ok, refl, subst, ap, ◌∙◌, Kind, Symbol, symbol, upper_name, Mention, Expression, Command, Declarations, Definition, Declaration, name, simple, depth, depth_of_command, depth_of_declarations, depth_of_definition, nodes, nodes_of_command, nodes_of_declarations, nodes_of_definition, begins_command, repeats, assigns, goes, one_more, up_to_tag, closed_by, in_front, plain, Stack, State, want, have, begin, did, opens, closes, declared, declared_by, defined_by, stepped_by, run, form_of, Lookahead, closing, assigning, listing, going, repeating, operating, Any, AtClosing, AtListing, AtArgument, AtAssignment, Gives, Does, Defines, Takes, stepped, alike, takes, one_tag, Tagged, Kind as k}
 use Rattle.bk_tree.specs.declared.tree.Simple.TheVariants as w
-use Rattle.bk_syntax.proofs.Behind.{plain_end, plain_open, plain_other, plain_close}
+use Rattle.bk_syntax.proofs.Following.{plain_end, plain_open, plain_other, plain_close}
 use Rattle.bk_grammar.specs.Placed.{position_of}
 
 -- ---- ways on
@@ -169,9 +169,9 @@ pub record DeclaredCompletion (P : ℕ → ℕ → Type 0) (os : List (List ℕ)
   pub next : State
   pub takes : declared st d ≡ Some next
   pub completion : Completion P os next
-  pub behind : State
-  pub goes : declared_by st d 1 [] k.Semicolon ≡ Some behind
-  pub rest : Completion P os behind
+  pub following : State
+  pub goes : declared_by st d 1 [] k.Semicolon ≡ Some following
+  pub rest : Completion P os following
 
 pub given : {P : ℕ → ℕ → Type 0} (os : List (List ℕ)) (st : Stack) (e : Expression) (d n : ℕ) → GivesOn P os st → d ≡ depth e → n ≡ nodes e → Any (Gives P st (form_of e) d n) → Completion P os (have st e)
 given {P = P} os st e d n g p q h = (g e h.0 (sized (λ x y. Gives P st (form_of e) x y h.0) d (depth e) n (nodes e) p q h.1)).completion

@@ -1,5 +1,5 @@
 -- Ways on behind an expression, by what it stands in.
-use Rattle.bk_syntax.proofs.Terms.{◌≡◌, ℕ, ◌+◌, max, Bool, true, false, List, [], length, ◌==◌, Some, refl, inl, inr, arith, nat_lt, Kind, Label, Call, Callable, Other, Expression, Expressions, binary, choice, apply, table, none, more, depth, depth_of_each, depth_of_command, nodes, nodes_of_each, nodes_of_command, inner, behind, is_comma, goes, at_expression, size, start_count, Stack, in_unary, in_binary, in_chain, in_then, in_else, in_args, in_table, in_start, in_values, in_value, in_vector, in_label, in_guarded, in_default, in_or, in_for, State, want, have, limit, give, stepped_by, each_then, form_of, Lookahead, closing, assigning, listing, going, repeating, operating, Any, Unlisted, If, Whole, Taken, Gives, Does, Operates, pushes, no_comma, falls, binary_done, each_depth, each_nodes, Kind as k, Operator, Operator as o, Prefix, Prefix as p}
+use Rattle.bk_syntax.proofs.Terms.{◌≡◌, ℕ, ◌+◌, max, Bool, true, false, List, [], length, ◌==◌, Some, refl, inl, inr, arith, nat_lt, Kind, Label, Call, Callable, Other, Expression, Expressions, binary, choice, apply, table, none, more, depth, depth_of_each, depth_of_command, nodes, nodes_of_each, nodes_of_command, inner, following, is_comma, goes, at_expression, size, start_count, Stack, in_unary, in_binary, in_chain, in_then, in_else, in_args, in_table, in_start, in_values, in_value, in_vector, in_label, in_guarded, in_default, in_or, in_for, State, want, have, limit, give, stepped_by, each_then, form_of, Lookahead, closing, assigning, listing, going, repeating, operating, Any, Unlisted, If, Whole, Taken, Gives, Does, Operates, pushes, no_comma, falls, binary_done, each_depth, each_nodes, Kind as k, Operator, Operator as o, Prefix, Prefix as p}
 use Rattle.bk_frames.specs.declared.size.Form.{Form}
 use Rattle.bk_syntax.proofs.Onward.{Completion, CompletionBy, IsOf, sized, step_on, step_by, same_by, at_argument, Ends, Leaves, ends_expression, GivesOn, given, name_here, name_on, depth_some}
 
@@ -156,7 +156,7 @@ table_completion {P = P} os m es st e operating g h = absurd (gives_ends P st Ot
 
 -- ---- an operator that begins no command, `%`
 
-pub prefix_tight : (q : Prefix) → nat_lt 1 (behind q) ≡ true
+pub prefix_tight : (q : Prefix) → nat_lt 1 (following q) ≡ true
 prefix_tight p.Contents = refl
 prefix_tight _ = refl
 

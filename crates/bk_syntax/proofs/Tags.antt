@@ -1,6 +1,6 @@
 -- A fault stands with section tags too.
-use Rattle.bk_syntax.proofs.Terms.{◌≡◌, ℕ, List, [], ◌∷◌, ◌++◌, Option, Some, None, Err, refl, sym, ap, subst, ◌∙◌, append_assoc, Kind, Symbol, Declarations, tag_of, Section, plain, plain_by, plain_behind, in_front, closed_by, Closing, IsSection, reading, Kind as k}
-use Rattle.bk_syntax.proofs.Stands.{fault_stands}
+use Rattle.bk_syntax.proofs.Terms.{◌≡◌, ℕ, List, [], ◌∷◌, ◌++◌, Option, Some, None, Err, refl, sym, ap, subst, ◌∙◌, append_assoc, Kind, Symbol, Declarations, tag_of, Section, plain, plain_by, plain_after, in_front, closed_by, Closing, IsSection, reading, Kind as k}
+use Rattle.bk_syntax.proofs.Applies.{fault_stands}
 
 -- one list of plain symbols goes on from another
 abbrev pub GoesOn : Option (List Symbol) → Option (List Symbol) → Type 0
@@ -13,7 +13,7 @@ in_front_goes ts None b h = ap (in_front ts) h
 in_front_goes ts (Some ps) None h = tt
 in_front_goes ts (Some ps) (Some qs) h = (h.0, ap (λ z. ts ++ z) h.1 ∙ sym (append_assoc ts ps h.0))
 
-behind_goes : (c : Option Closing) (f g : List (List ℕ) → Option (List Symbol)) → ((opens : List (List ℕ)) → GoesOn (f opens) (g opens)) → GoesOn (plain_behind f c) (plain_behind g c)
+behind_goes : (c : Option Closing) (f g : List (List ℕ) → Option (List Symbol)) → ((opens : List (List ℕ)) → GoesOn (f opens) (g opens)) → GoesOn (plain_after f c) (plain_after g c)
 behind_goes None f g h = refl
 behind_goes (Some c) f g h = in_front_goes c.closings (f c.still) (g c.still) (h c.still)
 

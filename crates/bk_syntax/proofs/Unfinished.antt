@@ -1,9 +1,9 @@
 -- Symbols with which the machine goes on begin a section.
 use Rattle.bk_syntax.proofs.Terms.{◌≡◌, ℕ, Bool, true, false, cond, List, [], ◌∷◌, ◌++◌, Option, Some, None, Err, refl, sym, ap, subst, ◌∙◌, Kind, Symbol, no_declarations, tag_of, Closing, same_tag, one_more, up_to_tag, without_tag, closed_by, in_front, plain, depth_of_declarations, nodes_of_declarations, Completes, State, due, in_section, opens, closes, stepped_by, step, run, reading, goes_to, leads, AfterSymbols, stepped, opens_kind, closes_kind, Tagged, Fits, Fit, FitUnder, After, step_fits, Always, possible, Kind as k}
 use Rattle.bk_grammar.specs.SyntaxFault.{Begins, Any}
-use Rattle.bk_syntax.proofs.Stands.{whole_err}
+use Rattle.bk_syntax.proofs.Applies.{whole_err}
 use Rattle.bk_syntax.proofs.Exact.{reads_the_grammar}
-use Rattle.bk_syntax.proofs.Behind.{nothing_in_front, both_in_front, leads_both, leads_runs, plain_end, plain_open, plain_other, plain_close, plain_all, reading_all, run_end, stopped}
+use Rattle.bk_syntax.proofs.Following.{nothing_in_front, both_in_front, leads_both, leads_runs, plain_end, plain_open, plain_other, plain_close, plain_all, reading_all, run_end, stopped}
 use Rattle.bk_syntax.proofs.Onward.{Completion}
 use Rattle.bk_syntax.proofs.Attained.{state_completion}
 

@@ -24,7 +24,7 @@ use Rattle.bk_tree.specs.declared.placed.PlacedFault.{PlacedFault}
 use Rattle.bk_grammar.specs.Placed.{position_of}
 use Rattle.bk_frames.specs.Bounds.{Passed}
 use Rattle.bk_grammar.specs.Brackets.{closed_by, in_front, plain}
-use Rattle.bk_grammar.specs.SyntaxFault.{IsSection, Begins, Stands, First, StandsAtEnd}
+use Rattle.bk_grammar.specs.SyntaxFault.{IsSection, Begins, Applies, First, AppliesAtEnd}
 use Rattle.bk_grammar.specs.Machine.{State, due, in_section, step}
 use Rattle.bk_frames.specs.Frames.{stack_of, state}
 
@@ -67,17 +67,17 @@ IsLimit TooManyNodes = Unit {0}
 IsLimit _ = ⊥
 
 -- the fault that is reported for an error at this position
-abbrev pub told : ParseError → ℕ → Refused PlacedFault
-told w.Memory at = Memory
-told w.Unexpected at = Fault (record { at = at; kind = UnexpectedSymbol })
-told w.WrongSectionTag at = Fault (record { at = at; kind = WrongSectionTag })
-told w.NestedTooDeeply at = Fault (record { at = at; kind = NestedTooDeeply })
-told w.TooManyNodes at = Fault (record { at = at; kind = TooManyNodes })
+abbrev pub reported : ParseError → ℕ → Refused PlacedFault
+reported w.Memory at = Memory
+reported w.Unexpected at = Fault (record { at = at; kind = UnexpectedSymbol })
+reported w.WrongSectionTag at = Fault (record { at = at; kind = WrongSectionTag })
+reported w.NestedTooDeeply at = Fault (record { at = at; kind = NestedTooDeeply })
+reported w.TooManyNodes at = Fault (record { at = at; kind = TooManyNodes })
 
 -- what a symbol at this position is answered
 abbrev pub answered : Result ParserState ParseError → ℕ → Result ParserState (Refused PlacedFault)
 answered (Ok now) at = Ok now
-answered (Err error) at = Err (told error at)
+answered (Err error) at = Err (reported error at)
 
 -- why a symbol is refused, without its line
 abbrev pub error_of : Result Unit Stop → Result Unit ParseError
@@ -100,7 +100,7 @@ IsPassed _ x = ⊥
 -- the answer to a further symbol t after u
 abbrev pub Advances : Frames → List (Bor (List ℕ)) → Result ParserState (Refused PlacedFault) → List Symbol → Symbol → Type 0
 Advances new opens (Ok now) u t = AfterSymbols (u ++ t ∷ []) (tags opens) (state (stack_of new) now)
-Advances new opens (Err (Fault f)) u t = (f.at ≡ position_of t) × Stands f.kind u t
+Advances new opens (Err (Fault f)) u t = (f.at ≡ position_of t) × Applies f.kind u t
 Advances new opens (Err Memory) u t = Unit {0}
 Advances new opens (Err Device) u t = ⊥
 
@@ -112,7 +112,7 @@ AnswersAtEnd (Err Memory) r end = Unit {0}
 AnswersAtEnd (Err Device) r end = ⊥
 
 -- a fault that is reported at a symbol is there, and at no symbol before it: a section within the limits begins with those
-pub record ToldAt (f : SourceFault) (ts : List Symbol) : Type 0 where
+pub record ReportedAt (f : SourceFault) (ts : List Symbol) : Type 0 where
   pub before : List Symbol
   pub at : Symbol
   pub more : List Symbol
@@ -122,19 +122,19 @@ pub record ToldAt (f : SourceFault) (ts : List Symbol) : Type 0 where
 
 -- a fault that is reported at the end, which is on this line: the symbols are no section, and one within the limits begins with
 -- them
-pub record ToldAtEnd (f : SourceFault) (ts : List Symbol) (end : ℕ) : Type 0 where
+pub record ReportedAtEnd (f : SourceFault) (ts : List Symbol) (end : ℕ) : Type 0 where
   pub kind : f.kind ≡ UnexpectedSymbol
   pub line : f.line ≡ end
   pub begins : Begins Within ts
-  pub stands : StandsAtEnd ts
+  pub applies : AppliesAtEnd ts
 
 -- A fault at a symbol has the position of that symbol. One at the end has the end's line, and no place.
 pub record PlacedAt (f : PlacedFault) (ts : List Symbol) : Type 0 where
-  pub told : ToldAt (fault_on_line f) ts
-  pub position : f.at ≡ position_of told.at
+  pub reported : ReportedAt (fault_on_line f) ts
+  pub position : f.at ≡ position_of reported.at
 
 pub record PlacedAtEnd (f : PlacedFault) (ts : List Symbol) (end : ℕ) : Type 0 where
-  pub told : ToldAtEnd (fault_on_line f) ts end
+  pub reported : ReportedAtEnd (fault_on_line f) ts end
   pub position : f.at ≡ position end None
 
 abbrev pub ParsesPlaced : Result Section (Refused PlacedFault) → List Symbol → ℕ → Type 0
@@ -151,7 +151,7 @@ without_place (Err r) = Err (on_line r)
 -- what is answered of these symbols, which end on this line
 abbrev pub Parses : Result Section (Refused SourceFault) → List Symbol → ℕ → Type 0
 Parses (Ok x) ts end = IsSection (declarations_of x) ts
-Parses (Err (Fault f)) ts end = ToldAt f ts ⊎ ToldAtEnd f ts end
+Parses (Err (Fault f)) ts end = ReportedAt f ts ⊎ ReportedAtEnd f ts end
 Parses (Err Memory) ts end = Unit {0}
 Parses (Err Device) ts end = ⊥
 

@@ -24,17 +24,17 @@ abbrev pub HaveOneTree : Type 0
 HaveOneTree = (ds es : Declarations) (ts : List Symbol) → IsSection ds ts → IsSection es ts → ds ≡ es
 
 -- Where the tag clause fails, no section goes on.
-abbrev pub TagFaultStands : Type 0
-TagFaultStands = (ts us : List Symbol) (ds : Declarations) → plain ts [] ≡ None → IsSection ds (ts ++ us) → ⊥
+abbrev pub TagFaultApplies : Type 0
+TagFaultApplies = (ts us : List Symbol) (ds : Declarations) → plain ts [] ≡ None → IsSection ds (ts ++ us) → ⊥
 
 -- Where the machine stops at a symbol, no section goes on.
-abbrev pub SymbolFaultStands : Type 0
-SymbolFaultStands = (ts u : List Symbol) (t : Symbol) (v : List Symbol) → plain ts [] ≡ Some (u ++ t ∷ v) → reading (u ++ t ∷ v) ≡ Err (t ∷ v)
+abbrev pub SymbolFaultApplies : Type 0
+SymbolFaultApplies = (ts u : List Symbol) (t : Symbol) (v : List Symbol) → plain ts [] ≡ Some (u ++ t ∷ v) → reading (u ++ t ∷ v) ≡ Err (t ∷ v)
     → (us : List Symbol) (ds : Declarations) → IsSection ds (ts ++ us) → ⊥
 
 -- Where it stops at the end, the symbols are no section.
-abbrev pub EndFaultStands : Type 0
-EndFaultStands = (ts rest : List Symbol) → reading ts ≡ Err rest → (ds : Declarations) → Section ds ts → ⊥
+abbrev pub EndFaultApplies : Type 0
+EndFaultApplies = (ts rest : List Symbol) → reading ts ≡ Err rest → (ds : Declarations) → Section ds ts → ⊥
 
 -- Where the tag clause does not fail and the machine stops at no symbol, a section begins so.
 abbrev pub GoesOnBegins : Type 0

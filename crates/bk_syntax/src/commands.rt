@@ -8,7 +8,7 @@ ghost use Rattle.bk_frames.specs.declared.frame.Phrase.TheVariants as p;
 ghost use Rattle.bk_frames.specs.Sizes.{size_of, size_of_command, both_of, node_of};
 ghost use Rattle.bk_frames.specs.Unfinished.{held_in};
 ghost use Rattle.bk_tree.specs.Parts.{size};
-ghost use Rattle.bk_grammar.specs.Machine.{Stack, limit, give, finish, again, dests, guarded, behind_sign, take_command, in_start, in_values, in_guard, in_to};
+ghost use Rattle.bk_grammar.specs.Machine.{Stack, limit, give, finish, again, dests, guarded, after_sign, take_command, in_start, in_values, in_guard, in_to};
 ghost use Rattle.bk_tree.specs.Parts.{each_then};
 ghost use Rattle.bk_frames.specs.Unfinished.{phrase_on, clause_on};
 ghost use Rattle.bk_frames.specs.Frames.{stack_of, state, given, finished, heads, Steps, Answers, Lowers, Falls};
@@ -95,8 +95,8 @@ fn is_last(dests: &[Expr], values: &[Expr]) -> bool
 }
 
 /// What is read after the sign of a guard: after that of CASE the command may be missing.
-fn behind_sign(guard: Guard) -> ParserState
-    ensures { (st : Stack) → state st result ≡ behind_sign guard st }
+fn after_sign(guard: Guard) -> ParserState
+    ensures { (st : Stack) → state st result ≡ after_sign guard st }
 {
     match guard {
         Guard::Case => ParserState::Maybe,
@@ -309,7 +309,7 @@ impl Parser {
             Unfinished::Clause(Clause::Guarded(guard, at, condition)),
             parts,
         )?;
-        self.now.set(behind_sign(guard));
+        self.now.set(after_sign(guard));
         Ok(Flow::Taken)
     }
 

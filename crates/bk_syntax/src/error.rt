@@ -1,6 +1,6 @@
 //! The errors of the parser, without their positions.
 ghost use Rattle.std.specs.Prelude.{◌≡◌};
-ghost use Rattle.bk_syntax.specs.Parsing.{told};
+ghost use Rattle.bk_syntax.specs.Parsing.{reported};
 ghost use Rattle.bk_frames.specs.declared.frame.Stop.TheVariants.{Unexpected};
 
 use bk_base::{Refused, SourceKind};
@@ -39,8 +39,8 @@ pub fn refuse<T: Drop>(_part: T) -> Stop
 }
 
 /// The fault that is reported for an error at this position.
-pub fn told(error: ParseError, at: Position) -> Refused<PlacedFault>
-    ensures { result ≡ told error at }
+pub fn reported(error: ParseError, at: Position) -> Refused<PlacedFault>
+    ensures { result ≡ reported error at }
 {
     let kind = match error {
         ParseError::Memory => return Refused::Memory,

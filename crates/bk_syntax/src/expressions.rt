@@ -31,7 +31,7 @@ use bk_grammar::placed::position_of;
 use bk_grammar::spelling::name;
 use bk_grammar::symbols::{
     Opening, goes_on, infix, inner_row, is_arrow, is_both, is_close, is_comma, is_open, opens_with,
-    prefix, relates, row_behind,
+    prefix, relates, row_after,
 };
 use bk_lex::{Kind, Token, character_byte, number_word, string_bytes};
 use bk_tree::make::{apply, table};
@@ -43,7 +43,7 @@ fn rows_above(unfinished: &Unfinished) -> u8
     ensures { (st : Stack) → result ≡ limit (unfinished_on unfinished.now st) }
 {
     match unfinished {
-        Unfinished::OpenExpression(OpenExpression::Unary(_, prefix)) => row_behind(*prefix),
+        Unfinished::OpenExpression(OpenExpression::Unary(_, prefix)) => row_after(*prefix),
         Unfinished::OpenExpression(OpenExpression::Binary(operator, _, _)) => inner_row(*operator),
         Unfinished::OpenExpression(OpenExpression::Chain(_, _, _, _)) => 5,
         _ => 12,

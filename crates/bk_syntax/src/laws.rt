@@ -1,5 +1,5 @@
 //! Laws of the grammar, which the parser and the crates above rest on.
-ghost use Rattle.bk_syntax.specs.SyntaxLaws.{ReadsTheGrammar, HaveOneTree, TagFaultStands, SymbolFaultStands, EndFaultStands, GoesOnBegins, BeginsCompletes, CompletesBegins};
+ghost use Rattle.bk_syntax.specs.SyntaxLaws.{ReadsTheGrammar, HaveOneTree, TagFaultApplies, SymbolFaultApplies, EndFaultApplies, GoesOnBegins, BeginsCompletes, CompletesBegins};
 
 /// The reading machine reads just the trees of the grammar.
 pub fn reads_the_grammar()
@@ -12,18 +12,18 @@ pub fn have_one_tree()
 {}
 
 /// A wrong section tag stays a fault, whatever follows.
-pub fn tag_fault_stands()
-    ensures { TagFaultStands }
+pub fn tag_fault_applies()
+    ensures { TagFaultApplies }
 {}
 
 /// An unexpected symbol stays a fault, whatever follows.
-pub fn symbol_fault_stands()
-    ensures { SymbolFaultStands }
+pub fn symbol_fault_applies()
+    ensures { SymbolFaultApplies }
 {}
 
 /// Symbols that end too early are no section.
-pub fn end_fault_stands()
-    ensures { EndFaultStands }
+pub fn end_fault_applies()
+    ensures { EndFaultApplies }
 {}
 
 /// Where the machine goes on, a section begins.

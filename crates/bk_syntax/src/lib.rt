@@ -11,7 +11,7 @@ mod parser;
 
 pub use bk_tree::{Command, Decl, Def, Expr, Section};
 pub use laws::{
-    begins_completes, completes_begins, end_fault_stands, goes_on_begins, have_one_tree,
-    reads_the_grammar, symbol_fault_stands, tag_fault_stands,
+    begins_completes, completes_begins, end_fault_applies, goes_on_begins, have_one_tree,
+    reads_the_grammar, symbol_fault_applies, tag_fault_applies,
 };
 pub use parser::{parse, parse_placed};

@@ -17,7 +17,7 @@ ghost use Rattle.bk_frames.specs.Bounds.{Always, Bounded};
 ghost use Rattle.bk_frames.specs.Completing.{Completes};
 
 use crate::commands::{did, guarded};
-use crate::error::{ParseError, refuse, told};
+use crate::error::{ParseError, refuse, reported};
 use crate::expressions::extends;
 use bk_base::{Line, Refused, SourceFault};
 use bk_frames::frame::{Clause, Flow, Frame, ParserState, Size, Stop, Unfinished};
@@ -385,9 +385,9 @@ impl Parser {
                 if above.is_empty() {
                     return Ok(Section::new(decls));
                 }
-                Err(told(ParseError::Unexpected, end))
+                Err(reported(ParseError::Unexpected, end))
             }
-            _ => Err(told(ParseError::Unexpected, end)),
+            _ => Err(reported(ParseError::Unexpected, end)),
         }
     }
 
@@ -406,7 +406,7 @@ impl Parser {
         match parser.step(&last) {
             Ok(()) => parser.whole(end),
             Err(Stop::Memory) => Err(Refused::Memory),
-            Err(Stop::Unexpected) => Err(told(ParseError::Unexpected, end)),
+            Err(Stop::Unexpected) => Err(reported(ParseError::Unexpected, end)),
         }
     }
 }
@@ -442,7 +442,7 @@ pub fn parse_placed(
     let mut opened = Vec::new(alloc);
     for token in tokens {
         if let Err(error) = parser.advance(&mut opened, token) {
-            return Err(told(error, position_of(token)));
+            return Err(reported(error, position_of(token)));
         }
     }
     let last = Position::new(end, None);

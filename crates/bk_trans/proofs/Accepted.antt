@@ -1,5 +1,5 @@
 -- The scheme's statements of a section without faults are an accepted section.
-use Rattle.bk_trans.proofs.Words.{arith, ◌≡◌, ℕ, suc, ◌+◌, ◌≤◌, List, [], ◌∷◌, ◌++◌, length, refl, ap, subst, OCODE_LABEL, OCODE_STATEMENTS, OCODE_WORDS, Declarations, Point, word, words_of, faults, told_of, meanings, words, SoundSection, joined, Use, times_set}
+use Rattle.bk_trans.proofs.Words.{arith, ◌≡◌, ℕ, suc, ◌+◌, ◌≤◌, List, [], ◌∷◌, ◌++◌, length, refl, ap, subst, OCODE_LABEL, OCODE_STATEMENTS, OCODE_WORDS, Declarations, Point, word, words_of, faults, reported_of, meanings, words, SoundSection, joined, Use, times_set}
 use Rattle.bk_trans.proofs.Terms.{section_clean, section_sound, IsSection, text_size, Target, program_of, labels_of_declarations, Part, parts_of_declarations, target_of, named_tree, scheme, AreWords, SchemeIsAccepted}
 use Rattle.bk_ocode.proofs.Lemmas.{typed_is_section}
 use Rattle.bk_trans.specs.Program as p
@@ -32,7 +32,7 @@ parts_right plan ts (x ∷ xs) h r =
     ((found_front ts (target_of x) _ h, right_front plan (part_marks x) _ r), parts_right plan ts xs (found_back ts (target_of x) _ h) (right_back plan (part_marks x) _ r))
 
 -- the named tree of a section
-accepted : (ds : Declarations) → SoundSection ds → Quiet (told_of ds) → 1 + labels_of_declarations (named_tree ds) ≤ OCODE_LABEL → length (scheme (named_tree ds)) ≤ OCODE_STATEMENTS
+accepted : (ds : Declarations) → SoundSection ds → Quiet (reported_of ds) → 1 + labels_of_declarations (named_tree ds) ≤ OCODE_LABEL → length (scheme (named_tree ds)) ≤ OCODE_STATEMENTS
     → text_size (scheme (named_tree ds)) ≤ OCODE_WORDS → IsSection (scheme (named_tree ds))
 accepted ds sound quiet few short small =
     let ps : List Part = parts_of_declarations 2 1 (named_tree ds) in
@@ -45,8 +45,8 @@ accepted ds sound quiet few short small =
     typed_is_section plan (scheme (named_tree ds)) (section_typed plan ps good right short) once
     (λ l used. let h = look_set ms l used in let i = section_marked l ps in omega (arith, h, i)) short small
 
-section_quiet : (ds : Declarations) → faults ds ≡ [] → AreWords (words ds) → Quiet (told_of ds)
-section_quiet ds none are = record { all = all_quiet (told_of ds) are; claims = []; clean = section_clean ds none }
+section_quiet : (ds : Declarations) → faults ds ≡ [] → AreWords (words ds) → Quiet (reported_of ds)
+section_quiet ds none are = record { all = all_quiet (reported_of ds) are; claims = []; clean = section_clean ds none }
 
 -- the targets of a section without faults are found by their numbers
 pub targets_found : (ds : Declarations) → faults ds ≡ [] → AreWords (words ds) → AllFound (joined target_of (parts_of_declarations 2 1 (named_tree ds))) (joined target_of (parts_of_declarations 2 1 (named_tree ds)))

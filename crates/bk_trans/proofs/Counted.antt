@@ -2,7 +2,7 @@
 -- globals 2; a node costs 450 at most, in its own code, in what is by itself after it, and in the list of the SWITCHON that a CASE belongs to.
 use Rattle.bk_trans.proofs.Words.{arith, ◌≡◌, ◌≤◌, ℕ, ◌+◌, ◌*◌, Bool, true, false, not, cond, List, [], ◌∷◌, ◌++◌, length, map, int_lt, pos, Some, refl, ap, length-append, signed, Operator, Prefix, Bound, joined, Case, GlobalEntry, Stmt, times_set}
 use Rattle.bk_tree.specs.Tree as tree
-use Rattle.bk_trans.proofs.Terms.{Operator as o, Prefix as q, Simple as w, Bound as b, text_size, Stmt as t, Dyadic as two, Around, Target, Term, Terms, Condition, Lvalue, Lvalues, NamedCommand, NamedCommands, Declaration, Declarations, Definition, Definitions, Starts, StaticItem, program_of, labels, labels_each, labels_if, labels_at, labels_onto, labels_in, labels_through, labels_of_procedure, labels_of_declaration, labels_of_declarations, labels_of_definition, labels_of_definitions, labels_of_starts, count, behind_declaration, behind_declarations, behind_definition, has_variables, Part, parts_of_items, parts, parts_each, parts_if, parts_at, parts_onto, parts_from, parts_in, parts_through, target_of, parts_of_declarations, parts_of_declaration, parts_of_definitions, parts_of_definition, parts_of_starts, prefix_code, infix_code, by_turns, value_code, each_code, jump_code, address_code, store_code, value_codes, store_codes, command_code, through_code, declarations_code, declaration_code, definitions_code, definition_code, starts_code, procedure_code, word_code, data_code, scheme, outermost, valued, looping, switching, push, truth_value, cases, cases_through, entry_of, entries_of, test_of_step, nodes_of_declarations, StatementsAreFew, WordsAreFew, LabelsAreSetOnce}
+use Rattle.bk_trans.proofs.Terms.{Operator as o, Prefix as q, Simple as w, Bound as b, text_size, Stmt as t, Dyadic as two, Around, Target, Term, Terms, Condition, Lvalue, Lvalues, NamedCommand, NamedCommands, Declaration, Declarations, Definition, Definitions, Starts, StaticItem, program_of, labels, labels_each, labels_if, labels_at, labels_onto, labels_in, labels_through, labels_of_procedure, labels_of_declaration, labels_of_declarations, labels_of_definition, labels_of_definitions, labels_of_starts, count, after_declaration, after_declarations, after_definition, has_variables, Part, parts_of_items, parts, parts_each, parts_if, parts_at, parts_onto, parts_from, parts_in, parts_through, target_of, parts_of_declarations, parts_of_declaration, parts_of_definitions, parts_of_definition, parts_of_starts, prefix_code, infix_code, by_turns, value_code, each_code, jump_code, address_code, store_code, value_codes, store_codes, command_code, through_code, declarations_code, declaration_code, definitions_code, definition_code, starts_code, procedure_code, word_code, data_code, scheme, outermost, valued, looping, switching, push, truth_value, cases, cases_through, entry_of, entries_of, test_of_step, nodes_of_declarations, StatementsAreFew, WordsAreFew, LabelsAreSetOnce}
 use Rattle.bk_ocode.specs.StmtText.{stmt_words, byte_words, case_words, global_words}
 use Rattle.bk_trans.specs.Program as p
 use Rattle.bk_trans.proofs.Steps.{short_bytes}
@@ -157,9 +157,9 @@ abbrev weigh_store : Measure → Definitions → ℕ
 weigh_store costing ds = store_cost ds
 weigh_store _ ds = 0
 
-abbrev behind : Measure → ℕ
-behind costing = 30
-behind _ = 0
+abbrev following : Measure → ℕ
+following costing = 30
+following _ = 0
 
 abbrev left : Measure → ℕ → ℕ → ℕ
 left costing l n = 0
@@ -176,7 +176,7 @@ ruleset sums = (both, set_both, apart_both, parts_both, length-append)
 module _ (l : ℕ) (ts : List Target) where
   mutual
     value : (m : Measure) (s n : ℕ) (e : Term)
-        → weigh m l (value_code ts s n e) + weigh_apart m l ts (parts s n e) + left m l (n + labels e) + behind m ≤ left m l n + most m (nodes e)
+        → weigh m l (value_code ts s n e) + weigh_apart m l ts (parts s n e) + left m l (n + labels e) + following m ≤ left m l n + most m (nodes e)
     value costing s n (p.text xs) = omega (arith, short_bytes xs)
     value m s n (p.named x) = omega (arith, push_cost ts x, push_none l ts x)
     value m s n (p.truth x) = omega (arith, truth_cost x, truth_none l x)
@@ -268,8 +268,8 @@ module _ (l : ℕ) (ts : List Target) where
     command m a s n (p.block p.no_declarations cs) =
         let h = through m a s n cs in let i = ap (λ (k : ℕ). weigh_apart m l ts (parts_through s k cs)) (no_more n) in omega (arith, h, i)
     command m a s n (p.block (p.declare x xs) cs) =
-        let h = declaration m s n x in let j = declarations m (behind_declaration s x) (n + labels_of_declaration x) xs in
-        let i = through m a (behind_declarations s (p.declare x xs)) (n + labels_of_declarations (p.declare x xs)) cs in simp sums (omega (arith, h, i, j))
+        let h = declaration m s n x in let j = declarations m (after_declaration s x) (n + labels_of_declaration x) xs in
+        let i = through m a (after_declarations s (p.declare x xs)) (n + labels_of_declarations (p.declare x xs)) cs in simp sums (omega (arith, h, i, j))
     command m a s n (p.repeat c) = simp sums (omega (arith, command m (looping n (n + 1) s a) s (n + 2) c, own l n, own l (n + 1)))
     command m a s n (p.repeat_while x c e) =
         let h = command m (looping (n + 1) (n + 2) s a) s (n + 3) c in let i = jump m s (n + 3 + labels_in c) e x n in
@@ -288,7 +288,7 @@ module _ (l : ℕ) (ts : List Target) where
         → weigh m l (declarations_code ts s n xs) + weigh_apart m l ts (parts_of_declarations s n xs) + left m l (n + labels_of_declarations xs) ≤ left m l n + most m (nodes_declared xs)
     declarations costing s n p.no_declarations = omega arith
     declarations m s n (p.declare x xs) =
-        simp sums (omega (arith, declaration m s n x, declarations m (behind_declaration s x) (n + labels_of_declaration x) xs))
+        simp sums (omega (arith, declaration m s n x, declarations m (after_declaration s x) (n + labels_of_declaration x) xs))
     declarations m s n _ = omega arith
 
     declaration : (m : Measure) (s n : ℕ) (x : Declaration)
@@ -304,7 +304,7 @@ module _ (l : ℕ) (ts : List Target) where
         ≤ left m l n + most m (nodes_defined ds)
     definitions costing s n p.no_definitions = omega arith
     definitions m s n (p.define d ds) =
-        simp sums (omega (arith, definition m s n d, definitions m (behind_definition s d) (n + labels_of_definition d) ds, store_more d ds))
+        simp sums (omega (arith, definition m s n d, definitions m (after_definition s d) (n + labels_of_definition d) ds, store_more d ds))
     definitions m s n _ = omega arith
 
     definition : (m : Measure) (s n : ℕ) (d : Definition)

@@ -1,7 +1,7 @@
 -- The code of each form goes from one depth to another and agrees with the plan: a value is pushed, a condition leaves nothing, a
 -- command nothing, and declarations their variables.
 use Rattle.bk_trans.proofs.Words.{arith, ◌≡◌, ℕ, ◌+◌, ◌-◌, ◌≤◌, Bool, true, false, not, cond, List, [], ◌∷◌, ◌++◌, map, refl, subst, ◌∙◌, ⊤, signed, FRAME_WORDS, OCODE_LABEL, Case, Stmt, IsLabel, AreCases, Use, jumps, results, AllJump, Fits, done, lands, takes}
-use Rattle.bk_trans.proofs.Terms.{Simple as w, Bound as b, Variable as v, Dyadic as two, Stmt as t, Around, Target, labels, labels_each, labels_if, labels_at, labels_onto, labels_in, labels_through, labels_of_declaration, labels_of_declarations, labels_of_definition, labels_of_definitions, labels_of_starts, count, behind_starts, behind_declaration, behind_declarations, behind_definition, behind_definitions, has_variables, Part, static_table, parts, parts_each, parts_if, parts_at, parts_onto, parts_from, parts_in, parts_through, parts_of_declarations, parts_of_declaration, parts_of_definitions, parts_of_definition, parts_of_starts, goal_of, push, truth_value, by_turns, value_code, each_code, jump_code, address_code, store_code, value_codes, store_codes, command_code, through_code, declarations_code, declaration_code, definitions_code, definition_code, starts_code, goal, variable, valued, looping, switching, label_or, default_in, cases, test_of_step}
+use Rattle.bk_trans.proofs.Terms.{Simple as w, Bound as b, Variable as v, Dyadic as two, Stmt as t, Around, Target, labels, labels_each, labels_if, labels_at, labels_onto, labels_in, labels_through, labels_of_declaration, labels_of_declarations, labels_of_definition, labels_of_definitions, labels_of_starts, count, after_starts, after_declaration, after_declarations, after_definition, after_definitions, has_variables, Part, static_table, parts, parts_each, parts_if, parts_at, parts_onto, parts_from, parts_in, parts_through, parts_of_declarations, parts_of_declaration, parts_of_definitions, parts_of_definition, parts_of_starts, goal_of, push, truth_value, by_turns, value_code, each_code, jump_code, address_code, store_code, value_codes, store_codes, command_code, through_code, declarations_code, declaration_code, definitions_code, definition_code, starts_code, goal, variable, valued, looping, switching, label_or, default_in, cases, test_of_step}
 use Rattle.bk_ocode.specs.Typing as typing
 use Rattle.bk_trans.specs.Program.{Term, Terms, Condition, Lvalue, Lvalues, NamedCommand, NamedCommands, Declaration, Declarations, Definition, Definitions, Starts, named, number, text, truth, query, parens, unary, address, binary, choice, apply, valof, table, none, more, holds, within, fails, both, either, word, contents, subscript, byte, inside, nowhere, no_lvalues, onto, assign, call, goto, label, case_of, default, when, test, while, for_loop, switch, result, simple, block, repeat, repeat_while, no_named_commands, also, statics, lets, no_declarations, declare, variables, no_definitions, define, no_starts, value, vector}
 use Rattle.bk_trans.proofs.Marks.{Mark, marks, marks_each, marks_if, marks_at, marks_onto, marks_all_onto, marks_from, marks_by_turns, marks_in, marks_through, marks_of_declaration, marks_of_declarations, marks_of_definition, marks_of_definitions, marks_of_starts, AllRight, right_front, right_back}
@@ -66,48 +66,48 @@ mutual
   room plan ts p s (valof c) g = g.1
   room plan ts p s _ g = g
 
-room_started : (plan : ℕ → Use) (ts : List Target) (p t : ℕ) (is : Starts) → GoodStarted plan ts p t is → t ≤ FRAME_WORDS → behind_starts t is ≤ FRAME_WORDS
+room_started : (plan : ℕ → Use) (ts : List Target) (p t : ℕ) (is : Starts) → GoodStarted plan ts p t is → t ≤ FRAME_WORDS → after_starts t is ≤ FRAME_WORDS
 room_started plan ts p t no_starts g high = high
 room_started plan ts p t (value e is) g high = room_started plan ts p (t + 1) is g.1 (room plan ts p t e g.0)
 room_started plan ts p t (vector k is) g high = room_started plan ts p (t + k + 2) is g.1 g.0
 
-room_one_defined : (plan : ℕ → Use) (ts : List Target) (p t : ℕ) (d : Definition) → GoodOneDefined plan ts p t d → t ≤ FRAME_WORDS → behind_definition t d ≤ FRAME_WORDS
+room_one_defined : (plan : ℕ → Use) (ts : List Target) (p t : ℕ) (d : Definition) → GoodOneDefined plan ts p t d → t ≤ FRAME_WORDS → after_definition t d ≤ FRAME_WORDS
 room_one_defined plan ts p t (variables is) g high = room_started plan ts p t is g high
 room_one_defined plan ts p t _ g high = high
 
-room_defined : (plan : ℕ → Use) (ts : List Target) (p t : ℕ) (ds : Definitions) → GoodDefined plan ts p t ds → t ≤ FRAME_WORDS → behind_definitions t ds ≤ FRAME_WORDS
+room_defined : (plan : ℕ → Use) (ts : List Target) (p t : ℕ) (ds : Definitions) → GoodDefined plan ts p t ds → t ≤ FRAME_WORDS → after_definitions t ds ≤ FRAME_WORDS
 room_defined plan ts p t no_definitions g high = high
-room_defined plan ts p t (define d ds) g high = room_defined plan ts p (behind_definition t d) ds g.1 (room_one_defined plan ts p t d g.0 high)
+room_defined plan ts p t (define d ds) g high = room_defined plan ts p (after_definition t d) ds g.1 (room_one_defined plan ts p t d g.0 high)
 
-room_one_declared : (plan : ℕ → Use) (ts : List Target) (p t : ℕ) (h : Declaration) → GoodOneDeclared plan ts p t h → t ≤ FRAME_WORDS → behind_declaration t h ≤ FRAME_WORDS
+room_one_declared : (plan : ℕ → Use) (ts : List Target) (p t : ℕ) (h : Declaration) → GoodOneDeclared plan ts p t h → t ≤ FRAME_WORDS → after_declaration t h ≤ FRAME_WORDS
 room_one_declared plan ts p t (statics ks) g high = high
 room_one_declared plan ts p t (lets ds) g high = room_defined plan ts p t ds g high
 
-room_declared : (plan : ℕ → Use) (ts : List Target) (p t : ℕ) (hs : Declarations) → GoodDeclared plan ts p t hs → t ≤ FRAME_WORDS → behind_declarations t hs ≤ FRAME_WORDS
+room_declared : (plan : ℕ → Use) (ts : List Target) (p t : ℕ) (hs : Declarations) → GoodDeclared plan ts p t hs → t ≤ FRAME_WORDS → after_declarations t hs ≤ FRAME_WORDS
 room_declared plan ts p t no_declarations g high = high
-room_declared plan ts p t (declare h hs) g high = room_declared plan ts p (behind_declaration t h) hs g.1 (room_one_declared plan ts p t h g.0 high)
+room_declared plan ts p t (declare h hs) g high = room_declared plan ts p (after_declaration t h) hs g.1 (room_one_declared plan ts p t h g.0 high)
 
 -- declarations leave the frame as deep or deeper
-pub grown_starts : (t : ℕ) (is : Starts) → t ≤ behind_starts t is
+pub grown_starts : (t : ℕ) (is : Starts) → t ≤ after_starts t is
 grown_starts t no_starts = omega arith
 grown_starts t (value e is) = let h = grown_starts (t + 1) is in omega (arith, h)
 grown_starts t (vector k is) = let h = grown_starts (t + k + 2) is in omega (arith, h)
 
-pub grown_one_defined : (t : ℕ) (d : Definition) → t ≤ behind_definition t d
+pub grown_one_defined : (t : ℕ) (d : Definition) → t ≤ after_definition t d
 grown_one_defined t (variables is) = grown_starts t is
 grown_one_defined t _ = omega arith
 
-pub grown_defined : (t : ℕ) (ds : Definitions) → t ≤ behind_definitions t ds
+pub grown_defined : (t : ℕ) (ds : Definitions) → t ≤ after_definitions t ds
 grown_defined t no_definitions = omega arith
-grown_defined t (define d ds) = let h = grown_one_defined t d in let i = grown_defined (behind_definition t d) ds in omega (arith, h, i)
+grown_defined t (define d ds) = let h = grown_one_defined t d in let i = grown_defined (after_definition t d) ds in omega (arith, h, i)
 
-grown_one_declared : (t : ℕ) (h : Declaration) → t ≤ behind_declaration t h
+grown_one_declared : (t : ℕ) (h : Declaration) → t ≤ after_declaration t h
 grown_one_declared t (statics ks) = omega arith
 grown_one_declared t (lets ds) = grown_defined t ds
 
-grown_declared : (t : ℕ) (hs : Declarations) → t ≤ behind_declarations t hs
+grown_declared : (t : ℕ) (hs : Declarations) → t ≤ after_declarations t hs
 grown_declared t no_declarations = omega arith
-grown_declared t (declare h hs) = let i = grown_one_declared t h in let j = grown_declared (behind_declaration t h) hs in omega (arith, i, j)
+grown_declared t (declare h hs) = let i = grown_one_declared t h in let j = grown_declared (after_declaration t h) hs in omega (arith, i, j)
 
 -- the end of a stretch by another name
 ending : {plan : ℕ → Use} {p k : ℕ} {xs : List Stmt} (m j : ℕ) → m ≡ j → Steps plan p k xs m → Steps plan p k xs j
@@ -278,10 +278,10 @@ module _ (plan : ℕ → Use) (ts : List Target) (p : ℕ) where
         let xs = onto y ys in
         let m = n + labels_onto xs in
         let ahead = tables_front plan (parts_onto (s + 1) n xs) _ a in
-        let behind = tables_back plan (parts_onto (s + 1) n xs) _ a in
+        let following = tables_back plan (parts_onto (s + 1) n xs) _ a in
         turns_typed plan p s (value_codes ts s m (more e es)) (store_codes ts (s + 1) n xs) (marks_from p s m (more e es)) (marks_all_onto p (s + 1) n xs) (
-          λ q. value_typed s m e deep (omega (arith, low)) (omega (arith, high)) g.1.0 (tables_front plan (parts s m e) _ behind) q,
-          from_typed s (m + labels e) (n + labels_at y) es ys deep (omega (arith, low)) (omega (arith, high)) g.1.1 (tables_back plan (parts s m e) _ behind),
+          λ q. value_typed s m e deep (omega (arith, low)) (omega (arith, high)) g.1.0 (tables_front plan (parts s m e) _ following) q,
+          from_typed s (m + labels e) (n + labels_at y) es ys deep (omega (arith, low)) (omega (arith, high)) g.1.1 (tables_back plan (parts s m e) _ following),
         ) (
           λ q. onto_typed s n y deep low (omega (arith, high)) g.0.0 much (tables_front plan (parts_at (s + 1) n y) _ ahead) q,
           all_onto_typed s (n + labels_at y) (m + labels e) ys es deep (omega (arith, low)) (omega (arith, high)) g.0.1 much (tables_back plan (parts_at (s + 1) n y) _ ahead),
@@ -388,14 +388,14 @@ module _ (plan : ℕ → Use) (ts : List Target) (p : ℕ) where
         through_typed x ar s n cs deep top low (omega (arith, high)) i g (subst (λ (m : ℕ). AllTables plan (parts_through s m cs)) (no_more n) a) r
     command_typed x ar s n (block (declare h hs) cs) deep top low high i g a r =
         let ds = declare h hs in
-        let u = behind_declarations s ds in
+        let u = after_declarations s ds in
         let grown = grown_declared s ds in
         let much = room_declared plan ts p s ds g.0 top in
         let ahead = tables_front plan (parts_of_declarations s n ds) _ a in
         let ahead_marks = right_front plan (marks_of_declarations p s n ds) _ r in
         let first_grown = grown_one_declared s h in
         append (append (append (one_declared_typed s n h deep top low (omega (arith, high)) g.0.0 (tables_front plan (parts_of_declaration s n h) _ ahead) (right_front plan (marks_of_declaration p s n h) _ ahead_marks))
-        (declared_typed (behind_declaration s h) (n + labels_of_declaration h) hs (omega (arith, deep, first_grown)) (room_one_declared plan ts p s h g.0.0 top) (omega (arith, low)) (omega (arith, high))
+        (declared_typed (after_declaration s h) (n + labels_of_declaration h) hs (omega (arith, deep, first_grown)) (room_one_declared plan ts p s h g.0.0 top) (omega (arith, low)) (omega (arith, high))
         g.0.1 (tables_back plan (parts_of_declaration s n h) _ ahead) (right_back plan (marks_of_declaration p s n h) _ ahead_marks)))
         (through_typed x ar u (n + labels_of_declarations ds) cs (omega (arith, deep, grown)) much (omega (arith, low)) (omega (arith, high)) (deeper plan p x s u ar grown i) g.1
         (tables_back plan (parts_of_declarations s n ds) _ a) (right_back plan (marks_of_declarations p s n ds) _ r)))
@@ -427,36 +427,36 @@ module _ (plan : ℕ → Use) (ts : List Target) (p : ℕ) where
         (through_typed x ar s (n + labels_in c) cs deep top (omega (arith, low)) (omega (arith, high)) i g.1 (tables_back plan (parts_in s n c) _ a) (right_back plan (marks_in p s n c) _ r))
 
     declared_typed : (s n : ℕ) (hs : Declarations) → 2 ≤ s → s ≤ FRAME_WORDS → 1 ≤ n → n + labels_of_declarations hs ≤ OCODE_LABEL + 1
-        → GoodDeclared plan ts p s hs → AllTables plan (parts_of_declarations s n hs) → AllRight plan (marks_of_declarations p s n hs) → Steps plan p s (declarations_code ts s n hs) (behind_declarations s hs)
+        → GoodDeclared plan ts p s hs → AllTables plan (parts_of_declarations s n hs) → AllRight plan (marks_of_declarations p s n hs) → Steps plan p s (declarations_code ts s n hs) (after_declarations s hs)
     declared_typed s n no_declarations deep top low high g a r = done
     declared_typed s n (declare h hs) deep top low high g a r =
         let grown = grown_one_declared s h in
         append (one_declared_typed s n h deep top low (omega (arith, high)) g.0 (tables_front plan (parts_of_declaration s n h) _ a) (right_front plan (marks_of_declaration p s n h) _ r))
-        (declared_typed (behind_declaration s h) (n + labels_of_declaration h) hs (omega (arith, deep, grown)) (room_one_declared plan ts p s h g.0 top) (omega (arith, low)) (omega (arith, high)) g.1
+        (declared_typed (after_declaration s h) (n + labels_of_declaration h) hs (omega (arith, deep, grown)) (room_one_declared plan ts p s h g.0 top) (omega (arith, low)) (omega (arith, high)) g.1
         (tables_back plan (parts_of_declaration s n h) _ a) (right_back plan (marks_of_declaration p s n h) _ r))
 
     one_declared_typed : (s n : ℕ) (h : Declaration) → 2 ≤ s → s ≤ FRAME_WORDS → 1 ≤ n → n + labels_of_declaration h ≤ OCODE_LABEL + 1
-        → GoodOneDeclared plan ts p s h → AllTables plan (parts_of_declaration s n h) → AllRight plan (marks_of_declaration p s n h) → Steps plan p s (declaration_code ts s n h) (behind_declaration s h)
+        → GoodOneDeclared plan ts p s h → AllTables plan (parts_of_declaration s n h) → AllRight plan (marks_of_declaration p s n h) → Steps plan p s (declaration_code ts s n h) (after_declaration s h)
     one_declared_typed s n (statics ks) deep top low high g a r = done
     one_declared_typed s n (lets ds) deep top low high g a r =
-        append (defined_typed s n ds deep top low high g a r) (stored plan p (behind_definitions s ds) (has_variables ds) (room_defined plan ts p s ds g top))
+        append (defined_typed s n ds deep top low high g a r) (stored plan p (after_definitions s ds) (has_variables ds) (room_defined plan ts p s ds g top))
 
     defined_typed : (s n : ℕ) (ds : Definitions) → 2 ≤ s → s ≤ FRAME_WORDS → 1 ≤ n → n + labels_of_definitions ds ≤ OCODE_LABEL + 1
-        → GoodDefined plan ts p s ds → AllTables plan (parts_of_definitions s n ds) → AllRight plan (marks_of_definitions p s n ds) → Steps plan p s (definitions_code ts s n ds) (behind_definitions s ds)
+        → GoodDefined plan ts p s ds → AllTables plan (parts_of_definitions s n ds) → AllRight plan (marks_of_definitions p s n ds) → Steps plan p s (definitions_code ts s n ds) (after_definitions s ds)
     defined_typed s n no_definitions deep top low high g a r = done
     defined_typed s n (define d ds) deep top low high g a r =
         let grown = grown_one_defined s d in
         append (one_defined_typed s n d deep top low (omega (arith, high)) g.0 (tables_front plan (parts_of_definition s n d) _ a) (right_front plan (marks_of_definition p s n d) _ r))
-        (defined_typed (behind_definition s d) (n + labels_of_definition d) ds (omega (arith, deep, grown)) (room_one_defined plan ts p s d g.0 top) (omega (arith, low)) (omega (arith, high)) g.1
+        (defined_typed (after_definition s d) (n + labels_of_definition d) ds (omega (arith, deep, grown)) (room_one_defined plan ts p s d g.0 top) (omega (arith, low)) (omega (arith, high)) g.1
         (tables_back plan (parts_of_definition s n d) _ a) (right_back plan (marks_of_definition p s n d) _ r))
 
     one_defined_typed : (s n : ℕ) (d : Definition) → 2 ≤ s → s ≤ FRAME_WORDS → 1 ≤ n → n + labels_of_definition d ≤ OCODE_LABEL + 1
-        → GoodOneDefined plan ts p s d → AllTables plan (parts_of_definition s n d) → AllRight plan (marks_of_definition p s n d) → Steps plan p s (definition_code ts s n d) (behind_definition s d)
+        → GoodOneDefined plan ts p s d → AllTables plan (parts_of_definition s n d) → AllRight plan (marks_of_definition p s n d) → Steps plan p s (definition_code ts s n d) (after_definition s d)
     one_defined_typed s n (variables is) deep top low high g a r = started_typed s n is deep top low high g a r
     one_defined_typed s n _ deep top low high g a r = done
 
     started_typed : (s n : ℕ) (is : Starts) → 2 ≤ s → s ≤ FRAME_WORDS → 1 ≤ n → n + labels_of_starts is ≤ OCODE_LABEL + 1
-        → GoodStarted plan ts p s is → AllTables plan (parts_of_starts s n is) → AllRight plan (marks_of_starts p s n is) → Steps plan p s (starts_code ts s n is) (behind_starts s is)
+        → GoodStarted plan ts p s is → AllTables plan (parts_of_starts s n is) → AllRight plan (marks_of_starts p s n is) → Steps plan p s (starts_code ts s n is) (after_starts s is)
     started_typed s n no_starts deep top low high g a r = done
     started_typed s n (value e is) deep top low high g a r =
         append (value_typed s n e deep low (omega (arith, high)) g.0 (tables_front plan (parts s n e) _ a) (right_front plan (marks p s n e) _ r))

@@ -1,7 +1,7 @@
 -- What the code of a part of the named tree asks for, in procedure p with depth s: each name's word is there, a jump finds its
 -- label, each command stands where it may, CASEs differ, and the frame has room.
 use Rattle.bk_trans.proofs.Words.{◌≡◌, ℕ, ◌+◌, ◌<◌, ◌≤◌, ◌^◌, Bool, true, false, Some, List, [], ◌∷◌, ◌++◌, ⊤, FRAME_WORDS, GLOBAL_NUMBER, Bound, AllDiffer, IsLabel, IsDepth, Use}
-use Rattle.bk_trans.proofs.Terms.{Simple as w, Bound as b, Goal, Target, count, behind_definition, behind_declaration, behind_declarations, goal_of}
+use Rattle.bk_trans.proofs.Terms.{Simple as w, Bound as b, Goal, Target, count, after_definition, after_declaration, after_declarations, goal_of}
 use Rattle.bk_ocode.specs.Typing as typing
 use Rattle.bk_trans.specs.Program.{Term, Terms, Condition, Lvalue, Lvalues, NamedCommand, NamedCommands, Declaration, Declarations, Definition, Definitions, Starts, named, parens, unary, address, binary, choice, apply, valof, none, more, holds, within, fails, both, either, word, contents, subscript, byte, inside, nowhere, onto, assign, call, goto, label, case_of, default, when, test, while, for_loop, switch, result, simple, block, repeat, repeat_while, no_named_commands, also, statics, lets, no_declarations, declare, variables, no_definitions, define, no_starts, value, vector}
 
@@ -138,7 +138,7 @@ abbrev mutual
   GoodIn plan ts p x s (simple w.Loop) = x.loop ≡ true
   GoodIn plan ts p x s (simple w.EndCase) = x.switch ≡ true
   GoodIn plan ts p x s (block no_declarations cs) = GoodThrough plan ts p x s cs
-  GoodIn plan ts p x s (block (declare h hs) cs) = GoodDeclared plan ts p s (declare h hs) × GoodThrough plan ts p x (behind_declarations s (declare h hs)) cs
+  GoodIn plan ts p x s (block (declare h hs) cs) = GoodDeclared plan ts p s (declare h hs) × GoodThrough plan ts p x (after_declarations s (declare h hs)) cs
   GoodIn plan ts p x s (repeat c) = GoodIn plan ts p (in_loop x) s c
   GoodIn plan ts p x s (repeat_while t c e) = GoodIn plan ts p (in_loop x) s c × GoodIf plan ts p s e
   GoodIn plan ts p x s _ = ⊤
@@ -150,7 +150,7 @@ abbrev mutual
   -- procedures are apart
   pub GoodDeclared : (ℕ → Use) → List Target → ℕ → ℕ → Declarations → Type 0
   GoodDeclared plan ts p t no_declarations = ⊤
-  GoodDeclared plan ts p t (declare h hs) = GoodOneDeclared plan ts p t h × GoodDeclared plan ts p (behind_declaration t h) hs
+  GoodDeclared plan ts p t (declare h hs) = GoodOneDeclared plan ts p t h × GoodDeclared plan ts p (after_declaration t h) hs
 
   pub GoodOneDeclared : (ℕ → Use) → List Target → ℕ → ℕ → Declaration → Type 0
   GoodOneDeclared plan ts p t (statics ks) = ⊤
@@ -158,7 +158,7 @@ abbrev mutual
 
   pub GoodDefined : (ℕ → Use) → List Target → ℕ → ℕ → Definitions → Type 0
   GoodDefined plan ts p t no_definitions = ⊤
-  GoodDefined plan ts p t (define d ds) = GoodOneDefined plan ts p t d × GoodDefined plan ts p (behind_definition t d) ds
+  GoodDefined plan ts p t (define d ds) = GoodOneDefined plan ts p t d × GoodDefined plan ts p (after_definition t d) ds
 
   pub GoodOneDefined : (ℕ → Use) → List Target → ℕ → ℕ → Definition → Type 0
   GoodOneDefined plan ts p t (variables is) = GoodStarted plan ts p t is

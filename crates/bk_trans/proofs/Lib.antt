@@ -22,7 +22,7 @@ mod Forms
 mod Marked
 mod Sections
 mod Scopes
-mod Told
+mod Reported
 mod Asked
 mod Bodies
 mod Nested

@@ -1,6 +1,6 @@
 -- The code of a part sets each label as often as its marks have it.
 use Rattle.bk_trans.proofs.Words.{arith, ◌≡◌, ℕ, ◌+◌, Bool, true, false, not, pos, int_lt, Some, List, [], ◌∷◌, ◌++◌, refl, ⊤, signed, Stmt, sets, times_set}
-use Rattle.bk_trans.proofs.Terms.{Simple as w, Dyadic as two, Stmt as t, Around, Target, Term, Terms, Condition, Lvalue, Lvalues, NamedCommand, NamedCommands, Declaration, Declarations, Definition, Definitions, Starts, named, truth, parens, unary, address, binary, choice, apply, valof, none, more, holds, within, fails, both, either, contents, subscript, byte, inside, no_lvalues, onto, assign, call, label, case_of, default, when, test, while, for_loop, switch, result, simple, block, repeat, repeat_while, no_named_commands, also, statics, lets, no_declarations, declare, routine, function, variables, no_definitions, define, no_starts, value, vector, labels, labels_if, labels_at, labels_onto, labels_in, labels_of_declaration, labels_of_declarations, labels_of_definition, count, behind_declaration, behind_declarations, behind_definition, has_variables, by_turns, value_code, each_code, jump_code, address_code, store_code, value_codes, store_codes, command_code, through_code, declarations_code, declaration_code, definitions_code, definition_code, starts_code, valued, looping, switching}
+use Rattle.bk_trans.proofs.Terms.{Simple as w, Dyadic as two, Stmt as t, Around, Target, Term, Terms, Condition, Lvalue, Lvalues, NamedCommand, NamedCommands, Declaration, Declarations, Definition, Definitions, Starts, named, truth, parens, unary, address, binary, choice, apply, valof, none, more, holds, within, fails, both, either, contents, subscript, byte, inside, no_lvalues, onto, assign, call, label, case_of, default, when, test, while, for_loop, switch, result, simple, block, repeat, repeat_while, no_named_commands, also, statics, lets, no_declarations, declare, routine, function, variables, no_definitions, define, no_starts, value, vector, labels, labels_if, labels_at, labels_onto, labels_in, labels_of_declaration, labels_of_declarations, labels_of_definition, count, after_declaration, after_declarations, after_definition, has_variables, by_turns, value_code, each_code, jump_code, address_code, store_code, value_codes, store_codes, command_code, through_code, declarations_code, declaration_code, definitions_code, definition_code, starts_code, valued, looping, switching}
 use Rattle.bk_trans.proofs.Once.{set_both, push_none, truth_none, chosen_none, store_none, prefix_none, infix_none}
 use Rattle.bk_trans.proofs.Marks.{Mark, marks, marks_each, marks_if, marks_at, marks_onto, marks_all_onto, marks_from, marks_by_turns, marks_in, marks_through, marks_of_declaration, marks_of_declarations, marks_of_definition, marks_of_definitions, marks_of_starts}
 
@@ -107,8 +107,8 @@ module _ (l : ℕ) (ts : List Target) where
     command_marked a p s n (result e) = let h = value_marked p s n e in simp (set_both) (omega (arith, h))
     command_marked a p s n (block no_declarations cs) = through_marked a p s n cs
     command_marked a p s n (block (declare x xs) cs) =
-        let h = one_declared_marked p s n x in let j = declared_marked p (behind_declaration s x) (n + labels_of_declaration x) xs in
-        let i = through_marked a p (behind_declarations s (declare x xs)) (n + labels_of_declarations (declare x xs)) cs in simp (set_both, marked_both) (omega (arith, h, j, i))
+        let h = one_declared_marked p s n x in let j = declared_marked p (after_declaration s x) (n + labels_of_declaration x) xs in
+        let i = through_marked a p (after_declarations s (declare x xs)) (n + labels_of_declarations (declare x xs)) cs in simp (set_both, marked_both) (omega (arith, h, j, i))
     command_marked a p s n (repeat c) = let h = command_marked (looping n (n + 1) s a) p s (n + 2) c in simp (set_both, marked_both) (omega (arith, h))
     command_marked a p s n (repeat_while x c e) =
         simp (set_both, marked_both) (omega (arith, command_marked (looping (n + 1) (n + 2) s a) p s (n + 3) c, if_marked p s (n + 3 + labels_in c) e x n))
@@ -122,7 +122,7 @@ module _ (l : ℕ) (ts : List Target) where
     declared_marked : (p s n : ℕ) (xs : Declarations) → times_set l (declarations_code ts s n xs) ≡ times_marked l (marks_of_declarations p s n xs)
     declared_marked p s n no_declarations = refl
     declared_marked p s n (declare x xs) =
-        let h = one_declared_marked p s n x in let i = declared_marked p (behind_declaration s x) (n + labels_of_declaration x) xs in simp (set_both, marked_both) (omega (arith, h, i))
+        let h = one_declared_marked p s n x in let i = declared_marked p (after_declaration s x) (n + labels_of_declaration x) xs in simp (set_both, marked_both) (omega (arith, h, i))
 
     one_declared_marked : (p s n : ℕ) (x : Declaration) → times_set l (declaration_code ts s n x) ≡ times_marked l (marks_of_declaration p s n x)
     one_declared_marked p s n (statics ks) = refl
@@ -131,7 +131,7 @@ module _ (l : ℕ) (ts : List Target) where
     defined_marked : (p s n : ℕ) (xs : Definitions) → times_set l (definitions_code ts s n xs) ≡ times_marked l (marks_of_definitions p s n xs)
     defined_marked p s n no_definitions = refl
     defined_marked p s n (define x xs) =
-        let h = one_defined_marked p s n x in let i = defined_marked p (behind_definition s x) (n + labels_of_definition x) xs in simp (set_both, marked_both) (omega (arith, h, i))
+        let h = one_defined_marked p s n x in let i = defined_marked p (after_definition s x) (n + labels_of_definition x) xs in simp (set_both, marked_both) (omega (arith, h, i))
 
     one_defined_marked : (p s n : ℕ) (x : Definition) → times_set l (definition_code ts s n x) ≡ times_marked l (marks_of_definition p s n x)
     one_defined_marked p s n (variables is) = started_marked p s n is

@@ -2,7 +2,7 @@
 -- words and tables are apart.
 use Rattle.bk_trans.proofs.Words.{◌≡◌, ℕ, ◌+◌, Bool, true, false, not, List, [], ◌∷◌, ◌++◌, ⊤, Use}
 use Rattle.bk_ocode.specs.Typing as typing
-use Rattle.bk_trans.proofs.Terms.{Term, Terms, Condition, Lvalue, Lvalues, NamedCommand, NamedCommands, Declaration, Declarations, Definition, Definitions, Starts, parens, unary, address, binary, choice, apply, valof, none, more, holds, within, fails, both, either, contents, subscript, byte, inside, no_lvalues, onto, assign, call, label, case_of, default, when, test, while, for_loop, switch, result, block, repeat, repeat_while, no_named_commands, also, statics, lets, no_declarations, declare, variables, no_definitions, define, no_starts, value, vector, labels, labels_if, labels_at, labels_onto, labels_in, labels_of_declarations, labels_of_declaration, labels_of_definition, count, behind_definition, behind_declaration, behind_declarations}
+use Rattle.bk_trans.proofs.Terms.{Term, Terms, Condition, Lvalue, Lvalues, NamedCommand, NamedCommands, Declaration, Declarations, Definition, Definitions, Starts, parens, unary, address, binary, choice, apply, valof, none, more, holds, within, fails, both, either, contents, subscript, byte, inside, no_lvalues, onto, assign, call, label, case_of, default, when, test, while, for_loop, switch, result, block, repeat, repeat_while, no_named_commands, also, statics, lets, no_declarations, declare, variables, no_definitions, define, no_starts, value, vector, labels, labels_if, labels_at, labels_onto, labels_in, labels_of_declarations, labels_of_declaration, labels_of_definition, count, after_definition, after_declaration, after_declarations}
 
 pub record Mark : Type 0 where
   pub spot : ℕ
@@ -87,7 +87,7 @@ abbrev mutual
   marks_in p s n (result e) = marks p s n e
   marks_in p s n (block no_declarations cs) = marks_through p s n cs
   marks_in p s n (block (declare h hs) cs) =
-      marks_of_declarations p s n (declare h hs) ++ marks_through p (behind_declarations s (declare h hs)) (n + labels_of_declarations (declare h hs)) cs
+      marks_of_declarations p s n (declare h hs) ++ marks_through p (after_declarations s (declare h hs)) (n + labels_of_declarations (declare h hs)) cs
   marks_in p s n (repeat c) = jump_mark n p s ∷ jump_mark (n + 1) p s ∷ marks_in p s (n + 2) c
   marks_in p s n (repeat_while b c e) =
       jump_mark n p s ∷ jump_mark (n + 1) p s ∷ jump_mark (n + 2) p s ∷ marks_in p s (n + 3) c ++ marks_if p s (n + 3 + labels_in c) e b
@@ -99,7 +99,7 @@ abbrev mutual
 
   pub marks_of_declarations : ℕ → ℕ → ℕ → Declarations → List Mark
   marks_of_declarations p t n no_declarations = []
-  marks_of_declarations p t n (declare h hs) = marks_of_declaration p t n h ++ marks_of_declarations p (behind_declaration t h) (n + labels_of_declaration h) hs
+  marks_of_declarations p t n (declare h hs) = marks_of_declaration p t n h ++ marks_of_declarations p (after_declaration t h) (n + labels_of_declaration h) hs
 
   pub marks_of_declaration : ℕ → ℕ → ℕ → Declaration → List Mark
   marks_of_declaration p t n (statics ks) = []
@@ -107,7 +107,7 @@ abbrev mutual
 
   pub marks_of_definitions : ℕ → ℕ → ℕ → Definitions → List Mark
   marks_of_definitions p t n no_definitions = []
-  marks_of_definitions p t n (define d ds) = marks_of_definition p t n d ++ marks_of_definitions p (behind_definition t d) (n + labels_of_definition d) ds
+  marks_of_definitions p t n (define d ds) = marks_of_definition p t n d ++ marks_of_definitions p (after_definition t d) (n + labels_of_definition d) ds
 
   pub marks_of_definition : ℕ → ℕ → ℕ → Definition → List Mark
   marks_of_definition p t n (variables is) = marks_of_starts p t n is

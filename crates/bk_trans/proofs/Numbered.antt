@@ -1,11 +1,11 @@
 -- Each number has one target at most: labels have numbers of their own where they come into scope, and so have the procedures of a LET
 -- and the items of STATIC; in one list no name stands twice.
-use Rattle.bk_trans.proofs.Words.{arith, ◌≡◌, inl, inr, ℕ, ◌+◌, ◌≤◌, Bool, true, false, cond, Option, Some, List, [], ◌∷◌, ◌++◌, length, refl, sym, ap, subst, ◌∙◌, ⊤, VEC_NUMBER, Expression, Expressions, Command, Commands, Declaration, Declarations, Items, Definition, Definitions, Starts, parens, unary, binary, choice, apply, valof, none, more, assign, call, label, case_of, default, when, test, while, for_loop, switch, result, block, repeat, repeat_while, no_commands, also, constants, definitions, no_declarations, declare, no_items, item, routine, function, variables, no_definitions, define, no_starts, value, vector, at_expression, size, Bound, Static, Variable, Label, Enclosing, Role, Value, Truth, Address, Destination, not_assignable, no_result_or_return, vec_out_of_range, Binding, bound_in, bind, constant_word, deeper, looping, switching, labelled, valued, called, outermost, labels_of, labels_of_each, with_formals, parenthesised, words_of_start, Spot, procedures_in, onward, past, behind, behind_each, behind_done, behind_declared, behind_one_declared, behind_one_defined, behind_constant, symbols_each, beginning, Claim, is_claimed, Point, meaning, word, depth, wrong, claim, claimed, judged, at, labels_in_scope, procedures_in_scope, place_behind_one_defined, scope_behind_one, place_behind_one, scope_behind, place_behind_all, unless, its_meaning, constant, each_constant, at_most, assigned, prefixed, pushed, chosen_at, defaulted_at, one_of, each_of, told, told_each, told_destinations, told_done, told_done_each, told_declared, told_one_declared, told_defined, told_one_defined, told_started, naming, same_claim, Fault, is_global, numbers, numbers_each, numbers_done, numbers_done_each, numbers_declared, numbers_one_declared, numbers_items, numbers_defined, numbers_one_defined, numbers_started, procedure_in_scope, eqb-true, eq-eqb, ◌==◌, joined, sets}
-use Rattle.bk_trans.proofs.Terms.{Operator as o, Prefix as sign, Sort as sort, Clean, Target, meant, worth, statics_named, term_named, terms_named, condition_named, lvalue_named, lvalues_named, command_named, commands_named, declarations_named, declaration_named, definitions_named, definition_named, starts_named, labels, labels_if, labels_at, labels_onto, labels_in, labels_of_declaration, labels_of_declarations, labels_of_definition, count, behind_definition, behind_declaration, behind_declarations, Part, parts_each, parts_if, parts_at, parts_onto, parts_from, parts_in, parts_through, parts_of_items, parts_of_declarations, parts_of_declaration, parts_of_definitions, parts_of_definition, parts_of_starts, goal_of, labels_of_procedure, Goal, bytes_eq, bytes_eq-Decides, target_of, target_of_word, target_of_label, goal}
+use Rattle.bk_trans.proofs.Words.{arith, ◌≡◌, inl, inr, ℕ, ◌+◌, ◌≤◌, Bool, true, false, cond, Option, Some, List, [], ◌∷◌, ◌++◌, length, refl, sym, ap, subst, ◌∙◌, ⊤, VEC_NUMBER, Expression, Expressions, Command, Commands, Declaration, Declarations, Items, Definition, Definitions, Starts, parens, unary, binary, choice, apply, valof, none, more, assign, call, label, case_of, default, when, test, while, for_loop, switch, result, block, repeat, repeat_while, no_commands, also, constants, definitions, no_declarations, declare, no_items, item, routine, function, variables, no_definitions, define, no_starts, value, vector, at_expression, size, Bound, Static, Variable, Label, Enclosing, Role, Value, Truth, Address, Destination, not_assignable, no_result_or_return, vec_out_of_range, Binding, bound_in, bind, constant_word, deeper, looping, switching, labelled, valued, called, outermost, labels_of, labels_of_each, with_formals, parenthesised, words_of_start, Spot, procedures_in, onward, past, following, after_each, after_done, after_declared, after_one_declared, after_one_defined, after_constant, symbols_each, beginning, Claim, is_claimed, Point, meaning, word, depth, wrong, claim, claimed, judged, at, labels_in_scope, procedures_in_scope, place_after_one_defined, scope_after_one, place_after_one, scope_after, place_after_all, unless, its_meaning, constant, each_constant, at_most, assigned, prefixed, pushed, chosen_at, defaulted_at, one_of, each_of, reported, reported_each, reported_destinations, reported_done, reported_done_each, reported_declared, reported_one_declared, reported_defined, reported_one_defined, reported_started, naming, same_claim, Fault, is_global, numbers, numbers_each, numbers_done, numbers_done_each, numbers_declared, numbers_one_declared, numbers_items, numbers_defined, numbers_one_defined, numbers_started, procedure_in_scope, eqb-true, eq-eqb, ◌==◌, joined, sets}
+use Rattle.bk_trans.proofs.Terms.{Operator as o, Prefix as sign, Sort as sort, Clean, Target, meant, worth, statics_named, term_named, terms_named, condition_named, lvalue_named, lvalues_named, command_named, commands_named, declarations_named, declaration_named, definitions_named, definition_named, starts_named, labels, labels_if, labels_at, labels_onto, labels_in, labels_of_declaration, labels_of_declarations, labels_of_definition, count, after_definition, after_declaration, after_declarations, Part, parts_each, parts_if, parts_at, parts_onto, parts_from, parts_in, parts_through, parts_of_items, parts_of_declarations, parts_of_declaration, parts_of_definitions, parts_of_definition, parts_of_starts, goal_of, labels_of_procedure, Goal, bytes_eq, bytes_eq-Decides, target_of, target_of_word, target_of_label, goal}
 use Rattle.bk_scope.specs.Spots as spots
 use Rattle.bk_trans.proofs.Once.{past as beyond, own, no_more}
 use Rattle.bk_trans.proofs.Scopes.{Among, procedure_names, look_label, look_procedure, AllFound}
-use Rattle.bk_trans.proofs.Told.{told_front, told_back}
+use Rattle.bk_trans.proofs.Reported.{told_front, told_back}
 use Rattle.bk_trans.proofs.Nested.{Quiet, body_quiet}
 use Rattle.bk_trans.proofs.Asked.{Asked, for_value, for_truth, role, asked}
 
@@ -127,44 +127,44 @@ distinct_names k (x ∷ xs) h =
 
 -- the labels of some commands are claimed by them
 mutual
-  labels_claimed : (y : List ℕ) (bs : List Binding) (p : Enclosing) (s : Spot) (c : Command) → name_times p.labels y (labels_of c) ≤ times_claimed p.labels y (told_done bs p s c)
+  labels_claimed : (y : List ℕ) (bs : List Binding) (p : Enclosing) (s : Spot) (c : Command) → name_times p.labels y (labels_of c) ≤ times_claimed p.labels y (reported_done bs p s c)
   labels_claimed y bs p s (label l x c) = let h = labels_claimed y bs p (past 1 s) c in simp (claimed_both) (omega (arith, h))
-  labels_claimed y bs p s (case_of l e c) = let h = labels_claimed y bs p (behind_constant e (past 1 s)) c in simp (claimed_both) (omega (arith, h))
+  labels_claimed y bs p s (case_of l e c) = let h = labels_claimed y bs p (after_constant e (past 1 s)) c in simp (claimed_both) (omega (arith, h))
   labels_claimed y bs p s (default l c) = let h = labels_claimed y bs p (past 1 s) c in simp (claimed_both) (omega (arith, h))
-  labels_claimed y bs p s (when l b e c) = let h = labels_claimed y bs p (behind e s) c in simp (claimed_both) (omega (arith, h))
+  labels_claimed y bs p s (when l b e c) = let h = labels_claimed y bs p (following e s) c in simp (claimed_both) (omega (arith, h))
   labels_claimed y bs p s (test l e a b) =
-      let h = labels_claimed y bs p (behind e s) a in let i = labels_claimed y bs p (behind_done a (behind e s)) b in simp (claimed_both, names_both) (omega (arith, h, i))
-  labels_claimed y bs p s (while l b e c) = let h = labels_claimed y bs (looping p) (behind e s) c in simp (claimed_both) (omega (arith, h))
-  labels_claimed y bs p s (switch l e c) = let h = labels_claimed y bs (switching (behind e s).number p) (spots.numbered 1 (behind e s)) c in simp (claimed_both) (omega (arith, h))
+      let h = labels_claimed y bs p (following e s) a in let i = labels_claimed y bs p (after_done a (following e s)) b in simp (claimed_both, names_both) (omega (arith, h, i))
+  labels_claimed y bs p s (while l b e c) = let h = labels_claimed y bs (looping p) (following e s) c in simp (claimed_both) (omega (arith, h))
+  labels_claimed y bs p s (switch l e c) = let h = labels_claimed y bs (switching (following e s).number p) (spots.numbered 1 (following e s)) c in simp (claimed_both) (omega (arith, h))
   labels_claimed y bs p s (block l no_declarations cs) = labels_claimed_each y bs p s cs
   labels_claimed y bs p s (repeat l c) = labels_claimed y bs (looping p) s c
   labels_claimed y bs p s (repeat_while l b c e) = let h = labels_claimed y bs (looping p) s c in simp (claimed_both) (omega (arith, h))
   labels_claimed y bs p s _ = omega arith
 
-  labels_claimed_each : (y : List ℕ) (bs : List Binding) (p : Enclosing) (s : Spot) (cs : Commands) → name_times p.labels y (labels_of_each cs) ≤ times_claimed p.labels y (told_done_each bs p s cs)
+  labels_claimed_each : (y : List ℕ) (bs : List Binding) (p : Enclosing) (s : Spot) (cs : Commands) → name_times p.labels y (labels_of_each cs) ≤ times_claimed p.labels y (reported_done_each bs p s cs)
   labels_claimed_each y bs p s no_commands = omega arith
   labels_claimed_each y bs p s (also c cs) =
-      let h = labels_claimed y bs p s c in let i = labels_claimed_each y bs p (behind_done c s) cs in simp (claimed_both, names_both) (omega (arith, h, i))
+      let h = labels_claimed y bs p s c in let i = labels_claimed_each y bs p (after_done c s) cs in simp (claimed_both, names_both) (omega (arith, h, i))
 
-labels_distinct : (bs : List Binding) (p : Enclosing) (s : Spot) (c : Command) → Quiet (told_done bs p s c) → Distinct (labels_of c)
+labels_distinct : (bs : List Binding) (p : Enclosing) (s : Spot) (c : Command) → Quiet (reported_done bs p s c) → Distinct (labels_of c)
 labels_distinct bs p s c f =
-    distinct_names p.labels (labels_of c) (λ y. let h = labels_claimed y bs p s c in let i = claimed_at_most_once p.labels y (told_done bs p s c) f.claims f.clean in omega (arith, h, i))
+    distinct_names p.labels (labels_of c) (λ y. let h = labels_claimed y bs p s c in let i = claimed_at_most_once p.labels y (reported_done bs p s c) f.claims f.clean in omega (arith, h, i))
 
-labels_distinct_each : (bs : List Binding) (p : Enclosing) (s : Spot) (cs : Commands) → Quiet (told_done_each bs p s cs) → Distinct (labels_of_each cs)
+labels_distinct_each : (bs : List Binding) (p : Enclosing) (s : Spot) (cs : Commands) → Quiet (reported_done_each bs p s cs) → Distinct (labels_of_each cs)
 labels_distinct_each bs p s cs f =
-    distinct_names p.labels (labels_of_each cs) (λ y. let h = labels_claimed_each y bs p s cs in let i = claimed_at_most_once p.labels y (told_done_each bs p s cs) f.claims f.clean in omega (arith, h, i))
+    distinct_names p.labels (labels_of_each cs) (λ y. let h = labels_claimed_each y bs p s cs in let i = claimed_at_most_once p.labels y (reported_done_each bs p s cs) f.claims f.clean in omega (arith, h, i))
 
 -- the procedures of a LET
-procedures_claimed : (m : ℕ) (y : List ℕ) (bs : List Binding) (p : Enclosing) (s : Spot) (ds : Definitions) → name_times m y (procedure_names ds) ≤ times_claimed m y (told_defined m bs p s ds)
+procedures_claimed : (m : ℕ) (y : List ℕ) (bs : List Binding) (p : Enclosing) (s : Spot) (ds : Definitions) → name_times m y (procedure_names ds) ≤ times_claimed m y (reported_defined m bs p s ds)
 procedures_claimed m y bs p s no_definitions = omega arith
-procedures_claimed m y bs p s (define (routine l x fs c) ds) = let h = procedures_claimed m y bs p (behind_one_defined (routine l x fs c) s) ds in simp (claimed_both) (omega (arith, h))
-procedures_claimed m y bs p s (define (function l x fs e) ds) = let h = procedures_claimed m y bs p (behind_one_defined (function l x fs e) s) ds in simp (claimed_both) (omega (arith, h))
+procedures_claimed m y bs p s (define (routine l x fs c) ds) = let h = procedures_claimed m y bs p (after_one_defined (routine l x fs c) s) ds in simp (claimed_both) (omega (arith, h))
+procedures_claimed m y bs p s (define (function l x fs e) ds) = let h = procedures_claimed m y bs p (after_one_defined (function l x fs e) s) ds in simp (claimed_both) (omega (arith, h))
 procedures_claimed m y bs p s (define (variables l xs is) ds) =
-    let h = procedures_claimed m y bs (place_behind_one_defined bs p (variables l xs is)) (behind_one_defined (variables l xs is) s) ds in simp (claimed_both) (omega (arith, h))
+    let h = procedures_claimed m y bs (place_after_one_defined bs p (variables l xs is)) (after_one_defined (variables l xs is) s) ds in simp (claimed_both) (omega (arith, h))
 
-procedures_distinct : (m : ℕ) (bs : List Binding) (p : Enclosing) (s : Spot) (ds : Definitions) → Quiet (told_defined m bs p s ds) → Distinct (procedure_names ds)
+procedures_distinct : (m : ℕ) (bs : List Binding) (p : Enclosing) (s : Spot) (ds : Definitions) → Quiet (reported_defined m bs p s ds) → Distinct (procedure_names ds)
 procedures_distinct m bs p s ds f =
-    distinct_names m (procedure_names ds) (λ y. let h = procedures_claimed m y bs p s ds in let i = claimed_at_most_once m y (told_defined m bs p s ds) f.claims f.clean in omega (arith, h, i))
+    distinct_names m (procedure_names ds) (λ y. let h = procedures_claimed m y bs p s ds in let i = claimed_at_most_once m y (reported_defined m bs p s ds) f.claims f.clean in omega (arith, h, i))
 
 -- the numbers of names in scope
 abbrev label_number : ℕ → Option Bound → ℕ
@@ -245,7 +245,7 @@ word_target m n _ = omega arith
 
 items_numbered : (m : ℕ) (bs : List Binding) (s : Spot) (is : Items) (n : ℕ) → parts_numbered m (parts_of_items n (statics_named bs s is)) + beyond m (s.number + numbers_items sort.Static is) ≤ beyond m s.number
 items_numbered m bs s no_items n = omega arith
-items_numbered m bs s (item l x e is) n = omega (arith, items_numbered m bs (spots.numbered 1 (behind_constant e (past 1 s))) is (n + 1), own m s.number)
+items_numbered m bs s (item l x e is) n = omega (arith, items_numbered m bs (spots.numbered 1 (after_constant e (past 1 s))) is (n + 1), own m s.number)
 
 -- a LET of nothing takes no number, and has no parts
 count_let : (m : ℕ) (bs : List Binding) (p : Enclosing) (s : Spot) (l : ℕ) (ds : Definitions) (d n : ℕ) → parts_numbered m (parts_of_declaration d n (declaration_named bs p s (definitions l ds))) + beyond m (s.number + ((1 + procedures_in ds) + numbers_defined ds)) ≤ beyond m s.number
@@ -256,172 +256,172 @@ count_let m bs p s l (define x xs) d n h = h
 -- EACH NODE: the numbers of its targets are those of labels around, and others from its own place on, each once
 module _ (m : ℕ) where
   mutual
-    counts : (ask : Asked) (bs : List Binding) (p : Enclosing) (s : Spot) (e : Expression) (d n : ℕ) → Quiet (told (role ask) bs p s e)
+    counts : (ask : Asked) (bs : List Binding) (p : Enclosing) (s : Spot) (e : Expression) (d n : ℕ) → Quiet (reported (role ask) bs p s e)
         → parts_numbered m (parts_if d n (asked ask bs p s e)) + beyond m (s.number + numbers e) ≤ beyond m s.number
     counts (for_truth z) bs p s (binary l o.Both k x y) d n f =
-        let u : Spot = past 1 (behind x s) in
-        let h = counts (for_truth z) bs p s x d (n + 1) (told_front (told Truth bs p s x) _ f) in
-        let i = counts (for_truth z) bs p u y d (n + 1 + labels_if (condition_named bs p s x)) (told_back (told Truth bs p s x) _ f) in simp (numbered_both) (omega (arith, h, i))
+        let u : Spot = past 1 (following x s) in
+        let h = counts (for_truth z) bs p s x d (n + 1) (told_front (reported Truth bs p s x) _ f) in
+        let i = counts (for_truth z) bs p u y d (n + 1 + labels_if (condition_named bs p s x)) (told_back (reported Truth bs p s x) _ f) in simp (numbered_both) (omega (arith, h, i))
     counts (for_truth z) bs p s (binary l o.Either k x y) d n f =
-        let u : Spot = past 1 (behind x s) in
-        let h = counts (for_truth z) bs p s x d (n + 1) (told_front (told Truth bs p s x) _ f) in
-        let i = counts (for_truth z) bs p u y d (n + 1 + labels_if (condition_named bs p s x)) (told_back (told Truth bs p s x) _ f) in simp (numbered_both) (omega (arith, h, i))
+        let u : Spot = past 1 (following x s) in
+        let h = counts (for_truth z) bs p s x d (n + 1) (told_front (reported Truth bs p s x) _ f) in
+        let i = counts (for_truth z) bs p u y d (n + 1 + labels_if (condition_named bs p s x)) (told_back (reported Truth bs p s x) _ f) in simp (numbered_both) (omega (arith, h, i))
     counts ask bs p s (unary l sign.Address e) d n f = let h = count_at bs p (past 1 s) (Address false (at_expression e)) e d n (told_back (prefixed sign.Address bs (past 1 s) e) _ f) in omega (arith, h)
     counts ask bs p s (unary l sign.Not e) d n f = let h = counts ask bs p (past 1 s) e d n f in omega (arith, h)
     counts ask bs p s (unary l y e) d n f = let h = counts for_value bs p (past 1 s) e d n f in omega (arith, h)
     counts ask bs p s (choice l k c x y) d n f =
-        let u : Spot = past 1 (behind c s) in
+        let u : Spot = past 1 (following c s) in
         let j = n + 2 + labels_if (condition_named bs p s c) in
-        let xs = told Truth bs p s c in
-        let ys = told Value bs p u x in
+        let xs = reported Truth bs p s c in
+        let ys = reported Value bs p u x in
         let h = counts (for_truth true) bs p s c d (n + 2) (told_front xs ys (told_front (xs ++ ys) _ f)) in
         let i = counts for_value bs p u x d j (told_back xs ys (told_front (xs ++ ys) _ f)) in
-        let q = counts for_value bs p (behind x u) y d (j + labels (term_named bs p u x)) (told_back (xs ++ ys) _ f) in
+        let q = counts for_value bs p (following x u) y d (j + labels (term_named bs p u x)) (told_back (xs ++ ys) _ f) in
         simp (numbered_both) (omega (arith, h, i, q))
     counts ask bs p s (apply l k e es) d n f =
-        let u : Spot = (past 1 (behind e s)) in
+        let u : Spot = (past 1 (following e s)) in
         let z : Enclosing = deeper (size es + 2) p in
         let v = term_named bs z s e in
-        let h = counts for_value bs z s e (d + 2 + count (terms_named 1 bs (deeper 2 p) u es)) n (told_front (told Value bs z s e) _ f) in
-        let i = count_each bs (deeper 2 p) u es (d + 2) (n + labels v) (told_back (told Value bs z s e) _ f) in simp (numbered_both) (omega (arith, h, i))
+        let h = counts for_value bs z s e (d + 2 + count (terms_named 1 bs (deeper 2 p) u es)) n (told_front (reported Value bs z s e) _ f) in
+        let i = count_each bs (deeper 2 p) u es (d + 2) (n + labels v) (told_back (reported Value bs z s e) _ f) in simp (numbered_both) (omega (arith, h, i))
     counts ask bs p s (valof l c) d n f =
         let cs = labels_in_scope p.procedure (s.number + 1) (labels_of c) bs in
         let g : Enclosing = labelled s.number (valued p) in
         let u : Spot = onward 1 (1 + length (labels_of c)) s in
-        let body = told_front (told_done cs g u c) (pushed p 1) f in
+        let body = told_front (reported_done cs g u c) (pushed p 1) f in
         let h = count_in cs g u c d (n + 1) body in
         let i = labels_numbered m p.procedure (s.number + 1) (labels_of c) bs (labels_distinct cs g u c body) in omega (arith, h, i)
     counts ask bs p s (parens l e) d n f = let h = counts ask bs p (past 1 s) e d n f in omega (arith, h)
     counts for_value bs p s (binary l o.Both k x y) d n f =
-        let u : Spot = past 1 (behind x s) in
-        let h = counts for_value bs p s x d n (told_front (told Value bs p s x) _ f) in
-        let i = counts for_value bs (deeper 1 p) u y (d + 1) (n + labels (term_named bs p s x)) (told_back (told Value bs p s x) _ f) in simp (numbered_both) (omega (arith, h, i))
+        let u : Spot = past 1 (following x s) in
+        let h = counts for_value bs p s x d n (told_front (reported Value bs p s x) _ f) in
+        let i = counts for_value bs (deeper 1 p) u y (d + 1) (n + labels (term_named bs p s x)) (told_back (reported Value bs p s x) _ f) in simp (numbered_both) (omega (arith, h, i))
     counts ask bs p s (binary l z k x y) d n f =
-        let u : Spot = past 1 (behind x s) in
-        let h = counts for_value bs p s x d n (told_front (told Value bs p s x) _ f) in
-        let i = counts for_value bs (deeper 1 p) u y (d + 1) (n + labels (term_named bs p s x)) (told_back (told Value bs p s x) _ f) in simp (numbered_both) (omega (arith, h, i))
+        let u : Spot = past 1 (following x s) in
+        let h = counts for_value bs p s x d n (told_front (reported Value bs p s x) _ f) in
+        let i = counts for_value bs (deeper 1 p) u y (d + 1) (n + labels (term_named bs p s x)) (told_back (reported Value bs p s x) _ f) in simp (numbered_both) (omega (arith, h, i))
     counts ask bs p s _ d n f = omega arith
 
-    count_each : (bs : List Binding) (p : Enclosing) (s : Spot) (es : Expressions) (d n : ℕ) → Quiet (told_each 1 bs p s es) → parts_numbered m (parts_each d n (terms_named 1 bs p s es)) + beyond m (s.number + numbers_each es) ≤ beyond m s.number
+    count_each : (bs : List Binding) (p : Enclosing) (s : Spot) (es : Expressions) (d n : ℕ) → Quiet (reported_each 1 bs p s es) → parts_numbered m (parts_each d n (terms_named 1 bs p s es)) + beyond m (s.number + numbers_each es) ≤ beyond m s.number
     count_each bs p s none d n f = omega arith
     count_each bs p s (more e es) d n f =
-        let h = counts for_value bs p s e d n (told_front (told Value bs p s e) _ f) in
-        let i = count_each bs (deeper 1 p) (behind e s) es (d + 1) (n + labels (term_named bs p s e)) (told_back (told Value bs p s e) _ f) in simp (numbered_both) (omega (arith, h, i))
+        let h = counts for_value bs p s e d n (told_front (reported Value bs p s e) _ f) in
+        let i = count_each bs (deeper 1 p) (following e s) es (d + 1) (n + labels (term_named bs p s e)) (told_back (reported Value bs p s e) _ f) in simp (numbered_both) (omega (arith, h, i))
 
-    count_from : (bs : List Binding) (p : Enclosing) (s : Spot) (es : Expressions) (d n : ℕ) → Quiet (told_each 0 bs p s es) → parts_numbered m (parts_from d n (terms_named 0 bs p s es)) + beyond m (s.number + numbers_each es) ≤ beyond m s.number
+    count_from : (bs : List Binding) (p : Enclosing) (s : Spot) (es : Expressions) (d n : ℕ) → Quiet (reported_each 0 bs p s es) → parts_numbered m (parts_from d n (terms_named 0 bs p s es)) + beyond m (s.number + numbers_each es) ≤ beyond m s.number
     count_from bs p s none d n f = omega arith
     count_from bs p s (more e es) d n f =
-        let h = counts for_value bs p s e d n (told_front (told Value bs p s e) _ f) in
-        let i = count_from bs (deeper 0 p) (behind e s) es d (n + labels (term_named bs p s e)) (told_back (told Value bs p s e) _ f) in simp (numbered_both) (omega (arith, h, i))
+        let h = counts for_value bs p s e d n (told_front (reported Value bs p s e) _ f) in
+        let i = count_from bs (deeper 0 p) (following e s) es d (n + labels (term_named bs p s e)) (told_back (reported Value bs p s e) _ f) in simp (numbered_both) (omega (arith, h, i))
 
-    count_at : (bs : List Binding) (p : Enclosing) (s : Spot) (g : Role) (e : Expression) (d n : ℕ) → Quiet (told g bs p s e) → parts_numbered m (parts_at d n (lvalue_named bs p s e)) + beyond m (s.number + numbers e) ≤ beyond m s.number
+    count_at : (bs : List Binding) (p : Enclosing) (s : Spot) (g : Role) (e : Expression) (d n : ℕ) → Quiet (reported g bs p s e) → parts_numbered m (parts_at d n (lvalue_named bs p s e)) + beyond m (s.number + numbers e) ≤ beyond m s.number
     count_at bs p s g (parens l e) d n f = let h = count_at bs p (past 1 s) (parenthesised g) e d n f in omega (arith, h)
     count_at bs p s g (unary l sign.Contents e) d n f = let h = counts for_value bs p (past 1 s) e d n f in omega (arith, h)
     count_at bs p s g (binary l o.Subscript k x y) d n f =
-        let u : Spot = past 1 (behind x s) in
-        let h = counts for_value bs p s x d n (told_front (told Value bs p s x) _ f) in
-        let i = counts for_value bs (deeper 1 p) u y (d + 1) (n + labels (term_named bs p s x)) (told_back (told Value bs p s x) _ f) in simp (numbered_both) (omega (arith, h, i))
+        let u : Spot = past 1 (following x s) in
+        let h = counts for_value bs p s x d n (told_front (reported Value bs p s x) _ f) in
+        let i = counts for_value bs (deeper 1 p) u y (d + 1) (n + labels (term_named bs p s x)) (told_back (reported Value bs p s x) _ f) in simp (numbered_both) (omega (arith, h, i))
     count_at bs p s g (binary l o.Byte k x y) d n f =
-        let u : Spot = past 1 (behind x s) in
-        let h = counts for_value bs p s x d n (told_front (told Value bs p s x) _ f) in
-        let i = counts for_value bs (deeper 1 p) u y (d + 1) (n + labels (term_named bs p s x)) (told_back (told Value bs p s x) _ f) in simp (numbered_both) (omega (arith, h, i))
+        let u : Spot = past 1 (following x s) in
+        let h = counts for_value bs p s x d n (told_front (reported Value bs p s x) _ f) in
+        let i = counts for_value bs (deeper 1 p) u y (d + 1) (n + labels (term_named bs p s x)) (told_back (reported Value bs p s x) _ f) in simp (numbered_both) (omega (arith, h, i))
     count_at bs p s g _ d n f = omega arith
 
-    count_onto : (bs : List Binding) (p : Enclosing) (s : Spot) (xs : Expressions) (d n : ℕ) → Quiet (told_destinations bs p s xs) → parts_numbered m (parts_onto d n (lvalues_named bs p s xs)) + beyond m (s.number + numbers_each xs) ≤ beyond m s.number
+    count_onto : (bs : List Binding) (p : Enclosing) (s : Spot) (xs : Expressions) (d n : ℕ) → Quiet (reported_destinations bs p s xs) → parts_numbered m (parts_onto d n (lvalues_named bs p s xs)) + beyond m (s.number + numbers_each xs) ≤ beyond m s.number
     count_onto bs p s none d n f = omega arith
     count_onto bs p s (more x xs) d n f =
         let us : List Point = unless (assigned bs x) (at s.place (at_expression x) not_assignable) in
-        let vs = told (Destination false (at_expression x)) bs p s x in
+        let vs = reported (Destination false (at_expression x)) bs p s x in
         let h = count_at bs p s (Destination false (at_expression x)) x d n (told_back us vs (told_front (us ++ vs) _ f)) in
-        let i = count_onto bs p (behind x s) xs d (n + labels_at (lvalue_named bs p s x)) (told_back (us ++ vs) _ f) in simp (numbered_both) (omega (arith, h, i))
+        let i = count_onto bs p (following x s) xs d (n + labels_at (lvalue_named bs p s x)) (told_back (us ++ vs) _ f) in simp (numbered_both) (omega (arith, h, i))
 
-    count_in : (bs : List Binding) (p : Enclosing) (s : Spot) (c : Command) (d n : ℕ) → Quiet (told_done bs p s c) → parts_numbered m (parts_in d n (command_named bs p s c)) + beyond m (s.number + numbers_done c) ≤ beyond m s.number + own_labels m bs (labels_of c)
+    count_in : (bs : List Binding) (p : Enclosing) (s : Spot) (c : Command) (d n : ℕ) → Quiet (reported_done bs p s c) → parts_numbered m (parts_in d n (command_named bs p s c)) + beyond m (s.number + numbers_done c) ≤ beyond m s.number + own_labels m bs (labels_of c)
     count_in bs p s (assign l xs es) d n f =
         let v = lvalues_named bs (deeper 1 p) s xs in
-        let h = count_onto bs (deeper 1 p) s xs (d + 1) n (told_front (told_destinations bs (deeper 1 p) s xs) _ f) in
-        let i = count_from bs p (behind_each xs s) es d (n + labels_onto v) (told_back (told_destinations bs (deeper 1 p) s xs) _ f) in simp (numbered_both) (omega (arith, h, i))
+        let h = count_onto bs (deeper 1 p) s xs (d + 1) n (told_front (reported_destinations bs (deeper 1 p) s xs) _ f) in
+        let i = count_from bs p (after_each xs s) es d (n + labels_onto v) (told_back (reported_destinations bs (deeper 1 p) s xs) _ f) in simp (numbered_both) (omega (arith, h, i))
     count_in bs p s (call l e es) d n f =
-        let u : Spot = behind e s in
+        let u : Spot = following e s in
         let z : Enclosing = deeper (size es + 2) p in
         let v = term_named bs z s e in
-        let h = counts for_value bs z s e (d + 2 + count (terms_named 1 bs (deeper 2 p) u es)) n (told_front (told Value bs z s e) _ f) in
-        let i = count_each bs (deeper 2 p) u es (d + 2) (n + labels v) (told_back (told Value bs z s e) _ f) in simp (numbered_both) (omega (arith, h, i))
+        let h = counts for_value bs z s e (d + 2 + count (terms_named 1 bs (deeper 2 p) u es)) n (told_front (reported Value bs z s e) _ f) in
+        let i = count_each bs (deeper 2 p) u es (d + 2) (n + labels v) (told_back (reported Value bs z s e) _ f) in simp (numbered_both) (omega (arith, h, i))
     count_in bs p s (label l x c) d n f =
         let h = count_in bs p (past 1 s) c d (n + 1) (told_back (one_of p.labels s.place l x ++ its_meaning (bound_in bs x)) _ f) in let i = label_target m n d (bound_in bs x) in omega (arith, h, i)
     count_in bs p s (case_of l e c) d n f =
-        let h = count_in bs p (behind_constant e (past 1 s)) c d (n + 1) (told_back (chosen_at p.switch s.place l (constant_word bs e) ++ constant bs p.procedure (past 1 s) e) _ f) in omega (arith, h)
+        let h = count_in bs p (after_constant e (past 1 s)) c d (n + 1) (told_back (chosen_at p.switch s.place l (constant_word bs e) ++ constant bs p.procedure (past 1 s) e) _ f) in omega (arith, h)
     count_in bs p s (default l c) d n f = let h = count_in bs p (past 1 s) c d (n + 1) (told_back (defaulted_at p.switch s.place l) _ f) in omega (arith, h)
     count_in bs p s (when l z e c) d n f =
-        let h = counts (for_truth true) bs p s e d (n + 1) (told_front (told Truth bs p s e) _ f) in
-        let i = count_in bs p (behind e s) c d (n + 1 + labels_if (condition_named bs p s e)) (told_back (told Truth bs p s e) _ f) in simp (numbered_both) (omega (arith, h, i))
+        let h = counts (for_truth true) bs p s e d (n + 1) (told_front (reported Truth bs p s e) _ f) in
+        let i = count_in bs p (following e s) c d (n + 1 + labels_if (condition_named bs p s e)) (told_back (reported Truth bs p s e) _ f) in simp (numbered_both) (omega (arith, h, i))
     count_in bs p s (test l e x y) d n f =
-        let xs = told Truth bs p s e in
-        let ys = told_done bs p (behind e s) x in
+        let xs = reported Truth bs p s e in
+        let ys = reported_done bs p (following e s) x in
         let j = n + 2 + labels_if (condition_named bs p s e) in
         let h = counts (for_truth true) bs p s e d (n + 2) (told_front xs ys (told_front (xs ++ ys) _ f)) in
-        let i = count_in bs p (behind e s) x d j (told_back xs ys (told_front (xs ++ ys) _ f)) in
-        let q = count_in bs p (behind_done x (behind e s)) y d (j + labels_in (command_named bs p (behind e s) x)) (told_back (xs ++ ys) _ f) in
+        let i = count_in bs p (following e s) x d j (told_back xs ys (told_front (xs ++ ys) _ f)) in
+        let q = count_in bs p (after_done x (following e s)) y d (j + labels_in (command_named bs p (following e s) x)) (told_back (xs ++ ys) _ f) in
         simp (numbered_both, own_both) (omega (arith, h, i, q))
     count_in bs p s (while l z e c) d n f =
-        let h = counts (for_truth true) bs p s e d (n + 3) (told_front (told Truth bs p s e) _ f) in
-        let i = count_in bs (looping p) (behind e s) c d (n + 3 + labels_if (condition_named bs p s e)) (told_back (told Truth bs p s e) _ f) in simp (numbered_both) (omega (arith, h, i))
+        let h = counts (for_truth true) bs p s e d (n + 3) (told_front (reported Truth bs p s e) _ f) in
+        let i = count_in bs (looping p) (following e s) c d (n + 3 + labels_if (condition_named bs p s e)) (told_back (reported Truth bs p s e) _ f) in simp (numbered_both) (omega (arith, h, i))
     count_in bs p s (for_loop l x e y k c) d n f =
-        let u : Spot = onward (symbols_each k) 0 (behind y (behind e s)) in
+        let u : Spot = onward (symbols_each k) 0 (following y (following e s)) in
         let g : Enclosing = labelled u.number (looping (deeper 2 p)) in
         let cs = bind x.letters (Variable p.procedure p.depth) bs in
         let ds = labels_in_scope p.procedure (u.number + 1) (labels_of c) cs in
         let i : Spot = spots.numbered (1 + length (labels_of c)) u in
-        let start = told Value bs p s e in
-        let limit = told Value bs (deeper 1 p) (behind e s) y in
-        let steps = each_constant bs p.procedure (behind y (behind e s)) k in
-        let heads = told_front (start ++ limit) steps (told_front (start ++ limit ++ steps) (pushed p 4) (told_front (start ++ limit ++ steps ++ pushed p 4) (told_done ds g i c) f)) in
-        let body = told_back (start ++ limit ++ steps ++ pushed p 4) (told_done ds g i c) f in
+        let start = reported Value bs p s e in
+        let limit = reported Value bs (deeper 1 p) (following e s) y in
+        let steps = each_constant bs p.procedure (following y (following e s)) k in
+        let heads = told_front (start ++ limit) steps (told_front (start ++ limit ++ steps) (pushed p 4) (told_front (start ++ limit ++ steps ++ pushed p 4) (reported_done ds g i c) f)) in
+        let body = told_back (start ++ limit ++ steps ++ pushed p 4) (reported_done ds g i c) f in
         let j = n + 4 + labels (term_named bs p s e) in
         let a = counts for_value bs p s e d (n + 4) (told_front start limit heads) in
-        let b = counts for_value bs (deeper 1 p) (behind e s) y (d + 1) j (told_back start limit heads) in
-        let h = count_in ds g i c (d + 2) (j + labels (term_named bs (deeper 1 p) (behind e s) y)) body in
+        let b = counts for_value bs (deeper 1 p) (following e s) y (d + 1) j (told_back start limit heads) in
+        let h = count_in ds g i c (d + 2) (j + labels (term_named bs (deeper 1 p) (following e s) y)) body in
         let q = labels_numbered m p.procedure (u.number + 1) (labels_of c) cs (labels_distinct ds g i c body) in simp (numbered_both) (omega (arith, a, b, h, q))
     count_in bs p s (switch l e c) d n f =
-        let h = counts for_value bs p s e d (n + 1) (told_front (told Value bs p s e) _ f) in
-        let i = count_in bs (switching (behind e s).number p) (spots.numbered 1 (behind e s)) c d (n + 1 + labels (term_named bs p s e)) (told_back (told Value bs p s e) _ f) in simp (numbered_both) (omega (arith, h, i))
+        let h = counts for_value bs p s e d (n + 1) (told_front (reported Value bs p s e) _ f) in
+        let i = count_in bs (switching (following e s).number p) (spots.numbered 1 (following e s)) c d (n + 1 + labels (term_named bs p s e)) (told_back (reported Value bs p s e) _ f) in simp (numbered_both) (omega (arith, h, i))
     count_in bs p s (result l e) d n f = let h = counts for_value bs p (past 1 s) e d n (told_back (unless p.in_valof (at s.place l no_result_or_return)) _ f) in omega (arith, h)
     count_in bs p s (block l no_declarations cs) d n f =
         let h = count_through bs p s cs d n f in let e = ap (λ (k : ℕ). parts_numbered m (parts_through d k (commands_named bs p s cs))) (no_more n) in omega (arith, h, e)
     count_in bs p s (block l (declare x xs) cs) d n f =
-        let u : Spot = behind_declared (declare x xs) s in
-        let g : Enclosing = labelled u.number (place_behind_all bs p s (declare x xs)) in
-        let es = scope_behind bs p s (declare x xs) in
+        let u : Spot = after_declared (declare x xs) s in
+        let g : Enclosing = labelled u.number (place_after_all bs p s (declare x xs)) in
+        let es = scope_after bs p s (declare x xs) in
         let ds = labels_in_scope p.procedure (u.number + 1) (labels_of_each cs) es in
         let i : Spot = spots.numbered (1 + length (labels_of_each cs)) u in
         let y = declarations_named bs p s (declare x xs) in
-        let first = told_front (told_declared bs p s (declare x xs)) _ f in
-        let body = told_back (told_declared bs p s (declare x xs)) _ f in
-        let h = count_one_declared bs p s x d n (told_front (told_one_declared bs p s x) _ first) in
+        let first = told_front (reported_declared bs p s (declare x xs)) _ f in
+        let body = told_back (reported_declared bs p s (declare x xs)) _ f in
+        let h = count_one_declared bs p s x d n (told_front (reported_one_declared bs p s x) _ first) in
         let v = declaration_named bs p s x in
-        let j = count_declared (scope_behind_one bs p s x) (place_behind_one bs p s x) (behind_one_declared x s) xs (behind_declaration d v) (n + labels_of_declaration v) (told_back (told_one_declared bs p s x) _ first) in
-        let k = count_through ds g i cs (behind_declarations d y) (n + labels_of_declarations y) body in
+        let j = count_declared (scope_after_one bs p s x) (place_after_one bs p s x) (after_one_declared x s) xs (after_declaration d v) (n + labels_of_declaration v) (told_back (reported_one_declared bs p s x) _ first) in
+        let k = count_through ds g i cs (after_declarations d y) (n + labels_of_declarations y) body in
         let q = labels_numbered m p.procedure (u.number + 1) (labels_of_each cs) es (labels_distinct_each ds g i cs body) in simp (numbered_both) (omega (arith, h, j, k, q))
     count_in bs p s (repeat l c) d n f = let h = count_in bs (looping p) s c d (n + 2) f in omega (arith, h)
     count_in bs p s (repeat_while l z c e) d n f =
-        let h = count_in bs (looping p) s c d (n + 3) (told_front (told_done bs (looping p) s c) _ f) in
-        let i = counts (for_truth true) bs p (behind_done c s) e d (n + 3 + labels_in (command_named bs (looping p) s c)) (told_back (told_done bs (looping p) s c) _ f) in simp (numbered_both) (omega (arith, h, i))
+        let h = count_in bs (looping p) s c d (n + 3) (told_front (reported_done bs (looping p) s c) _ f) in
+        let i = counts (for_truth true) bs p (after_done c s) e d (n + 3 + labels_in (command_named bs (looping p) s c)) (told_back (reported_done bs (looping p) s c) _ f) in simp (numbered_both) (omega (arith, h, i))
     count_in bs p s _ d n f = omega arith
 
-    count_through : (bs : List Binding) (p : Enclosing) (s : Spot) (cs : Commands) (d n : ℕ) → Quiet (told_done_each bs p s cs) → parts_numbered m (parts_through d n (commands_named bs p s cs)) + beyond m (s.number + numbers_done_each cs) ≤ beyond m s.number + own_labels m bs (labels_of_each cs)
+    count_through : (bs : List Binding) (p : Enclosing) (s : Spot) (cs : Commands) (d n : ℕ) → Quiet (reported_done_each bs p s cs) → parts_numbered m (parts_through d n (commands_named bs p s cs)) + beyond m (s.number + numbers_done_each cs) ≤ beyond m s.number + own_labels m bs (labels_of_each cs)
     count_through bs p s no_commands d n f = omega arith
     count_through bs p s (also c cs) d n f =
-        let h = count_in bs p s c d n (told_front (told_done bs p s c) _ f) in
-        let i = count_through bs p (behind_done c s) cs d (n + labels_in (command_named bs p s c)) (told_back (told_done bs p s c) _ f) in simp (numbered_both, own_both) (omega (arith, h, i))
+        let h = count_in bs p s c d n (told_front (reported_done bs p s c) _ f) in
+        let i = count_through bs p (after_done c s) cs d (n + labels_in (command_named bs p s c)) (told_back (reported_done bs p s c) _ f) in simp (numbered_both, own_both) (omega (arith, h, i))
 
-    count_declared : (bs : List Binding) (p : Enclosing) (s : Spot) (xs : Declarations) (d n : ℕ) → Quiet (told_declared bs p s xs) → parts_numbered m (parts_of_declarations d n (declarations_named bs p s xs)) + beyond m (s.number + numbers_declared xs) ≤ beyond m s.number
+    count_declared : (bs : List Binding) (p : Enclosing) (s : Spot) (xs : Declarations) (d n : ℕ) → Quiet (reported_declared bs p s xs) → parts_numbered m (parts_of_declarations d n (declarations_named bs p s xs)) + beyond m (s.number + numbers_declared xs) ≤ beyond m s.number
     count_declared bs p s no_declarations d n f = omega arith
     count_declared bs p s (declare x xs) d n f =
         let v = declaration_named bs p s x in
-        let h = count_one_declared bs p s x d n (told_front (told_one_declared bs p s x) _ f) in
-        let i = count_declared (scope_behind_one bs p s x) (place_behind_one bs p s x) (behind_one_declared x s) xs (behind_declaration d v) (n + labels_of_declaration v) (told_back (told_one_declared bs p s x) _ f) in
+        let h = count_one_declared bs p s x d n (told_front (reported_one_declared bs p s x) _ f) in
+        let i = count_declared (scope_after_one bs p s x) (place_after_one bs p s x) (after_one_declared x s) xs (after_declaration d v) (n + labels_of_declaration v) (told_back (reported_one_declared bs p s x) _ f) in
         simp (numbered_both) (omega (arith, h, i))
 
-    count_one_declared : (bs : List Binding) (p : Enclosing) (s : Spot) (x : Declaration) (d n : ℕ) → Quiet (told_one_declared bs p s x) → parts_numbered m (parts_of_declaration d n (declaration_named bs p s x)) + beyond m (s.number + numbers_one_declared x) ≤ beyond m s.number
+    count_one_declared : (bs : List Binding) (p : Enclosing) (s : Spot) (x : Declaration) (d n : ℕ) → Quiet (reported_one_declared bs p s x) → parts_numbered m (parts_of_declaration d n (declaration_named bs p s x)) + beyond m (s.number + numbers_one_declared x) ≤ beyond m s.number
     count_one_declared bs p s (constants l sort.Static (item i x e is)) d n f = let h = items_numbered m bs (spots.numbered 1 s) (item i x e is) n in omega (arith, h)
     count_one_declared bs p s (definitions l ds) d n f =
         let cs = procedures_in_scope (s.number + 1) ds bs in
@@ -430,23 +430,23 @@ module _ (m : ℕ) where
         let i = procedures_numbered m (s.number + 1) ds bs (procedures_distinct s.number cs p v ds f) in count_let m bs p s l ds d n (omega (arith, h, i))
     count_one_declared bs p s _ d n f = omega arith
 
-    count_defined : (k : ℕ) (bs : List Binding) (p : Enclosing) (s : Spot) (ds : Definitions) (d n : ℕ) → Quiet (told_defined k bs p s ds) → parts_numbered m (parts_of_definitions d n (definitions_named bs p s ds)) + beyond m (s.number + numbers_defined ds) ≤ beyond m s.number + own_procedures m bs ds
+    count_defined : (k : ℕ) (bs : List Binding) (p : Enclosing) (s : Spot) (ds : Definitions) (d n : ℕ) → Quiet (reported_defined k bs p s ds) → parts_numbered m (parts_of_definitions d n (definitions_named bs p s ds)) + beyond m (s.number + numbers_defined ds) ≤ beyond m s.number + own_procedures m bs ds
     count_defined k bs p s no_definitions d n f = omega arith
     count_defined k bs p s (define z ds) d n f =
         let y = definition_named bs p s z in
-        let h = count_one_defined k bs p s z d n (told_front (told_one_defined k bs p s z) _ f) in
+        let h = count_one_defined k bs p s z d n (told_front (reported_one_defined k bs p s z) _ f) in
         let j = own_first m bs z ds in
-        let i = count_defined k bs (place_behind_one_defined bs p z) (behind_one_defined z s) ds (behind_definition d y) (n + labels_of_definition y) (told_back (told_one_defined k bs p s z) _ f) in
+        let i = count_defined k bs (place_after_one_defined bs p z) (after_one_defined z s) ds (after_definition d y) (n + labels_of_definition y) (told_back (reported_one_defined k bs p s z) _ f) in
         simp (numbered_both) (omega (arith, h, i, j))
 
-    count_one_defined : (k : ℕ) (bs : List Binding) (p : Enclosing) (s : Spot) (x : Definition) (d n : ℕ) → Quiet (told_one_defined k bs p s x) → parts_numbered m (parts_of_definition d n (definition_named bs p s x)) + beyond m (s.number + numbers_one_defined x) ≤ beyond m s.number + own_procedures m bs (define x no_definitions)
+    count_one_defined : (k : ℕ) (bs : List Binding) (p : Enclosing) (s : Spot) (x : Definition) (d n : ℕ) → Quiet (reported_one_defined k bs p s x) → parts_numbered m (parts_of_definition d n (definition_named bs p s x)) + beyond m (s.number + numbers_one_defined x) ≤ beyond m s.number + own_procedures m bs (define x no_definitions)
     count_one_defined k bs p s (variables l xs is) d n f = let h = count_started bs p (past (length xs) s) is d n (told_back (each_of k s.place xs) _ f) in omega (arith, h)
     count_one_defined k bs p s (routine l x fs c) d n f =
         let z : Enclosing = labelled (s.number + 1) (called true s.number (length fs)) in
         let u : Spot = onward (1 + length fs) (2 + length (labels_of c)) s in
         let es = with_formals s.number 2 fs bs in
         let cs = labels_in_scope s.number (s.number + 2) (labels_of c) es in
-        let body = body_quiet k s.number s l x fs (bound_in bs x) (told_done cs z u c) f in
+        let body = body_quiet k s.number s l x fs (bound_in bs x) (reported_done cs z u c) f in
         let h = count_in cs z u c (length fs + 2) (n + labels_of_procedure (meant (bound_in bs x))) body in
         let i = labels_numbered m s.number (s.number + 2) (labels_of c) es (labels_distinct cs z u c body) in
         let j = word_target m (n + 1) (bound_in bs x) in omega (arith, h, i, j)
@@ -454,17 +454,17 @@ module _ (m : ℕ) where
         let z : Enclosing = called false s.number (length fs) in
         let u : Spot = onward (1 + length fs) 1 s in
         let cs = with_formals s.number 2 fs bs in
-        let body = body_quiet k s.number s l x fs (bound_in bs x) (told Value cs z u e) f in
+        let body = body_quiet k s.number s l x fs (bound_in bs x) (reported Value cs z u e) f in
         let h = counts for_value cs z u e (length fs + 2) (n + labels_of_procedure (meant (bound_in bs x))) body in
         let j = word_target m (n + 1) (bound_in bs x) in omega (arith, h, j)
 
-    count_started : (bs : List Binding) (p : Enclosing) (s : Spot) (is : Starts) (d n : ℕ) → Quiet (told_started bs p s is) → parts_numbered m (parts_of_starts d n (starts_named bs p s is)) + beyond m (s.number + numbers_started is) ≤ beyond m s.number
+    count_started : (bs : List Binding) (p : Enclosing) (s : Spot) (is : Starts) (d n : ℕ) → Quiet (reported_started bs p s is) → parts_numbered m (parts_of_starts d n (starts_named bs p s is)) + beyond m (s.number + numbers_started is) ≤ beyond m s.number
     count_started bs p s no_starts d n f = omega arith
     count_started bs p s (value e is) d n f =
-        let h = counts for_value bs p s e d n (told_front (told Value bs p s e) _ f) in
-        let i = count_started bs (deeper 1 p) (behind e s) is (d + 1) (n + labels (term_named bs p s e)) (told_back (told Value bs p s e) _ f) in simp (numbered_both) (omega (arith, h, i))
+        let h = counts for_value bs p s e d n (told_front (reported Value bs p s e) _ f) in
+        let i = count_started bs (deeper 1 p) (following e s) is (d + 1) (n + labels (term_named bs p s e)) (told_back (reported Value bs p s e) _ f) in simp (numbered_both) (omega (arith, h, i))
     count_started bs p s (vector l e is) d n f =
-        let h = count_started bs (deeper (words_of_start bs e + 1) p) (behind_constant e s) is (d + worth (constant_word bs e) + 2) n
+        let h = count_started bs (deeper (words_of_start bs e + 1) p) (after_constant e s) is (d + worth (constant_word bs e) + 2) n
         (told_back (constant bs p.procedure s e ++ at_most VEC_NUMBER s.place (at_expression e) vec_out_of_range (constant_word bs e) ++ pushed p (words_of_start bs e + 1)) _ f) in
         omega (arith, h)
 
@@ -503,7 +503,7 @@ all_found (x ∷ ts) h =
     )
 
 -- THE TARGETS OF A SECTION are found by their numbers
-pub section_found : (xs : Declarations) → Quiet (told_declared [] outermost beginning xs)
+pub section_found : (xs : Declarations) → Quiet (reported_declared [] outermost beginning xs)
     → AllFound (joined target_of (parts_of_declarations 2 1 (declarations_named [] outermost beginning xs))) (joined target_of (parts_of_declarations 2 1 (declarations_named [] outermost beginning xs)))
 section_found xs f =
     let ps = parts_of_declarations 2 1 (declarations_named [] outermost beginning xs) in

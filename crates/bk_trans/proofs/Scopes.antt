@@ -1,7 +1,7 @@
 -- What names in scope mean at a place of a section without faults, and that a label and a static word that are in scope have a
 -- target in their plan.
-use Rattle.bk_trans.proofs.Words.{arith, ◌≡◌, ◌⊎◌, inl, inr, ℕ, ◌+◌, ◌≤◌, Bool, true, false, cond, Option, Some, None, List, [], ◌∷◌, ◌++◌, length, refl, sym, ap, subst, ◌∙◌, ⊤, OCODE_LABEL, Command, Commands, Items, Definitions, label, case_of, default, when, test, while, switch, block, repeat, repeat_while, no_commands, also, no_declarations, no_items, item, routine, function, variables, no_definitions, define, Bound, Static, Label, Enclosing, Binding, bound_in, bind, bind_all, is_global, looping, switching, labels_of, labels_of_each, Spot, past, numbered, behind, behind_done, behind_constant, behind_one_defined, labels_in_scope, procedure_in_scope, procedures_in_scope, statics_in_scope, place_behind_one_defined, IsLabel, IsDepth, Use}
-use Rattle.bk_trans.proofs.Terms.{bytes_eq, bytes_eq-Decides, Goal, Target, meant, statics_named, term_named, condition_named, command_named, commands_named, definition_named, definitions_named, labels, labels_if, labels_in, labels_through, labels_of_procedure, labels_of_definition, labels_of_definitions, behind_definition, Part, label_place, target_of, target_of_word, parts_of_items, parts, parts_if, parts_in, parts_through, parts_of_definition, parts_of_definitions, goal, goal_of}
+use Rattle.bk_trans.proofs.Words.{arith, ◌≡◌, ◌⊎◌, inl, inr, ℕ, ◌+◌, ◌≤◌, Bool, true, false, cond, Option, Some, None, List, [], ◌∷◌, ◌++◌, length, refl, sym, ap, subst, ◌∙◌, ⊤, OCODE_LABEL, Command, Commands, Items, Definitions, label, case_of, default, when, test, while, switch, block, repeat, repeat_while, no_commands, also, no_declarations, no_items, item, routine, function, variables, no_definitions, define, Bound, Static, Label, Enclosing, Binding, bound_in, bind, bind_all, is_global, looping, switching, labels_of, labels_of_each, Spot, past, numbered, following, after_done, after_constant, after_one_defined, labels_in_scope, procedure_in_scope, procedures_in_scope, statics_in_scope, place_after_one_defined, IsLabel, IsDepth, Use}
+use Rattle.bk_trans.proofs.Terms.{bytes_eq, bytes_eq-Decides, Goal, Target, meant, statics_named, term_named, condition_named, command_named, commands_named, definition_named, definitions_named, labels, labels_if, labels_in, labels_through, labels_of_procedure, labels_of_definition, labels_of_definitions, after_definition, Part, label_place, target_of, target_of_word, parts_of_items, parts, parts_if, parts_in, parts_through, parts_of_definition, parts_of_definitions, goal, goal_of}
 use Rattle.bk_ocode.specs.Typing as typing
 use Rattle.bk_trans.proofs.Marks.{Mark, marks, marks_if, marks_in, marks_through, AllRight, right_front, right_back}
 use Rattle.bk_trans.proofs.Good.{IsGoal, IsWord}
@@ -160,33 +160,33 @@ mutual
   label_found plan ts q k i y bs p s (label l x c) d n e deep low high (inr among) a r =
       label_found plan ts q k i y bs p (past 1 s) c d (n + 1) e deep (omega (arith, low)) (omega (arith, high)) among a.1 r.1
   label_found plan ts q k i y bs p s (case_of l f c) d n e deep low high among a r =
-      label_found plan ts q k i y bs p (behind_constant f (past 1 s)) c d (n + 1) e deep (omega (arith, low)) (omega (arith, high)) among a r.1
+      label_found plan ts q k i y bs p (after_constant f (past 1 s)) c d (n + 1) e deep (omega (arith, low)) (omega (arith, high)) among a r.1
   label_found plan ts q k i y bs p s (default l c) d n e deep low high among a r =
       label_found plan ts q k i y bs p (past 1 s) c d (n + 1) e deep (omega (arith, low)) (omega (arith, high)) among a r.1
   label_found plan ts q k i y bs p s (when l b f c) d n e deep low high among a r =
       let h = condition_named bs p s f in
-      label_found plan ts q k i y bs p (behind f s) c d (n + 1 + labels_if h) e deep (omega (arith, low)) (omega (arith, high)) among (parts_back plan ts (parts_if d (n + 1) h) _ a)
+      label_found plan ts q k i y bs p (following f s) c d (n + 1 + labels_if h) e deep (omega (arith, low)) (omega (arith, high)) among (parts_back plan ts (parts_if d (n + 1) h) _ a)
       (right_back plan (marks_if q d (n + 1) h _) _ r.1)
   label_found plan ts q k i y bs p s (test l f c x) d n e deep low high among a r =
       let h = condition_named bs p s f in
-      let first = command_named bs p (behind f s) c in
+      let first = command_named bs p (following f s) c in
       let ms = marks_if q d (n + 2) h false ++ marks_in q d (n + 2 + labels_if h) first in
       let qs = parts_if d (n + 2) h ++ parts_in d (n + 2 + labels_if h) first in
       elim (among_first y (labels_of c) (labels_of x) among) [
         | inl one ↦
-            label_found plan ts q k i y bs p (behind f s) c d (n + 2 + labels_if h) e deep (omega (arith, low)) (omega (arith, high)) one (parts_back plan ts (parts_if d (n + 2) h) _ (parts_front plan ts qs _ a))
+            label_found plan ts q k i y bs p (following f s) c d (n + 2 + labels_if h) e deep (omega (arith, low)) (omega (arith, high)) one (parts_back plan ts (parts_if d (n + 2) h) _ (parts_front plan ts qs _ a))
             (right_back plan (marks_if q d (n + 2) h false) _ (right_front plan ms _ r.1.1))
         | inr two ↦
-            label_found plan ts q k i y bs p (behind_done c (behind f s)) x d (n + 2 + labels_if h + labels_in first) e deep (omega (arith, low)) (omega (arith, high)) two (parts_back plan ts qs _ a)
+            label_found plan ts q k i y bs p (after_done c (following f s)) x d (n + 2 + labels_if h + labels_in first) e deep (omega (arith, low)) (omega (arith, high)) two (parts_back plan ts qs _ a)
             (right_back plan ms _ r.1.1)
       ]
   label_found plan ts q k i y bs p s (while l b f c) d n e deep low high among a r =
       let h = condition_named bs p s f in
-      label_found plan ts q k i y bs (looping p) (behind f s) c d (n + 3 + labels_if h) e deep (omega (arith, low)) (omega (arith, high)) among (parts_back plan ts (parts_if d (n + 3) h) _ a)
-      (right_front plan (marks_in q d (n + 3 + labels_if h) (command_named bs (looping p) (behind f s) c)) _ r.1.1.1)
+      label_found plan ts q k i y bs (looping p) (following f s) c d (n + 3 + labels_if h) e deep (omega (arith, low)) (omega (arith, high)) among (parts_back plan ts (parts_if d (n + 3) h) _ a)
+      (right_front plan (marks_in q d (n + 3 + labels_if h) (command_named bs (looping p) (following f s) c)) _ r.1.1.1)
   label_found plan ts q k i y bs p s (switch l f c) d n e deep low high among a r =
       let h = term_named bs p s f in
-      label_found plan ts q k i y bs (switching (behind f s).number p) (numbered 1 (behind f s)) c d (n + 1 + labels h) e deep (omega (arith, low)) (omega (arith, high)) among
+      label_found plan ts q k i y bs (switching (following f s).number p) (numbered 1 (following f s)) c d (n + 1 + labels h) e deep (omega (arith, low)) (omega (arith, high)) among
       (parts_back plan ts (parts d (n + 1) h) _ a) (right_back plan (marks q d (n + 1) h) _ r.1)
   label_found plan ts q k i y bs p s (block l no_declarations cs) d n e deep low high among a r =
       label_found_through plan ts q k i y bs p s cs d n e deep low (omega (arith, high)) among (subst (λ (m : ℕ). PartsRight plan ts (parts_through d m (commands_named bs p s cs))) (no_more n) a) r
@@ -207,7 +207,7 @@ mutual
       elim (among_first y (labels_of c) (labels_of_each cs) among) [
         | inl one ↦ label_found plan ts q k i y bs p s c d n e deep low (omega (arith, high)) one (parts_front plan ts (parts_in d n first) _ a) (right_front plan (marks_in q d n first) _ r)
         | inr two ↦
-            label_found_through plan ts q k i y bs p (behind_done c s) cs d (n + labels_in first) e deep (omega (arith, low)) (omega (arith, high)) two (parts_back plan ts (parts_in d n first) _ a)
+            label_found_through plan ts q k i y bs p (after_done c s) cs d (n + labels_in first) e deep (omega (arith, low)) (omega (arith, high)) two (parts_back plan ts (parts_in d n first) _ a)
             (right_back plan (marks_in q d n first) _ r)
       ]
 
@@ -228,15 +228,15 @@ procedure_found plan ts i y bs p s (define (routine l x fs c) ds) d n e high (in
     word_found plan ts n i (meant (bound_in bs x)) _ (meant_is (bound_in bs x) (Static i) (ap (bound_in bs) same ∙ e)) a.0.0 a.0.1.1 (omega (arith, high))
 procedure_found plan ts i y bs p s (define (routine l x fs c) ds) d n e high (inr among) a =
     let first = definition_named bs p s (routine l x fs c) in
-    procedure_found plan ts i y bs p (behind_one_defined (routine l x fs c) s) ds d (n + labels_of_definition first) e (omega (arith, high)) among (parts_back plan ts (parts_of_definition d n first) _ a)
+    procedure_found plan ts i y bs p (after_one_defined (routine l x fs c) s) ds d (n + labels_of_definition first) e (omega (arith, high)) among (parts_back plan ts (parts_of_definition d n first) _ a)
 procedure_found plan ts i y bs p s (define (function l x fs f) ds) d n e high (inl same) a =
     word_found plan ts n i (meant (bound_in bs x)) _ (meant_is (bound_in bs x) (Static i) (ap (bound_in bs) same ∙ e)) a.0.0 a.0.1.1 (omega (arith, high))
 procedure_found plan ts i y bs p s (define (function l x fs f) ds) d n e high (inr among) a =
     let first = definition_named bs p s (function l x fs f) in
-    procedure_found plan ts i y bs p (behind_one_defined (function l x fs f) s) ds d (n + labels_of_definition first) e (omega (arith, high)) among (parts_back plan ts (parts_of_definition d n first) _ a)
+    procedure_found plan ts i y bs p (after_one_defined (function l x fs f) s) ds d (n + labels_of_definition first) e (omega (arith, high)) among (parts_back plan ts (parts_of_definition d n first) _ a)
 procedure_found plan ts i y bs p s (define (variables l xs is) ds) d n e high among a =
     let first = definition_named bs p s (variables l xs is) in
-    procedure_found plan ts i y bs (place_behind_one_defined bs p (variables l xs is)) (behind_one_defined (variables l xs is) s) ds (behind_definition d first) (n + labels_of_definition first) e
+    procedure_found plan ts i y bs (place_after_one_defined bs p (variables l xs is)) (after_one_defined (variables l xs is) s) ds (after_definition d first) (n + labels_of_definition first) e
     (omega (arith, high)) among (parts_back plan ts (parts_of_definition d n first) _ a)
 
 -- the items of STATIC
@@ -246,7 +246,7 @@ pub statics_seen : (plan : ℕ → Use) (ts : List Target) (P : Bound → Type 0
 statics_seen plan ts P bs s no_items n cs low high a is_word all = all
 statics_seen plan ts P bs s (item l x e is) n cs low high a is_word all =
     let own : IsWord plan ((goal_of ts s.number).label) = subst (λ (g : Goal). IsWord plan g.label) (sym a.0.0.0) (a.0.1.0, (low, omega (arith, high))) in
-    let later : Spot = numbered 1 (behind_constant e (past 1 s)) in
+    let later : Spot = numbered 1 (after_constant e (past 1 s)) in
     let same : later.number ≡ s.number + 1 = omega arith in
     subst (λ (m : ℕ). Sees P (statics_in_scope m is (bind x (Static s.number) cs))) same
     (statics_seen plan ts P bs later is (n + 1) (bind x (Static s.number) cs) (omega (arith, low)) (omega (arith, high)) a.1 is_word

@@ -191,27 +191,27 @@ module _ (gs : List Goal) (ts : List Target) (placed : Placed gs ts) where
 
   abbrev pub Declared : Declarations → Type 0
   Declared ds = (r : Reached) (t : ℕ) (g : Supply) (k : ℕ) → Near r.depth t → At r.writing g k
-      → Declares r.writing (declarations_code ts t k (f.all_declared ds g).part) (parts_of_declarations t k (f.all_declared ds g).part) (depths.behind_declarations t (f.all_declared ds g).part) (f.all_declared ds g).left
+      → Declares r.writing (declarations_code ts t k (f.all_declared ds g).part) (parts_of_declarations t k (f.all_declared ds g).part) (depths.after_declarations t (f.all_declared ds g).part) (f.all_declared ds g).left
       (k + n.labels_of_declarations (f.all_declared ds g).part) (declared ds r)
 
   abbrev Declared_one : Declaration → Type 0
   Declared_one ds = (r : Reached) (t : ℕ) (g : Supply) (k : ℕ) → Near r.depth t → At r.writing g k
-      → Declares r.writing (declaration_code ts t k (f.declared ds g).part) (parts_of_declaration t k (f.declared ds g).part) (depths.behind_declaration t (f.declared ds g).part) (f.declared ds g).left
+      → Declares r.writing (declaration_code ts t k (f.declared ds g).part) (parts_of_declaration t k (f.declared ds g).part) (depths.after_declaration t (f.declared ds g).part) (f.declared ds g).left
       (k + n.labels_of_declaration (f.declared ds g).part) (one_declared ds r)
 
   abbrev Defined : Definitions → Type 0
   Defined ds = (r : Reached) (t : ℕ) (g : Supply) (k : ℕ) → Near r.depth t → At r.writing g k
-      → Declares r.writing (definitions_code ts t k (f.all_defined ds g).part) (parts_of_definitions t k (f.all_defined ds g).part) (depths.behind_definitions t (f.all_defined ds g).part) (f.all_defined ds g).left
+      → Declares r.writing (definitions_code ts t k (f.all_defined ds g).part) (parts_of_definitions t k (f.all_defined ds g).part) (depths.after_definitions t (f.all_defined ds g).part) (f.all_defined ds g).left
       (k + n.labels_of_definitions (f.all_defined ds g).part) (defined ds r)
 
   abbrev Defined_one : Definition → Type 0
   Defined_one ds = (r : Reached) (t : ℕ) (g : Supply) (k : ℕ) → Near r.depth t → At r.writing g k
-      → Declares r.writing (definition_code ts t k (f.defined ds g).part) (parts_of_definition t k (f.defined ds g).part) (depths.behind_definition t (f.defined ds g).part) (f.defined ds g).left
+      → Declares r.writing (definition_code ts t k (f.defined ds g).part) (parts_of_definition t k (f.defined ds g).part) (depths.after_definition t (f.defined ds g).part) (f.defined ds g).left
       (k + n.labels_of_definition (f.defined ds g).part) (one_defined ds r)
 
   abbrev Started : Starts → Type 0
   Started is = (r : Reached) (t : ℕ) (g : Supply) (k : ℕ) → Near r.depth t → At r.writing g k
-      → Declares r.writing (starts_code ts t k (f.starts is g).part) (parts_of_starts t k (f.starts is g).part) (depths.behind_starts t (f.starts is g).part) (f.starts is g).left
+      → Declares r.writing (starts_code ts t k (f.starts is g).part) (parts_of_starts t k (f.starts is g).part) (depths.after_starts t (f.starts is g).part) (f.starts is g).left
       (k + n.labels_of_starts (f.starts is g).part) (started is r)
 
   heads_are : (x : List Unresolved) (y : List Stmt) (xs : List (List Unresolved)) (ys : List (List Stmt)) → Same_codes (x ∷ xs) (y ∷ ys) → map stmt_in_words (map (settled gs) x) ≡ map stmt_in_words y

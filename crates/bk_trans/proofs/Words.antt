@@ -8,15 +8,15 @@ pub use Rattle.bk_tree.specs.Tree.{Command, Commands, Declaration, Declarations,
 pub use Rattle.bk_scope.specs.Cases.{AllDiffer, NoneOf}
 pub use Rattle.bk_scope.specs.Constants.{constant_word}
 pub use Rattle.bk_scope.specs.Entering.{labels_of, labels_of_each, with_formals}
-pub use Rattle.bk_scope.specs.Faults.{addressed, assigned, at_most, chosen_at, constant, defaulted_at, depth_named, each_constant, each_of, faults, global_items, gone_to, inside_procedure, its_frame, its_global, its_meaning, its_word, manifest_items, meanings, one_of, prefixed, procedure, pushed, single_at, static_items, told, told_declared, told_defined, told_destinations, told_done, told_done_each, told_each, told_of, told_one_declared, told_one_defined, told_started, unless, used_at, words}
+pub use Rattle.bk_scope.specs.Faults.{addressed, assigned, at_most, chosen_at, constant, defaulted_at, depth_named, each_constant, each_of, faults, global_items, gone_to, inside_procedure, its_frame, its_global, its_meaning, its_word, manifest_items, meanings, one_of, prefixed, procedure, pushed, single_at, static_items, reported, reported_declared, reported_defined, reported_destinations, reported_done, reported_done_each, reported_each, reported_of, reported_one_declared, reported_one_defined, reported_started, unless, used_at, words}
 pub use Rattle.bk_scope.specs.Found.{Claim, is_claimed, naming, same_claim}
-pub use Rattle.bk_scope.specs.Names.{parenthesised, place_behind, place_of_second, role_of_operand, role_of_operands, variables_of, within, words_of_start, words_of_vector}
+pub use Rattle.bk_scope.specs.Names.{parenthesised, place_after, place_of_second, role_of_operand, role_of_operands, variables_of, within, words_of_start, words_of_vector}
 pub use Rattle.bk_scope.specs.Places.{called, deeper, kept, labelled, looping, outermost, switching, valued}
-pub use Rattle.bk_scope.specs.Points.{Fault, Point, at, claim, claimed, claims_behind, deepest, depth, judged, meaning, meanings_of, without_depths, word, words_of, wrong}
+pub use Rattle.bk_scope.specs.Points.{Fault, Point, at, claim, claimed, claims_after, deepest, depth, judged, meaning, meanings_of, without_depths, word, words_of, wrong}
 pub use Rattle.bk_scope.specs.Scope.{Binding, bind, bind_all, bound_in, has_address, is_global}
-pub use Rattle.bk_scope.specs.Scoping.{globals_in_scope, labels_in_scope, manifests_in_scope, place_behind_all, place_behind_defined, place_behind_one, place_behind_one_defined, procedure_in_scope, procedures_in_scope, scope_behind, scope_behind_one, statics_in_scope, variables_in_scope}
+pub use Rattle.bk_scope.specs.Scoping.{globals_in_scope, labels_in_scope, manifests_in_scope, place_after_all, place_after_defined, place_after_one, place_after_one_defined, procedure_in_scope, procedures_in_scope, scope_after, scope_after_one, statics_in_scope, variables_in_scope}
 pub use Rattle.bk_scope.specs.Sound.{Callable, FrameSound, GlobalsSound, GoesTo, HasWord, HasWordUpTo, HaveWords, ManifestsSound, Sound, SoundDeclared, SoundDefined, SoundDestinations, SoundDone, SoundDoneEach, SoundEach, SoundOneDeclared, SoundOneDefined, SoundSection, SoundStarted, StaticsSound, Usable}
-pub use Rattle.bk_scope.specs.Spots.{Spot, beginning, behind, behind_constant, behind_declared, behind_done, behind_each, behind_one_declared, behind_one_defined, numbered, numbers, numbers_declared, numbers_defined, numbers_done, numbers_done_each, numbers_each, numbers_items, numbers_one_declared, numbers_one_defined, numbers_started, onward, past, procedures_in, symbols_each}
+pub use Rattle.bk_scope.specs.Spots.{Spot, beginning, following, after_constant, after_declared, after_done, after_each, after_one_declared, after_one_defined, numbered, numbers, numbers_declared, numbers_defined, numbers_done, numbers_done_each, numbers_each, numbers_items, numbers_one_declared, numbers_one_defined, numbers_started, onward, past, procedures_in, symbols_each}
 pub use Rattle.bk_scope.specs.Wrong.{Wrong, dynamic_name, global_out_of_range, label_not_here, no_result_or_return, not_assignable, text_of, vec_out_of_range}
 pub use Rattle.bk_scope.specs.declared.bound.Bound.TheVariants.{Constant, Global, Label, Static, Variable}
 pub use Rattle.bk_scope.specs.declared.place.Enclosing.{Enclosing}

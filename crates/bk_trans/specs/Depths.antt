@@ -6,26 +6,26 @@ abbrev pub count : Terms → ℕ
 count none = 0
 count (more e es) = count es + 1
 
-abbrev pub behind_starts : ℕ → Starts → ℕ
-behind_starts t no_starts = t
-behind_starts t (value e is) = behind_starts (t + 1) is
-behind_starts t (vector k is) = behind_starts (t + k + 2) is
+abbrev pub after_starts : ℕ → Starts → ℕ
+after_starts t no_starts = t
+after_starts t (value e is) = after_starts (t + 1) is
+after_starts t (vector k is) = after_starts (t + k + 2) is
 
-abbrev pub behind_definition : ℕ → Definition → ℕ
-behind_definition t (variables is) = behind_starts t is
-behind_definition t _ = t
+abbrev pub after_definition : ℕ → Definition → ℕ
+after_definition t (variables is) = after_starts t is
+after_definition t _ = t
 
-abbrev pub behind_definitions : ℕ → Definitions → ℕ
-behind_definitions t no_definitions = t
-behind_definitions t (define d ds) = behind_definitions (behind_definition t d) ds
+abbrev pub after_definitions : ℕ → Definitions → ℕ
+after_definitions t no_definitions = t
+after_definitions t (define d ds) = after_definitions (after_definition t d) ds
 
-abbrev pub behind_declaration : ℕ → Declaration → ℕ
-behind_declaration t (statics ks) = t
-behind_declaration t (lets ds) = behind_definitions t ds
+abbrev pub after_declaration : ℕ → Declaration → ℕ
+after_declaration t (statics ks) = t
+after_declaration t (lets ds) = after_definitions t ds
 
-abbrev pub behind_declarations : ℕ → Declarations → ℕ
-behind_declarations t no_declarations = t
-behind_declarations t (declare h hs) = behind_declarations (behind_declaration t h) hs
+abbrev pub after_declarations : ℕ → Declarations → ℕ
+after_declarations t no_declarations = t
+after_declarations t (declare h hs) = after_declarations (after_declaration t h) hs
 
 -- whether a LET has variables
 abbrev pub has_variables : Definitions → Bool

@@ -6,7 +6,7 @@ use Rattle.bk_scope.specs.declared.bound.Bound.TheVariants as b
 use Rattle.bk_trans.specs.declared.around.Target.{Target}
 use Rattle.bk_trans.specs.Program.{StaticItem, Term, Terms, Condition, Lvalue, Lvalues, NamedCommand, NamedCommands, Declaration, Declarations, Definition, Definitions, Starts, parens, unary, address, binary, choice, apply, valof, table, none, more, holds, within, fails, both, either, contents, subscript, byte, inside, no_lvalues, onto, assign, call, label, case_of, default, when, test, while, for_loop, switch, result, block, repeat, repeat_while, no_named_commands, also, statics, lets, no_declarations, declare, routine, function, variables, no_definitions, define, no_starts, value, vector}
 use Rattle.bk_trans.specs.Labels.{labels, labels_if, labels_at, labels_onto, labels_in, labels_of_declarations, labels_of_declaration, labels_of_definition, labels_of_procedure}
-use Rattle.bk_trans.specs.Depths.{count, behind_definition, behind_declaration, behind_declarations}
+use Rattle.bk_trans.specs.Depths.{count, after_definition, after_declaration, after_declarations}
 
 pub data Part : Type 0 where
   -- a procedure
@@ -74,7 +74,7 @@ abbrev mutual
   parts_in s n (for_loop a b k c) = parts s (n + 4) a ++ parts (s + 1) (n + 4 + labels a) b ++ parts_in (s + 2) (n + 4 + labels a + labels b) c
   parts_in s n (switch e c) = parts s (n + 1) e ++ parts_in s (n + 1 + labels e) c
   parts_in s n (result e) = parts s n e
-  parts_in s n (block hs cs) = parts_of_declarations s n hs ++ parts_through (behind_declarations s hs) (n + labels_of_declarations hs) cs
+  parts_in s n (block hs cs) = parts_of_declarations s n hs ++ parts_through (after_declarations s hs) (n + labels_of_declarations hs) cs
   parts_in s n (repeat c) = parts_in s (n + 2) c
   parts_in s n (repeat_while b c e) = parts_in s (n + 3) c ++ parts_if s (n + 3 + labels_in c) e
   parts_in s n _ = []
@@ -85,7 +85,7 @@ abbrev mutual
 
   pub parts_of_declarations : ℕ → ℕ → Declarations → List Part
   parts_of_declarations t n no_declarations = []
-  parts_of_declarations t n (declare h hs) = parts_of_declaration t n h ++ parts_of_declarations (behind_declaration t h) (n + labels_of_declaration h) hs
+  parts_of_declarations t n (declare h hs) = parts_of_declaration t n h ++ parts_of_declarations (after_declaration t h) (n + labels_of_declaration h) hs
 
   pub parts_of_declaration : ℕ → ℕ → Declaration → List Part
   parts_of_declaration t n (statics ks) = parts_of_items n ks
@@ -93,7 +93,7 @@ abbrev mutual
 
   pub parts_of_definitions : ℕ → ℕ → Definitions → List Part
   parts_of_definitions t n no_definitions = []
-  parts_of_definitions t n (define d ds) = parts_of_definition t n d ++ parts_of_definitions (behind_definition t d) (n + labels_of_definition d) ds
+  parts_of_definitions t n (define d ds) = parts_of_definition t n d ++ parts_of_definitions (after_definition t d) (n + labels_of_definition d) ds
 
   -- a procedure is before those in it
   pub parts_of_definition : ℕ → ℕ → Definition → List Part

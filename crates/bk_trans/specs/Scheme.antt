@@ -24,7 +24,7 @@ use Rattle.bk_trans.specs.declared.around.Around.{Around}
 use Rattle.bk_trans.specs.declared.around.Target.{Target}
 use Rattle.bk_trans.specs.Program.{Term, Terms, Condition, Lvalue, Lvalues, NamedCommand, NamedCommands, Declaration, Declarations, Definition, Definitions, Starts, named, number, text, truth, query, parens, unary, address, binary, choice, apply, valof, table, none, more, holds, within, fails, both, either, word, contents, subscript, byte, inside, nowhere, no_lvalues, onto, empty, assign, call, goto, label, case_of, default, when, test, while, for_loop, switch, result, simple, block, repeat, repeat_while, no_named_commands, also, statics, lets, no_declarations, declare, routine, function, variables, no_definitions, define, no_starts, value, vector}
 use Rattle.bk_trans.specs.Labels.{labels, labels_if, labels_at, labels_onto, labels_in, labels_of_declarations, labels_of_declaration, labels_of_definition, labels_of_procedure}
-use Rattle.bk_trans.specs.Depths.{count, behind_definition, behind_declaration, behind_declarations, has_variables}
+use Rattle.bk_trans.specs.Depths.{count, after_definition, after_declaration, after_declarations, has_variables}
 use Rattle.bk_trans.specs.Parts.{Part, procedure, static_item, static_table, label_place, target_of, parts_of_declarations}
 
 abbrev pub goal : ℕ → ℕ → Goal
@@ -246,7 +246,7 @@ abbrev mutual
   command_code ts a s n (simple w.Finish) = Finish ∷ []
   command_code ts a s n (block no_declarations cs) = through_code ts a s n cs
   command_code ts a s n (block (declare h hs) cs) =
-      declarations_code ts s n (declare h hs) ++ through_code ts a (behind_declarations s (declare h hs)) (n + labels_of_declarations (declare h hs)) cs ++ Stack s ∷ []
+      declarations_code ts s n (declare h hs) ++ through_code ts a (after_declarations s (declare h hs)) (n + labels_of_declarations (declare h hs)) cs ++ Stack s ∷ []
   command_code ts a s n (repeat c) = Label n ∷ command_code ts (looping n (n + 1) s a) s (n + 2) c ++ Jump n ∷ Label (n + 1) ∷ []
   command_code ts a s n (repeat_while b c e) =
       Label n ∷ command_code ts (looping (n + 1) (n + 2) s a) s (n + 3) c
@@ -259,7 +259,7 @@ abbrev mutual
   -- declarations, with depth t before them
   pub declarations_code : List Target → ℕ → ℕ → Declarations → List Stmt
   declarations_code ts t n no_declarations = []
-  declarations_code ts t n (declare h hs) = declaration_code ts t n h ++ declarations_code ts (behind_declaration t h) (n + labels_of_declaration h) hs
+  declarations_code ts t n (declare h hs) = declaration_code ts t n h ++ declarations_code ts (after_declaration t h) (n + labels_of_declaration h) hs
 
   pub declaration_code : List Target → ℕ → ℕ → Declaration → List Stmt
   declaration_code ts t n (statics ks) = []
@@ -267,7 +267,7 @@ abbrev mutual
 
   pub definitions_code : List Target → ℕ → ℕ → Definitions → List Stmt
   definitions_code ts t n no_definitions = []
-  definitions_code ts t n (define d ds) = definition_code ts t n d ++ definitions_code ts (behind_definition t d) (n + labels_of_definition d) ds
+  definitions_code ts t n (define d ds) = definition_code ts t n d ++ definitions_code ts (after_definition t d) (n + labels_of_definition d) ds
 
   pub definition_code : List Target → ℕ → ℕ → Definition → List Stmt
   definition_code ts t n (variables is) = starts_code ts t n is

@@ -199,16 +199,16 @@ access_of o.Subscript = access.Word
 access_of o.Byte = access.Byte
 access_of _ = access.Nothing
 
--- an address, where what is after its operands is `behind`; a byte has none, and its operands are written aside and left out
+-- an address, where what is after its operands is `following`; a byte has none, and its operands are written aside and left out
 abbrev pub puts_address : Access → Writing → Writing → Writing → Writing
-puts_address access.Word w behind aside = puts (Dyadic d.Add) behind
-puts_address access.Byte w behind aside = with_code w.code aside
-puts_address access.Nothing w behind aside = w
+puts_address access.Word w following aside = puts (Dyadic d.Add) following
+puts_address access.Byte w following aside = with_code w.code aside
+puts_address access.Nothing w following aside = w
 
 abbrev pub puts_store : Access → Writing → Writing → Writing
-puts_store access.Word w behind = puts AssignAt (puts (Dyadic d.Add) behind)
-puts_store access.Byte w behind = puts AssignByte behind
-puts_store access.Nothing w behind = w
+puts_store access.Word w following = puts AssignAt (puts (Dyadic d.Add) following)
+puts_store access.Byte w following = puts AssignByte following
+puts_store access.Nothing w following = w
 
 -- a value that was pushed serves the aim
 abbrev pub aimed : Aim → Writing → Writing

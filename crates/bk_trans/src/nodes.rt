@@ -507,19 +507,19 @@ fn each_act(
 /// Declarations one after another, and the depth after them.
 #[cycle(nodes)]
 pub fn declare_each(out: &mut Writing<'_>, depth: u32, decls: &[Decl]) -> Result<u32, AllocError>
-    ensures { IfOk result (λ behind. reached behind out.new ≡ declared (declarations_in decls.now) (reached depth out.old)) }
+    ensures { IfOk result (λ following. reached following out.new ≡ declared (declarations_in decls.now) (reached depth out.old)) }
 {
-    let mut behind = depth;
+    let mut following = depth;
     for decl in decls {
-        behind = declare(out, behind, decl)?;
+        following = declare(out, following, decl)?;
     }
-    Ok(behind)
+    Ok(following)
 }
 
 /// A declaration, and the depth after it.
 #[cycle(nodes)]
 fn declare(out: &mut Writing<'_>, depth: u32, decl: &Decl) -> Result<u32, AllocError>
-    ensures { IfOk result (λ behind. reached behind out.new ≡ one_declared (declaration decl.now) (reached depth out.old)) }
+    ensures { IfOk result (λ following. reached following out.new ≡ one_declared (declaration decl.now) (reached depth out.old)) }
 {
     match decl {
         Decl::Constants { sort, items, .. } => {
@@ -531,11 +531,11 @@ fn declare(out: &mut Writing<'_>, depth: u32, decl: &Decl) -> Result<u32, AllocE
             Ok(depth)
         }
         Decl::Let { defs, .. } => {
-            let behind = define_each(out, depth, defs)?;
+            let following = define_each(out, depth, defs)?;
             if has_variables(defs) {
                 out.put(Stmt::Store)?;
             }
-            Ok(behind)
+            Ok(following)
         }
     }
 }
@@ -543,19 +543,19 @@ fn declare(out: &mut Writing<'_>, depth: u32, decl: &Decl) -> Result<u32, AllocE
 /// Definitions one after another, and the depth after them.
 #[cycle(nodes)]
 fn define_each(out: &mut Writing<'_>, depth: u32, defs: &[Def]) -> Result<u32, AllocError>
-    ensures { IfOk result (λ behind. reached behind out.new ≡ defined (definitions_in defs.now) (reached depth out.old)) }
+    ensures { IfOk result (λ following. reached following out.new ≡ defined (definitions_in defs.now) (reached depth out.old)) }
 {
-    let mut behind = depth;
+    let mut following = depth;
     for def in defs {
-        behind = define(out, behind, def)?;
+        following = define(out, following, def)?;
     }
-    Ok(behind)
+    Ok(following)
 }
 
 /// A definition, and the depth after it.
 #[cycle(nodes)]
 fn define(out: &mut Writing<'_>, depth: u32, def: &Def) -> Result<u32, AllocError>
-    ensures { IfOk result (λ behind. reached behind out.new ≡ one_defined (definition def.now) (reached depth out.old)) }
+    ensures { IfOk result (λ following. reached following out.new ≡ one_defined (definition def.now) (reached depth out.old)) }
 {
     match def {
         Def::Routine {
@@ -587,19 +587,19 @@ fn define(out: &mut Writing<'_>, depth: u32, def: &Def) -> Result<u32, AllocErro
 /// What variables begin with, one after another, and the depth after them.
 #[cycle(nodes)]
 fn start_each(out: &mut Writing<'_>, depth: u32, starts: &[Init]) -> Result<u32, AllocError>
-    ensures { IfOk result (λ behind. reached behind out.new ≡ started (starts_in starts.now) (reached depth out.old)) }
+    ensures { IfOk result (λ following. reached following out.new ≡ started (starts_in starts.now) (reached depth out.old)) }
 {
-    let mut behind = depth;
+    let mut following = depth;
     for start in starts {
-        behind = start_one(out, behind, start)?;
+        following = start_one(out, following, start)?;
     }
-    Ok(behind)
+    Ok(following)
 }
 
 /// What a variable begins with, and the depth after it.
 #[cycle(nodes)]
 fn start_one(out: &mut Writing<'_>, depth: u32, start: &Init) -> Result<u32, AllocError>
-    ensures { IfOk result (λ behind. reached behind out.new ≡ started (starts_in (start.now ∷ [])) (reached depth out.old)) }
+    ensures { IfOk result (λ following. reached following out.new ≡ started (starts_in (start.now ∷ [])) (reached depth out.old)) }
 {
     match start {
         Init::Value(expr) => {

@@ -1,16 +1,16 @@
 -- A word that is taken with the blanks before it and what is behind it.
 use Rattle.std.proofs.Common.{◌≡◌, ◌+◌, ℕ, Bool, false, List, [], ◌∷◌, ◌++◌, length, length-append, arith, append_assoc}
 use Rattle.bk_words.specs.Words.{is_blank, AreBlank, AreInWord}
-use Rattle.bk_words.specs.Gathering.{IsBehindWord, TakesWord, BeginsWord}
+use Rattle.bk_words.specs.Gathering.{IsAfterWord, TakesWord, BeginsWord}
 
-abbrev pub the_word : (blanks : List ℕ) (first : ℕ) (rest behind : List ℕ) (last : Bool) (end : Type 0) → AreBlank blanks → is_blank first ≡ false → AreInWord rest → IsBehindWord behind last end →
-    TakesWord ((blanks ++ first ∷ []) ++ (rest ++ behind)) last end
-the_word blanks first rest behind last end are_blank inside in_word past = record {
+abbrev pub the_word : (blanks : List ℕ) (first : ℕ) (rest following : List ℕ) (last : Bool) (end : Type 0) → AreBlank blanks → is_blank first ≡ false → AreInWord rest → IsAfterWord following last end →
+    TakesWord ((blanks ++ first ∷ []) ++ (rest ++ following)) last end
+the_word blanks first rest following last end are_blank inside in_word past = record {
   blanks = blanks;
   first = first;
   rest = rest;
-  behind = behind;
-  whole = append_assoc blanks (first ∷ []) (rest ++ behind);
+  following = following;
+  whole = append_assoc blanks (first ∷ []) (rest ++ following);
   are_blank = are_blank;
   in_word = (inside, in_word);
   past = past;

@@ -14,20 +14,20 @@ abbrev pub Holds : Gathered → List ℕ → Type 0
 Holds held word = HoldsWord held.word held.long word
 
 -- one blank follows a word, or nothing where the text ends
-abbrev pub IsBehindWord : List ℕ → Bool → Type 0 → Type 0
-IsBehindWord behind true end = (behind ≡ []) × end
-IsBehindWord behind false end = (byte : ℕ) × (is_blank byte ≡ true) × (behind ≡ byte ∷ [])
+abbrev pub IsAfterWord : List ℕ → Bool → Type 0 → Type 0
+IsAfterWord following true end = (following ≡ []) × end
+IsAfterWord following false end = (byte : ℕ) × (is_blank byte ≡ true) × (following ≡ byte ∷ [])
 
 -- the bytes are blanks, a word, and one blank more, unless the text ends right after the word
 pub record TakesWord (given : List ℕ) (last : Bool) (end : Type 0) : Type 0 where
   pub blanks : List ℕ
   pub first : ℕ
   pub rest : List ℕ
-  pub behind : List ℕ
-  pub whole : given ≡ blanks ++ ((first ∷ rest) ++ behind)
+  pub following : List ℕ
+  pub whole : given ≡ blanks ++ ((first ∷ rest) ++ following)
   pub are_blank : AreBlank blanks
   pub in_word : AreInWord (first ∷ rest)
-  pub past : IsBehindWord behind last end
+  pub past : IsAfterWord following last end
 
 -- the bytes are those of the next word, or blanks up to the end
 abbrev pub IsNextWord : Option Gathered → List ℕ → Type 0 → Type 0

@@ -2,16 +2,16 @@
 use Rattle.std.specs.Prelude.{◌≡◌, ◌⊎◌, ℕ, Bool, List, [], ◌++◌, Option, length}
 use Rattle.std.specs.Io.KnownBytes.{Consumes}
 use Rattle.bk_words.specs.TextEnd.{AtEnd}
-use Rattle.bk_words.specs.Words.{words_of, AreInWord, EndsInWord, EndsInBlank, IsBehind}
+use Rattle.bk_words.specs.Words.{words_of, AreInWord, EndsInWord, EndsInBlank, IsAfter}
 
 -- What was taken of a text ends with these words: it goes up to the end of the last, and a blank more if there is one.
 pub record TakesWords (taken : List ℕ) (end : Type 0) (words : List (List ℕ)) : Type 0 where
   pub text : List ℕ
-  pub behind : List ℕ
-  pub whole : taken ≡ text ++ behind
+  pub following : List ℕ
+  pub whole : taken ≡ text ++ following
   pub are : words_of text ≡ words
   pub ends : EndsInWord text
-  pub past : IsBehind behind end
+  pub past : IsAfter following end
 
 -- These words were taken, if any.
 abbrev pub TakesSome : List ℕ → Type 0 → List (List ℕ) → Type 0

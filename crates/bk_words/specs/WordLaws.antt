@@ -5,8 +5,8 @@ use Rattle.bk_base.specs.Devices.{NothingLeft}
 use Rattle.bk_base.specs.DeviceLaws.{Consumes-trans}
 use Rattle.bk_base.specs.declared.limit.TheConstants.{INPUT_BYTES}
 use Rattle.bk_words.specs.TextEnd.{AtEnd}
-use Rattle.bk_words.specs.Words.{is_blank, at_gap, onto_first, words_of, AreBlank, AreInWord, EndsInWord, EndsInBlank, IsBehind}
-use Rattle.bk_words.specs.Gathering.{IsBehindWord, TakesWord, BeginsWord}
+use Rattle.bk_words.specs.Words.{is_blank, at_gap, onto_first, words_of, AreBlank, AreInWord, EndsInWord, EndsInBlank, IsAfter}
+use Rattle.bk_words.specs.Gathering.{IsAfterWord, TakesWord, BeginsWord}
 use Rattle.bk_words.specs.Taking.{TakesWords, TakesSome, StopsInWord, Reads, ReadsAll}
 
 -- two parts of a word
@@ -38,34 +38,34 @@ words_of-word first [] rest in_word gap = chosen-false (is_blank first) _ _ in_w
 words_of-word first (b ∷ word) rest in_word gap =
     chosen-false (is_blank first) _ _ in_word.0 ∙ chosen-false (is_blank b) _ _ in_word.1.0 ∙ ap (onto_first first) (words_of-word b word rest in_word.1 gap)
 
-EndsInWord-behind : (x y : List ℕ) → EndsInWord y → EndsInWord (x ++ y)
-EndsInWord-behind x y e = (x ++ e.0, e.1, e.2, ap (λ (t : List ℕ). x ++ t) e.3 ∙ sym (append_assoc x e.0 (e.1 ∷ [])))
+EndsInWord-after : (x y : List ℕ) → EndsInWord y → EndsInWord (x ++ y)
+EndsInWord-after x y e = (x ++ e.0, e.1, e.2, ap (λ (t : List ℕ). x ++ t) e.3 ∙ sym (append_assoc x e.0 (e.1 ∷ [])))
 
 EndsInWord-word : (first : ℕ) (word : List ℕ) → AreInWord (first ∷ word) → EndsInWord (first ∷ word)
 EndsInWord-word first [] in_word = ([], first, in_word.0, refl)
-EndsInWord-word first (b ∷ word) in_word = EndsInWord-behind (first ∷ []) (b ∷ word) (EndsInWord-word b word in_word.1)
+EndsInWord-word first (b ∷ word) in_word = EndsInWord-after (first ∷ []) (b ∷ word) (EndsInWord-word b word in_word.1)
 
-IsBehind-of : (behind : List ℕ) (last : Bool) (end : Type 0) → IsBehindWord behind last end → IsBehind behind end
-IsBehind-of behind true end past = inr past
-IsBehind-of behind false end past = inl past
+IsAfter-of : (following : List ℕ) (last : Bool) (end : Type 0) → IsAfterWord following last end → IsAfter following end
+IsAfter-of following true end past = inr past
+IsAfter-of following false end past = inl past
 
-gap_behind : (behind : List ℕ) (last : Bool) (end : Type 0) (more : List ℕ) → IsBehindWord behind last end → last ≡ false → at_gap (behind ++ more) ≡ true
-gap_behind behind true end more past is = absurd (let h : true ≡ false = is in cc)
-gap_behind behind false end more past is = ap (λ (b : List ℕ). at_gap (b ++ more)) past.2 ∙ past.1
+gap_after : (following : List ℕ) (last : Bool) (end : Type 0) (more : List ℕ) → IsAfterWord following last end → last ≡ false → at_gap (following ++ more) ≡ true
+gap_after following true end more past is = absurd (let h : true ≡ false = is in cc)
+gap_after following false end more past is = ap (λ (b : List ℕ). at_gap (b ++ more)) past.2 ∙ past.1
 
-words_behind : (behind : List ℕ) (last : Bool) (end : Type 0) (more : List ℕ) → IsBehindWord behind last end → last ≡ false → words_of (behind ++ more) ≡ words_of more
-words_behind behind true end more past is = absurd (let h : true ≡ false = is in cc)
-words_behind behind false end more past is = ap (λ (b : List ℕ). words_of (b ++ more)) past.2 ∙ chosen-true (is_blank past.0) _ _ past.1
+words_after : (following : List ℕ) (last : Bool) (end : Type 0) (more : List ℕ) → IsAfterWord following last end → last ≡ false → words_of (following ++ more) ≡ words_of more
+words_after following true end more past is = absurd (let h : true ≡ false = is in cc)
+words_after following false end more past is = ap (λ (b : List ℕ). words_of (b ++ more)) past.2 ∙ chosen-true (is_blank past.0) _ _ past.1
 
 -- the words, the next word's bytes in front of what follows
 words_of-taken : (given more : List ℕ) (last : Bool) (end : Type 0) (t : TakesWord given last end) → last ≡ false → words_of (given ++ more) ≡ (t.first ∷ t.rest) ∷ words_of more
 words_of-taken given more last end t is =
     ap (λ (g : List ℕ). words_of (g ++ more)) t.whole
-    ∙ ap words_of (append_assoc t.blanks ((t.first ∷ t.rest) ++ t.behind) more)
-    ∙ words_of-blanks t.blanks (((t.first ∷ t.rest) ++ t.behind) ++ more) t.are_blank
-    ∙ ap words_of (append_assoc (t.first ∷ t.rest) t.behind more)
-    ∙ words_of-word t.first t.rest (t.behind ++ more) t.in_word (gap_behind t.behind last end more t.past is)
-    ∙ ap (λ (w : List (List ℕ)). (t.first ∷ t.rest) ∷ w) (words_behind t.behind last end more t.past is)
+    ∙ ap words_of (append_assoc t.blanks ((t.first ∷ t.rest) ++ t.following) more)
+    ∙ words_of-blanks t.blanks (((t.first ∷ t.rest) ++ t.following) ++ more) t.are_blank
+    ∙ ap words_of (append_assoc (t.first ∷ t.rest) t.following more)
+    ∙ words_of-word t.first t.rest (t.following ++ more) t.in_word (gap_after t.following last end more t.past is)
+    ∙ ap (λ (w : List (List ℕ)). (t.first ∷ t.rest) ∷ w) (words_after t.following last end more t.past is)
 
 -- a word alone, after blanks
 words_of-alone : (given : List ℕ) (last : Bool) (end : Type 0) (t : TakesWord given last end) → words_of (t.blanks ++ (t.first ∷ t.rest)) ≡ (t.first ∷ t.rest) ∷ []
@@ -79,11 +79,11 @@ pub TakesWords-word : (front given : List ℕ) (last : Bool) (end : Type 0) (bef
     TakesWords (front ++ given) end (before ++ (t.first ∷ t.rest) ∷ [])
 TakesWords-word front given last end before t parted are = record {
   text = front ++ (t.blanks ++ (t.first ∷ t.rest));
-  behind = t.behind;
-  whole = ap (λ (g : List ℕ). front ++ g) (t.whole ∙ sym (append_assoc t.blanks (t.first ∷ t.rest) t.behind)) ∙ sym (append_assoc front (t.blanks ++ (t.first ∷ t.rest)) t.behind);
+  following = t.following;
+  whole = ap (λ (g : List ℕ). front ++ g) (t.whole ∙ sym (append_assoc t.blanks (t.first ∷ t.rest) t.following)) ∙ sym (append_assoc front (t.blanks ++ (t.first ∷ t.rest)) t.following);
   are = parted (t.blanks ++ (t.first ∷ t.rest)) ∙ ap (λ (w : List (List ℕ)). w ++ words_of (t.blanks ++ (t.first ∷ t.rest))) are ∙ ap (λ (w : List (List ℕ)). before ++ w) (words_of-alone given last end t);
-  ends = EndsInWord-behind front (t.blanks ++ (t.first ∷ t.rest)) (EndsInWord-behind t.blanks (t.first ∷ t.rest) (EndsInWord-word t.first t.rest t.in_word));
-  past = IsBehind-of t.behind last end t.past;
+  ends = EndsInWord-after front (t.blanks ++ (t.first ∷ t.rest)) (EndsInWord-after t.blanks (t.first ∷ t.rest) (EndsInWord-word t.first t.rest t.in_word));
+  past = IsAfter-of t.following last end t.past;
 }
 
 -- and where a blank is after it, its words are parted from those that follow
@@ -149,18 +149,18 @@ words_parted (b ∷ d ∷ x) y gap = elim (bool_cases (is_blank b)) [
 ]
 
 -- the words that were taken, and those that are left
-pub words_left : (text behind left : List ℕ) (end : Type 0) (words : List (List ℕ)) → words_of text ≡ words → IsBehind behind end → (end → left ≡ []) → words_of ((text ++ behind) ++ left) ≡ words ++ words_of left
-words_left text behind left end words are (inl p) over =
-    ap words_of (append_assoc text behind left) ∙ ap (λ (b : List ℕ). words_of (text ++ (b ++ left))) p.2
+pub words_left : (text following left : List ℕ) (end : Type 0) (words : List (List ℕ)) → words_of text ≡ words → IsAfter following end → (end → left ≡ []) → words_of ((text ++ following) ++ left) ≡ words ++ words_of left
+words_left text following left end words are (inl p) over =
+    ap words_of (append_assoc text following left) ∙ ap (λ (b : List ℕ). words_of (text ++ (b ++ left))) p.2
     ∙ words_parted text (p.0 ∷ left) p.1 ∙ ap (λ (l : List (List ℕ)). l ++ words_of (p.0 ∷ left)) are ∙ ap (λ (l : List (List ℕ)). words ++ l) (chosen-true (is_blank p.0) _ _ p.1)
-words_left text behind left end words are (inr p) over =
+words_left text following left end words are (inr p) over =
     let none : left ≡ [] = over p.1 in
-    ap (λ (l : List ℕ). words_of ((text ++ behind) ++ l)) none ∙ ap words_of (append-nil (text ++ behind)) ∙ ap (λ (b : List ℕ). words_of (text ++ b)) p.0 ∙ ap words_of (append-nil text) ∙ are
+    ap (λ (l : List ℕ). words_of ((text ++ following) ++ l)) none ∙ ap words_of (append-nil (text ++ following)) ∙ ap (λ (b : List ℕ). words_of (text ++ b)) p.0 ∙ ap words_of (append-nil text) ∙ are
     ∙ sym (ap (λ (l : List ℕ). words ++ words_of l) none ∙ append-nil words)
 
 pub words_of-all : (all taken left : List ℕ) (end : Type 0) (words : List (List ℕ)) → all ≡ taken ++ left → TakesWords taken end words → (end → left ≡ []) → words_of all ≡ words ++ words_of left
 words_of-all all taken left end words is t over =
-    ap words_of (is ∙ ap (λ (l : List ℕ). l ++ left) t.whole) ∙ words_left t.text t.behind left end words t.are t.past over
+    ap words_of (is ∙ ap (λ (l : List ℕ). l ++ left) t.whole) ∙ words_left t.text t.following left end words t.are t.past over
 
 pub words_of-ended : (all taken left : List ℕ) → all ≡ taken ++ left → left ≡ [] → words_of all ≡ words_of taken
 words_of-ended all taken left is none = ap words_of (is ∙ ap (λ (l : List ℕ). taken ++ l) none ∙ append-nil taken)
@@ -171,8 +171,8 @@ known all None taken is = absurd is
 known all (Some left) taken is = (left, refl, is)
 
 pub nothing_left_at : (all taken left : List ℕ) (new : Option (List ℕ)) (ended : Bool) → length all < INPUT_BYTES → all ≡ taken ++ left → new ≡ Some left → (IsTrue ended → NothingLeft new) → AtEnd ended (length taken) → left ≡ []
-nothing_left_at all taken left new ended short is known told (inl e) = told e left known
-nothing_left_at all taken left new ended short is known told (inr e) = absurd (omega (arith, short, e, ap (λ (l : List ℕ). length l) is, length-append taken left))
+nothing_left_at all taken left new ended short is known reported (inl e) = reported e left known
+nothing_left_at all taken left new ended short is known reported (inr e) = absurd (omega (arith, short, e, ap (λ (l : List ℕ). length l) is, length-append taken left))
 
 more_words : (front given : List ℕ) (last : Bool) (d end : Type 0) (words : List (List ℕ)) (t : TakesWord given last end) → (d → ⊥) → TakesSome front d words → TakesWords (front ++ given) end (words ++ (t.first ∷ t.rest) ∷ [])
 more_words front given last d end words t unended (inl none) =
@@ -181,12 +181,12 @@ more_words front given last d end words t unended (inl none) =
 more_words front given last d end words t unended (inr s) =
     let word = t.first ∷ t.rest in
     record {
-      text = (s.text ++ s.behind) ++ (t.blanks ++ word);
-      behind = t.behind;
-      whole = ap (λ (f : List ℕ). f ++ given) s.whole ∙ ap (λ (g : List ℕ). (s.text ++ s.behind) ++ g) (t.whole ∙ sym (append_assoc t.blanks word t.behind)) ∙ sym (append_assoc (s.text ++ s.behind) (t.blanks ++ word) t.behind);
-      are = words_left s.text s.behind (t.blanks ++ word) d words s.are s.past (λ at. absurd (unended at)) ∙ ap (λ (w : List (List ℕ)). words ++ w) (words_of-alone given last end t);
-      ends = EndsInWord-behind (s.text ++ s.behind) (t.blanks ++ word) (EndsInWord-behind t.blanks word (EndsInWord-word t.first t.rest t.in_word));
-      past = IsBehind-of t.behind last end t.past;
+      text = (s.text ++ s.following) ++ (t.blanks ++ word);
+      following = t.following;
+      whole = ap (λ (f : List ℕ). f ++ given) s.whole ∙ ap (λ (g : List ℕ). (s.text ++ s.following) ++ g) (t.whole ∙ sym (append_assoc t.blanks word t.following)) ∙ sym (append_assoc (s.text ++ s.following) (t.blanks ++ word) t.following);
+      are = words_left s.text s.following (t.blanks ++ word) d words s.are s.past (λ at. absurd (unended at)) ∙ ap (λ (w : List (List ℕ)). words ++ w) (words_of-alone given last end t);
+      ends = EndsInWord-after (s.text ++ s.following) (t.blanks ++ word) (EndsInWord-after t.blanks word (EndsInWord-word t.first t.rest t.in_word));
+      past = IsAfter-of t.following last end t.past;
     }
 
 only_blanks : (blanks : List ℕ) → AreBlank blanks → words_of blanks ≡ []
@@ -195,7 +195,7 @@ only_blanks blanks are = ap words_of (sym (append-nil blanks)) ∙ words_of-blan
 more_blanks : (front given : List ℕ) (d : Type 0) (words : List (List ℕ)) → AreBlank given → (d → given ≡ []) → TakesSome front d words → words_of (front ++ given) ≡ words
 more_blanks front given d words are stays (inl none) = ap (λ (f : List ℕ). words_of (f ++ given)) none.0 ∙ only_blanks given are ∙ sym none.1
 more_blanks front given d words are stays (inr s) =
-    ap (λ (f : List ℕ). words_of (f ++ given)) s.whole ∙ words_left s.text s.behind given d words s.are s.past stays
+    ap (λ (f : List ℕ). words_of (f ++ given)) s.whole ∙ words_left s.text s.following given d words s.are s.past stays
     ∙ ap (λ (w : List (List ℕ)). words ++ w) (only_blanks given are) ∙ append-nil words
 
 -- a word more was taken
@@ -203,8 +203,8 @@ pub Reads-word : (old a b : Option (List ℕ)) (e f : Bool) (m k : ℕ) (words :
     (IsTrue e → ⊥) → Consumes a b given → k ≡ m + length given → k ≤ INPUT_BYTES → Reads old b f k (words ++ (t.first ∷ t.rest) ∷ [])
 Reads-word old a b e f m k words given last t reads goes_on more count within =
     let word = t.first ∷ t.rest in
-    let some : 0 < length given = omega (arith, ap (λ (l : List ℕ). length l) t.whole, length-append t.blanks (word ++ t.behind)) in
-    let unended : AtEnd e m → ⊥ = λ at. elim at [ inl told ↦ goes_on told | inr full ↦ absurd (omega (arith, some, full, count, within)) ] in (
+    let some : 0 < length given = omega (arith, ap (λ (l : List ℕ). length l) t.whole, length-append t.blanks (word ++ t.following)) in
+    let unended : AtEnd e m → ⊥ = λ at. elim at [ inl reported ↦ goes_on reported | inr full ↦ absurd (omega (arith, some, full, count, within)) ] in (
       reads.0 ++ given,
       Consumes-trans old a b reads.0 given reads.1 more,
       omega (arith, length-append reads.0 given, reads.2, count),
@@ -243,7 +243,7 @@ EndsInBlank-word front given false end t is =
       front ++ (t.blanks ++ word),
       t.past.0,
       t.past.1,
-      ap (λ (g : List ℕ). front ++ g) (t.whole ∙ sym (append_assoc t.blanks word t.behind) ∙ ap (λ (b : List ℕ). (t.blanks ++ word) ++ b) t.past.2) ∙ sym (append_assoc front (t.blanks ++ word) (t.past.0 ∷ [])),
+      ap (λ (g : List ℕ). front ++ g) (t.whole ∙ sym (append_assoc t.blanks word t.following) ∙ ap (λ (b : List ℕ). (t.blanks ++ word) ++ b) t.past.2) ∙ sym (append_assoc front (t.blanks ++ word) (t.past.0 ∷ [])),
     )
 
 -- words that were read, where the text goes on

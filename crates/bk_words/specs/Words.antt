@@ -42,5 +42,5 @@ abbrev pub EndsInBlank : List ℕ → Type 0
 EndsInBlank text = (text ≡ []) ⊎ ((front : List ℕ) × (byte : ℕ) × (is_blank byte ≡ true) × (text ≡ front ++ byte ∷ []))
 
 -- what is taken after a word: one blank, or nothing where the text ends
-abbrev pub IsBehind : List ℕ → Type 0 → Type 0
-IsBehind behind end = ((byte : ℕ) × (is_blank byte ≡ true) × (behind ≡ byte ∷ [])) ⊎ ((behind ≡ []) × end)
+abbrev pub IsAfter : List ℕ → Type 0 → Type 0
+IsAfter following end = ((byte : ℕ) × (is_blank byte ≡ true) × (following ≡ byte ∷ [])) ⊎ ((following ≡ []) × end)

@@ -6,7 +6,7 @@ ghost use Rattle.bk_base.specs.Decimal.{spelling};
 ghost use Rattle.bk_base.specs.Devices.{byte_list};
 ghost use Rattle.bk_words.specs.TextEnd.{AtEnd};
 ghost use Rattle.bk_words.specs.Words.{is_blank, AreBlank, AreInWord};
-ghost use Rattle.bk_words.specs.Gathering.{Holds, IsBehindWord, BeginsWord, IsNextWord};
+ghost use Rattle.bk_words.specs.Gathering.{Holds, IsAfterWord, BeginsWord, IsNextWord};
 
 use crate::numbers::{number, within};
 use crate::word_buffer::{SIZE, WordBuffer};
@@ -139,10 +139,10 @@ impl Gathered {
 /// Takes a word whose first byte was taken, and the blank after it if there is one.
 fn rest_of_word<I: ByteIn>(first: u8, input: &mut I, taken: &mut u64) -> Result<Gathered, Failed>
     requires { I.faults input.old ≡ 0 }
-    ensures gives { IfOk result (λ held. (rest behind : List ℕ) × AreInWord rest × Holds held (first ∷ rest)
-        × IsBehindWord behind held.last (AtEnd (I.ended input.new) taken.new)
-        × Consumes (I.left input.old) (I.left input.new) (rest ++ behind)
-        × (taken.new ≡ taken.old + length (rest ++ behind))) }
+    ensures gives { IfOk result (λ held. (rest following : List ℕ) × AreInWord rest × Holds held (first ∷ rest)
+        × IsAfterWord following held.last (AtEnd (I.ended input.new) taken.new)
+        × Consumes (I.left input.old) (I.left input.new) (rest ++ following)
+        × (taken.new ≡ taken.old + length (rest ++ following))) }
     ensures within { OnOk result (taken.new ≤ INPUT_BYTES) }
     ensures clear { OnOk result (I.faults input.new ≡ 0) }
     ensures failed { OnErr result (I.faults input.new ≡ 1) }

@@ -15,9 +15,9 @@ get_front (x ∷ xs) ys zero w e = e
 get_front (x ∷ xs) ys (suc k) w e = get_front xs ys k w e
 
 -- from after it
-pub get_behind : (xs ys : List ℕ) (k : ℕ) → slice_get (xs ++ ys) (length xs + k) ≡ slice_get ys k
-get_behind [] ys k = ap (λ n. slice_get ys n) (let z : 0 + k ≡ k = omega arith in z)
-get_behind (x ∷ xs) ys k = ap (λ n. slice_get (x ∷ (xs ++ ys)) n) (let z : suc (length xs) + k ≡ suc (length xs + k) = omega arith in z) ∙ get_behind xs ys k
+pub get_after : (xs ys : List ℕ) (k : ℕ) → slice_get (xs ++ ys) (length xs + k) ≡ slice_get ys k
+get_after [] ys k = ap (λ n. slice_get ys n) (let z : 0 + k ≡ k = omega arith in z)
+get_after (x ∷ xs) ys k = ap (λ n. slice_get (x ∷ (xs ++ ys)) n) (let z : suc (length xs) + k ≡ suc (length xs + k) = omega arith in z) ∙ get_after xs ys k
 
 -- from where a word was set
 pub get_set_same : (xs : List ℕ) (a v : ℕ) → a < length xs → slice_get (slice_set xs a v) a ≡ Some v

@@ -2,15 +2,15 @@ use Rattle.bk_check.proofs.Terms.{◌≡◌, ◌<◌, length, ap, ◌∙◌, ari
 use Rattle.bk_check.proofs.Seeks.{no_head, a_head}
 use Rattle.bk_check.proofs.seeking.+seeking.Goals as goal
 
-pub stands_in-returns-then-is_empty : goal.stands_in-returns-then-is_empty
-stands_in-returns-then-is_empty t c =
+pub has_place-returns-then-is_empty : goal.has_place-returns-then-is_empty
+has_place-returns-then-is_empty t c =
     let e : command_in c.args.command.now ≡ block c.in-Block.at (declarations_in c.in-Block.ds.items) (commands_in c.in-Block.cs.items) =
     ap command_in c.in-Block.is ∙ Block_is c.in-Block.at c.in-Block.ds c.in-Block.cs in
     let none : length c.in-Block.ds.items ≡ 0 = grind arith in
-    rw (e, ← c.deref-then-is_empty.ensures.value) (c.stands_in_one.ensures ∙ no_head (sought_in c.args.sought) (env_in c.args.env.now) c.in-Block.at c.in-Block.ds.items (commands_in c.deref-then-is_empty.result.now) none)
+    rw (e, ← c.deref-then-is_empty.ensures.value) (c.one_has_place.ensures ∙ no_head (sought_in c.args.sought) (env_in c.args.env.now) c.in-Block.at c.in-Block.ds.items (commands_in c.deref-then-is_empty.result.now) none)
 
-pub stands_in-returns-else-is_empty : goal.stands_in-returns-else-is_empty
-stands_in-returns-else-is_empty t c =
+pub has_place-returns-else-is_empty : goal.has_place-returns-else-is_empty
+has_place-returns-else-is_empty t c =
     let e : command_in c.args.command.now ≡ block c.in-Block.at (declarations_in c.in-Block.ds.items) (commands_in c.in-Block.cs.items) =
     ap command_in c.in-Block.is ∙ Block_is c.in-Block.at c.in-Block.ds c.in-Block.cs in
     let some : 0 < length c.in-Block.ds.items = grind arith in

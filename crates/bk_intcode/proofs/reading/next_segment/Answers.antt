@@ -1,7 +1,7 @@
 use Rattle.bk_intcode.proofs.Terms.{◌≡◌, ◌+◌, ◌++◌, ◌∷◌, [], List, length, Err, sym, subst, ap, ◌∙◌, arith, rules, None, length-append, IntcodeFault, Refused, Item, End, item_fault, GivesSegment, Answers, Takes}
 use Rattle.bk_intcode.proofs.PartialLemmas.{IsSegment-of, no_fault-few}
 use Rattle.bk_intcode.proofs.CutSegments.{stops_behind}
-use Rattle.bk_intcode.proofs.ReadingLemmas.{nothing_left, cut, word_fault, item_fault_here, segment_here, cut_behind, Read-push, IsPartial-more, stops_here}
+use Rattle.bk_intcode.proofs.ReadingLemmas.{nothing_left, cut, word_fault, item_fault_here, segment_here, cut_after, Read-push, IsPartial-more, stops_here}
 use Rattle.bk_intcode.proofs.reading.next_segment.Goals as goal
 
 pub returns-in_default-clause-answers : goal.returns-in_default-clause-answers
@@ -16,19 +16,19 @@ returns-then-count-eq0-clause-answers g c =
 
 pub returns-in-Nothing-clause-answers : goal.returns-in-Nothing-clause-answers
 returns-in-Nothing-clause-answers g c =
-    subst (λ (r : Refused IntcodeFault). Answers (Err r) (g.I.ByteIn.left c.args.input.now) (g.I.ByteIn.left c.next_item.new.input) (g.I.ByteIn.ended c.next_item.new.input)) (sym c.fault_behind.ensures)
+    subst (λ (r : Refused IntcodeFault). Answers (Err r) (g.I.ByteIn.left c.args.input.now) (g.I.ByteIn.left c.next_item.new.input) (g.I.ByteIn.ended c.next_item.new.input)) (sym c.fault_after.ensures)
     (cut _ _ _ c.loop-found.taken c.next_item.new.taken (c.len-count.result + 1) _ c.loop-found.draft.items.items c.loop-found.invariant.taken (rw c.in-Nothing.is at c.in-Ok.ensures.gives)
     c.loop-found.invariant.begun (omega (arith, c.len-count.ensures, c.if-count-eq0.false)) (ap (λ n. n + 1) c.len-count.ensures))
 
 pub returns-in-Fault-clause-answers : goal.returns-in-Fault-clause-answers
 returns-in-Fault-clause-answers g c =
-    subst (λ (r : Refused IntcodeFault). Answers (Err r) (g.I.ByteIn.left c.args.input.now) (g.I.ByteIn.left c.next_item.new.input) (g.I.ByteIn.ended c.next_item.new.input)) (sym c.fault_behind-in-Fault.ensures)
+    subst (λ (r : Refused IntcodeFault). Answers (Err r) (g.I.ByteIn.left c.args.input.now) (g.I.ByteIn.left c.next_item.new.input) (g.I.ByteIn.ended c.next_item.new.input)) (sym c.fault_after-in-Fault.ensures)
     (word_fault _ _ _ c.loop-found.taken c.next_item.new.taken (c.len.result + 1) _ c.loop-found.draft.items.items c.in-Fault.kind c.loop-found.invariant.taken (rw c.in-Fault.is at c.in-Ok.ensures.gives)
     c.loop-found.invariant.begun (ap (λ n. n + 1) c.len.ensures))
 
 pub returns-in-Some-clause-answers : goal.returns-in-Some-clause-answers
 returns-in-Some-clause-answers g c =
-    subst (λ (r : Refused IntcodeFault). Answers (Err r) (g.I.ByteIn.left c.args.input.now) (g.I.ByteIn.left c.next_item.new.input) (g.I.ByteIn.ended c.next_item.new.input)) (sym c.fault_behind-in-Some.ensures)
+    subst (λ (r : Refused IntcodeFault). Answers (Err r) (g.I.ByteIn.left c.args.input.now) (g.I.ByteIn.left c.next_item.new.input) (g.I.ByteIn.ended c.next_item.new.input)) (sym c.fault_after-in-Some.ensures)
     (item_fault_here _ _ _ c.loop-found.taken c.next_item.new.taken (c.len-in-Some.result + 1) _ c.loop-found.draft.items.items c.in-Item.item c.in-Item.last c.in-Some.kind c.loop-found.invariant.taken (rw c.in-Item.is at c.in-Ok.ensures.gives)
     c.loop-found.invariant.begun (ap (λ n. n + 1) c.len-in-Some.ensures) (sym c.fault_of.ensures ∙ c.in-Some.is))
 
@@ -50,8 +50,8 @@ returns-in-End-clause-answers g c =
 
 pub returns-then-last-clause-answers : goal.returns-then-last-clause-answers
 returns-then-last-clause-answers g c =
-    subst (λ (r : Refused IntcodeFault). Answers (Err r) (g.I.ByteIn.left c.args.input.now) (g.I.ByteIn.left c.next_item.new.input) (g.I.ByteIn.ended c.next_item.new.input)) (sym c.fault_behind-then-last.ensures)
-    (cut_behind _ _ _ c.loop-found.taken c.next_item.new.taken (c.len-then-last.result + 1) _ c.loop-found.draft.items.items c.add.new.self.items.items c.in-Item.item c.in-Item.last c.if-last.true
+    subst (λ (r : Refused IntcodeFault). Answers (Err r) (g.I.ByteIn.left c.args.input.now) (g.I.ByteIn.left c.next_item.new.input) (g.I.ByteIn.ended c.next_item.new.input)) (sym c.fault_after-then-last.ensures)
+    (cut_after _ _ _ c.loop-found.taken c.next_item.new.taken (c.len-then-last.result + 1) _ c.loop-found.draft.items.items c.add.new.self.items.items c.in-Item.item c.in-Item.last c.if-last.true
     c.loop-found.invariant.taken (rw c.in-Item.is at c.in-Ok.ensures.gives) c.loop-found.invariant.begun (sym c.in_default-fault_of.ensures) c.in_default-item.not-End c.in-Ok-add.ensures.added
     (ap (λ n. n + 1) c.len-then-last.ensures))
 

@@ -11,6 +11,6 @@ returns-in-Some-clause-fault c =
 
 pub returns-in-Some-first-clause-fault : goal.returns-in-Some-first-clause-fault
 returns-in-Some-first-clause-fault c = λ first rest h.
-    let told : Some first ≡ Some c.in-Some-first.first = sym (c.first.ensures first rest h) ∙ c.in-Some-first.is in
+    let reported : Some first ≡ Some c.in-Some-first.first = sym (c.first.ensures first rest h) ∙ c.in-Some-first.is in
     let same : first ≡ c.in-Some-first.first = cc in
     long_fault (first ∷ rest) (c.in_default.ensures.long (first ∷ rest) h) (ap begins_item same ∙ sym c.begins.ensures ∙ c.if-begins.true)

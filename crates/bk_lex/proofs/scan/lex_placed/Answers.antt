@@ -59,9 +59,7 @@ loop-i-preserved c =
     record { looped = looped; order = j.0; counted = omega (arith, left, c.loop-i.invariant.counted); same = goes_on (reading (symbols_of c.match-act.tokens.items) t.state (slice_range text c.match-act.start (i + 1)) c.match-act.place (i + 1)) _ _ c.if-is_dot.ensures j.1 }
 
 pub returns-in-Err-finished-clause-gives : goal.returns-in-Err-finished-clause-gives
-returns-in-Err-finished-clause-gives c =
-    let e = c.placed_fault-in-Err-finished.ensures in
-    rw e (end_bad (reading _ _ _ _ _) c.args.text.now c.loop-i.i c.in-Err-finished.fault _ c.loop-i-test.false c.loop-i.invariant.same c.in-Err-finished.ensures)
+returns-in-Err-finished-clause-gives c = grind (arith, (end_bad (reading _ _ _ _ _) c.args.text.now c.loop-i.i c.in-Err-finished.fault _ c.loop-i-test.false c.loop-i.invariant.same c.in-Err-finished.ensures))
 
 pub returns-in-Err-finished-clause-places : goal.returns-in-Err-finished-clause-places
 returns-in-Err-finished-clause-places c =

@@ -1,4 +1,4 @@
-use Rattle.bk_machine.proofs.Terms.{◌≡◌, ℕ, ◌+◌, ◌<◌, ap, sym, ◌∙◌, arith, List, take, length, get_or, fold, append-nil, take_all, fold_more, Growth, grown, segment_settings, segment_words, with_setting, Item, number_of, IsFilled, items_bounded, words_behind}
+use Rattle.bk_machine.proofs.Terms.{◌≡◌, ℕ, ◌+◌, ◌<◌, ap, sym, ◌∙◌, arith, List, take, length, get_or, fold, append-nil, take_all, fold_more, Growth, grown, segment_settings, segment_words, with_setting, Item, number_of, IsFilled, items_bounded, words_after}
 use Rattle.bk_machine.proofs.Growing.{growth_of}
 use Rattle.bk_machine.proofs.Settings.{settings-behind, global-within, grown-long, grown-kept, grown-set}
 use Rattle.bk_machine.proofs.packing.push_items.Goals as goal
@@ -63,6 +63,6 @@ returns c =
     let base : List Item → List ℕ = λ l. fold with_setting store (segment_settings labels l) in
     ap (λ (g : Growth). g.words) c.loop-item.invariant.grown
     ∙ ap (λ (l : List Item). (fold (grown labels) (growth_of (base l) 0) l).words) (take_all c.loop-item.item-index c.args.items.now (omega arith))
-    ∙ words_behind labels (base c.args.items.now) c.args.items.now
+    ∙ words_after labels (base c.args.items.now) c.args.items.now
     ∙ sym (settings-behind store (segment_words labels c.args.items.now) (segment_settings labels c.args.items.now)
     (omega (arith, c.args.words.now.ok.0)) (items_bounded labels c.args.items.now c.requires.whole.in_range))

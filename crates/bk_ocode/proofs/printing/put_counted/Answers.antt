@@ -1,4 +1,4 @@
-use Rattle.bk_ocode.proofs.Terms.{◌∷◌, length, refl, natural_word, byte_words, spaced, AppendsPart-front, AppendsPart-behind}
+use Rattle.bk_ocode.proofs.Terms.{◌∷◌, length, refl, natural_word, byte_words, spaced, AppendsPart-front, AppendsPart-after}
 use Rattle.bk_ocode.proofs.Parts.{on_err}
 use Rattle.bk_ocode.proofs.printing.put_counted.Goals as goal
 
@@ -8,4 +8,4 @@ returns-in_err-put_natural-clause-part g c = on_err c.from_residual.result
 
 pub returns-in_err-put_bytes-clause-part : goal.returns-in_err-put_bytes-clause-part
 returns-in_err-put_bytes-clause-part g c = on_err c.from_residual-in_err-put_bytes.result
-    (AppendsPart-behind _ _ _ (32 ∷ natural_word (length c.args.bytes.now)) (spaced (byte_words c.args.bytes.now)) _ refl c.in_ok-put_natural.ensures.takes c.in_err-put_bytes.ensures.part)
+    (AppendsPart-after _ _ _ (32 ∷ natural_word (length c.args.bytes.now)) (spaced (byte_words c.args.bytes.now)) _ refl c.in_ok-put_natural.ensures.takes c.in_err-put_bytes.ensures.part)

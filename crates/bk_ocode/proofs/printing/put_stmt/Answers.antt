@@ -1,4 +1,4 @@
-use Rattle.bk_ocode.proofs.Terms.{rules, ◌++◌, [], ◌∷◌, refl, append_assoc, Appends, AppendsPart, Begins-trans, AppendsPart-front, AppendsPart-behind, spaced, argument_words, keyword}
+use Rattle.bk_ocode.proofs.Terms.{rules, ◌++◌, [], ◌∷◌, refl, append_assoc, Appends, AppendsPart, Begins-trans, AppendsPart-front, AppendsPart-after, spaced, argument_words, keyword}
 use Rattle.bk_ocode.proofs.Parts.{on_err}
 use Rattle.bk_ocode.proofs.printing.put_stmt.Goals as goal
 
@@ -12,7 +12,7 @@ pub returns-in_err-put_arguments-clause-part : goal.returns-in_err-put_arguments
 returns-in_err-put_arguments-clause-part g c =
     let front : Appends (g.O.ByteOut.taken c.args.out.now) (g.O.ByteOut.taken c.put_all.new.out) (keyword c.args.stmt.now) = search rules in
     on_err c.from_residual-in_err-put_arguments.result
-    (AppendsPart-behind _ _ _ (keyword c.args.stmt.now) (spaced (argument_words c.args.stmt.now) ++ 10 ∷ []) _ (append_assoc (keyword c.args.stmt.now) (spaced (argument_words c.args.stmt.now)) (10 ∷ [])) front
+    (AppendsPart-after _ _ _ (keyword c.args.stmt.now) (spaced (argument_words c.args.stmt.now) ++ 10 ∷ []) _ (append_assoc (keyword c.args.stmt.now) (spaced (argument_words c.args.stmt.now)) (10 ∷ [])) front
     (AppendsPart-front _ _ (spaced (argument_words c.args.stmt.now)) (10 ∷ []) _ refl c.in_err-put_arguments.ensures.part))
 
 pub returns-in_err-put-clause-passes : goal.returns-in_err-put-clause-passes

@@ -11,7 +11,7 @@ returns-in_default-clause-answers g c =
     let stops = c.in_default.ensures.stops in
     stops_behind _ _ _ _ (g.I.ByteIn.ended c.next_word.new.input) c.loop-alloc.taken c.loop-alloc.draft.stmts.items (part_words c.loop-alloc.begun) stops.0 v.begun v.read
     (λ at. elim at [
-      | inl told ↦ let bad = (c.in_default.ensures.ended_again told).0 in let is = c.in_default.is in cc
+      | inl reported ↦ let bad = (c.in_default.ensures.ended_again reported).0 in let is = c.in_default.is in cc
       | inr full ↦ absurd (omega (arith, full, stops.2, stops.3))
     ]) stops.4 stops.1
     (words_within _ c.loop-alloc.draft.stmts.items (part_words c.loop-alloc.begun) c.loop-alloc.words _ v.draft.context v.counted c.is_filled_by.ensures c.if-is_filled_by.false)
@@ -30,7 +30,7 @@ returns-then-is_filled_by-clause-answers g c =
     let v = c.loop-alloc.invariant in
     let filled : nat_lt OCODE_WORDS (c.loop-alloc.draft.words + c.loop-alloc.words) ≡ true = sym c.is_filled_by.ensures ∙ c.if-is_filled_by.true in
     let over = ltb-true OCODE_WORDS (c.loop-alloc.draft.words + c.loop-alloc.words) filled in
-    subst (λ (r : Refused OcodeFault). Answers (Err r) (g.I.ByteIn.left c.args.input.now) (g.I.ByteIn.left c.loop-alloc.input) (g.I.ByteIn.ended c.loop-alloc.input)) (sym c.fault_behind.ensures)
+    subst (λ (r : Refused OcodeFault). Answers (Err r) (g.I.ByteIn.left c.args.input.now) (g.I.ByteIn.left c.loop-alloc.input) (g.I.ByteIn.ended c.loop-alloc.input)) (sym c.fault_after.ensures)
     (filled_at _ _ _ c.loop-alloc.taken (c.len.result + 1) c.loop-alloc.draft.words c.loop-alloc.words c.loop-alloc.draft.stmts.items (part_words c.loop-alloc.begun) v.begun (ap (λ n. n + 1) c.len.ensures)
     (words_tally _ c.loop-alloc.draft.stmts.items v.draft.context) v.counted (omega (arith, over, v.low)) (omega (arith, over, v.draft.words_fit)) (begins_part c.loop-alloc.draft.stmts.items c.loop-alloc.begun v.part v.placed) v.read)
 
@@ -38,8 +38,8 @@ pub returns-in-Err-clause-answers : goal.returns-in-Err-clause-answers
 returns-in-Err-clause-answers g c =
     let v = c.loop-alloc.invariant in
     let comes = rw c.in-Some.is at c.in-Ok.ensures.gives in
-    let r = word_read _ _ _ _ _ c.loop-alloc.taken c.next_word.new.taken _ c.in-Some.word v.read (λ told. let h = (c.in-Ok.ensures.ended_again told).0 in search rules) comes c.in-Ok.ensures.within in
-    subst (λ (x : Refused OcodeFault). Answers (Err x) (g.I.ByteIn.left c.args.input.now) (g.I.ByteIn.left c.next_word.new.input) (g.I.ByteIn.ended c.next_word.new.input)) (sym c.refused.ensures.told)
+    let r = word_read _ _ _ _ _ c.loop-alloc.taken c.next_word.new.taken _ c.in-Some.word v.read (λ reported. let h = (c.in-Ok.ensures.ended_again reported).0 in search rules) comes c.in-Ok.ensures.within in
+    subst (λ (x : Refused OcodeFault). Answers (Err x) (g.I.ByteIn.left c.args.input.now) (g.I.ByteIn.left c.next_word.new.input) (g.I.ByteIn.ended c.next_word.new.input)) (sym c.refused.ensures.reported)
     (refused_at _ _ _ c.next_word.new.taken c.len-in-Err.result c.loop-alloc.draft.stmts.items c.loop-alloc.begun r.0 c.in-Err.unfit v.begun c.len-in-Err.ensures r.2
     (words_within _ c.loop-alloc.draft.stmts.items (part_words c.loop-alloc.begun) c.loop-alloc.words _ v.draft.context v.counted c.is_filled_by.ensures c.if-is_filled_by.false)
     (part_goes_on c.loop-alloc.draft.stmts.items c.loop-alloc.begun v.part v.placed) (λ is. let number = c.in-Err.ensures.number is in (number.0, number.1 r.0 r.1))
@@ -52,11 +52,11 @@ returns-in-Some-fault_of-clause-answers g c =
     let stmts = c.loop-alloc.draft.stmts.items in
     let s = c.in-Ok-Done.stmt in
     let comes = rw c.in-Some.is at c.in-Ok.ensures.gives in
-    let r = word_read _ _ _ _ _ c.loop-alloc.taken c.next_word.new.taken _ c.in-Some.word v.read (λ told. let h = (c.in-Ok.ensures.ended_again told).0 in search rules) comes c.in-Ok.ensures.within in
+    let r = word_read _ _ _ _ _ c.loop-alloc.taken c.next_word.new.taken _ c.in-Some.word v.read (λ reported. let h = (c.in-Ok.ensures.ended_again reported).0 in search rules) comes c.in-Ok.ensures.within in
     let step = rw c.in-Ok-Done.field-0-is at (c.in-Ok-Done.ensures.step r.0 r.1) in
     let placed = placed_more (context_of stmts) c.loop-alloc.begun (part ++ r.0 ∷ []) r.0 refl v.placed
     (λ fresh t begins. ap (λ (k : Context). misplaced k t) (sym v.draft.context) ∙ c.in-Ok-Done.ensures.placed fresh r.0 r.1 t begins) s [] (step.1 ∙ sym (append-nil (part ++ r.0 ∷ []))) in
-    subst (λ (x : Refused OcodeFault). Answers (Err x) (g.I.ByteIn.left c.args.input.now) (g.I.ByteIn.left c.next_word.new.input) (g.I.ByteIn.ended c.next_word.new.input)) (sym c.fault_behind-in-Some-fault_of.ensures)
+    subst (λ (x : Refused OcodeFault). Answers (Err x) (g.I.ByteIn.left c.args.input.now) (g.I.ByteIn.left c.next_word.new.input) (g.I.ByteIn.ended c.next_word.new.input)) (sym c.fault_after-in-Some-fault_of.ensures)
     (rule_at _ _ _ c.next_word.new.taken (c.len-in-Some-fault_of.result + 1) c.in-Some-fault_of.kind stmts part r.0 s v.begun (ap (λ n. n + 1) c.len-in-Some-fault_of.ensures) r.2 step.0 step.1
     (words_within _ c.loop-alloc.draft.stmts.items (part_words c.loop-alloc.begun) c.loop-alloc.words _ v.draft.context v.counted c.is_filled_by.ensures c.if-is_filled_by.false) placed
     (sym c.fault_of.ensures ∙ c.in-Some-fault_of.is))
@@ -65,7 +65,7 @@ pub fault_of-requires-clause-words : goal.fault_of-requires-clause-words
 fault_of-requires-clause-words g c =
     let v = c.loop-alloc.invariant in
     let comes = rw c.in-Some.is at c.in-Ok.ensures.gives in
-    let r = word_read _ _ _ _ _ c.loop-alloc.taken c.next_word.new.taken _ c.in-Some.word v.read (λ told. let h = (c.in-Ok.ensures.ended_again told).0 in search rules) comes c.in-Ok.ensures.within in
+    let r = word_read _ _ _ _ _ c.loop-alloc.taken c.next_word.new.taken _ c.in-Some.word v.read (λ reported. let h = (c.in-Ok.ensures.ended_again reported).0 in search rules) comes c.in-Ok.ensures.within in
     let step = rw c.in-Ok-Done.field-0-is at (c.in-Ok-Done.ensures.step r.0 r.1) in
     one_longer (part_words c.loop-alloc.begun) _ r.0 c.loop-alloc.words v.counted step.1
 
@@ -73,7 +73,7 @@ pub add-requires-clause-words : goal.add-requires-clause-words
 add-requires-clause-words g c =
     let v = c.loop-alloc.invariant in
     let comes = rw c.in-Some.is at c.in-Ok.ensures.gives in
-    let r = word_read _ _ _ _ _ c.loop-alloc.taken c.next_word.new.taken _ c.in-Some.word v.read (λ told. let h = (c.in-Ok.ensures.ended_again told).0 in search rules) comes c.in-Ok.ensures.within in
+    let r = word_read _ _ _ _ _ c.loop-alloc.taken c.next_word.new.taken _ c.in-Some.word v.read (λ reported. let h = (c.in-Ok.ensures.ended_again reported).0 in search rules) comes c.in-Ok.ensures.within in
     let step = rw c.in-Ok-Done.field-0-is at (c.in-Ok-Done.ensures.step r.0 r.1) in
     one_longer (part_words c.loop-alloc.begun) _ r.0 c.loop-alloc.words v.counted step.1
 
@@ -82,7 +82,7 @@ loop-alloc-preserved-in-Ok-More g c =
     let v = c.loop-alloc.invariant in
     let part = part_words c.loop-alloc.begun in
     let comes = rw c.in-Some.is at c.in-Ok.ensures.gives in
-    let r = word_read _ _ _ _ _ c.loop-alloc.taken c.next_word.new.taken _ c.in-Some.word v.read (λ told. let h = (c.in-Ok.ensures.ended_again told).0 in search rules) comes c.in-Ok.ensures.within in
+    let r = word_read _ _ _ _ _ c.loop-alloc.taken c.next_word.new.taken _ c.in-Some.word v.read (λ reported. let h = (c.in-Ok.ensures.ended_again reported).0 in search rules) comes c.in-Ok.ensures.within in
     let step = rw c.in-Ok-More.field-0-is at (c.in-Ok-More.ensures.step r.0 r.1) in
     let unfilled : nat_lt OCODE_WORDS (c.loop-alloc.draft.words + c.loop-alloc.words) ≡ false = sym c.is_filled_by.ensures ∙ c.if-is_filled_by.false in
     record {
@@ -106,7 +106,7 @@ into_section-requires-clause-section g c =
     let v = c.loop-alloc.invariant in
     let part = part_words c.loop-alloc.begun in
     let comes = rw c.in-Some.is at c.in-Ok.ensures.gives in
-    let r = word_read _ _ _ _ _ c.loop-alloc.taken c.next_word.new.taken _ c.in-Some.word v.read (λ told. let h = (c.in-Ok.ensures.ended_again told).0 in search rules) comes c.in-Ok.ensures.within in
+    let r = word_read _ _ _ _ _ c.loop-alloc.taken c.next_word.new.taken _ c.in-Some.word v.read (λ reported. let h = (c.in-Ok.ensures.ended_again reported).0 in search rules) comes c.in-Ok.ensures.within in
     let step = rw c.in-Ok-Done.field-0-is at (c.in-Ok-Done.ensures.step r.0 r.1) in
     let ended : (context_of c.add.new.self.stmts.items).position ≡ Ended =
     ap (λ (k : Context). k.position) (sym c.in-Ok-add.ensures.draft.context) ∙ c.is_whole.ensures.whole c.if-is_whole.true in
@@ -116,7 +116,7 @@ pub into_section-requires-clause-typed : goal.into_section-requires-clause-typed
 into_section-requires-clause-typed g c =
     let v = c.loop-alloc.invariant in
     let comes = rw c.in-Some.is at c.in-Ok.ensures.gives in
-    let r = word_read _ _ _ _ _ c.loop-alloc.taken c.next_word.new.taken _ c.in-Some.word v.read (λ told. let h = (c.in-Ok.ensures.ended_again told).0 in search rules) comes c.in-Ok.ensures.within in
+    let r = word_read _ _ _ _ _ c.loop-alloc.taken c.next_word.new.taken _ c.in-Some.word v.read (λ reported. let h = (c.in-Ok.ensures.ended_again reported).0 in search rules) comes c.in-Ok.ensures.within in
     let step = rw c.in-Ok-Done.field-0-is at (c.in-Ok-Done.ensures.step r.0 r.1) in
     AreTyped-of c.loop-alloc.draft.stmts.items c.add.new.self.stmts.items c.in-Ok-Done.stmt c.in-Ok-add.ensures.added v.begun step.0
 
@@ -125,7 +125,7 @@ returns-then-is_whole-clause-answers g c =
     let v = c.loop-alloc.invariant in
     let part = part_words c.loop-alloc.begun in
     let comes = rw c.in-Some.is at c.in-Ok.ensures.gives in
-    let r = word_read _ _ _ _ _ c.loop-alloc.taken c.next_word.new.taken _ c.in-Some.word v.read (λ told. let h = (c.in-Ok.ensures.ended_again told).0 in search rules) comes c.in-Ok.ensures.within in
+    let r = word_read _ _ _ _ _ c.loop-alloc.taken c.next_word.new.taken _ c.in-Some.word v.read (λ reported. let h = (c.in-Ok.ensures.ended_again reported).0 in search rules) comes c.in-Ok.ensures.within in
     let step = rw c.in-Ok-Done.field-0-is at (c.in-Ok-Done.ensures.step r.0 r.1) in
     let ended : (context_of c.add.new.self.stmts.items).position ≡ Ended =
     ap (λ (k : Context). k.position) (sym c.in-Ok-add.ensures.draft.context) ∙ c.is_whole.ensures.whole c.if-is_whole.true in
@@ -139,7 +139,7 @@ loop-alloc-preserved g c =
     let stmts = c.loop-alloc.draft.stmts.items in
     let all = c.add.new.self.stmts.items in
     let comes = rw c.in-Some.is at c.in-Ok.ensures.gives in
-    let r = word_read _ _ _ _ _ c.loop-alloc.taken c.next_word.new.taken _ c.in-Some.word v.read (λ told. let h = (c.in-Ok.ensures.ended_again told).0 in search rules) comes c.in-Ok.ensures.within in
+    let r = word_read _ _ _ _ _ c.loop-alloc.taken c.next_word.new.taken _ c.in-Some.word v.read (λ reported. let h = (c.in-Ok.ensures.ended_again reported).0 in search rules) comes c.in-Ok.ensures.within in
     let step = rw c.in-Ok-Done.field-0-is at (c.in-Ok-Done.ensures.step r.0 r.1) in
     let none : stmt_fault stmts c.in-Ok-Done.stmt ≡ None = sym c.in_default-fault_of.ensures in
     let on : (context_of all).position ≢ Ended = λ is. c.is_whole.ensures.goes_on c.if-is_whole.false (ap (λ (k : Context). k.position) c.in-Ok-add.ensures.draft.context ∙ is) in
@@ -162,7 +162,7 @@ pub returns-in_default-add-clause-answers : goal.returns-in_default-add-clause-a
 returns-in_default-add-clause-answers g c =
     let v = c.loop-alloc.invariant in
     let comes = rw c.in-Some.is at c.in-Ok.ensures.gives in
-    let r = word_read _ _ _ _ _ c.loop-alloc.taken c.next_word.new.taken _ c.in-Some.word v.read (λ told. let h = (c.in-Ok.ensures.ended_again told).0 in search rules) comes c.in-Ok.ensures.within in
+    let r = word_read _ _ _ _ _ c.loop-alloc.taken c.next_word.new.taken _ c.in-Some.word v.read (λ reported. let h = (c.in-Ok.ensures.ended_again reported).0 in search rules) comes c.in-Ok.ensures.within in
     stops_at _ _ _ c.next_word.new.taken c.loop-alloc.draft.stmts.items (part_words c.loop-alloc.begun) r.0 v.begun r.2
     (words_within _ c.loop-alloc.draft.stmts.items (part_words c.loop-alloc.begun) c.loop-alloc.words _ v.draft.context v.counted c.is_filled_by.ensures c.if-is_filled_by.false)
     (part_goes_on c.loop-alloc.draft.stmts.items c.loop-alloc.begun v.part v.placed)

@@ -13,4 +13,4 @@ returns-in-Some-clause-number c =
     unfit ≡ BadNumber → (0 < length (part_words part)) × ((w : List ℕ) → Holds c.args.word.now w → BeginNone (part_words part ++ w ∷ [])) in
     subst (λ (part : Option Partial). IfErr c.take.result (so part)) (sym c.in-Some.is)
     (IfErr-weaker c.take.result (λ (unfit : Unfit). unfit ≡ BadNumber → (w : List ℕ) → Holds c.args.word.now w → IsUnfit b w) (so (Some b))
-    (λ e bad told. (partial_some b, λ w held. unfit_none b w begun (bad told w held))) c.take.ensures.bad)
+    (λ e bad reported. (partial_some b, λ w held. unfit_none b w begun (bad reported w held))) c.take.ensures.bad)

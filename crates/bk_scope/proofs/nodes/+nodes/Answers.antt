@@ -4,7 +4,7 @@ use Rattle.bk_scope.proofs.Definitions.{at, no_variables, no_items_behind, no_de
 use Rattle.bk_scope.proofs.nodes.+nodes.Goals as goal
 use Rattle.bk_scope.proofs.Calls.{size_is_length, block_without_declarations, block_with_declarations, stage_in, block_behind, stage_by_parts}
 use Rattle.bk_scope.proofs.Inside.{longer_inside, back_outside}
-use Rattle.bk_scope.proofs.Starts.{found_after, place_after, fresh_after, fresh_without}
+use Rattle.bk_scope.proofs.Starts.{found_after, place_then, fresh_after, fresh_without}
 use Rattle.bk_scope.proofs.nodes.+nodes.Goals.{start_each-in-Some+in_ok-add, start_each-in_default}
 
 pub act_inside-leave-requires : goal.act_inside-leave-requires
@@ -35,13 +35,13 @@ act-leave-requires t c =
     let was = c.args.walk.now in
     let cs = commands_in b.commands.items in
     let labels = labels_of_each cs in
-    let behind : AfterDeclarations = declared was.scope p (declarations_in b.decls.items) was.found in
+    let following : AfterDeclarations = declared was.scope p (declarations_in b.decls.items) was.found in
     let made : AfterDeclarations = record { scope = c.declare_each.new.walk.scope; place = c.in_ok-inner-in-Block.inner; found = c.declare_each.new.walk.found } in
-    let told : made ≡ behind = first_of (search rules, grind (arith, common_steps)) in
+    let reported : made ≡ following = first_of (search rules, grind (arith, common_steps)) in
     let raw : c.act_each_labelled.new.walk ≡ block_behind p cs made = first_of (search rules, grind (arith, common_steps)) in
-    let through : c.act_each_labelled.new.walk ≡ block_behind p cs behind = raw ∙ ap (block_behind p cs) told in
-    let at : Stage = record { scope = behind.scope; found = takes behind.found } in
-    let inner : Stage = stage_in p cs behind in
+    let through : c.act_each_labelled.new.walk ≡ block_behind p cs following = raw ∙ ap (block_behind p cs) reported in
+    let at : Stage = record { scope = following.scope; found = takes following.found } in
+    let inner : Stage = stage_in p cs following in
     let kept : c.walk-else-is_empty-2.inside.table ≡ inner.scope = ap (λ s. s.scope) c.walk-else-is_empty-2.view_is ∙ ap (λ s. s.scope) through in
     let marked : c.mark-mark.result ≡ length was.scope = c.mark-mark.ensures ∙ ap (λ s. length s.scope) c.walk-else-is_empty.view_is in
     let above = declared_above (declarations_in b.decls.items) was.scope p was.found in
@@ -54,21 +54,21 @@ act-returns-in_ok-act_each_labelled-in-Block t c =
     let was = c.args.walk.now in
     let cs = commands_in b.commands.items in
     let labels = labels_of_each cs in
-    let behind : AfterDeclarations = declared was.scope p (declarations_in b.decls.items) was.found in
+    let following : AfterDeclarations = declared was.scope p (declarations_in b.decls.items) was.found in
     let made : AfterDeclarations = record { scope = c.declare_each.new.walk.scope; place = c.in_ok-inner-in-Block.inner; found = c.declare_each.new.walk.found } in
-    let told : made ≡ behind = first_of (search rules, grind (arith, common_steps)) in
+    let reported : made ≡ following = first_of (search rules, grind (arith, common_steps)) in
     let raw : c.act_each_labelled.new.walk ≡ block_behind p cs made = first_of (search rules, grind (arith, common_steps)) in
-    let through : c.act_each_labelled.new.walk ≡ block_behind p cs behind = raw ∙ ap (block_behind p cs) told in
-    let at : Stage = record { scope = behind.scope; found = takes behind.found } in
-    let inner : Stage = stage_in p cs behind in
+    let through : c.act_each_labelled.new.walk ≡ block_behind p cs following = raw ∙ ap (block_behind p cs) reported in
+    let at : Stage = record { scope = following.scope; found = takes following.found } in
+    let inner : Stage = stage_in p cs following in
     let kept : c.walk-else-is_empty-2.inside.table ≡ inner.scope = ap (λ s. s.scope) c.walk-else-is_empty-2.view_is ∙ ap (λ s. s.scope) through in
     let marked : c.mark-mark.result ≡ length was.scope = c.mark-mark.ensures ∙ ap (λ s. length s.scope) c.walk-else-is_empty.view_is in
     let above = declared_above (declarations_in b.decls.items) was.scope p was.found in
     let left : c.leave.new.self ≡ was.scope = back_outside p.procedure labels at inner was.scope _ _ _ above refl kept marked c.leave.ensures in
     let some : 0 < vec_len b.decls = is_more _ _ c.is_empty.ensures c.if-is_empty.false in
-    let is : done was.scope p (command_in c.args.command.now) was.found ≡ (block_behind p cs behind).found =
+    let is : done was.scope p (command_in c.args.command.now) was.found ≡ (block_behind p cs following).found =
     ap (λ a. done was.scope p (command_in a) was.found) b.is ∙ ap (λ a. done was.scope p a was.found) (Block_is b.at b.decls b.commands)
-    ∙ block_with_declarations was p b.at b.decls.items cs behind inner (omega (arith, some)) refl refl
+    ∙ block_with_declarations was p b.at b.decls.items cs following inner (omega (arith, some)) refl refl
     in
     let found : c.walk-else-is_empty-2.inside.findings ≡ done was.scope p (command_in c.args.command.now) was.found = ap (λ s. s.found) c.walk-else-is_empty-2.view_is ∙ ap (λ s. s.found) through ∙ sym is in
     stage_by_parts _ _ _ _ left found
@@ -163,24 +163,24 @@ declare-returns-in_ok-manifests-in-Manifest t c =
     let d = c.in-Constants in
     let some : 0 < vec_len d.items = is_more _ _ c.is_empty.ensures c.if-is_empty.false in
     let whole : declaration c.args.decl.now ≡ constants d.at s.Manifest (items_in d.items.items) = cc (Constants_is d.at d.sort d.items) in
-    let told : c.manifests.new.walk ≡ manifests c.args.walk.now.found.next c.args.place.procedure (items_in d.items.items) (record { scope = c.args.walk.now.scope; found = takes c.args.walk.now.found }) = first_of (search rules, grind (arith, common_steps)) in
-    rw whole (ap (at c.args.place) told ∙ manifests_behind c.args.walk.now.scope c.args.place c.args.walk.now.found d.at d.items.items (omega (arith, some)))
+    let reported : c.manifests.new.walk ≡ manifests c.args.walk.now.found.next c.args.place.procedure (items_in d.items.items) (record { scope = c.args.walk.now.scope; found = takes c.args.walk.now.found }) = first_of (search rules, grind (arith, common_steps)) in
+    rw whole (ap (at c.args.place) reported ∙ manifests_behind c.args.walk.now.scope c.args.place c.args.walk.now.found d.at d.items.items (omega (arith, some)))
 
 pub declare-returns-in_ok-statics-in-Static : goal.declare-returns-in_ok-statics-in-Static
 declare-returns-in_ok-statics-in-Static t c =
     let d = c.in-Constants in
     let some : 0 < vec_len d.items = is_more _ _ c.is_empty.ensures c.if-is_empty.false in
     let whole : declaration c.args.decl.now ≡ constants d.at s.Static (items_in d.items.items) = cc (Constants_is d.at d.sort d.items) in
-    let told : c.statics.new.walk ≡ statics c.args.walk.now.scope c.args.walk.now.found.next c.args.place.procedure (items_in d.items.items) (record { scope = c.args.walk.now.scope; found = takes c.args.walk.now.found }) = first_of (search rules, grind (arith, common_steps)) in
-    rw whole (ap (at c.args.place) told ∙ statics_behind c.args.walk.now.scope c.args.place c.args.walk.now.found d.at d.items.items (omega (arith, some)))
+    let reported : c.statics.new.walk ≡ statics c.args.walk.now.scope c.args.walk.now.found.next c.args.place.procedure (items_in d.items.items) (record { scope = c.args.walk.now.scope; found = takes c.args.walk.now.found }) = first_of (search rules, grind (arith, common_steps)) in
+    rw whole (ap (at c.args.place) reported ∙ statics_behind c.args.walk.now.scope c.args.place c.args.walk.now.found d.at d.items.items (omega (arith, some)))
 
 pub declare-returns-in_ok-globals-in-Global : goal.declare-returns-in_ok-globals-in-Global
 declare-returns-in_ok-globals-in-Global t c =
     let d = c.in-Constants in
     let some : 0 < vec_len d.items = is_more _ _ c.is_empty.ensures c.if-is_empty.false in
     let whole : declaration c.args.decl.now ≡ constants d.at s.Global (items_in d.items.items) = cc (Constants_is d.at d.sort d.items) in
-    let told : c.globals.new.walk ≡ globals c.args.walk.now.scope c.args.walk.now.found.next c.args.place.procedure (items_in d.items.items) (record { scope = c.args.walk.now.scope; found = takes c.args.walk.now.found }) = first_of (search rules, grind (arith, common_steps)) in
-    rw whole (ap (at c.args.place) told ∙ globals_behind c.args.walk.now.scope c.args.place c.args.walk.now.found d.at d.items.items (omega (arith, some)))
+    let reported : c.globals.new.walk ≡ globals c.args.walk.now.scope c.args.walk.now.found.next c.args.place.procedure (items_in d.items.items) (record { scope = c.args.walk.now.scope; found = takes c.args.walk.now.found }) = first_of (search rules, grind (arith, common_steps)) in
+    rw whole (ap (at c.args.place) reported ∙ globals_behind c.args.walk.now.scope c.args.place c.args.walk.now.found d.at d.items.items (omega (arith, some)))
 
 pub declare-returns-in_ok-enter-in-Let : goal.declare-returns-in_ok-enter-in-Let
 declare-returns-in_ok-enter-in-Let t c =
@@ -192,7 +192,7 @@ declare-returns-in_ok-enter-in-Let t c =
     let t = c.enter_procedures.new.walk in
     let whole : declaration c.args.decl.now ≡ definitions d.at ds = cc (Let_is d.at d.defs) in
     let entered : t ≡ with_procedures ds (record { scope = bs; found = takes f }) = first_of (search rules, grind (arith, common_steps)) in
-    let made : ◌≡◌ {A = Defined} (record { fresh = c.define_each.new.fresh; place = c.in_ok-behind-in-Let.behind; found = c.define_each.new.walk.found }) (defined f.next t.scope ds (record { fresh = []; place = c.args.place; found = t.found })) = first_of (search rules, grind (arith, common_steps)) in
+    let made : ◌≡◌ {A = Defined} (record { fresh = c.define_each.new.fresh; place = c.in_ok-following-in-Let.following; found = c.define_each.new.walk.found }) (defined f.next t.scope ds (record { fresh = []; place = c.args.place; found = t.found })) = first_of (search rules, grind (arith, common_steps)) in
     let scope : c.enter.new.table ≡ bind_all c.define_each.new.fresh t.scope = first_of (search rules, grind (arith, common_steps)) in
     let found : c.walk-in-Let-3.inside.findings ≡ c.define_each.new.walk.found = first_of (search rules, grind (arith, common_steps)) in
     rw whole (let_behind bs c.args.place f d.at d.defs.items t _ _ _ _ (omega (arith, some)) entered made scope refl found)
@@ -253,7 +253,7 @@ start_each-loop-index-preserved t c =
     rw c.deeper-next.ensures (rw c.in_ok-words.ensures.words record {
       scope = c.in_ok-words.ensures.scope ∙ v.scope;
       found = rw c.in_ok-words.ensures.found (rw v.scope (found_after c.args.walk.now.scope p ss i s lt is c.loop-index.walk.found ∙ v.found));
-      place = rw v.scope (place_after c.args.walk.now.scope p ss i s lt is ∙ v.place);
+      place = rw v.scope (place_then c.args.walk.now.scope p ss i s lt is ∙ v.place);
       fresh = elim c.match-get.branch [
         | start_each-in-Some+in_ok-add w ↦
             let more : i < length xs = first_of (search rules, grind (arith, common_steps)) in

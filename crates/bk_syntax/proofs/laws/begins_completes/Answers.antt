@@ -1,4 +1,4 @@
-use Rattle.bk_syntax.proofs.Told.{begins_completes}
+use Rattle.bk_syntax.proofs.Reported.{begins_completes}
 use Rattle.bk_syntax.proofs.laws.begins_completes.Goals as goal
 
 pub returns : goal.returns

@@ -1,4 +1,4 @@
-use Rattle.bk_syntax.proofs.Stands.{one_tree}
+use Rattle.bk_syntax.proofs.Applies.{one_tree}
 use Rattle.bk_syntax.proofs.laws.have_one_tree.Goals as goal
 
 pub returns : goal.returns

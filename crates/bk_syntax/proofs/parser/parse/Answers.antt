@@ -1,5 +1,5 @@
 use Rattle.bk_syntax.proofs.Terms.{Err, symbols_of}
-use Rattle.bk_syntax.proofs.Told.{parses_unplaced}
+use Rattle.bk_syntax.proofs.Reported.{parses_unplaced}
 use Rattle.bk_syntax.proofs.parser.parse.Goals as goal
 
 pub returns-in-Err : goal.returns-in-Err

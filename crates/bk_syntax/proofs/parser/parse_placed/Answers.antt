@@ -1,8 +1,8 @@
 use Rattle.bk_grammar.specs.Placed.{position_at}
-use Rattle.bk_syntax.proofs.Terms.{◌+◌, Err, sym, ap, ◌∙◌, line_in, take, arith, symbols_of, stack_of, state, tags, told, empty_bounded}
-use Rattle.bk_syntax.proofs.Behind.{from_nothing, one_further, all_read}
+use Rattle.bk_syntax.proofs.Terms.{◌+◌, Err, sym, ap, ◌∙◌, line_in, take, arith, symbols_of, stack_of, state, tags, reported, empty_bounded}
+use Rattle.bk_syntax.proofs.Following.{from_nothing, one_further, all_read}
 use Rattle.bk_syntax.specs.Parsing.{without_place}
-use Rattle.bk_syntax.proofs.Told.{behind_completes, told_of, ended, parses_unplaced, gives_only, section_within}
+use Rattle.bk_syntax.proofs.Reported.{behind_completes, reported_of, ended, parses_unplaced, gives_only, section_within}
 use Rattle.bk_syntax.proofs.parser.parse_placed.Goals as goal
 
 pub loop-token-init : goal.loop-token-init
@@ -27,12 +27,12 @@ pub returns-in-Err : goal.returns-in-Err
 returns-in-Err c =
     let ts = c.args.tokens.now in
     let i = c.loop-token.token-index in
-    let r = told c.in-Err.error (position_at c.token-item.result) in
-    let p = told_of r c.advance.new.self.frames c.advance.new.opened.items ts i c.token-item.result c.args.end
+    let r = reported c.in-Err.error (position_at c.token-item.result) in
+    let p = reported_of r c.advance.new.self.frames c.advance.new.opened.items ts i c.token-item.result c.args.end
     (tags c.loop-token.opened.items) (state (stack_of c.loop-token.parser.frames) c.loop-token.parser.now) c.loop-token-test.true c.token-item.is
     (ap line_in (sym c.position_of.ensures.position) ∙ c.position_of.ensures.line) c.loop-token.invariant.0 c.loop-token.invariant.1
     (c.in-Err.ensures.goes (symbols_of (take i ts)) c.loop-token.invariant.0) in
-    rw (c.told.ensures, c.position_of.ensures.position) (record { parses = p; within = tt; only = λ ds is. gives_only (without_place (Err r)) (symbols_of ts) c.args.end (parses_unplaced (Err r) (symbols_of ts) c.args.end p) ds is })
+    rw (c.reported.ensures, c.position_of.ensures.position) (record { parses = p; within = tt; only = λ ds is. gives_only (without_place (Err r)) (symbols_of ts) c.args.end (parses_unplaced (Err r) (symbols_of ts) c.args.end p) ds is })
 
 pub returns : goal.returns
 returns c =

@@ -53,11 +53,11 @@ pub act-returns-in_ok-each_act_apart-in-Block : goal.act-returns-in_ok-each_act_
 act-returns-in_ok-each_act_apart-in-Block t c =
     let b = c.in-Block in
     let some : 0 < vec_len b.decls = is_more _ _ c.is_empty.ensures c.if-is_empty.false in
-    let told : ◌≡◌ {A = Reached} (reached c.in_ok-inside-in-Block.inside c.declare_each.new.out) (declared (declarations_in b.decls.items) (reached c.args.depth c.args.out.now)) = first_of (search rules, grind (arith, common_steps)) in
+    let reported : ◌≡◌ {A = Reached} (reached c.in_ok-inside-in-Block.inside c.declare_each.new.out) (declared (declarations_in b.decls.items) (reached c.args.depth c.args.out.now)) = first_of (search rules, grind (arith, common_steps)) in
     let is : act_written c.args.around c.args.depth (command_in c.args.command.now) c.args.out.now ≡ block_in c.args.around c.args.depth (commands_in b.commands.items) (reached c.in_ok-inside-in-Block.inside c.declare_each.new.out) =
     ap (λ x. act_written c.args.around c.args.depth (command_in x) c.args.out.now) b.is ∙ ap (λ x. act_written c.args.around c.args.depth x c.args.out.now) (Block_is b.at b.decls b.commands)
     ∙ with_declarations c.args.around c.args.depth b.at b.decls.items (commands_in b.commands.items) c.args.out.now (omega (arith, some))
-    ∙ ap (block_in c.args.around c.args.depth (commands_in b.commands.items)) (sym told)
+    ∙ ap (block_in c.args.around c.args.depth (commands_in b.commands.items)) (sym reported)
     in
     rw is (first_of (search rules, grind (arith, common_steps)))
 
@@ -109,10 +109,10 @@ declare-returns-in_ok-put-in-Let t c =
     let d = c.in-Let in
     let ds = definitions_in d.defs.items in
     let whole : declaration c.args.decl.now ≡ definitions d.at ds = cc (Let_is d.at d.defs) in
-    let made : ◌≡◌ {A = Reached} (reached c.in_ok-behind-in-Let.behind c.define_each.new.out) (defined ds (reached c.args.depth c.args.out.now)) = first_of (search rules, grind (arith, common_steps)) in
+    let made : ◌≡◌ {A = Reached} (reached c.in_ok-following-in-Let.following c.define_each.new.out) (defined ds (reached c.args.depth c.args.out.now)) = first_of (search rules, grind (arith, common_steps)) in
     let has : any_variables ds ≡ true = first_of (search rules, grind (arith, common_steps)) in
     let put : c.put.new.self ≡ puts Store c.define_each.new.out = first_of (search rules, grind (arith, common_steps)) in
-    rw whole (with_variables d.at ds (reached c.args.depth c.args.out.now) c.in_ok-behind-in-Let.behind c.define_each.new.out c.put.new.self made has put)
+    rw whole (with_variables d.at ds (reached c.args.depth c.args.out.now) c.in_ok-following-in-Let.following c.define_each.new.out c.put.new.self made has put)
 
 pub declare-returns-else-has_variables : goal.declare-returns-else-has_variables
 declare-returns-else-has_variables t c =

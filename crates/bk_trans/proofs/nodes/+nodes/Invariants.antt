@@ -14,10 +14,10 @@ abbrev pub invariant-each_act-loop-command : goal.invariant-each_act-loop-comman
 invariant-each_act-loop-command l = each_act_written l.around l.depth (commands_in (drop l.command-index l.commands)) l.out ≡ each_act_written l.around l.depth (commands_in l.commands) l.fn.out
 
 abbrev pub invariant-declare_each-loop-decl : goal.invariant-declare_each-loop-decl
-invariant-declare_each-loop-decl l = declared (declarations_in (drop l.decl-index l.decls)) (reached l.behind l.out) ≡ declared (declarations_in l.decls) (reached l.fn.depth l.fn.out)
+invariant-declare_each-loop-decl l = declared (declarations_in (drop l.decl-index l.decls)) (reached l.following l.out) ≡ declared (declarations_in l.decls) (reached l.fn.depth l.fn.out)
 
 abbrev pub invariant-define_each-loop-def : goal.invariant-define_each-loop-def
-invariant-define_each-loop-def l = defined (definitions_in (drop l.def-index l.defs)) (reached l.behind l.out) ≡ defined (definitions_in l.defs) (reached l.fn.depth l.fn.out)
+invariant-define_each-loop-def l = defined (definitions_in (drop l.def-index l.defs)) (reached l.following l.out) ≡ defined (definitions_in l.defs) (reached l.fn.depth l.fn.out)
 
 abbrev pub invariant-start_each-loop-start : goal.invariant-start_each-loop-start
-invariant-start_each-loop-start l = started (starts_in (drop l.start-index l.starts)) (reached l.behind l.out) ≡ started (starts_in l.starts) (reached l.fn.depth l.fn.out)
+invariant-start_each-loop-start l = started (starts_in (drop l.start-index l.starts)) (reached l.following l.out) ≡ started (starts_in l.starts) (reached l.fn.depth l.fn.out)

@@ -12,10 +12,10 @@ returns-clause-draft c =
     let more : length c.push.new.self.items ≡ length before + 1 = omega (arith, ap (λ (l : List Stmt). length l) c.in_ok-push.ensures.items, length-append before (s ∷ [])) in
     record {
       context = context-push k before c.push.new.self.items s _ _ _ _ _ _ c.requires.draft.context c.in_ok-push.ensures.items
-          more (ap (λ (n : ℕ). k.words + n) c.requires.words) c.behind-self.ensures c.depth_behind-self.ensures
+          more (ap (λ (n : ℕ). k.words + n) c.requires.words) c.following-self.ensures c.depth_after-self.ensures
           (c.start_with-self.ensures ∙ ap (λ (n : ℕ). start_from n k.start s) count)
           (named_so k s c.len-count.result (uses_of c.stand.new.self) (uses_of c.name.new.self) count c.in_ok-stand.ensures c.in_ok-name.ensures);
-      depth_fits = omega (arith, c.depth_behind-self.ensures, fits.0);
+      depth_fits = omega (arith, c.depth_after-self.ensures, fits.0);
       words_fit = omega (arith, c.requires.words, fits.1);
       start_fits = omega (arith, more, c.start_with-self.ensures, start_from-low c.len-count.result k.start s (omega (arith, count, c.requires.draft.start_fits)));
     }

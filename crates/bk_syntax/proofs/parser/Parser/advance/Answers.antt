@@ -1,5 +1,5 @@
 use Rattle.bk_syntax.proofs.Terms.{◌++◌, ◌∷◌, [], sym, subst, symbol_of, Stack, state, tags, AfterSymbols}
-use Rattle.bk_syntax.proofs.Told.{limited}
+use Rattle.bk_syntax.proofs.Reported.{limited}
 use Rattle.bk_syntax.proofs.parser.Parser.advance.Goals as goal
 
 pub returns-clause-goes : goal.returns-clause-goes

@@ -1,7 +1,7 @@
 use Rattle.bk_syntax.proofs.Terms.{ℕ, Some, List, [], Result, sym, ap, subst, ◌∙◌, Symbol, Declarations, stepped_by, whole, stack_of, state, AnswersAtEnd, ends_within, Kind as k}
 use Rattle.std.specs.Prelude.{None}
 use Rattle.bk_tree.specs.Position.{position}
-use Rattle.bk_syntax.proofs.Behind.{run_end, ends_wrong}
+use Rattle.bk_syntax.proofs.Following.{run_end, ends_wrong}
 use Rattle.bk_syntax.proofs.parser.Parser.at_end.Goals as goal
 
 pub whole-requires : goal.whole-requires
@@ -18,5 +18,5 @@ returns-in-Ok c =
 pub returns : goal.returns
 returns c =
     let x = state (stack_of c.args.self.frames) c.args.self.now in
-    ends_wrong _ _ _ c.told.ensures (run_end x ∙ ap (λ (l : ℕ). whole (stepped_by x (position l None) [] k.Semicolon)) (sym c.first.ensures)
+    ends_wrong _ _ _ c.reported.ensures (run_end x ∙ ap (λ (l : ℕ). whole (stepped_by x (position l None) [] k.Semicolon)) (sym c.first.ensures)
     ∙ ap whole (rw c.in-Err-Unexpected.field-0-is at c.in-Err-Unexpected.ensures))

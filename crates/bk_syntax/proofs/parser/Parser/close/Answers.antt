@@ -1,5 +1,5 @@
 use Rattle.bk_syntax.proofs.Terms.{position_of, Result, refl, sym, subst, arith, symbol_of, ParseError, stack_of, state, answered, reached, Advances}
-use Rattle.bk_syntax.proofs.Behind.{closed, not_closed}
+use Rattle.bk_syntax.proofs.Following.{closed, not_closed}
 use Rattle.bk_syntax.proofs.parser.Parser.close.Goals as goal
 
 pub returns-in-Some : goal.returns-in-Some

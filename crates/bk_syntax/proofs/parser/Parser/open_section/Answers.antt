@@ -1,6 +1,6 @@
 use Rattle.bk_syntax.proofs.Terms.{position_of, List, ◌∷◌, ℕ, Result, sym, ap, subst, ◌∙◌, symbol_of, ParseError, tag_of, stack_of, state, tags, answered, reached, Advances}
 use Rattle.bk_syntax.proofs.Openings.{tags_push}
-use Rattle.bk_syntax.proofs.Behind.{step_answered, plain_open}
+use Rattle.bk_syntax.proofs.Following.{step_answered, plain_open}
 use Rattle.bk_syntax.proofs.parser.Parser.open_section.Goals as goal
 
 pub returns-in-Ok : goal.returns-in-Ok

@@ -1,5 +1,5 @@
 use Rattle.bk_syntax.proofs.Terms.{◌≡◌, ℕ, ◌-◌, sym, ap, ◌∙◌, arith, symbol_of, stack_of, state, goes_to, steps}
-use Rattle.bk_syntax.proofs.Behind.{steps_more}
+use Rattle.bk_syntax.proofs.Following.{steps_more}
 use Rattle.bk_syntax.proofs.parser.Parser.repeat_step.Goals as goal
 
 pub loop-left-preserved : goal.loop-left-preserved

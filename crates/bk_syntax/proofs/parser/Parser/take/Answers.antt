@@ -1,5 +1,5 @@
 use Rattle.bk_syntax.proofs.Terms.{position_of, Result, refl, sym, subst, ◌∙◌, symbol_of, ParseError, stack_of, state, tags, answered, reached, Advances}
-use Rattle.bk_syntax.proofs.Behind.{step_answered, plain_other}
+use Rattle.bk_syntax.proofs.Following.{step_answered, plain_other}
 use Rattle.bk_syntax.proofs.parser.Parser.take.Goals as goal
 
 pub returns : goal.returns

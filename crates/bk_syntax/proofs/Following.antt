@@ -1,5 +1,5 @@
 -- What there is behind some symbols, and behind one more.
-use Rattle.bk_syntax.proofs.Terms.{◌≡◌, ℕ, zero, suc, ◌-◌, ◌+◌, ◌<◌, length, get_or, take, arith, List, [], ◌∷◌, ◌++◌, true, false, Option, Some, None, Result, Ok, Err, replicate, refl, sym, ap, subst, ◌∙◌, ◌⊎◌, inl, inr, append_assoc, append-nil, take_more, map-append, take-length, Bor, PlacedFault, position_of, Refused, Fault, UnexpectedSymbol, WrongSectionTag, Kind, Token, Symbol, symbol_of, symbols_of, Frames, ParserState, Declarations, declarations_in, no_declarations, tag_of, Closing, closed_by, in_front, plain_behind, plain_by, plain, Stands, unfinished_on, above, stack, stack_of, state, Steps, reading, tags, Closes, goes_to, steps, leads, AfterSymbols, answered, reached, error_of, Advances, AnswersAtEnd, stepped, opens_kind, closes_kind, stack_none, Kind as k, Unfinished, Unfinished as b, Stop, Stop as s}
+use Rattle.bk_syntax.proofs.Terms.{◌≡◌, ℕ, zero, suc, ◌-◌, ◌+◌, ◌<◌, length, get_or, take, arith, List, [], ◌∷◌, ◌++◌, true, false, Option, Some, None, Result, Ok, Err, replicate, refl, sym, ap, subst, ◌∙◌, ◌⊎◌, inl, inr, append_assoc, append-nil, take_more, map-append, take-length, Bor, PlacedFault, position_of, Refused, Fault, UnexpectedSymbol, WrongSectionTag, Kind, Token, Symbol, symbol_of, symbols_of, Frames, ParserState, Declarations, declarations_in, no_declarations, tag_of, Closing, closed_by, in_front, plain_after, plain_by, plain, Applies, unfinished_on, above, stack, stack_of, state, Steps, reading, tags, Closes, goes_to, steps, leads, AfterSymbols, answered, reached, error_of, Advances, AnswersAtEnd, stepped, opens_kind, closes_kind, stack_none, Kind as k, Unfinished, Unfinished as b, Stop, Stop as s}
 use Rattle.bk_frames.specs.declared.frame.OpenExpression.TheVariants as o
 use Rattle.bk_frames.specs.declared.frame.Phrase.TheVariants as p
 use Rattle.bk_frames.specs.declared.frame.Member.TheVariants as m
@@ -79,7 +79,7 @@ plain_end opens = refl
 
 -- a symbol at which the machine stops is an unexpected one
 pub unexpected : (ts : List Symbol) (t : Symbol) (before after : List (List ℕ)) (x : State) (n : ℕ) → AfterSymbols ts before x
-    → ((us : List Symbol) → plain (t ∷ us) before ≡ in_front (replicate n t) (plain us after)) → steps n t x ≡ None → Stands UnexpectedSymbol ts t
+    → ((us : List Symbol) → plain (t ∷ us) before ≡ in_front (replicate n t) (plain us after)) → steps n t x ≡ None → Applies UnexpectedSymbol ts t
 unexpected ts t before after x n b h stop =
     let j = stops n t x stop in
     let p = b.plainly in
@@ -94,7 +94,7 @@ unexpected ts t before after x n b h stop =
     ((λ w. none w.0 w.1 w.2), ((λ e. absurd cc), λ w. none w.0 w.1 w.2))
 
 -- a symbol at which the tag clause fails has a wrong tag
-pub wrong_tag : (ts : List Symbol) (t : Symbol) (before : List (List ℕ)) (x : State) → AfterSymbols ts before x → plain (t ∷ []) before ≡ None → Stands WrongSectionTag ts t
+pub wrong_tag : (ts : List Symbol) (t : Symbol) (before : List (List ℕ)) (x : State) → AfterSymbols ts before x → plain (t ∷ []) before ≡ None → Applies WrongSectionTag ts t
 wrong_tag ts t before x b h =
     let is : plain (ts ++ t ∷ []) [] ≡ None = b.brackets (t ∷ []) ∙ ap (in_front b.plainly) h in
     ((λ w. tag_stands (ts ++ t ∷ []) w.0 w.1 is w.2), is)
@@ -115,9 +115,9 @@ unfolding plain
 plain_other t us before h j = other_by t t.kind (plain us) before h j
 
 -- one that closes
-pub plain_close : (t : Symbol) (us : List Symbol) (before : List (List ℕ)) (r : Option Closing) → closes t.kind ≡ true → closed_by t (tag_of t.text) before ≡ r → plain (t ∷ us) before ≡ plain_behind (plain us) r
+pub plain_close : (t : Symbol) (us : List Symbol) (before : List (List ℕ)) (r : Option Closing) → closes t.kind ≡ true → closed_by t (tag_of t.text) before ≡ r → plain (t ∷ us) before ≡ plain_after (plain us) r
 unfolding plain
-plain_close t us before r h j = ap (λ z. plain_by t z (plain us) before) (closes_kind t.kind h) ∙ ap (plain_behind (plain us)) j
+plain_close t us before r h j = ap (λ z. plain_by t z (plain us) before) (closes_kind t.kind h) ∙ ap (plain_after (plain us)) j
 
 pub steps_more : (n : ℕ) (t : Symbol) (x : State) → 0 < n → steps n t x ≡ goes_to (steps (n - 1) t) (step x t)
 steps_more zero t x h = absurd (omega arith)
@@ -177,7 +177,7 @@ closed r now new xs ys zs u t x n k holds same h left is go b =
     let q : closed_by t (tag_of t.text) (tags ys) ≡ Some (record { closings = replicate n t; still = tags (take (length ys - n) ys) }) = subst P same h in
     step_answered r now new xs u t (tags ys) (tags (take (length ys - n) ys)) x n go (ap tags (is ∙ ap (λ (j : ℕ). take j ys) left)) (λ us. plain_close t us (tags ys) _ holds q) b
 
-pub not_closed : (ys zs : List (Bor (List ℕ))) (u : List Symbol) (t : Symbol) (x : State) → closes t.kind ≡ true → zs ≡ ys → Closes None t (tag_of t.text) zs → AfterSymbols u (tags ys) x → Stands WrongSectionTag u t
+pub not_closed : (ys zs : List (Bor (List ℕ))) (u : List Symbol) (t : Symbol) (x : State) → closes t.kind ≡ true → zs ≡ ys → Closes None t (tag_of t.text) zs → AfterSymbols u (tags ys) x → Applies WrongSectionTag u t
 not_closed ys zs u t x holds same h b =
     let P : List (Bor (List ℕ)) → Type 0 = λ z. Closes None t (tag_of t.text) z in
     wrong_tag u t (tags ys) x b (plain_close t [] (tags ys) None holds (subst P same h))

@@ -1,5 +1,5 @@
 use Rattle.bk_syntax.proofs.Tags.{tag_stands}
-use Rattle.bk_syntax.proofs.laws.tag_fault_stands.Goals as goal
+use Rattle.bk_syntax.proofs.laws.tag_fault_applies.Goals as goal
 
 pub returns : goal.returns
 returns c = tag_stands

@@ -1,5 +1,0 @@
-use Rattle.bk_ocode.proofs.LabelRests.{goes_on_behind_label}
-use Rattle.bk_ocode.proofs.laws.goes_on_behind_label.Goals as goal
-
-pub returns : goal.returns
-returns c = goes_on_behind_label
