@@ -4,39 +4,53 @@ ghost use Rattle.std.specs.Io.KnownBytes.{Keeps};
 ghost use Rattle.bk_base.specs.Devices.{Begins};
 
 use bk_base::{ByteOut, Failed};
+use std::cell::Cell;
 
 /// An output. Where a terminal shows it, it passes on what it holds before it takes a line feed, so that a line is seen as
 /// soon as it is complete.
 #[derive(Drop)]
-pub struct ByLines<O> {
+pub struct ByLines<'a, O> {
     out: O,
     is_shown: bool,
+    /// Whether the byte that was taken last ends no line.
+    is_open: bool,
+    /// Whether the terminal shows the output, and what was passed on ends within a line.
+    is_within_line: &'a Cell<bool>,
 }
 
-impl<O: ByteOut> ByLines<O> {
+impl<'a, O: ByteOut> ByLines<'a, O> {
     /// The output `out`, which a terminal shows or not.
-    pub fn new(out: O, is_shown: bool) -> ByLines<O>
-        ensures taken { ⟦<ByLines<O> as ByteOut>⟧.taken result ≡ O.taken out }
-        ensures passed { ⟦<ByLines<O> as ByteOut>⟧.passed result ≡ O.passed out }
-        ensures faults { ⟦<ByLines<O> as ByteOut>⟧.faults result ≡ O.faults out }
+    pub fn new(out: O, is_shown: bool, is_within_line: &'a Cell<bool>) -> ByLines<'a, O>
+        ensures taken { ⟦<ByLines<'a, O> as ByteOut>⟧.taken result ≡ O.taken out }
+        ensures passed { ⟦<ByLines<'a, O> as ByteOut>⟧.passed result ≡ O.passed out }
+        ensures faults { ⟦<ByLines<'a, O> as ByteOut>⟧.faults result ≡ O.faults out }
     {
-        ByLines { out, is_shown }
+        ByLines {
+            out,
+            is_shown,
+            is_open: false,
+            is_within_line,
+        }
     }
 
-    /// A line that a terminal shows is complete: what is held is passed on. It is a function of its own, so that no time goes to it
-    /// at other bytes.
+    /// The terminal is to show this byte: before the end of a line what is held is passed on. It is a function of its own, so that no
+    /// time goes to it where no terminal shows the output.
     #[cold]
     #[inline(never)]
-    fn end_line(&mut self) -> Result<(), Failed>
+    fn show(&mut self, byte: u8) -> Result<(), Failed>
         ensures keeps { Keeps (O.taken self.old.out) (O.taken self.new.out) }
         ensures passes { Begins (O.passed self.old.out) (O.passed self.new.out) }
         ensures failed { OnErr result (O.faults self.new.out ≡ 1) }
         ensures failed_again { O.faults self.old.out ≡ 1 → (O.faults self.new.out ≡ 1) × Keeps (O.passed self.old.out) (O.passed self.new.out) }
     {
+        self.is_open = byte != b'\n';
+        if self.is_open {
+            return Ok(());
+        }
         self.out.flush()
     }
 
-    /// The same where this byte is a line feed that a terminal shows.
+    /// The same where a terminal shows the output.
     #[inline(always)]
     fn before(&mut self, byte: u8) -> Result<(), Failed>
         ensures keeps { Keeps (O.taken self.old.out) (O.taken self.new.out) }
@@ -44,14 +58,14 @@ impl<O: ByteOut> ByLines<O> {
         ensures failed { OnErr result (O.faults self.new.out ≡ 1) }
         ensures failed_again { O.faults self.old.out ≡ 1 → (O.faults self.new.out ≡ 1) × Keeps (O.passed self.old.out) (O.passed self.new.out) }
     {
-        if byte == b'\n' && self.is_shown {
-            return self.end_line();
+        if self.is_shown {
+            return self.show(byte);
         }
         Ok(())
     }
 }
 
-impl<O: ByteOut> ByteOut for ByLines<O> {
+impl<O: ByteOut> ByteOut for ByLines<'_, O> {
     ghost taken = { λ s. O.taken s.out };
 
     ghost passed = { λ s. O.passed s.out };
@@ -65,6 +79,9 @@ impl<O: ByteOut> ByteOut for ByLines<O> {
     }
 
     fn flush(&mut self) -> Result<(), Failed> {
+        if self.is_shown {
+            self.is_within_line.set(self.is_open);
+        }
         self.out.flush()
     }
 

@@ -3,15 +3,18 @@
 
 mod by_lines;
 mod opened;
+mod painted;
 
 use bk_base::{ByteOut, Reader512, Writer512};
-use bk_kit::{Files, LineFault, Order, order, refuse, serve_named};
+use bk_kit::{Files, LineFault, Order, further_hints, order, refuse, report_hints, serve_named};
 use by_lines::ByLines;
 use opened::{Named, Opened, Source, open};
+use painted::Painted;
+use std::cell::Cell;
 use std::fs::File;
 use std::io::{ErrorKind, IsTerminal};
 use std::process::ExitCode;
-use std::{env, io};
+use std::{env, fs, io};
 
 /// A file that is named, or one that could not be opened, and why.
 fn opened_at(rt: &HostRuntime, name: Option<&str>) -> (Opened<File>, Option<ErrorKind>) {
@@ -46,7 +49,32 @@ fn done<O: ByteOut, E: ByteOut>(rt: &HostRuntime, order: &Order, out: &mut O, er
     let mut input = Reader512::new(Source::Input(rt.stdin()));
     let status = serve_named(rt.alloc(), order, &mut files, &mut input, out, err);
     report_cause(order, cause, err);
+    if status == REFUSED {
+        report_further(rt, order, err);
+    }
     status
+}
+
+/// The status of a source that is refused.
+const REFUSED: u8 = 101;
+
+/// Reports the faults of later sections of a source that `check` refused. FILE is read again from its beginning, where it is a plain file.
+#[cold]
+#[inline(never)]
+fn report_further<E: ByteOut>(rt: &HostRuntime, order: &Order, err: &mut E) {
+    let Order::Check(_, name) = order else {
+        return;
+    };
+    let is_plain = match fs::metadata(rt, name.as_str()) {
+        Ok(found) => found.is_file(),
+        Err(_) => false,
+    };
+    if name.as_str() == "-" || !is_plain {
+        return;
+    }
+    let (source, _) = source_at(rt, Some(name.as_str()));
+    let hints = further_hints(rt.alloc(), &mut Reader512::new(Named::new(source)));
+    report_hints(&hints, name.as_str(), err);
 }
 
 /// What is below the line of a command line without words.
@@ -95,8 +123,30 @@ fn unread(error: &io::Error) -> LineFault {
     }
 }
 
+/// Whether a terminal is to show colours: neither is NO_COLOR set, nor is TERM `dumb`.
+fn has_colours(rt: &HostRuntime) -> bool {
+    let is_plain = match env::var(rt, "NO_COLOR") {
+        Ok(given) => !given.is_empty(),
+        Err(_) => false,
+    };
+    let is_dumb = match env::var(rt, "TERM") {
+        Ok(name) => name.as_str() == "dumb",
+        Err(_) => true,
+    };
+    !is_plain && !is_dumb
+}
+
 fn main(rt: HostRuntime) -> ExitCode {
-    let mut err = Writer512::new(rt.stderr());
+    let is_within_line = Cell::new(false);
+    let stderr = rt.stderr();
+    let is_seen = stderr.is_terminal();
+    let mut err = Painted::new(
+        rt.alloc(),
+        Writer512::new(stderr),
+        is_seen,
+        is_seen && has_colours(&rt),
+        &is_within_line,
+    );
     let args = match env::args(&rt) {
         Ok(args) => args,
         Err(error) => return ExitCode::from(refuse(&unread(&error), &mut err)),
@@ -119,6 +169,6 @@ fn main(rt: HostRuntime) -> ExitCode {
     };
     let stdout = rt.stdout();
     let is_shown = stdout.is_terminal();
-    let mut out = ByLines::new(Writer512::new(stdout), is_shown);
+    let mut out = ByLines::new(Writer512::new(stdout), is_shown, &is_within_line);
     ExitCode::from(done(&rt, &order, &mut out, &mut err))
 }

@@ -65,7 +65,7 @@ module _ (p : Program) where
   for_on x c env step start limit = adds _ (λ w. with_after (history w) (given step w) _ (given_after step w) (λ n. ties_add _ _ (for_loop_ties (full p) (full p) g x c start limit n env)))
 
   bound : (l : Let) (ss : List b.Start) → Adds (bound_then p l ss)
-  bound l ss = by _ _ (ties_add _ _ (bind_variables_ties (full p) (full p) g (map start_in l.starts.items ++ ss) (env_in l.behind))) (λ env. declared l env)
+  bound l ss = by _ _ (ties_add _ _ (bind_variables_ties (full p) (full p) g (map start_in l.starts.items ++ ss) (env_in l.following))) (λ env. declared l env)
     where
       declared : (l : Let) (env : Environment) → Adds (declared_then p (declarations_in l.decls.now) (commands_in l.commands.now) env)
       declared l env = by _ _ (ties_add _ _ (declare_all_ties (full p) (full p) g (declarations_in l.decls.now) env)) (λ env. ties_add _ _ (scope_ties (full p) (full p) g (commands_in l.commands.now) forwards env))

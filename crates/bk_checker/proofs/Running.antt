@@ -57,8 +57,8 @@ run_given_value _ = refl
 
 -- ---- what is exchanged
 
-pub exchanged_none : (told : Devices) → Exchanged told told [] []
-exchanged_none told = record { delivered = Consumes-nil told.left; took = Appends-nil told.taken; stays = λ ended. (refl, ended) }
+pub exchanged_none : (reported : Devices) → Exchanged reported reported [] []
+exchanged_none reported = record { delivered = Consumes-nil reported.left; took = Appends-nil reported.taken; stays = λ ended. (refl, ended) }
 
 both_none : (read more : List ℕ) → read ≡ [] → more ≡ [] → read ++ more ≡ []
 both_none read more none nothing = ap (λ l. l ++ more) none ∙ nothing
@@ -79,18 +79,18 @@ unwritten p fs next m rest before u comes =
     subst (λ (l : List ℕ). Comes p fs next (world m (record { input = rest; output = l })) u) (sym (append-nil before)) comes
 
 -- a step that the devices have no part in
-pub moves_still : (p : Program) (m : Evaluator) (next : Next) (m' : Evaluator) (next' : Next) (told : Devices)
+pub moves_still : (p : Program) (m : Evaluator) (next : Next) (m' : Evaluator) (next' : Next) (reported : Devices)
     → ((b : Bytes) → Comes p m'.frames.items next' (world m' b) (resumed p m.frames.items (outcome_next p next (world m b))))
-    → Moves p m next m' next' told told
-moves_still p m next m' next' told comes = record {
+    → Moves p m next m' next' reported reported
+moves_still p m next m' next' reported comes = record {
   read = [];
   written = [];
-  exchanged = exchanged_none told;
+  exchanged = exchanged_none reported;
   comes = λ rest before follows. unwritten p m'.frames.items next' m' rest before _ (comes (record { input = rest; output = before }));
 }
 
-pub moves_none : (p : Program) (m : Evaluator) (next : Next) (told : Devices) → Moves p m next m next told told
-moves_none p m next told = moves_still p m next m next told (λ b. refl)
+pub moves_none : (p : Program) (m : Evaluator) (next : Next) (reported : Devices) → Moves p m next m next reported reported
+moves_none p m next reported = moves_still p m next m next reported (λ b. refl)
 
 follows_both : (mid new : Devices) (more further rest : List ℕ) → Exchanged mid new more further → Follows new rest → Follows mid (more ++ rest)
 follows_both mid new more further rest second follows = λ ended. let two = second.stays ended in both_none more rest two.0 (follows two.1)
@@ -129,7 +129,7 @@ pub run_shows : (p : Program) (start : Value) (turns : ℕ) (m m' m'' : Evaluato
     → Moves p m' first m'' last old new → over m''.frames.items last ≡ true
     → verdict ≡ verdict_of last
     → Runs p start turns verdict old new
-run_shows p start turns m m' m'' first last verdict old new begun calls moves is told = record {
+run_shows p start turns m m' m'' first last verdict old new begun calls moves is reported = record {
   read = moves.read;
   written = moves.written;
   exchanged = moves.exchanged;
@@ -143,7 +143,7 @@ run_shows p start turns m m' m'' first last verdict old new begun calls moves is
       ap run_given comes ∙ run_given_value (call p (full p) start [] there)
       ∙ ap (λ (x : World). run_of (call p (full p) start [] x)) (begun_world p turns m input begun)
       ∙ sym (ap run_of (full_call p turns start [] (first_world p input turns) (omega arith))) in
-      subst (λ (r : Run). Shows verdict r rest moves.written) whole (subst (λ (v : Verdict). Shows v (run_given (outcome_next p last w)) rest moves.written) (sym told) (shows_verdict p m''.frames.items last w is));
+      subst (λ (r : Run). Shows verdict r rest moves.written) whole (subst (λ (v : Verdict). Shows v (run_given (outcome_next p last w)) rest moves.written) (sym reported) (shows_verdict p m''.frames.items last w is));
 }
 
 -- what is given is there
@@ -196,7 +196,7 @@ taken_none old new keeps = Appends-kept old.taken old.taken new.taken [] (Append
 pub answered_end : (old new : Devices) → Consumes old.left new.left [] → Keeps old.taken new.taken → new.ended ≡ true → Answered (2 ^ 32 - 1) old new
 answered_end old new delivered keeps ended = record {
   read = [];
-  exchanged = record { delivered = delivered; took = taken_none old new keeps; stays = λ told. (refl, ended) };
+  exchanged = record { delivered = delivered; took = taken_none old new keeps; stays = λ reported. (refl, ended) };
   takes = λ rest w follows is.
       ap (λ (i : List ℕ). takes_byte i w) (is ∙ follows ended) ∙ ap (λ (i : List ℕ). gives (number (2 ^ 32 - 1)) (record w { input = i })) is;
 }
@@ -205,7 +205,7 @@ answered_end old new delivered keeps ended = record {
 pub answered_byte : (old new : Devices) (b : ℕ) → Consumes old.left new.left (b ∷ []) → Keeps old.taken new.taken → (IsTrue old.ended → ⊥) → Answered b old new
 answered_byte old new b delivered keeps open_ = record {
   read = b ∷ [];
-  exchanged = record { delivered = delivered; took = taken_none old new keeps; stays = λ told. absurd (open_ told) };
+  exchanged = record { delivered = delivered; took = taken_none old new keeps; stays = λ reported. absurd (open_ reported) };
   takes = λ rest w follows is. ap (λ (i : List ℕ). takes_byte i w) is;
 }
 
@@ -219,8 +219,8 @@ module _ (p : Program) (m m' : Evaluator) (spot : ℕ) (r : Routine) (vs : Vec W
   framed u v is = ap (λ (fs : List Continuation). resumed p fs u) frames ∙ ap (resumed p m.frames.items) is
 
   -- it needs no device
-  pub library_still : (next : Next) (told : Devices) → ((w : World) → outcome_next p next w ≡ tag a_value (outcome_in e w)) → Moves p m (n.Library spot r vs) m' next told told
-  library_still next told does = moves_still p m (n.Library spot r vs) m' next told (λ b. framed _ _ (does (world m' b) ∙ called b))
+  pub library_still : (next : Next) (reported : Devices) → ((w : World) → outcome_next p next w ≡ tag a_value (outcome_in e w)) → Moves p m (n.Library spot r vs) m' next reported reported
+  library_still next reported does = moves_still p m (n.Library spot r vs) m' next reported (λ b. framed _ _ (does (world m' b) ∙ called b))
 
   -- it takes a byte
   pub library_takes : (word : ℕ) (old new : Devices) → e ≡ t.TakesByte → Answered word old new → Moves p m (n.Library spot r vs) m' (n.Gives (g.Value (w.Number word))) old new
@@ -251,13 +251,13 @@ pub exchanged_still : (old new : Devices) → Keeps old.left new.left → new.en
 exchanged_still old new left ended taken = record {
   delivered = Consumes-kept old.left old.left new.left [] (Consumes-nil old.left) left;
   took = taken_none old new taken;
-  stays = λ told. (refl, ended ∙ told);
+  stays = λ reported. (refl, ended ∙ reported);
 }
 
 -- the input was not asked
 pub exchanged_took : (left : Option (List ℕ)) (ended : Bool) (old new : Option (List ℕ)) (text : List ℕ) → Appends old new text
     → Exchanged (record { left = left; ended = ended; taken = old }) (record { left = left; ended = ended; taken = new }) [] text
-exchanged_took left ended old new text appends = record { delivered = Consumes-nil left; took = appends; stays = λ told. (refl, told) }
+exchanged_took left ended old new text appends = record { delivered = Consumes-nil left; took = appends; stays = λ reported. (refl, reported) }
 
 -- ---- a run that is given up
 

@@ -5,6 +5,7 @@ use crate::values::callee_name;
 use bk_check::{Call, Continuation, Evaluator};
 use bk_lasting::Lasting;
 use bk_objects::Worth;
+use bk_tree::Position;
 use std::alloc::AllocError;
 
 /// How many lines list calls at most.
@@ -82,6 +83,18 @@ fn add_last(text: &mut Vec<u8>, listing: &Listing) -> Result<(), AllocError> {
         Some(call) => add_call(text, call, listing.times),
         None => Ok(()),
     }
+}
+
+/// The position of the innermost call that is active; the source's first line where none is.
+pub fn innermost(m: &Evaluator) -> Position {
+    for frame in m.frames.iter().rev() {
+        if let Continuation::Returned(call) = frame
+            && matches!(call.callee, Worth::Procedure(_))
+        {
+            return call.at;
+        }
+    }
+    Position::first()
 }
 
 /// Adds the calls that are active, innermost first, so that START is at the end. Equal calls one after another have one line.

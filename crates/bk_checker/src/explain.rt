@@ -3,9 +3,9 @@ ghost use Rattle.std.specs.Prelude.{◌≡◌, IfOk};
 ghost use Rattle.bk_checker.specs.Checks.{verdict_of};
 
 use crate::acts::{say_act, say_division};
-use crate::calls::add_calls;
-use crate::report::{CheckFault, GivenUp, Report};
-use crate::run::verdict;
+use crate::calls::{add_calls, innermost};
+use crate::report::{CheckFault, GivenUp, Notice, Report};
+use crate::run::{FRAMES, verdict};
 use crate::values::Page;
 use bk_check::{Evaluator, Next, Subject, acts_at};
 use bk_lasting::Lasting;
@@ -26,18 +26,32 @@ fn place_of_subject(subject: &Subject) -> Position {
     }
 }
 
-/// Why a run was given up; where its limits were reached, with the calls that are active.
+/// Where the limits of a check were reached, and which.
+fn too_deep<'a>(m: &Evaluator<'a>, program: &[Lasting<'a>]) -> Result<Notice, AllocError> {
+    let mut page = Page::new(m, program);
+    let what: &[u8] = if m.frames.len() > FRAMES {
+        b"a check can't hold more calls, and what they have still to do; does the recursion end?"
+    } else {
+        b"the words of the vectors and variables that are in use are more than a check can hold"
+    };
+    page.say(&[b"too deep: ", what])?;
+    let mut calls = Vec::new(m.alloc);
+    add_calls(&mut calls, m, program)?;
+    let Page { text, .. } = page;
+    Ok(Notice::new(m.alloc, innermost(m), text, calls))
+}
+
+/// Why a run was given up, and where, if its limits were reached.
 pub fn given_up<'a>(m: &Evaluator<'a>, program: &[Lasting<'a>], fault: CheckFault) -> GivenUp
     ensures { result.fault ≡ fault }
 {
     if !matches!(fault, CheckFault::TooDeep) {
         return GivenUp::from(fault);
     }
-    let mut calls = Vec::new(m.alloc);
-    match add_calls(&mut calls, m, program) {
-        Ok(()) => GivenUp {
+    match too_deep(m, program) {
+        Ok(stop) => GivenUp {
             fault,
-            calls: Some(calls),
+            stop: Some(stop),
         },
         Err(_) => GivenUp::from(fault),
     }
@@ -76,10 +90,7 @@ pub fn explain<'a>(
     let Page { text, .. } = page;
     Ok(Report {
         verdict: verdict(next),
-        at,
-        place: Vec::new(m.alloc),
-        what: text,
-        calls,
+        stop: Notice::new(m.alloc, at, text, calls),
         remarks: Vec::new(m.alloc),
     })
 }

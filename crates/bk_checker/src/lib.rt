@@ -5,6 +5,7 @@ mod acts;
 mod calls;
 mod checker;
 mod explain;
+mod falls;
 mod made;
 mod mentions;
 mod misuse;
@@ -21,6 +22,6 @@ mod words;
 
 pub use checker::check;
 pub use remarks::Remark;
-pub use report::{CheckFault, GivenUp, Report, Verdict};
+pub use report::{CheckFault, GivenUp, Notice, Report, Verdict};
 pub use run::{CELLS, FRAMES};
 pub use source::SourceTexts;

@@ -1,6 +1,8 @@
 //! What is suspicious in a program that is accepted. No contract says anything of these texts, nor which things they are.
 
+use crate::falls::falls;
 use crate::mentions::Names;
+use crate::report::Notice;
 use crate::spelling::add;
 use bk_base::word_text;
 use bk_tree::{
@@ -19,10 +21,10 @@ const NEAR: usize = 256;
 /// Something suspicious.
 #[derive(Debug, Drop)]
 pub struct Remark {
-    /// Where it is in the source.
-    pub at: Position,
-    /// What is suspicious there, without the end of the line.
-    pub text: Vec<u8>,
+    /// What is suspicious, and where.
+    pub notice: Notice,
+    /// Where a comment from this position up to that of the remark says that it is meant, and nothing is reported.
+    pub unless_noted_from: Option<Position>,
 }
 
 /// The remarks so far.
@@ -47,7 +49,29 @@ fn make_remark(
     }
     let mut text = Vec::new(alloc);
     add(&mut text, pieces)?;
-    found.remarks.push(Remark { at, text })?;
+    found.remarks.push(Remark {
+        notice: Notice::new(alloc, at, text, Vec::new(alloc)),
+        unless_noted_from: None,
+    })?;
+    Ok(())
+}
+
+/// Remarks on the cases of a SWITCHON into which the commands before them go on, with no comment that says so.
+fn in_cases(alloc: Global, found: &mut Found, body: &Command) -> Result<(), AllocError> {
+    for fall in &falls(alloc, body)? {
+        let made = found.remarks.len();
+        make_remark(
+            alloc,
+            found,
+            fall.at,
+            &[
+                b"the commands before this go on into it; `ENDCASE` ends them, and a comment here says that it is meant",
+            ],
+        )?;
+        if let Some(remark) = found.remarks.get_mut(made) {
+            remark.unless_noted_from = Some(fall.from);
+        }
+    }
     Ok(())
 }
 
@@ -359,9 +383,13 @@ fn in_command(alloc: Global, found: &mut Found, command: &Command) -> Result<(),
             condition: value,
             body,
             ..
-        }
-        | Command::SwitchOn { value, body, .. } => {
+        } => {
             in_expr(alloc, found, value)?;
+            in_command(alloc, found, body)
+        }
+        Command::SwitchOn { value, body, .. } => {
+            in_expr(alloc, found, value)?;
+            in_cases(alloc, found, body)?;
             in_command(alloc, found, body)
         }
         Command::Test {

@@ -2,7 +2,7 @@
 
 use crate::remarks::Remark;
 use bk_tree::Position;
-use std::alloc::AllocError;
+use std::alloc::{AllocError, Global};
 
 /// How a check ends.
 #[derive(Clone, Copy, Debug)]
@@ -43,13 +43,39 @@ impl From<AllocError> for CheckFault {
     }
 }
 
+/// What is reported to a person of a place in the source.
+#[derive(Debug, Drop)]
+pub struct Notice {
+    /// The place; the source's first line where there is nothing to report.
+    pub at: Position,
+    /// The number of its line and its column, as `4:36`; empty where the text is not at hand.
+    pub place: Vec<u8>,
+    /// What there is to say of it, without the end of the line; nothing where there is nothing to report.
+    pub what: Vec<u8>,
+    /// The line of the source with a caret, where the text is at hand; then, where a run stopped, the calls that were active, a line each,
+    /// innermost first: ten at most.
+    pub further: Vec<u8>,
+}
+
+impl Notice {
+    /// This at this place, before the text of the source is at hand.
+    pub fn new(alloc: Global, at: Position, what: Vec<u8>, further: Vec<u8>) -> Notice {
+        Notice {
+            at,
+            place: Vec::new(alloc),
+            what,
+            further,
+        }
+    }
+}
+
 /// Why a check was given up, and what is reported to a person of it.
 #[derive(Debug, Drop)]
 pub struct GivenUp {
     /// Why.
     pub fault: CheckFault,
-    /// The calls that were active where the limits were reached, a line each, innermost first: ten at most.
-    pub calls: Option<Vec<u8>>,
+    /// Where, and which, if the limits of a check were reached.
+    pub stop: Option<Notice>,
 }
 
 impl From<CheckFault> for GivenUp {
@@ -58,7 +84,7 @@ impl From<CheckFault> for GivenUp {
     ghost from_gives = { λ fault given. given.fault ≡ fault };
 
     fn from(fault: CheckFault) -> GivenUp {
-        GivenUp { fault, calls: None }
+        GivenUp { fault, stop: None }
     }
 }
 
@@ -71,7 +97,7 @@ impl From<AllocError> for GivenUp {
     fn from(_error: AllocError) -> GivenUp {
         GivenUp {
             fault: CheckFault::Memory,
-            calls: None,
+            stop: None,
         }
     }
 }
@@ -81,15 +107,8 @@ impl From<AllocError> for GivenUp {
 pub struct Report {
     /// The verdict.
     pub verdict: Verdict,
-    /// Where in the source the run stopped; its first line where it ended.
-    pub at: Position,
-    /// The number of its line and its column, as `4:36`; empty where the text is not at hand.
-    pub place: Vec<u8>,
-    /// What went wrong there, without the end of the line; nothing where the program ends with a status.
-    pub what: Vec<u8>,
-    /// The line of the source with a caret, where the text is at hand; then the calls that were active, a line each, innermost first:
-    /// ten at most.
-    pub calls: Vec<u8>,
+    /// Where the run stopped, and why.
+    pub stop: Notice,
     /// What is suspicious in the source, in its order: ten things at most.
     pub remarks: Vec<Remark>,
 }

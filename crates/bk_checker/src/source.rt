@@ -1,7 +1,8 @@
-//! The line of the source where a run stopped.
+//! The text of the source, beside what is reported of it.
 ghost use Rattle.std.specs.Prelude.{◌≡◌};
 
-use crate::report::Report;
+use crate::remarks::Remark;
+use crate::report::{GivenUp, Notice, Report};
 use crate::spelling::{add, add_number};
 use bk_base::Line;
 use bk_tree::{Position, column_after};
@@ -126,9 +127,9 @@ impl SourceTexts {
         Ok(())
     }
 
-    /// The place of a position, as `4:36`, and its line with a caret, if one of the texts has it.
-    fn show(&self, at: Position, calls: &[u8]) -> Result<Option<(Vec<u8>, Vec<u8>)>, AllocError> {
-        let Some(place) = (at.bytes() as usize).checked_sub(1) else {
+    /// The place of a position, as `4:36`, and its line with a caret and these lines, if one of the texts has it.
+    fn show(&self, at: Position, further: &[u8]) -> Result<Option<(Vec<u8>, Vec<u8>)>, AllocError> {
+        let Some(place) = place_of(at) else {
             return Ok(None);
         };
         for text in &self.texts {
@@ -141,33 +142,96 @@ impl SourceTexts {
                 }
                 let mut lines = Vec::new(self.alloc);
                 add_line(&mut lines, &text.bytes, at, place)?;
-                add(&mut lines, &[calls])?;
+                add(&mut lines, &[further])?;
                 return Ok(Some((name, lines)));
             }
         }
         Ok(None)
     }
 
-    /// A report with its place and the line of the source. Where memory is refused, it is without.
+    /// A notice with its place and the line of the source. Where memory is refused, it is without.
+    fn placed(&self, notice: Notice) -> Notice {
+        if notice.what.is_empty() {
+            return notice;
+        }
+        match self.show(notice.at, &notice.further) {
+            Ok(Some((place, further))) => Notice {
+                at: notice.at,
+                place,
+                what: notice.what,
+                further,
+            },
+            Ok(None) | Err(_) => notice,
+        }
+    }
+
+    /// Whether a comment is in the text from one position up to another of the same section.
+    fn has_comment(&self, from: Position, to: Position) -> bool {
+        let Some(start) = place_of(from) else {
+            return false;
+        };
+        let Some(end) = place_of(to) else {
+            return false;
+        };
+        for text in &self.texts {
+            if has(text, from, start) && has(text, to, end) {
+                return begins_comment(text.bytes.get(start..end).unwrap_or(&[]));
+            }
+        }
+        false
+    }
+
+    /// Whether a comment in the source answers a remark.
+    fn is_answered(&self, remark: &Remark) -> bool {
+        match remark.unless_noted_from {
+            Some(from) => self.has_comment(from, remark.notice.at),
+            None => false,
+        }
+    }
+
+    /// The remarks that no comment answers, each with its place and the line of the source.
+    fn shown_remarks(&self, remarks: Vec<Remark>) -> Vec<Remark> {
+        let mut remarks = remarks;
+        remarks.retain(|remark| !self.is_answered(remark));
+        for remark in &mut remarks {
+            if let Ok(Some((place, further))) = self.show(remark.notice.at, &[]) {
+                remark.notice.place = place;
+                remark.notice.further = further;
+            }
+        }
+        remarks
+    }
+
+    /// A report beside its source: where the run stopped and what is suspicious, with the lines there, but for what a comment answers.
     pub fn shown(&self, report: Report) -> Report
         ensures { result.verdict ≡ report.verdict }
     {
-        if report.what.is_empty() {
-            return report;
+        Report {
+            verdict: report.verdict,
+            stop: self.placed(report.stop),
+            remarks: self.shown_remarks(report.remarks),
         }
-        match self.show(report.at, &report.calls) {
-            Ok(Some((place, calls))) => with_lines(report, place, calls),
-            Ok(None) | Err(_) => report,
-        }
+    }
+
+    /// Why a check was given up, with the place and the line of the source.
+    pub fn shown_given_up(&self, given: GivenUp) -> GivenUp
+        ensures { result.fault ≡ given.fault }
+    {
+        let GivenUp { fault, stop } = given;
+        let stop = match stop {
+            Some(stop) => Some(self.placed(stop)),
+            None => None,
+        };
+        GivenUp { fault, stop }
     }
 }
 
-/// A report with this place and these lines.
-fn with_lines(report: Report, place: Vec<u8>, calls: Vec<u8>) -> Report
-    ensures { result.verdict ≡ report.verdict }
-{
-    let mut report = report;
-    report.place = place;
-    report.calls = calls;
-    report
+/// Where in the text of its section a position is, if it says that.
+fn place_of(at: Position) -> Option<usize> {
+    (at.bytes() as usize).checked_sub(1)
+}
+
+/// Whether a comment begins in these bytes.
+fn begins_comment(bytes: &[u8]) -> bool {
+    bytes.windows(2).any(|pair| matches!(pair, b"//"))
 }

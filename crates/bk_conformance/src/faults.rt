@@ -28,8 +28,8 @@ struct Page<'a> {
 
 /// The number after `(status`, if a heading has one.
 fn status_of(heading: &str) -> Option<u8> {
-    let (_, behind) = heading.split_once("(status ")?;
-    let (number, _) = behind.split_once(")")?;
+    let (_, following) = heading.split_once("(status ")?;
+    let (number, _) = following.split_once(")")?;
     number.parse::<u8>().ok()
 }
 
@@ -60,12 +60,12 @@ fn outcome_on(alloc: Global, command: &str, text: &[u8]) -> Result<Option<Outcom
 
 /// Whether an outcome is this status and these lines, the end of the last one apart.
 fn is_shown(outcome: Outcome, status: u8, lines: &str) -> Result<bool, AllocError> {
-    let mut told = outcome.output;
-    told.extend_from_slice(outcome.line.as_slice())?;
-    if told.last() != Some(&b'\n') {
-        told.push(b'\n')?;
+    let mut reported = outcome.output;
+    reported.extend_from_slice(outcome.line.as_slice())?;
+    if reported.last() != Some(&b'\n') {
+        reported.push(b'\n')?;
     }
-    Ok(outcome.status == status && told.as_slice() == lines.as_bytes())
+    Ok(outcome.status == status && reported.as_slice() == lines.as_bytes())
 }
 
 impl<'a> Page<'a> {

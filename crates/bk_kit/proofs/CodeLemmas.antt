@@ -1,6 +1,6 @@
 -- Parts that were read of a text, segments of INTCODE or sections of OCODE, and the bytes that were taken for them.
-use Rattle.bk_kit.proofs.Terms.{◌≡◌, ℕ, ◌++◌, Bool, true, false, IsTrue, List, [], ◌∷◌, Option, Err, length, if◌then◌else◌, refl, sym, subst, ◌∙◌, append-nil, Consumes, NothingLeft, Consumes-trans, OcodeFault, Refused, Fault, Device, AtEnd, words_of, Stmt, ocode, ocode_refused, is_read, Format, Stands as Says, StopsInPart, parts, refused, part_number, OcodeRefused, Refused as refusals}
-use Rattle.bk_ocode.specs.SectionAnswer.{Answers, StandsWhateverFollows, StopsAtDevice, is_device}
+use Rattle.bk_kit.proofs.Terms.{◌≡◌, ℕ, ◌++◌, Bool, true, false, IsTrue, List, [], ◌∷◌, Option, Err, length, if◌then◌else◌, refl, sym, subst, ◌∙◌, append-nil, Consumes, NothingLeft, Consumes-trans, OcodeFault, Refused, Fault, Device, AtEnd, words_of, Stmt, ocode, ocode_refused, is_read, Format, Applies as Says, StopsInPart, parts, refused, part_number, OcodeRefused, Refused as refusals}
+use Rattle.bk_ocode.specs.SectionAnswer.{Answers, AppliesWhateverFollows, StopsAtDevice, is_device}
 use Rattle.bk_kit.proofs.TextLemmas as text
 use Rattle.bk_kit.proofs.TextLemmas.{read_more, says_refused, says_whole, says_all, nothing_taken}
 
@@ -56,19 +56,19 @@ module _ {Part Kind : Type 0} (format : Format Part Kind) where
         by_case false is = record {
           taken = front.taken ++ t.0;
           delivered = Consumes-trans old now new front.taken t.0 front.delivered t.1;
-          says = says_whole format all front.taken was front.read t.0 ended (λ told. let no : false ≡ true = sym is ∙ told in cc) t.2;
+          says = says_whole format all front.taken was front.read t.0 ended (λ reported. let no : false ≡ true = sym is ∙ reported in cc) t.2;
         }
 
 -- ---- sections of OCODE
 
 module _ (all : List (List Stmt)) (old now new : Option (List ℕ)) (was ended : Bool) (front : Front ocode all old now was) where
-  pub sections_refused : (told : Refused OcodeFault) → (IsTrue was → ⊥) → Answers (Err told) now new ended → StandsWhateverFollows (Err told) now new ended
-      → OcodeRefused (ocode_refused (length all) told) old new ended
-  sections_refused (Fault fault) not_over answers stands = Front-refused ocode all old now new was ended front fault.statement fault.kind not_over stands
-  sections_refused refusals.Memory not_over answers stands = tt
-  sections_refused Device not_over answers stands = Front-stops ocode all old now new was ended front StopsAtDevice not_over answers
+  pub sections_refused : (reported : Refused OcodeFault) → (IsTrue was → ⊥) → Answers (Err reported) now new ended → AppliesWhateverFollows (Err reported) now new ended
+      → OcodeRefused (ocode_refused (length all) reported) old new ended
+  sections_refused (Fault fault) not_over answers applies = Front-refused ocode all old now new was ended front fault.statement fault.kind not_over applies
+  sections_refused refusals.Memory not_over answers applies = tt
+  sections_refused Device not_over answers applies = Front-stops ocode all old now new was ended front StopsAtDevice not_over answers
 
-pub refused_fails : (before : ℕ) (told : Refused OcodeFault) → ◌≡◌ {A = ℕ} (if is_device (Err told) then 1 else 0) (if is_read {T = Unit {0}} (Err (ocode_refused before told)) then 1 else 0)
+pub refused_fails : (before : ℕ) (reported : Refused OcodeFault) → ◌≡◌ {A = ℕ} (if is_device (Err reported) then 1 else 0) (if is_read {T = Unit {0}} (Err (ocode_refused before reported)) then 1 else 0)
 refused_fails before (Fault fault) = refl
 refused_fails before refusals.Memory = refl
 refused_fails before Device = refl

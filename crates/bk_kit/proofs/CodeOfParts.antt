@@ -1,5 +1,5 @@
 -- The code of parts is read as the segments that it is of; and what interpreting it, and reporting its sizes, comes to.
-use Rattle.bk_kit.proofs.Terms.{◌≡◌, ◌≢◌, ℕ, ◌+◌, ◌*◌, ◌<◌, ◌≤◌, max, Bool, IsTrue, true, false, List, [], ◌∷◌, ◌++◌, map, Option, Some, None, Result, Ok, Err, OnOk, length, refl, sym, ap, ◌∙◌, subst, arith, Consumes, Appends, Begins, append_cancel_left, INPUT_BYTES, FRAME_WORDS_LEAST, End, WriteFault, words_of, Item, Registers, SEGMENTS, segment_size, stack_start, any_starts, greatest_frame, loaded_store, Ran, Blames, item_text, largest_depth, Stmt, Part, segments, image, depth_of, KitFault, Source, Ocode, Intcode, TooSmall, NoStart, Read, Write, Memory, intcode, all_words, AreWhole, parts, refused, Stands, AnyBytes, Streams, Interpreted, devices_of, first_registers, sizes_line, Reports, Output, stmts_of_parts, ReportsFrames, FindsNoFault}
+use Rattle.bk_kit.proofs.Terms.{◌≡◌, ◌≢◌, ℕ, ◌+◌, ◌*◌, ◌<◌, ◌≤◌, max, Bool, IsTrue, true, false, List, [], ◌∷◌, ◌++◌, map, Option, Some, None, Result, Ok, Err, OnOk, length, refl, sym, ap, ◌∙◌, subst, arith, Consumes, Appends, Begins, append_cancel_left, INPUT_BYTES, FRAME_WORDS_LEAST, End, WriteFault, words_of, Item, Registers, SEGMENTS, segment_size, stack_start, any_starts, greatest_frame, loaded_store, Ran, Blames, item_text, largest_depth, Stmt, Part, segments, image, depth_of, KitFault, Source, Ocode, Intcode, TooSmall, NoStart, Read, Write, Memory, intcode, all_words, AreWhole, parts, refused, Applies, AnyBytes, Streams, Interpreted, devices_of, first_registers, sizes_line, Reports, Output, stmts_of_parts, ReportsFrames, FindsNoFault}
 use Rattle.bk_base.specs.declared.intcode_fault.IntcodeKind.{IntcodeKind}
 use Rattle.bk_machine.specs.Segment.{IsSegment}
 use Rattle.bk_ocode.specs.SectionData.{text_size}
@@ -13,7 +13,7 @@ use Rattle.bk_kit.proofs.SameParts as same
 pub taken_of : (all : List ℕ) (new : Option (List ℕ)) (ended : Bool) → (IsTrue ended → new ≡ Some []) → (taken : List ℕ) → Consumes (Some all) new taken
     → (rest : List ℕ) × (all ≡ taken ++ rest) × (IsTrue ended → rest ≡ [])
 taken_of all None ended over taken took = absurd took
-taken_of all (Some rest) ended over taken took = (rest, took, (λ told. let e : Some rest ≡ Some [] = over told in cc))
+taken_of all (Some rest) ended over taken took = (rest, took, (λ reported. let e : Some rest ≡ Some [] = over reported in cc))
 
 -- ---- a text of segments says one thing
 
@@ -51,7 +51,7 @@ whole_segments (p ∷ all) = (p.whole, whole_segments all)
 pub image_within : (base : ℕ) (all : List Part) → stack_start base (segments all) ≤ base + 8 * numbers.text_of (stmts_of_parts all)
 image_within base [] = omega arith
 image_within base (p ∷ all) =
-    sums base (segment_size p.items) (text_size p.stmts) (numbers.text_of (stmts_of_parts all)) (stack_start (base + segment_size p.items) (segments all)) p.stands.size (image_within (base + segment_size p.items) all)
+    sums base (segment_size p.items) (text_size p.stmts) (numbers.text_of (stmts_of_parts all)) (stack_start (base + segment_size p.items) (segments all)) p.applies.size (image_within (base + segment_size p.items) all)
   where
     sums : (b s t u m : ℕ) → s ≤ 8 * t → m ≤ b + s + 8 * u → m ≤ b + 8 * (t + u)
     sums b s t u m low rest = omega arith
@@ -96,27 +96,27 @@ OfParts ps (Err Memory) steps words before after = after ≡ before
 OfParts ps (Err other) steps words before after = ⊥
 
 module _ (one : SayOneThing) (ps : List Part) (code : List ℕ) (is : words_of code ≡ all_words intcode (segments ps)) (new : Option (List ℕ)) (ended : Bool) (short : length code < INPUT_BYTES) (over : IsTrue ended → new ≡ Some []) where
-  says_of : (saying : texts.Saying (List Item) IntcodeKind) → Stands intcode saying (Some code) new ended → texts.Says intcode saying (all_words intcode (segments ps))
-  says_of saying stands =
-      let t = taken_of code new ended over stands.taken stands.delivered in
-      let says = stands.says t.0 t.2 (subst (λ c. length c < INPUT_BYTES) t.1 short) in
+  says_of : (saying : texts.Saying (List Item) IntcodeKind) → Applies intcode saying (Some code) new ended → texts.Says intcode saying (all_words intcode (segments ps))
+  says_of saying applies =
+      let t = taken_of code new ended over applies.taken applies.delivered in
+      let says = applies.says t.0 t.2 (subst (λ c. length c < INPUT_BYTES) t.1 short) in
       subst (texts.Says intcode saying) (ap words_of (sym t.1) ∙ is) says
 
-  read_as : (found : List (List Item)) → Stands intcode (parts found) (Some code) new ended → found ≡ segments ps
-  read_as found stands =
-      let says = says_of (parts found) stands in
+  read_as : (found : List (List Item)) → Applies intcode (parts found) (Some code) new ended → found ≡ segments ps
+  read_as found applies =
+      let says = says_of (parts found) applies in
       same_segments_read one found (segments ps) says.0 (whole_segments ps) (sym says.1)
 
-  not_refused_here : (number item : ℕ) (kind : IntcodeKind) → Stands intcode (refused number item kind) (Some code) new ended → ⊥
-  not_refused_here number item kind stands =
-      let says = says_of (refused number item kind) stands in
+  not_refused_here : (number item : ℕ) (kind : IntcodeKind) → Applies intcode (refused number item kind) (Some code) new ended → ⊥
+  not_refused_here number item kind applies =
+      let says = says_of (refused number item kind) applies in
       not_refused one (segments ps) says.0 says.1 item kind (whole_segments ps) says.2 says.4 says.3
 
   -- interpreting it
   pub of_parts : (answer : Result End KitFault) (steps words : ℕ) (before after : Streams) → Interpreted AnyBytes answer steps words (Some code) new ended before after → OfParts ps answer steps words before after
   of_parts (Ok end) steps words before after interpreted =
       let ran = interpreted.0 in
-      let e : ran.all ≡ segments ps = read_as ran.all ran.loadable.stands in
+      let e : ran.all ≡ segments ps = read_as ran.all ran.loadable.applies in
       let room = subst (λ s. stack_start SEGMENTS s + 16 ≤ words) e ran.loadable.room in
       let starts = subst (λ s. any_starts s ≡ true) e ran.loadable.starts in
       (room, starts, (ran.store, ran.registers, rw e at ran.ran), interpreted.1, interpreted.2, interpreted.3)
@@ -138,7 +138,7 @@ module _ (one : SayOneThing) (ps : List Part) (code : List ℕ) (is : words_of c
       → FindsNoFault answer × OnOk answer (Appends before.taken after.taken (sizes_line (record { image = image ps; frame = numbers.frame_of (stmts_of_parts ps) })))
   report_sizes tell (Ok done) words before after said =
       let needs = said.1 in
-      let e : needs.all ≡ segments ps = read_as needs.all needs.loadable.stands in
+      let e : needs.all ≡ segments ps = read_as needs.all needs.loadable.applies in
       let starts = subst (λ s. any_starts s ≡ true) e needs.loadable.starts in
       let f = frames ps tell (some ps starts) in
       let same = needs.are ∙ ap (λ s. record { image = stack_start SEGMENTS s; frame = greatest_frame s }) e ∙ ap (λ n. record { image = image ps; frame = n }) f in

@@ -1,5 +1,5 @@
 -- Sections that are compiled one after another, and their texts.
-use Rattle.bk_kit.proofs.Terms.{◌≡◌, inl, inr, ◌⊎◌, ℕ, ◌≤◌, ◌<◌, ◌++◌, Bool, false, List, [], ◌∷◌, Option, None, Some, Result, Ok, Err, IfErr, length, if◌then◌else◌, arith, refl, sym, ap, subst, ◌∙◌, append_assoc, append-nil, IsErr, Appends, Keeps, Begins, AppendsPart, Begins-refl, Begins-trans, Appends-nothing, Appends-trans, INPUT_BYTES, Stmt, section_text, KitFault, Source, Ocode, Intcode, Read, Write, Memory, CompiledSection, is_read_fault, IsUndecided, Settles, IsDelivered, bytes_of, codes_of, line_behind, texts_of, codes_in, Compiled, Refuses, AreAllTyped, Accepts, Takes, Comes, Delivers, PutsSections, Compiles, Written, Puts, Output}
+use Rattle.bk_kit.proofs.Terms.{◌≡◌, inl, inr, ◌⊎◌, ℕ, ◌≤◌, ◌<◌, ◌++◌, Bool, false, List, [], ◌∷◌, Option, None, Some, Result, Ok, Err, IfErr, length, if◌then◌else◌, arith, refl, sym, ap, subst, ◌∙◌, append_assoc, append-nil, IsErr, Appends, Keeps, Begins, AppendsPart, Begins-refl, Begins-trans, Appends-nothing, Appends-trans, INPUT_BYTES, Stmt, section_text, KitFault, Source, Ocode, Intcode, Read, Write, Memory, CompiledSection, is_read_fault, IsUndecided, Settles, IsDelivered, bytes_of, codes_of, line_following, texts_of, codes_in, Compiled, Refuses, AreAllTyped, Accepts, Takes, Comes, Delivers, PutsSections, Compiles, Written, Puts, Output}
 use Rattle.bk_kit.proofs.FilterLemmas.{flushed, stuck}
 use Rattle.bk_kit.proofs.ReadingLemmas.{ends_with_source}
 use Rattle.bk_kit.proofs.PassedSections.{refused_as, refuses_behind, takes_as, not_ended, Passed, passed_none, all_counted, passed_and_part, passed_on, typed_in}
@@ -132,7 +132,7 @@ delivers_as : (old new : Option (List ℕ)) (This That : List ℕ → List ℕ �
     → Delivers old new This → Delivers old new That
 delivers_as old new This That so d = record {
   front = d.front;
-  holds = λ short. so (texts_of (codes_of d.front.sections)) d.front.part (line_behind 1 d.front.sections) (d.holds short);
+  holds = λ short. so (texts_of (codes_of d.front.sections)) d.front.part (line_following 1 d.front.sections) (d.holds short);
 }
 
 module _ (answer : Result (Unit {0}) KitFault) (old new : Option (List ℕ)) (ended : Bool) (reads : ℕ) (before after after' : Output)

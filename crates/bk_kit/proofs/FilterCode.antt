@@ -82,8 +82,8 @@ filters_write_code accepted one old new ended reads before after done c =
           let text = made.2.0 in (
             text,
             made.2.1,
-            (λ left told faults b a d few over g.
-                let w = code_written one text (codes_of_trees made.0) made.2.2 left told few over faults b a d g in
+            (λ left reported faults b a d few over g.
+                let w = code_written one text (codes_of_trees made.0) made.2.2 left reported few over faults b a d g in
                 (w.0, w.1, (code_of_source ((bytes_of front.sections ++ front.part) ++ rest) w.0 made.0 made.1 w.2, w.2.frames))),
           );
     }

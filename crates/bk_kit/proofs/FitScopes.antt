@@ -1,9 +1,9 @@
 -- The constants in scope are words where a section's tree is regular.
-use Rattle.bk_kit.proofs.Terms.{◌≡◌, ℕ, ◌+◌, ◌<◌, ◌^◌, Bool, true, false, List, [], ◌∷◌, ◌++◌, Option, Some, None, cond, refl, subst, Mention, Expression, Declaration, Declarations, Items, Definitions, Starts, Bound, Enclosing, Binding, bound_in, bind, bind_all, is_global, constant_word, with_formals, words_of_start, place_behind, variables_of, labels_in_scope, procedure_in_scope, procedures_in_scope, variables_in_scope, manifests_in_scope, statics_in_scope, globals_in_scope, scope_behind_one, place_behind_one, scope_behind, Regular, RegularItems, RegularDeclaration, RegularDeclarations, Sort as sort, Bound as b}
+use Rattle.bk_kit.proofs.Terms.{◌≡◌, ℕ, ◌+◌, ◌<◌, ◌^◌, Bool, true, false, List, [], ◌∷◌, ◌++◌, Option, Some, None, cond, refl, subst, Mention, Expression, Declaration, Declarations, Items, Definitions, Starts, Bound, Enclosing, Binding, bound_in, bind, bind_all, is_global, constant_word, with_formals, words_of_start, place_after, variables_of, labels_in_scope, procedure_in_scope, procedures_in_scope, variables_in_scope, manifests_in_scope, statics_in_scope, globals_in_scope, scope_after_one, place_after_one, scope_after, Regular, RegularItems, RegularDeclaration, RegularDeclarations, Sort as sort, Bound as b}
 use Rattle.std.specs.Str.{bytes_eq}
 use Rattle.bk_tree.specs.Tree as t
 use Rattle.bk_scope.specs.Places.{kept, deeper}
-use Rattle.bk_scope.specs.Spots.{Spot, behind_one_declared}
+use Rattle.bk_scope.specs.Spots.{Spot, after_one_declared}
 use Rattle.bk_simulation.proofs.Lemmas.{HasWords, constant_small}
 
 -- a constant is a word
@@ -71,7 +71,7 @@ fit_variables bs p [] is = tt
 
 fit_defined : (bs : List Binding) (p : Enclosing) (ds : Definitions) → Fit (variables_in_scope bs p ds)
 fit_defined bs p t.no_definitions = tt
-fit_defined bs p (t.define (t.variables l xs is) ds) = fit_both (variables_of bs p xs is) (variables_in_scope bs (place_behind bs p is) ds) (fit_variables bs p xs is) (fit_defined bs (place_behind bs p is) ds)
+fit_defined bs p (t.define (t.variables l xs is) ds) = fit_both (variables_of bs p xs is) (variables_in_scope bs (place_after bs p is) ds) (fit_variables bs p xs is) (fit_defined bs (place_after bs p is) ds)
 fit_defined bs p (t.define (t.routine l x fs c) ds) = fit_defined bs p ds
 fit_defined bs p (t.define (t.function l x fs e) ds) = fit_defined bs p ds
 
@@ -88,7 +88,7 @@ fit_globals : (os : List Binding) (is : Items) (bs : List Binding) → Fit bs �
 fit_globals os t.no_items bs h = h
 fit_globals os (t.item l x e is) bs h = fit_globals os is _ (tt, h)
 
-pub fit_one : (bs : List Binding) (p : Enclosing) (s : Spot) (d : Declaration) → Fit bs → RegularDeclaration d → Fit (scope_behind_one bs p s d)
+pub fit_one : (bs : List Binding) (p : Enclosing) (s : Spot) (d : Declaration) → Fit bs → RegularDeclaration d → Fit (scope_after_one bs p s d)
 fit_one bs p s (t.constants l sort.Manifest is) h r = fit_manifests bs is h r
 fit_one bs p s (t.constants l sort.Static is) h r = fit_statics (s.number + 1) is bs h
 fit_one bs p s (t.constants l sort.Global is) h r = fit_globals bs is bs h
@@ -96,6 +96,6 @@ fit_one bs p s (t.definitions l ds) h r =
     let cs : List Binding = procedures_in_scope (s.number + 1) ds bs in
     fit_all (variables_in_scope cs p ds) cs (fit_defined cs p ds) (fit_procedures (s.number + 1) ds bs h)
 
-pub fit_declared : (bs : List Binding) (p : Enclosing) (s : Spot) (ds : Declarations) → Fit bs → RegularDeclarations ds → Fit (scope_behind bs p s ds)
+pub fit_declared : (bs : List Binding) (p : Enclosing) (s : Spot) (ds : Declarations) → Fit bs → RegularDeclarations ds → Fit (scope_after bs p s ds)
 fit_declared bs p s t.no_declarations h r = h
-fit_declared bs p s (t.declare d ds) h r = fit_declared (scope_behind_one bs p s d) (place_behind_one bs p s d) (behind_one_declared d s) ds (fit_one bs p s d h r.0) r.1
+fit_declared bs p s (t.declare d ds) h r = fit_declared (scope_after_one bs p s d) (place_after_one bs p s d) (after_one_declared d s) ds (fit_one bs p s d h r.0) r.1

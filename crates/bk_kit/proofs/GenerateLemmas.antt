@@ -1,8 +1,8 @@
 -- Sections that are read and generated one after another, and the bytes and texts of them.
-use Rattle.bk_kit.proofs.Terms.{◌≡◌, inl, inr, ℕ, ◌+◌, ◌≤◌, ◌++◌, Bool, true, false, IsTrue, List, [], ◌∷◌, Option, None, Some, Result, Ok, Err, length, if◌then◌else◌, arith, refl, sym, ap, subst, ◌∙◌, append_assoc, append-nil, length-append, map-append, length-map, Consumes, Appends, Keeps, Begins, AppendsPart, NothingLeft, Begins-refl, Begins-trans, Consumes-nothing, Consumes-trans, Appends-nothing, Appends-trans, INPUT_BYTES, OcodeFault, Refused, Fault, Device, AtEnd, Stmt, stmts_of, section_words, items_of, segment_whole, StandsFor, EndsWithFrame, frame_words, KitFault, Ocode, Read, Write, Memory, Output, Written, Puts, parts, refused, part_number, SaysWhateverFollows, Refused as refusals}
+use Rattle.bk_kit.proofs.Terms.{◌≡◌, inl, inr, ℕ, ◌+◌, ◌≤◌, ◌++◌, Bool, true, false, IsTrue, List, [], ◌∷◌, Option, None, Some, Result, Ok, Err, length, if◌then◌else◌, arith, refl, sym, ap, subst, ◌∙◌, append_assoc, append-nil, length-append, map-append, length-map, Consumes, Appends, Keeps, Begins, AppendsPart, NothingLeft, Begins-refl, Begins-trans, Consumes-nothing, Consumes-trans, Appends-nothing, Appends-trans, INPUT_BYTES, OcodeFault, Refused, Fault, Device, AtEnd, Stmt, stmts_of, section_words, items_of, segment_whole, Represents, EndsWithFrame, frame_words, KitFault, Ocode, Read, Write, Memory, Output, Written, Puts, parts, refused, part_number, SaysWhateverFollows, Refused as refusals}
 use Rattle.bk_words.specs.WordLaws.{words_of-all}
 use Rattle.bk_ocode.specs.declared.section.Ocode as o
-use Rattle.bk_ocode.specs.SectionAnswer.{Answers, StandsWhateverFollows, is_device}
+use Rattle.bk_ocode.specs.SectionAnswer.{Answers, AppliesWhateverFollows, is_device}
 use Rattle.bk_machine.specs.declared.segment.Intcode as i
 use Rattle.bk_intcode.specs.SegmentText.{segment_text}
 use Rattle.bk_kit.specs.Generating.{ocode, ocode_refused, Generated, IsRead, IsGenerated, AreGenerated, bytes_of, sections_of, texts_of, Comes, Takes, Delivers, Generates, PutsSegments}
@@ -30,7 +30,7 @@ some_byte : (bytes : List ℕ) (stmts : List Stmt) → IsRead bytes stmts → 1 
 some_byte bytes stmts read =
     let words = read.are in
     let last = words.ends in
-    omega (arith, ap (λ (l : List ℕ). length l) words.whole, length-append words.text words.behind, ap (λ (l : List ℕ). length l) last.3, length-append last.0 (last.1 ∷ []))
+    omega (arith, ap (λ (l : List ℕ). length l) words.whole, length-append words.text words.following, ap (λ (l : List ℕ). length l) last.3, length-append last.0 (last.1 ∷ []))
 
 few : (sections : List Generated) → AreGenerated sections → length sections ≤ length (bytes_of sections)
 few [] are = omega arith
@@ -60,10 +60,10 @@ front_empty known ended before = record {
 
 module _ (count : ℕ) (old now new : Option (List ℕ)) (was ended : Bool) (reads : ℕ) (before after : Output) (front : Front count old now was before after) where
   abbrev PutsHere : Result (Unit {0}) KitFault → Output → List Generated → Option (List ℕ) → Type 0
-  PutsHere answer after' sections behind = Puts (Comes sections behind new ended reads) (Takes behind new reads) (texts_of sections) before after' answer
+  PutsHere answer after' sections following = Puts (Comes sections following new ended reads) (Takes following new reads) (texts_of sections) before after' answer
 
   delivers : (answer : Result (Unit {0}) KitFault) (after' : Output) → PutsHere answer after' front.sections now → Delivers old (PutsHere answer after')
-  delivers answer after' holds = record { sections = front.sections; generated = front.generated; behind = now; delivered = front.delivered; holds = λ short. holds }
+  delivers answer after' holds = record { sections = front.sections; generated = front.generated; following = now; delivered = front.delivered; holds = λ short. holds }
 
   written_none : (answer : Result (Unit {0}) KitFault) → Comes front.sections now new ended reads answer []
       → Written (Comes front.sections now new ended reads) (Takes now new reads) (texts_of front.sections) before after answer
@@ -74,9 +74,9 @@ module _ (count : ℕ) (old now new : Option (List ℕ)) (was ended : Bool) (rea
   }
 
   -- nothing is left
-  pub no_more : Answers (Ok None) now new ended → StandsWhateverFollows (Ok None) now new ended → (IsTrue was → IsTrue ended) → (IsTrue was → NothingLeft now) → reads ≡ 0
+  pub no_more : Answers (Ok None) now new ended → AppliesWhateverFollows (Ok None) now new ended → (IsTrue was → IsTrue ended) → (IsTrue was → NothingLeft now) → reads ≡ 0
       → PutsSegments (Ok tt) old new ended reads before after
-  no_more answers stands stays still none = record {
+  no_more answers applies stays still none = record {
     delivers = delivers (Ok tt) after (written_none (Ok tt) (by_case was refl));
     passes = front.passes;
   }
@@ -95,35 +95,35 @@ module _ (count : ℕ) (old now new : Option (List ℕ)) (was ended : Bool) (rea
       )
       by_case false is = (
         answers,
-        (stands.0, stands.1, says_whole ocode (sections_of front.sections) (bytes_of front.sections) was front.read stands.0 ended (λ told. let no : false ≡ true = sym is ∙ told in cc) stands.2),
+        (applies.0, applies.1, says_whole ocode (sections_of front.sections) (bytes_of front.sections) was front.read applies.0 ended (λ reported. let no : false ≡ true = sym is ∙ reported in cc) applies.2),
         refl,
         none,
       )
 
   -- a section is refused, or could not be read
-  pub not_read : (refused : Refused OcodeFault) → Answers (Err refused) now new ended → StandsWhateverFollows (Err refused) now new ended → (IsTrue was → ⊥)
+  pub not_read : (refused : Refused OcodeFault) → Answers (Err refused) now new ended → AppliesWhateverFollows (Err refused) now new ended → (IsTrue was → ⊥)
       → reads ≡ (if is_device (Err refused) then 1 else 0) → PutsSegments (Err (ocode_refused count refused)) old new ended reads before after
-  not_read (Fault fault) answers stands not_over count_is =
+  not_read (Fault fault) answers applies not_over count_is =
       let number : part_number (length (sections_of front.sections)) ≡ part_number count = ap part_number (length-map front.sections (λ (g : Generated). g.stmts) ∙ front.counted) in
       record {
         delivers = delivers (Err (Ocode (part_number count) fault)) after (written_none (Err (Ocode (part_number count) fault)) (
           answers,
           (
-            stands.0,
-            stands.1,
-            subst (λ (n : ℕ). SaysWhateverFollows ocode (refused n fault.statement fault.kind) (bytes_of front.sections ++ stands.0) ended) number
-                (says_refused ocode (sections_of front.sections) (bytes_of front.sections) was front.read stands.0 ended not_over fault.statement fault.kind stands.2),
+            applies.0,
+            applies.1,
+            subst (λ (n : ℕ). SaysWhateverFollows ocode (refused n fault.statement fault.kind) (bytes_of front.sections ++ applies.0) ended) number
+                (says_refused ocode (sections_of front.sections) (bytes_of front.sections) was front.read applies.0 ended not_over fault.statement fault.kind applies.2),
           ),
           refl,
           count_is,
         ));
         passes = front.passes;
       }
-  not_read refusals.Memory answers stands not_over count_is = record {
+  not_read refusals.Memory answers applies not_over count_is = record {
     delivers = delivers (Err Memory) after (written_none (Err Memory) ((answers.0, answers.1, inl answers.2), refl, count_is));
     passes = front.passes;
   }
-  not_read Device answers stands not_over count_is = record { delivers = delivers (Err Read) after (written_none (Err Read) (answers, refl, count_is)); passes = front.passes }
+  not_read Device answers applies not_over count_is = record { delivers = delivers (Err Read) after (written_none (Err Read) (answers, refl, count_is)); passes = front.passes }
 
   module _ (section : o.Ocode) (answers : Answers (Ok (Some section)) now new ended) (none : reads ≡ 0) where
     is_read : IsRead answers.0 (stmts_of section)
@@ -136,9 +136,9 @@ module _ (count : ℕ) (old now new : Option (List ℕ)) (was ended : Bool) (rea
       passes = front.passes;
     }
 
-    module _ (segment : i.Intcode) (stands : StandsFor (items_of segment) (stmts_of section)) (frame : EndsWithFrame (items_of segment) (frame_words (stmts_of section))) (after' : Output) (passes : Begins after.passed after'.passed) where
+    module _ (segment : i.Intcode) (applies : Represents (items_of segment) (stmts_of section)) (frame : EndsWithFrame (items_of segment) (frame_words (stmts_of section))) (after' : Output) (passes : Begins after.passed after'.passed) where
       is_generated : IsGenerated (record { bytes = answers.0; stmts = stmts_of section; items = items_of segment })
-      is_generated = record { read = is_read; segment = segment_whole segment; stands = stands; frame = frame }
+      is_generated = record { read = is_read; segment = segment_whole segment; applies = applies; frame = frame }
 
       -- its text could not be put
       pub not_put : AppendsPart after.taken after'.taken (segment_text (items_of segment)) → after'.faults ≡ 1 → PutsSegments (Err Write) old new ended reads before after'
@@ -184,7 +184,7 @@ too_many count old new ended reads before after front many = record {
   delivers = record {
     sections = front.sections;
     generated = front.generated;
-    behind = new;
+    following = new;
     delivered = front.delivered;
     holds = λ short. absurd (omega (arith, short, many, front.counted, few front.sections front.generated));
   };
@@ -193,26 +193,26 @@ too_many count old new ended reads before after front many = record {
 
 -- ---- the last flush
 
-delivers_as : (old : Option (List ℕ)) (This That : List Generated → Option (List ℕ) → Type 0) → ((sections : List Generated) (behind : Option (List ℕ)) → This sections behind → That sections behind)
+delivers_as : (old : Option (List ℕ)) (This That : List Generated → Option (List ℕ) → Type 0) → ((sections : List Generated) (following : Option (List ℕ)) → This sections following → That sections following)
     → Delivers old This → Delivers old That
 delivers_as old This That so d = record {
   sections = d.sections;
   generated = d.generated;
-  behind = d.behind;
+  following = d.following;
   delivered = d.delivered;
-  holds = λ short. so d.sections d.behind (d.holds short);
+  holds = λ short. so d.sections d.following (d.holds short);
 }
 
 module _ (answer : Result (Unit {0}) KitFault) (old new : Option (List ℕ)) (ended : Bool) (reads : ℕ) (before after after' : Output)
     (puts : PutsSegments answer old new ended reads before after) (keeps : Keeps after.taken after'.taken) (passes : Begins after.passed after'.passed) where
   pub generates : (after.faults ≡ 1 → ⊥) → after'.passed ≡ after'.taken → after'.faults ≡ 0 → Generates answer old new ended reads before after'
   generates never all none = record {
-    delivers = delivers_as old _ _ (λ sections behind here. flushed (Comes sections behind new ended reads) (Takes behind new reads) (texts_of sections) before after after' keeps answer here never all none) puts.delivers;
+    delivers = delivers_as old _ _ (λ sections following here. flushed (Comes sections following new ended reads) (Takes following new reads) (texts_of sections) before after after' keeps answer here never all none) puts.delivers;
     passes = Begins-trans before.passed after.passed after'.passed puts.passes passes;
   }
 
   pub generates_no_more : after'.faults ≡ 1 → Generates (Err Write) old new ended reads before after'
   generates_no_more one = record {
-    delivers = delivers_as old _ _ (λ sections behind here. stuck (Comes sections behind new ended reads) (Takes behind new reads) (texts_of sections) before after after' keeps answer here one) puts.delivers;
+    delivers = delivers_as old _ _ (λ sections following here. stuck (Comes sections following new ended reads) (Takes following new reads) (texts_of sections) before after after' keeps answer here one) puts.delivers;
     passes = Begins-trans before.passed after.passed after'.passed puts.passes passes;
   }

@@ -42,7 +42,7 @@ code_words (g ∷ generated) are =
     printed.words_of-printed g.items (generating.texts_of generated) are.0.segment.in_range ∙ ap (λ w. map item_text g.items ++ w) (code_words generated are.1)
 
 abbrev part_of : (g : Generated) → IsGenerated g → Part
-part_of g is = record { stmts = g.stmts; items = g.items; accepted = is.read.section; whole = is.segment; stands = is.stands }
+part_of g is = record { stmts = g.stmts; items = g.items; accepted = is.read.section; whole = is.segment; applies = is.applies }
 
 abbrev parts_of : (generated : List Generated) → AreGenerated generated → List Part
 parts_of [] are = []
@@ -77,22 +77,22 @@ pub record CodeOf (sections : List (List Stmt)) (code : List ℕ) : Type 0 where
 module _ (one : SayOneThing) (text : List ℕ) (sections : List (List Stmt)) (says_all : texts.Says ocode (parts sections) (words_of text))
     (left : Option (List ℕ)) (ended : Bool) (short : length text < INPUT_BYTES) (over : IsTrue ended → left ≡ Some []) where
   -- what the text says, where it was taken so far
-  said_of : (saying : texts.Saying (List Stmt) OcodeKind) (bytes part : List ℕ) (behind : Option (List ℕ)) → Consumes (Some text) behind bytes → Consumes behind left part
+  said_of : (saying : texts.Saying (List Stmt) OcodeKind) (bytes part : List ℕ) (following : Option (List ℕ)) → Consumes (Some text) following bytes → Consumes following left part
       → texts.SaysWhateverFollows ocode saying (bytes ++ part) ended → texts.Says ocode saying (all_words ocode sections)
   said_of saying bytes part None took took_part says = absurd took
-  said_of saying bytes part (Some behind) took took_part says =
-      let t = taken_of behind left ended over part took_part in
+  said_of saying bytes part (Some following) took took_part says =
+      let t = taken_of following left ended over part took_part in
       let all : text ≡ (bytes ++ part) ++ t.0 = took ∙ ap (λ b. bytes ++ b) t.1 ∙ sym (append_assoc bytes part t.0) in
       let said = says t.0 t.2 (subst (λ t. length t < INPUT_BYTES) all short) in
       subst (texts.Says ocode saying) (ap words_of (sym all) ∙ says_all.1) said
 
   module _ (faults : ℕ) (before after : Output) (answer : Result (Unit {0}) KitFault) (g : Generates answer (Some text) left ended faults before after) where
     few : length (generating.bytes_of g.delivers.sections) < INPUT_BYTES
-    few = by_behind g.delivers.behind g.delivers.delivered
+    few = by_behind g.delivers.following g.delivers.delivered
       where
-        by_behind : (behind : Option (List ℕ)) → Consumes (Some text) behind (generating.bytes_of g.delivers.sections) → length (generating.bytes_of g.delivers.sections) < INPUT_BYTES
+        by_behind : (following : Option (List ℕ)) → Consumes (Some text) following (generating.bytes_of g.delivers.sections) → length (generating.bytes_of g.delivers.sections) < INPUT_BYTES
         by_behind None took = absurd took
-        by_behind (Some behind) took = fewer text (generating.bytes_of g.delivers.sections) behind took short
+        by_behind (Some following) took = fewer text (generating.bytes_of g.delivers.sections) following took short
 
   pub code_written : (faults : ℕ) (before after : Output) (done : Unit {0}) → Generates (Ok done) (Some text) left ended faults before after
       → (code : List ℕ) × Appends before.taken after.taken code × CodeOf sections code
@@ -101,7 +101,7 @@ module _ (one : SayOneThing) (text : List ℕ) (sections : List (List Stmt)) (sa
       let are = g.delivers.generated in
       let written = (g.delivers.holds (few faults before after (Ok done) g)).0 in
       let said = written.comes.1 in
-      let says = said_of (parts (sections_of all)) (generating.bytes_of all) said.0 g.delivers.behind g.delivers.delivered said.1 said.2 in
+      let says = said_of (parts (sections_of all)) (generating.bytes_of all) said.0 g.delivers.following g.delivers.delivered said.1 said.2 in
       let same = same_sections one (sections_of all) sections says.0 says_all.0 (sym says.1) in (
         generating.texts_of all,
         subst (λ t. Appends before.taken after.taken t) (ap (λ t. generating.texts_of all ++ t) written.comes.2 ∙ append-nil (generating.texts_of all)) written.takes,
@@ -121,7 +121,7 @@ module _ (one : SayOneThing) (text : List ℕ) (sections : List (List Stmt)) (sa
   not_ocode faults before after (Err Memory) g = tt
   not_ocode faults before after (Err (Ocode number f)) g =
       let said = (g.delivers.holds (few faults before after (Err (Ocode number f)) g)).0.comes.1 in
-      let says = said_of (texts.refused number f.statement f.kind) (generating.bytes_of g.delivers.sections) said.0 g.delivers.behind g.delivers.delivered said.1 said.2 in
+      let says = said_of (texts.refused number f.statement f.kind) (generating.bytes_of g.delivers.sections) said.0 g.delivers.following g.delivers.delivered said.1 said.2 in
       absurd (not_refused one sections says.0 says.1 f.statement f.kind says_all.0 says.2 says.4 says.3)
   not_ocode faults before after (Err (Intcode number f)) g = absurd (g.delivers.holds (few faults before after (Err (Intcode number f)) g)).0.comes
   not_ocode faults before after (Err x) g = absurd (g.delivers.holds (few faults before after (Err x) g)).0.comes

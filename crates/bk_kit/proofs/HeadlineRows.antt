@@ -62,12 +62,12 @@ no_other_end source input steps words read agrees = let more = agrees.2 1 (65 �
 
 -- From one machine, with one input, a run that did all of its steps did not end of itself: neither limit stands for the other, nor the
 -- limit of steps for an end that comes within them.
-module _ (Holds : List ℕ → Type 0) (e : End) (n : ℕ) (store first second : List ℕ) (r p q : Registers) (input rest left taken one other : List ℕ) (was told over : Bool) where
+module _ (Holds : List ℕ → Type 0) (e : End) (n : ℕ) (store first second : List ℕ) (r p q : Registers) (input rest left taken one other : List ℕ) (was reported over : Bool) where
   abbrev before : Devices
   before = record { left = Some input; held = []; ended = was; taken = Some taken; passed = None }
 
   abbrev paused : Devices
-  paused = record { left = Some rest; held = []; ended = told; taken = Some one; passed = None }
+  paused = record { left = Some rest; held = []; ended = reported; taken = Some one; passed = None }
 
   abbrev ended : Devices
   ended = record { left = Some left; held = []; ended = over; taken = Some other; passed = None }

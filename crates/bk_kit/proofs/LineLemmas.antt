@@ -196,7 +196,7 @@ run_trace_refused rows asked none given order = let a = steps_asked_by rows orde
 
 -- the kit's command is one whose faults clap tells
 pub faults_told : (app : App) (A : App → Type 0) → app ≡ kit_command → (is_simple_and_free app ≡ true → A app) → A kit_command
-faults_told app A same told = subst A same (told (subst (λ a. is_simple_and_free a ≡ true) (sym same) refl))
+faults_told app A same reported = subst A same (reported (subst (λ a. is_simple_and_free a ≡ true) (sym same) refl))
 
 -- clap gives no values
 pub words_refused : (app : App) (words : List Text) (k : ErrorKind) (fault : LineFault) → app ≡ kit_command → (takes app words ≡ true → k ≡ kind.OutOfMemory)
@@ -207,7 +207,7 @@ words_refused app words k fault same passes kinds is =
   where
     differ : IsHelp k → k ≡ kind.OutOfMemory → ⊥
     differ (inl help) memory = let e = sym help ∙ memory in cc
-    differ (inr told) memory = let e = sym told ∙ memory in cc
+    differ (inr reported) memory = let e = sym reported ∙ memory in cc
 
     by_fault : (fault : LineFault) → (takes kit_command words ≡ true → k ≡ kind.OutOfMemory) → (k ≡ kind.OutOfMemory) ⊎ IsAmong k (fault_of kit_command words) → IsFaultOf k fault → Refuses words fault
     by_fault (Help help) passes (inl memory) is = absurd (differ is memory)

@@ -1,14 +1,14 @@
 -- Runs of the machine with segments that stand for the sections of a source, and what the source means.
 use Rattle.bk_kit.proofs.Terms.{◌≡◌, ◌≢◌, ◌⊎◌, inl, inr, ℕ, zero, suc, ◌+◌, ◌*◌, ◌≤◌, ◌<◌, max, ◌==◌, Bool, true, false, List, [], ◌∷◌, ◌++◌, map, Option, Some, None, Err, if◌then◌else◌, refl, sym, ap, ◌∙◌, subst, arith, append_assoc, append-nil, option_map_or, STORE_MOST, FRAME_WORDS, End, StoreLimit, WriteFault, Begins, Registers, SEGMENTS, segment_size, any_starts, loaded_store, Standing, Over, output_of, Ran, Blames, Cell, largest_depth, Declarations, Part, segments, image, depth_of, own_of, parts_at, program_of, start_of, machine_after, IsPartly, going, stopped, HoldsFrames, BackEnd, BackEndHolds, PartsAreWellPlaced, PartsWithoutStart, TooSmall, NoStart, AnyBytes, Streams, devices_of, first_registers, stmts_of_tree, codes_of_trees, HasTrees, HasParts, frame_of, HasWords, HasFramesOf, HasNoStart, MeaningEnds, MeaningGoesOn, EnoughToEnd, EnoughToGo, Placing, StepsToEnd, StepsToGo, image_of, meanings_with, MeaningRuns, MeaningTooSmall, MeaningStartless, stmts_of_parts, Stmt}
 use Rattle.bk_ocode.specs.Frames.{HasFrames, start, called, HasFramesAtMost}
-use Rattle.bk_ocode.specs.OcodeState.{Routine, Placed, Control, Inside, Behind, At, State}
+use Rattle.bk_ocode.specs.OcodeState.{Routine, Placed, Control, Inside, Following, At, State}
 use Rattle.bk_ocode.specs.OcodeRun.{Program, Rest, resumed_by, resumed, label_rest, resumed_in, find_rest, rests_of}
 use Rattle.bk_ocode.specs.WellPlaced.{IsWellPlaced}
 use Rattle.bk_meaning.specs.World as world
 use Rattle.bk_meaning.specs.Program as program
 use Rattle.bk_meaning.specs.Program.{meaning}
 use Rattle.bk_simulation.specs.GoingOn.{settled_from}
-use Rattle.bk_simulation.specs.Placement.{AreAccepted, StandFor}
+use Rattle.bk_simulation.specs.Placement.{AreAccepted, Represent}
 use Rattle.bk_simulation.specs.Simulation.{Begin, end_of, EndsWithin, ComesWithin, RunsOut, DoesEnd, Does, DoesFrom, StillGoes, RunsOutOnTheWay, StepsDoWhatSourcesMean, StepsGoOnWithTheirSource, StartsWithTheirSource, IsWithoutEnd, StartsSo, with_start, without_start}
 use Rattle.bk_gen.specs.BackEnd as back_end
 use Rattle.bk_kit.specs.Headline.{Language, Runs, Keeps}
@@ -40,7 +40,7 @@ depth_within (stmts ∷ codes) = larger (largest_depth stmts) (numbers.depth_of 
     larger : (a m n : ℕ) → m ≤ n → max a m ≤ max a n
     larger a m n le = omega arith
 
-stand_for : (base : ℕ) (parts : List Part) (trees : List Declarations) → AreOf parts trees → StandFor trees (map own_of (parts_at base parts))
+stand_for : (base : ℕ) (parts : List Part) (trees : List Declarations) → AreOf parts trees → Represent trees (map own_of (parts_at base parts))
 stand_for base [] [] e = tt
 stand_for base [] (tree ∷ trees) e = absurd (let h : [] ≡ stmts_of_tree tree ∷ codes_of_trees trees = e in cc)
 stand_for base (p ∷ parts) [] e = absurd (let h : p.stmts ∷ stmts_of_parts parts ≡ [] = e in cc)
@@ -88,7 +88,7 @@ resumed_there (own ∷ owns) n s = by_rest (find_rest (rests_of own) n) (resumed
 
 settled_frame : (p : Program) (s : State) (c : Control) → (settled_from p s c).frame ≡ s.frame
 settled_frame p s (Inside own k rest) = refl
-settled_frame p s (Behind own l) = resumed_option own s (label_rest own.places 0 own.stmts l)
+settled_frame p s (Following own l) = resumed_option own s (label_rest own.places 0 own.stmts l)
 settled_frame p s (At n) = by_home (n == p.home)
   where
     by_routine : (o : Option Routine) → (option_map_or (λ _. s) o (option_map_or (λ t. t) (resumed_in p.sections n s) s)).frame ≡ s.frame
@@ -184,7 +184,7 @@ module _ (laws : RunLaws) (image_of : List Declarations → ℕ) (parts : List P
     accepted : AreAccepted trees
     accepted = laws.accepted source trees taken.1
 
-    stands_for : StandFor trees placed.sections
+    stands_for : Represent trees placed.sections
     stands_for = stand_for SEGMENTS parts trees taken.2
 
     starts_so : (input : List ℕ) → StartsSo placed (image parts) input trees
@@ -207,8 +207,8 @@ module _ (laws : RunLaws) (image_of : List Declarations → ℕ) (parts : List P
 
       module _ (input : List ℕ) where
         -- where the machine stands at the end of its steps
-        abbrev stands : Standing
-        stands = machine_after parts words input steps
+        abbrev applies : Standing
+        applies = machine_after parts words input steps
 
         abbrev of_back : (s : State) × (start_of parts input ≡ Some s) × BackEnd parts words input s × back_end.GoesOn parts words input s
         of_back = laws.back parts words input room most starts
@@ -238,8 +238,8 @@ module _ (laws : RunLaws) (image_of : List Declarations → ℕ) (parts : List P
             let w = r.too_high.within in
             omega (arith, f, p, w)
 
-        out_partly : (calls : ℕ) (bytes : List ℕ) (r : RunsOut placed (image parts) first calls bytes) → BeginsOf bytes stands
-        out_partly calls bytes r = partly_begins r.now stands bytes r.wrote (of_back.2.falls r.steps steps r.now r.goes (high calls bytes r))
+        out_partly : (calls : ℕ) (bytes : List ℕ) (r : RunsOut placed (image parts) first calls bytes) → BeginsOf bytes applies
+        out_partly calls bytes r = partly_begins r.now applies bytes r.wrote (of_back.2.falls r.steps steps r.now r.goes (high calls bytes r))
 
         -- nor do its words hold so many frames
         not_out : (calls : ℕ) (bytes : List ℕ) → HasWords (image_of trees) trees calls words → RunsOut placed (image parts) first calls bytes → ⊥
@@ -250,22 +250,22 @@ module _ (laws : RunLaws) (image_of : List Declarations → ℕ) (parts : List P
             let all = all_frames calls (depth_of parts) in
             omega (arith, low, holds, up, all, most)
 
-        less_of : (n : ℕ) (took bytes : List ℕ) (end : End) (ends : MeaningEnds trees input n took bytes end) → (stands ≡ Over end ends.left bytes) ⊎ BeginsOf bytes stands
+        less_of : (n : ℕ) (took bytes : List ℕ) (end : End) (ends : MeaningEnds trees input n took bytes end) → (applies ≡ Over end ends.left bytes) ⊎ BeginsOf bytes applies
         less_of n took bytes end ends = by_case (ends_so n bytes ends.left ends.calls ends.last end ends.means ends.is)
           where
-            by_case : EndsWithin placed (image parts) first (16 * n + 16) ends.calls bytes ends.left end ⊎ RunsOut placed (image parts) first ends.calls bytes → (stands ≡ Over end ends.left bytes) ⊎ BeginsOf bytes stands
+            by_case : EndsWithin placed (image parts) first (16 * n + 16) ends.calls bytes ends.left end ⊎ RunsOut placed (image parts) first ends.calls bytes → (applies ≡ Over end ends.left bytes) ⊎ BeginsOf bytes applies
             by_case (inl y) = by_machine (of_back.2.less y.steps steps end y.last y.ends)
               where
-                by_machine : (stands ≡ Over end y.last.input y.last.output) ⊎ IsPartly y.last stands → (stands ≡ Over end ends.left bytes) ⊎ BeginsOf bytes stands
+                by_machine : (applies ≡ Over end y.last.input y.last.output) ⊎ IsPartly y.last applies → (applies ≡ Over end ends.left bytes) ⊎ BeginsOf bytes applies
                 by_machine (inl over) = inl (over ∙ ap (λ l. Over end l y.last.output) y.left_over ∙ ap (λ o. Over end ends.left o) y.wrote)
-                by_machine (inr partly) = inr (partly_begins y.last stands bytes (record { rest = []; is = sym y.wrote ∙ sym (append-nil y.last.output) }) partly)
+                by_machine (inr partly) = inr (partly_begins y.last applies bytes (record { rest = []; is = sym y.wrote ∙ sym (append-nil y.last.output) }) partly)
             by_case (inr r) = inr (out_partly ends.calls bytes r)
 
         -- the loader's placement
         abbrev placing : Placing trees input (image_of trees)
-        placing = record { placed = placed; first = image parts; low = fits; stands = stands_for; well = well; state = first; begins = of_back.1 }
+        placing = record { placed = placed; first = image parts; low = fits; applies = stands_for; well = well; state = first; begins = of_back.1 }
 
-        enough_steps : StepsToEnd trees input (image_of trees) steps words → (end : End) × (left bytes : List ℕ) × (stands ≡ Over end left bytes) × (end ≢ StoreLimit)
+        enough_steps : StepsToEnd trees input (image_of trees) steps words → (end : End) × (left bytes : List ℕ) × (applies ≡ Over end left bytes) × (end ≢ StoreLimit)
         enough_steps enough =
             let h = enough.ends placing in
             let y = h.3 in
@@ -278,7 +278,7 @@ module _ (laws : RunLaws) (image_of : List Declarations → ℕ) (parts : List P
               ends_of_itself placed y.steps first y.last h.2 y.ends,
             )
 
-        written_steps : (n : ℕ) (bytes : List ℕ) → MeaningGoesOn trees input n bytes → StepsToGo trees input (image_of trees) n steps words → (more : List ℕ) × (output_of stands ≡ bytes ++ more)
+        written_steps : (n : ℕ) (bytes : List ℕ) → MeaningGoesOn trees input n bytes → StepsToGo trees input (image_of trees) n steps words → (more : List ℕ) × (output_of applies ≡ bytes ++ more)
         written_steps n bytes goes enough =
             let h = enough.comes placing in
             let y = h.2 in
@@ -290,11 +290,11 @@ module _ (laws : RunLaws) (image_of : List Declarations → ℕ) (parts : List P
             same : enough.bytes ≡ bytes
             same = let z : program.Going enough.bytes enough.left enough.calls ≡ program.Going bytes goes.left goes.calls = sym enough.means ∙ goes.means in cc
 
-        enough_of : EnoughToEnd trees input (image_of trees) steps words → (end : End) × (left bytes : List ℕ) × (stands ≡ Over end left bytes) × (end ≢ StoreLimit)
+        enough_of : EnoughToEnd trees input (image_of trees) steps words → (end : End) × (left bytes : List ℕ) × (applies ≡ Over end left bytes) × (end ≢ StoreLimit)
         enough_of enough = by_case (ends_so enough.turns enough.bytes enough.left enough.calls enough.last enough.end enough.means enough.is)
           where
             by_case : EndsWithin placed (image parts) first (16 * enough.turns + 16) enough.calls enough.bytes enough.left enough.end ⊎ RunsOut placed (image parts) first enough.calls enough.bytes
-                → (end : End) × (left bytes : List ℕ) × (stands ≡ Over end left bytes) × (end ≢ StoreLimit)
+                → (end : End) × (left bytes : List ℕ) × (applies ≡ Over end left bytes) × (end ≢ StoreLimit)
             by_case (inl y) = let w = y.within in let h = enough.has_steps in (
               enough.end,
               y.last.input,
@@ -304,13 +304,13 @@ module _ (laws : RunLaws) (image_of : List Declarations → ℕ) (parts : List P
             )
             by_case (inr r) = absurd (not_out enough.calls enough.bytes enough.has_words r)
 
-        written_of : (n : ℕ) (bytes : List ℕ) → MeaningGoesOn trees input n bytes → EnoughToGo trees input (image_of trees) n steps words → (more : List ℕ) × (output_of stands ≡ bytes ++ more)
+        written_of : (n : ℕ) (bytes : List ℕ) → MeaningGoesOn trees input n bytes → EnoughToGo trees input (image_of trees) n steps words → (more : List ℕ) × (output_of applies ≡ bytes ++ more)
         written_of n bytes goes enough = by_case (goes_so n enough.bytes enough.left enough.calls enough.means)
           where
             same : enough.bytes ≡ bytes
             same = let z : program.Going enough.bytes enough.left enough.calls ≡ program.Going bytes goes.left goes.calls = sym enough.means ∙ goes.means in cc
 
-            by_case : ComesWithin placed (image parts) first (16 * n + 16) enough.calls enough.bytes enough.left ⊎ RunsOut placed (image parts) first enough.calls enough.bytes → (more : List ℕ) × (output_of stands ≡ bytes ++ more)
+            by_case : ComesWithin placed (image parts) first (16 * n + 16) enough.calls enough.bytes enough.left ⊎ RunsOut placed (image parts) first enough.calls enough.bytes → (more : List ℕ) × (output_of applies ≡ bytes ++ more)
             by_case (inl y) =
                 let w = y.within in
                 let h = enough.has_steps in
@@ -318,14 +318,14 @@ module _ (laws : RunLaws) (image_of : List Declarations → ℕ) (parts : List P
                 (more.0, more.1 ∙ ap (λ o. o ++ more.0) (y.wrote ∙ same))
             by_case (inr r) = absurd (not_out enough.calls enough.bytes enough.has_words r)
 
-        so_far_of : (n : ℕ) (bytes : List ℕ) → MeaningGoesOn trees input n bytes → BeginsOf bytes stands ⊎ ((more : List ℕ) × (output_of stands ≡ bytes ++ more))
+        so_far_of : (n : ℕ) (bytes : List ℕ) → MeaningGoesOn trees input n bytes → BeginsOf bytes applies ⊎ ((more : List ℕ) × (output_of applies ≡ bytes ++ more))
         so_far_of n bytes goes = by_case (goes_so n bytes goes.left goes.calls goes.means)
           where
-            by_case : ComesWithin placed (image parts) first (16 * n + 16) goes.calls bytes goes.left ⊎ RunsOut placed (image parts) first goes.calls bytes → BeginsOf bytes stands ⊎ ((more : List ℕ) × (output_of stands ≡ bytes ++ more))
+            by_case : ComesWithin placed (image parts) first (16 * n + 16) goes.calls bytes goes.left ⊎ RunsOut placed (image parts) first goes.calls bytes → BeginsOf bytes applies ⊎ ((more : List ℕ) × (output_of applies ≡ bytes ++ more))
             by_case (inl y) = by_machine (of_back.2.so_far y.steps steps y.now y.goes)
               where
-                by_machine : IsPartly y.now stands ⊎ ((more : List ℕ) × (output_of stands ≡ y.now.output ++ more)) → BeginsOf bytes stands ⊎ ((more : List ℕ) × (output_of stands ≡ bytes ++ more))
-                by_machine (inl partly) = inl (partly_begins y.now stands bytes (record { rest = []; is = sym y.wrote ∙ sym (append-nil y.now.output) }) partly)
+                by_machine : IsPartly y.now applies ⊎ ((more : List ℕ) × (output_of applies ≡ y.now.output ++ more)) → BeginsOf bytes applies ⊎ ((more : List ℕ) × (output_of applies ≡ bytes ++ more))
+                by_machine (inl partly) = inl (partly_begins y.now applies bytes (record { rest = []; is = sym y.wrote ∙ sym (append-nil y.now.output) }) partly)
                 by_machine (inr more) = inr (more.0, more.1 ∙ ap (λ o. o ++ more.0) y.wrote)
             by_case (inr r) = inl (out_partly goes.calls bytes r)
 
@@ -343,21 +343,21 @@ module _ (laws : RunLaws) (image_of : List Declarations → ℕ) (parts : List P
         }
           where
             enough_either : EnoughToEnd trees input (image_of trees) steps words ⊎ StepsToEnd trees input (image_of trees) steps words
-                → (end : End) × (left bytes : List ℕ) × (stands ≡ Over end left bytes) × (end ≢ StoreLimit)
+                → (end : End) × (left bytes : List ℕ) × (applies ≡ Over end left bytes) × (end ≢ StoreLimit)
             enough_either (inl enough) = enough_of enough
             enough_either (inr enough) = enough_steps enough
 
             written_either : (n : ℕ) (bytes : List ℕ) → MeaningGoesOn trees input n bytes → EnoughToGo trees input (image_of trees) n steps words ⊎ StepsToGo trees input (image_of trees) n steps words
-                → (more : List ℕ) × (output_of stands ≡ bytes ++ more)
+                → (more : List ℕ) × (output_of applies ≡ bytes ++ more)
             written_either n bytes goes (inl enough) = written_of n bytes goes enough
             written_either n bytes goes (inr enough) = written_steps n bytes goes enough
 
-            never_of : IsWithoutEnd trees input → (turns : ℕ) × (bytes : List ℕ) × language.GoesOn source input turns bytes × BeginsOf bytes stands
+            never_of : IsWithoutEnd trees input → (turns : ℕ) × (bytes : List ℕ) × language.GoesOn source input turns bytes × BeginsOf bytes applies
             never_of without = by_case (laws.goes_on trees placed (image parts) input first accepted stands_for well of_back.1 without (of_back.3 steps).0)
               where
                 by_case : StillGoes placed (image parts) trees input first (of_back.3 steps).0 ⊎ RunsOutOnTheWay placed (image parts) trees input first
-                    → (turns : ℕ) × (bytes : List ℕ) × language.GoesOn source input turns bytes × BeginsOf bytes stands
-                by_case (inl y) = (y.turns, y.bytes, (trees, taken.1, record { left = y.left; calls = y.calls; means = y.means }), partly_begins y.now stands y.bytes y.wrote ((of_back.3 steps).1 y.now y.goes))
+                    → (turns : ℕ) × (bytes : List ℕ) × language.GoesOn source input turns bytes × BeginsOf bytes applies
+                by_case (inl y) = (y.turns, y.bytes, (trees, taken.1, record { left = y.left; calls = y.calls; means = y.means }), partly_begins y.now applies y.bytes y.wrote ((of_back.3 steps).1 y.now y.goes))
                 by_case (inr y) = (y.turns, y.bytes, (trees, taken.1, record { left = y.left; calls = y.calls; means = y.means }), out_partly y.calls y.bytes y.runs_out)
 
       -- a run of the machine is one of the source

@@ -3,7 +3,7 @@ use Rattle.bk_kit.proofs.Terms.{◌≡◌, ◌≢◌, ℕ, zero, suc, ◌+◌, �
 use Rattle.bk_base.specs.Format.{parts}
 use Rattle.bk_base.specs.Word.{signed, word_sum, byte_distance}
 use Rattle.bk_ocode.specs.Access.{variable_at, number_in, byte_at, word_with_byte_at, string_at}
-use Rattle.bk_ocode.specs.OcodeState.{Routine, Stop, Rdch, Wrch, Newline, Writes, Writen, Writed, Getbyte, Putbyte, Writef, Placed, Callables, Control, Inside, Behind, At, State, Next, Goes, Ends, Wild}
+use Rattle.bk_ocode.specs.OcodeState.{Routine, Stop, Rdch, Wrch, Newline, Writes, Writen, Writed, Getbyte, Putbyte, Writef, Placed, Callables, Control, Inside, Following, At, State, Next, Goes, Ends, Wild}
 use Rattle.bk_ocode.specs.OcodeStep.{slot, on_number, on_some, operated, named_place, has_word, from_label, case_label, can_be_called, jump, call, return, tells, read_byte, routine_step, dyadic_word, step_by, step_in, step_from}
 use Rattle.bk_ocode.specs.OcodeRun.{Program, resumed, label_rest, resumed_in, program_step_from, program_step, then_run, run}
 use Rattle.bk_ocode.specs.Telling.{format_bytes}
@@ -116,12 +116,12 @@ routine_own s Writef =
 
 step_own : (callables : Callables) (s : State) (c : Control) → OfItself (step_from callables s c)
 step_own callables s (Inside own k rest) = step_in_own callables s own k rest
-step_own callables s (Behind own l) = tt
+step_own callables s (Following own l) = tt
 step_own callables s (At n) = some_own (callables.routine n) _ (λ r. routine_own s r)
 
 program_own : (program : Program) (s : State) (c : Control) → OfItself (program_step_from program s c)
 program_own program s (Inside own k rest) = step_own program.callables s s.control
-program_own program s (Behind own l) =
+program_own program s (Following own l) =
     some_own (label_rest own.places 0 own.stmts l) _ (λ r. step_own program.callables (resumed own r s) (resumed own r s).control)
 program_own program s (At n) =
     if_own (n == program.home) _ _ (not_status 0)

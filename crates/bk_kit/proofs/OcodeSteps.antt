@@ -64,35 +64,35 @@ going_over m e a b store c d r first second = let same = sym first ∙ second in
 -- ---- a run, by the back end
 
 module _ (ps : List Part) (words steps : ℕ) (input : List ℕ) (first : State) (back : BackEnd ps words input first) (goes_on : GoesOn ps words input first) where
-  abbrev stands : Standing
-  stands = machine_after ps words input steps
+  abbrev applies : Standing
+  applies = machine_after ps words input steps
 
   -- what holds where the machine is on its way to a state, and where it ended with it
-  ahead : (Holds : State → Type 0) → ((t : State) → IsPartly t stands → Holds t) → ((e : End) (t : State) → e ≢ StoreLimit → stands ≡ Over e t.input t.output → Holds t) → IsAhead ps input first Holds
+  ahead : (Holds : State → Type 0) → ((t : State) → IsPartly t applies → Holds t) → ((e : End) (t : State) → e ≢ StoreLimit → applies ≡ Over e t.input t.output → Holds t) → IsAhead ps input first Holds
   ahead Holds partly over = record {
     of_end = λ q e t ends. either e t (ends_of_itself (program_of ps) q first t e ends) (back.less q steps e t ends);
     of_high = λ q t goes high. partly t (back.falls q steps t goes high);
     of_some = ((goes_on steps).0, λ t goes. partly t ((goes_on steps).1 t goes));
   }
     where
-      either : (e : End) (t : State) → e ≢ StoreLimit → (stands ≡ Over e t.input t.output) ⊎ IsPartly t stands → Holds t
+      either : (e : End) (t : State) → e ≢ StoreLimit → (applies ≡ Over e t.input t.output) ⊎ IsPartly t applies → Holds t
       either e t own (inl is) = over e t own is
       either e t own (inr is) = partly t is
 
-  is_part : (written more : List ℕ) → output_of stands ≡ written ++ more → IsPart ps input first written
+  is_part : (written more : List ℕ) → output_of applies ≡ written ++ more → IsPart ps input first written
   is_part written more is = record {
-    writes = ahead (λ t. ◌begins◌ written t.output) behind (λ e t own over. (more, sym (ap output_of over) ∙ is));
+    writes = ahead (λ t. ◌begins◌ written t.output) following (λ e t own over. (more, sym (ap output_of over) ∙ is));
     of_any = λ q t goes. either t (back.so_far q steps t goes);
   }
     where
-      behind : (t : State) → IsPartly t stands → ◌begins◌ written t.output
-      behind t partly = begins_behind written (output_of stands) t.output more is (partly_begins t stands partly)
+      following : (t : State) → IsPartly t applies → ◌begins◌ written t.output
+      following t partly = begins_behind written (output_of applies) t.output more is (partly_begins t applies partly)
 
-      either : (t : State) → IsPartly t stands ⊎ (◌begins◌ t.output (output_of stands)) → (◌begins◌ t.output written) ⊎ (◌begins◌ written t.output)
-      either t (inl partly) = inr (behind t partly)
+      either : (t : State) → IsPartly t applies ⊎ (◌begins◌ t.output (output_of applies)) → (◌begins◌ t.output written) ⊎ (◌begins◌ written t.output)
+      either t (inl partly) = inr (following t partly)
       either t (inr front) = one_begins t.output written front.0 more (sym front.1 ∙ is)
 
-  is_end : (e : End) (read rest written : List ℕ) → e ≢ StoreLimit → input ≡ read ++ rest → stands ≡ Over e rest written → IsEnd ps input first e read written
+  is_end : (e : End) (read rest written : List ℕ) → e ≢ StoreLimit → input ≡ read ++ rest → applies ≡ Over e rest written → IsEnd ps input first e read written
   is_end e read rest written own all over = record {
     whole = λ q f t ends. ended q f t (back.less q steps f t ends);
     covers = λ q t goes. covered t (back.so_far q steps t goes);
@@ -100,38 +100,38 @@ module _ (ps : List Part) (words steps : ℕ) (input : List ℕ) (first : State)
     low = λ q t goes high. not_partly t (back.falls q steps t goes high);
   }
     where
-      not_partly : (t : State) → IsPartly t stands → ⊥
-      not_partly t partly = own (partly_over t stands e rest written over partly)
+      not_partly : (t : State) → IsPartly t applies → ⊥
+      not_partly t partly = own (partly_over t applies e rest written over partly)
 
-      ended : (q : ℕ) (f : End) (t : State) → (stands ≡ Over f t.input t.output) ⊎ IsPartly t stands → (f ≡ e) × (input ≡ read ++ t.input) × (t.output ≡ written)
+      ended : (q : ℕ) (f : End) (t : State) → (applies ≡ Over f t.input t.output) ⊎ IsPartly t applies → (f ≡ e) × (input ≡ read ++ t.input) × (t.output ≡ written)
       ended q f t (inl is) =
           let same = the_parts e f rest t.input written t.output (sym over ∙ is) in
           (sym same.0, all ∙ ap (λ l. read ++ l) same.1, sym same.2)
       ended q f t (inr partly) = absurd (not_partly t partly)
 
-      covered : (t : State) → IsPartly t stands ⊎ (◌begins◌ t.output (output_of stands)) → ◌begins◌ t.output written
+      covered : (t : State) → IsPartly t applies ⊎ (◌begins◌ t.output (output_of applies)) → ◌begins◌ t.output written
       covered t (inl partly) = absurd (not_partly t partly)
       covered t (inr front) = (front.0, sym (ap output_of over) ∙ front.1)
 
-  is_stopped : (read rest written : List ℕ) → input ≡ read ++ rest → left_of stands ≡ rest → output_of stands ≡ written
-      → ((e : End) (t : State) → e ≢ StoreLimit → stands ≡ Over e t.input t.output → ⊥) → IsStopped ps input first steps words read written
+  is_stopped : (read rest written : List ℕ) → input ≡ read ++ rest → left_of applies ≡ rest → output_of applies ≡ written
+      → ((e : End) (t : State) → e ≢ StoreLimit → applies ≡ Over e t.input t.output → ⊥) → IsStopped ps input first steps words read written
   is_stopped read rest written all left is not_over = record {
     part = is_part written [] (is ∙ sym (append-nil written));
     reads = ahead (λ t. (more : List ℕ) × (input ≡ read ++ (more ++ t.input)))
-        (λ t partly. let more = partly_left t stands partly in (more.0, all ∙ ap (λ l. read ++ l) (sym left ∙ more.1)))
+        (λ t partly. let more = partly_left t applies partly in (more.0, all ∙ ap (λ l. read ++ l) (sym left ∙ more.1)))
         (λ e t own over. absurd (not_over e t own over));
     reaches = λ q d t goes enough. let front = back.written q d steps t goes enough.frames enough.has_steps enough.has_words in (front.0, sym is ∙ front.1);
     too_few = λ q d e t ends enough. not_over e t (ends_of_itself (program_of ps) q first t e ends) (back.enough q d steps e t ends enough.frames enough.has_steps enough.has_words);
   }
 
-  agrees : (end : End) (read rest written : List ℕ) → input ≡ read ++ rest → StandsSo end stands rest written → Agrees ps input first steps words end read written
+  agrees : (end : End) (read rest written : List ℕ) → input ≡ read ++ rest → StandsSo end applies rest written → Agrees ps input first steps words end read written
   agrees (Status v) read rest written all over = is_end (Status v) read rest written (λ e. cc) all over
   agrees DivideByZero read rest written all over = is_end DivideByZero read rest written (λ e. cc) all over
   agrees BadOperation read rest written all over = is_end BadOperation read rest written (λ e. cc) all over
   agrees StoreLimit read rest written all over =
       is_stopped read rest written all (ap left_of over) (ap output_of over) (λ e t own is. own (sym (the_parts StoreLimit e rest t.input written t.output (sym over ∙ is)).0))
   agrees StepLimit read rest written all goes =
-      is_stopped read rest written all (ap left_of goes.2) (ap output_of goes.2) (λ e t own is. going_over stands e t.input t.output goes.0 rest written goes.1 goes.2 is)
+      is_stopped read rest written all (ap left_of goes.2) (ap output_of goes.2) (λ e t own is. going_over applies e t.input t.output goes.0 rest written goes.1 goes.2 is)
   agrees ReadFault read rest written all front = is_part written front.0 front.1
   agrees WriteFault read rest written all front = is_part written front.0 front.1
 
@@ -147,7 +147,7 @@ module _ (back : BackEndHolds) (without : PartsWithoutStart) (ps : List Part) (s
         exchanged = s.exchanged;
         agrees = λ rest follows.
             let b = back ps words (s.read ++ rest) said.0 most said.1 in
-            (b.0, b.1, agrees ps words steps (s.read ++ rest) b.0 b.2 b.3 end s.read rest s.written refl (s.stands rest follows));
+            (b.0, b.1, agrees ps words steps (s.read ++ rest) b.0 b.2 b.3 end s.read rest s.written refl (s.applies rest follows));
         passes = said.3;
         passed = said.4;
         blamed = said.5;
@@ -174,8 +174,8 @@ module _ (back : BackEndHolds) (placed : PartsAreWellPlaced) (without : PartsWit
     interprets = λ answer steps words new ended before after short most over said.
         does_steps back without is.of steps words most answer before after (of_parts one_code is.of code is.words new ended short over answer steps words before after said);
     sizes = λ answer words new ended before after short over said.
-        let told = report_sizes one_code is.of code is.words new ended short over is.frames answer words before after said in
-        subst (λ c. FindsNoFault answer × OnOk answer (Appends before.taken after.taken (sizes_line (record { image = image is.of; frame = numbers.frame_of c })))) is.are told;
+        let reported = report_sizes one_code is.of code is.words new ended short over is.frames answer words before after said in
+        subst (λ c. FindsNoFault answer × OnOk answer (Appends before.taken after.taken (sizes_line (record { image = image is.of; frame = numbers.frame_of c })))) is.are reported;
   }
 
   pub ocode_runs : OcodeRuns

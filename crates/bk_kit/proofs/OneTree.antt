@@ -1,7 +1,7 @@
 -- A source has one list of trees.
-use Rattle.bk_kit.proofs.Terms.{◌≡◌, ℕ, false, List, [], ◌∷◌, ◌++◌, sym, ap, ap₂, ◌∙◌, subst, append_assoc, Symbol, Section, Declarations, Means, Accepted, WholeSection, bytes_of, trees_of, line_behind, AreAccepted, HasTrees}
+use Rattle.bk_kit.proofs.Terms.{◌≡◌, ℕ, false, List, [], ◌∷◌, ◌++◌, sym, ap, ap₂, ◌∙◌, subst, append_assoc, Symbol, Section, Declarations, Means, Accepted, WholeSection, bytes_of, trees_of, line_following, AreAccepted, HasTrees}
 use Rattle.bk_syntax.proofs.Lemmas.{one_tree}
-use Rattle.bk_kit.proofs.SourceSectionLemmas.{one_section, behind, differ}
+use Rattle.bk_kit.proofs.SourceSectionLemmas.{one_section, following, differ}
 
 -- symbols have one tree, or none
 one_meaning : (symbols : List Symbol) (trees others : List Declarations) → Means symbols trees → Means symbols others → trees ≡ others
@@ -17,7 +17,7 @@ accepted_once text line s t trees others first second =
 
 module _ (p q : List ℕ) (last other : Section) (trees others : List Declarations) (at_end : last.ended ≡ false) (other_at_end : other.ended ≡ false) where
   same_trees : (line : ℕ) (xs ys : List WholeSection) → bytes_of xs ++ p ≡ bytes_of ys ++ q → AreAccepted line xs p → AreAccepted line ys q
-      → Accepted p (line_behind line xs) last trees → Accepted q (line_behind line ys) other others → trees_of xs ++ trees ≡ trees_of ys ++ others
+      → Accepted p (line_following line xs) last trees → Accepted q (line_following line ys) other others → trees_of xs ++ trees ≡ trees_of ys ++ others
   same_trees line [] [] is first second accepts accepts_other =
       accepted_once q line last other trees others (subst (λ t. Accepted t line last trees) is accepts) accepts_other
   same_trees line [] (y ∷ ys) is first second accepts accepts_other =
@@ -32,9 +32,9 @@ module _ (p q : List ℕ) (last other : Section) (trees others : List Declaratio
       let same = one_section (y.bytes ++ (bytes_of ys ++ q)) line x.tokens y.tokens x.trees y.trees here second.0 in
       let as_long = sym first.2 ∙ ap (λ (u : Section). u.used) same ∙ second.2 in
       let one_line = ap (λ (u : Section). u.line) same in
-      let rest = same_trees y.tokens.line xs ys (behind x.bytes y.bytes (bytes_of xs ++ p) (bytes_of ys ++ q) as_long whole)
+      let rest = same_trees y.tokens.line xs ys (following x.bytes y.bytes (bytes_of xs ++ p) (bytes_of ys ++ q) as_long whole)
       (subst (λ l. AreAccepted l xs p) one_line first.3) second.3
-      (subst (λ l. Accepted p (line_behind l xs) last trees) one_line accepts) accepts_other in
+      (subst (λ l. Accepted p (line_following l xs) last trees) one_line accepts) accepts_other in
       append_assoc x.trees (trees_of xs) trees
       ∙ ap₂ (λ (a b : List Declarations). a ++ b) (accepted_once (y.bytes ++ (bytes_of ys ++ q)) line x.tokens y.tokens x.trees y.trees here second.0) rest
       ∙ sym (append_assoc y.trees (trees_of ys) others)

@@ -1,7 +1,7 @@
 -- Accepted sections, one after another, that were read of a source.
-use Rattle.bk_kit.proofs.Terms.{◌≡◌, ◌≢◌, inl, inr, ℕ, zero, suc, ◌≤◌, ◌<◌, ◌++◌, Bool, true, false, List, [], ◌∷◌, Option, None, Some, Ok, Err, length, if◌then◌else◌, arith, refl, sym, ap, subst, ◌∙◌, append_assoc, append-nil, length-append, map-append, Consumes, Consumes-nothing, Consumes-trans, INPUT_BYTES, SourceFault, State, start, state_behind, NotEnded, Settled, Symbol, Section, lexed, means_as, lexed_has_fault, lexed_told, lexed_is_section, section_is_lexed, AreBytes, Stmt, section_whole, Declarations, Source, CompiledSection, SectionCode, Settles, IsDelivered, codes_in, Compiled, Refuses, AreAllTyped, Accepts, Delivered}
+use Rattle.bk_kit.proofs.Terms.{◌≡◌, ◌≢◌, inl, inr, ℕ, zero, suc, ◌≤◌, ◌<◌, ◌++◌, Bool, true, false, List, [], ◌∷◌, Option, None, Some, Ok, Err, length, if◌then◌else◌, arith, refl, sym, ap, subst, ◌∙◌, append_assoc, append-nil, length-append, map-append, Consumes, Consumes-nothing, Consumes-trans, INPUT_BYTES, SourceFault, State, start, state_after, NotEnded, Settled, Symbol, Section, lexed, means_as, lexed_has_fault, lexed_told, lexed_is_section, section_is_lexed, AreBytes, Stmt, section_whole, Declarations, Source, CompiledSection, SectionCode, Settles, IsDelivered, codes_in, Compiled, Refuses, AreAllTyped, Accepts, Delivered}
 use Rattle.bk_kit.specs.Sources as sources
-use Rattle.bk_kit.specs.Sources.{Accepted, Refused, WholeSection, bytes_of, trees_of, codes_of, codes_of_trees, stmts_of_tree, line_behind, AreAccepted}
+use Rattle.bk_kit.specs.Sources.{Accepted, Refused, WholeSection, bytes_of, trees_of, codes_of, codes_of_trees, stmts_of_tree, line_following, AreAccepted}
 use Rattle.bk_kit.proofs.ReadingLemmas.{whole_used, used_some}
 
 -- ---- lists of sections
@@ -19,12 +19,12 @@ trees_push (first ∷ sections) last =
 codes_push : (sections : List WholeSection) (last : WholeSection) → codes_of (sections ++ last ∷ []) ≡ codes_of sections ++ codes_of_trees last.trees
 codes_push sections last = ap codes_of_trees (trees_push sections last) ∙ map-append stmts_of_tree (trees_of sections) last.trees
 
-line_push : (line : ℕ) (sections : List WholeSection) (last : WholeSection) → line_behind line (sections ++ last ∷ []) ≡ last.tokens.line
+line_push : (line : ℕ) (sections : List WholeSection) (last : WholeSection) → line_following line (sections ++ last ∷ []) ≡ last.tokens.line
 line_push line [] last = refl
 line_push line (first ∷ sections) last = line_push first.tokens.line sections last
 
 accepted_push : (line : ℕ) (sections : List WholeSection) (last : WholeSection) (rest : List ℕ) → AreAccepted line sections (last.bytes ++ rest)
-    → Accepted (last.bytes ++ rest) (line_behind line sections) last.tokens last.trees → last.tokens.ended ≡ true → last.tokens.used ≡ length last.bytes
+    → Accepted (last.bytes ++ rest) (line_following line sections) last.tokens last.trees → last.tokens.ended ≡ true → last.tokens.used ≡ length last.bytes
     → AreAccepted line (sections ++ last ∷ []) rest
 accepted_push line [] last rest are here ended used = (here, ended, used, tt)
 accepted_push line (first ∷ sections) last rest are here ended used = (
@@ -38,9 +38,9 @@ accepted_push line (first ∷ sections) last rest are here ended used = (
 -- ---- what is read of a section stands whatever follows
 
 dot_settles : (text : List ℕ) (line : ℕ) (tokens : Section) → lexed text line ≡ Ok tokens → tokens.ended ≡ true → Settled text
-dot_settles text line tokens is ended = by_cut (state_behind (Some start) text) refl
+dot_settles text line tokens is ended = by_cut (state_after (Some start) text) refl
   where
-    by_cut : (o : Option State) → state_behind (Some start) text ≡ o → Settled text
+    by_cut : (o : Option State) → state_after (Some start) text ≡ o → Settled text
     by_cut None at = means_as None text at
     by_cut (Some s) at =
         let not_ended : NotEnded (lexed text line) = (means_as (Some s) text at).1 line in
@@ -67,11 +67,11 @@ tree_there (symbol ∷ symbols) trees some means = (means.0, means.1)
 
 pub refused_as : (text : List ℕ) (line : ℕ) (fault : SourceFault) → Refuses (Source fault) text line → Refused fault text line
 refused_as text line fault (inl is) = record {
-  stands = inl (lexed_has_fault text line fault is, lexed_told text line fault is);
+  applies = inl (lexed_has_fault text line fault is, lexed_told text line fault is);
   not_accepted = λ tokens trees accepted. not_both text line tokens fault (section_is_lexed text line tokens accepted.tokens) is;
 }
 refused_as text line fault (inr refused) = record {
-  stands = inr (refused.0, lexed_is_section text line refused.0 refused.1, refused.3.0);
+  applies = inr (refused.0, lexed_is_section text line refused.0 refused.1, refused.3.0);
   not_accepted = λ tokens trees accepted.
       let same = same_tokens text line tokens refused.0 (section_is_lexed text line tokens accepted.tokens) refused.1 in
       let tree = tree_there refused.0.symbols trees refused.2 (subst (λ (t : Section). sources.Means t.symbols trees) same accepted.means) in
@@ -124,7 +124,7 @@ pub record Passed (old now : Option (List ℕ)) (taken line : ℕ) : Type 0 wher
   pub bytes : AreBytes (bytes_of sections)
   pub typed : AreAllTyped (codes_of sections)
   pub counted : taken ≡ length (bytes_of sections)
-  pub at : line ≡ line_behind 1 sections
+  pub at : line ≡ line_following 1 sections
 
 abbrev pub passed_none : (known : Option (List ℕ)) → Passed known known 0 1
 passed_none known = record {

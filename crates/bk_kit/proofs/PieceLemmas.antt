@@ -1,5 +1,5 @@
 -- The pieces so far, the next one, and the others.
-use Rattle.bk_kit.proofs.Terms.{◌≡◌, ℕ, ◌+◌, ◌<◌, List, [], ◌∷◌, ◌++◌, length, take, drop, get_or, sym, ◌∙◌, ap, append_assoc, append-nil, subst, Option, refl, Bor, Appends, take_more, take-append-drop, AppendsPart, Appends-trans, AppendsPart-behind, AppendsPart-front, joined}
+use Rattle.bk_kit.proofs.Terms.{◌≡◌, ℕ, ◌+◌, ◌<◌, List, [], ◌∷◌, ◌++◌, length, take, drop, get_or, sym, ◌∙◌, ap, append_assoc, append-nil, subst, Option, refl, Bor, Appends, take_more, take-append-drop, AppendsPart, Appends-trans, AppendsPart-after, AppendsPart-front, joined}
 
 joined-append : (a b : List (Bor (List ℕ))) → joined (a ++ b) ≡ joined a ++ joined b
 joined-append [] b = refl
@@ -22,7 +22,7 @@ pub AppendsPart-piece : (a b c : Option (List ℕ)) (pieces : List (Bor (List �
     Appends a b (joined (take k pieces)) → AppendsPart b c (get_or pieces k d).now → AppendsPart a c (joined pieces)
 AppendsPart-piece a b c pieces k d low taken part =
     let piece = (get_or pieces k d).now in
-    AppendsPart-behind a b c (joined (take k pieces)) (piece ++ joined (drop (k + 1) pieces)) (joined pieces) (joined-at pieces k d low) taken
+    AppendsPart-after a b c (joined (take k pieces)) (piece ++ joined (drop (k + 1) pieces)) (joined pieces) (joined-at pieces k d low) taken
     (AppendsPart-front b c piece (joined (drop (k + 1) pieces)) (piece ++ joined (drop (k + 1) pieces)) refl part)
 
 pub Appends-piece : (a b c : Option (List ℕ)) (pieces : List (Bor (List ℕ))) (k : ℕ) (d : Bor (List ℕ)) → k < length pieces →

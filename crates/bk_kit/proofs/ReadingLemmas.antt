@@ -1,11 +1,11 @@
 -- What is read of a section up to its end.
-use Rattle.bk_kit.proofs.Terms.{◌≡◌, ℕ, ◌+◌, ◌≤◌, Bool, true, false, cond, List, [], ◌∷◌, ◌++◌, length, Result, Ok, Err, Option, Some, None, ◌⊎◌, inl, inr, refl, sym, ap, subst, ◌∙◌, arith, length-append, append_assoc, SourceFault, Consumes, Consumes-trans, SECTION_BYTES, State, Step, start, step_of, finished, ◌>>=◌, cut_behind, goes_on_from, then_on, state_behind, cut_as, IsUndecided, Asked, Settles, IsDelivered, Act, Act as acts}
+use Rattle.bk_kit.proofs.Terms.{◌≡◌, ℕ, ◌+◌, ◌≤◌, Bool, true, false, cond, List, [], ◌∷◌, ◌++◌, length, Result, Ok, Err, Option, Some, None, ◌⊎◌, inl, inr, refl, sym, ap, subst, ◌∙◌, arith, length-append, append_assoc, SourceFault, Consumes, Consumes-trans, SECTION_BYTES, State, Step, start, step_of, finished, ◌>>=◌, cut_after, goes_on_from, then_on, state_after, cut_as, IsUndecided, Asked, Settles, IsDelivered, Act, Act as acts}
 use Rattle.bk_lex.specs.declared.machine.Fault.{Fault}
 use Rattle.bk_lex.specs.declared.counting.PieceResult.{PieceResult}
 use Rattle.bk_lex.specs.declared.cutter.Cut.{Cut}
 use Rattle.bk_lex.specs.declared.cutter.Cut.TheVariants.{More, End}
 use Rattle.bk_lex.specs.Lexing.{Section, section, Reading, read, read_on, run, end_as, begin, is_dot, lexed}
-use Rattle.bk_lex.proofs.Lemmas.{behind, read_state, behind_more, used_at_end, more_undecided, end_is_decided, lexed_is_section}
+use Rattle.bk_lex.proofs.Lemmas.{following, read_state, behind_more, used_at_end, more_undecided, end_is_decided, lexed_is_section}
 
 -- ---- the bytes that were asked for
 
@@ -32,7 +32,7 @@ split_push (c ∷ bytes) (d ∷ front) rest byte b e = further (split_push bytes
     further (inr w) h = inr (w.0, cc)
 
 -- one byte more was asked for
-asked_push : (bytes : List ℕ) (byte : ℕ) → Asked bytes → cut_behind bytes ≡ More → Asked (bytes ++ byte ∷ [])
+asked_push : (bytes : List ℕ) (byte : ℕ) → Asked bytes → cut_after bytes ≡ More → Asked (bytes ++ byte ∷ [])
 asked_push bytes byte asked more front b rest parts = by_place (split_push bytes front rest byte b parts)
   where
     by_place : SplitAt bytes front b → IsUndecided front
@@ -44,20 +44,20 @@ abbrev AskedFrom : Option State → List ℕ → Type 0
 AskedFrom state [] = Unit {0}
 AskedFrom state (byte ∷ rest) = (cut_as state ≡ More) × AskedFrom (then_on state byte) rest
 
-asked_from : (front bytes : List ℕ) → Asked (front ++ bytes) → AskedFrom (state_behind (Some start) front) bytes
+asked_from : (front bytes : List ℕ) → Asked (front ++ bytes) → AskedFrom (state_after (Some start) front) bytes
 asked_from front [] asked = tt
 asked_from front (b ∷ bytes) asked = (
-  goes_on (cut_behind front) refl,
+  goes_on (cut_after front) refl,
   subst (λ (o : Option State). AskedFrom o bytes) (behind_more (Some start) front b)
       (asked_from (front ++ b ∷ []) bytes (subst (λ (x : List ℕ). Asked x) (sym (append_assoc front (b ∷ []) bytes)) asked)),
 )
   where
-    goes_on : (c : Cut) → cut_behind front ≡ c → cut_behind front ≡ More
+    goes_on : (c : Cut) → cut_after front ≡ c → cut_after front ≡ More
     goes_on More e = e
     goes_on End e = absurd (asked front b bytes refl 1 (end_is_decided front e 1))
 
 asked_at_start : (bytes : List ℕ) → Asked bytes → AskedFrom (Some start) bytes
-unfolding state_behind
+unfolding state_after
 asked_at_start bytes asked = asked_from [] bytes asked
 
 -- ---- a section that a `.` ends takes all bytes that were asked for
@@ -93,7 +93,7 @@ all_behind true q bytes s rest asked is ended = subst (λ (bs : List ℕ). s.use
 all_behind false q bytes s rest asked is ended = rest q s asked is ended
 
 all_by_step : (x : Result Step Fault) (r : Reading) (b : ℕ) (bytes : List ℕ) (s : Section) → UsesAll bytes → AskedFrom (goes_on_from x) bytes
-    → (read_on r b x >>= λ q. behind q bytes) ≡ Ok s → s.ended ≡ true → s.used ≡ r.used + length (b ∷ bytes)
+    → (read_on r b x >>= λ q. following q bytes) ≡ Ok s → s.ended ≡ true → s.used ≡ r.used + length (b ∷ bytes)
 all_by_step (Err f) r b bytes s rest asked is ended = cc
 all_by_step (Ok t) r b bytes s rest asked is ended =
     let q = read r b t.state t.act in
@@ -116,7 +116,7 @@ pub ends_with_source : (bytes : List ℕ) (line : ℕ) (s : Section) (ended : Bo
 ends_with_source bytes line s true settles is not_ended = refl
 ends_with_source bytes line s false settles is not_ended =
     let here = used_at_end bytes line s (lexed_is_section bytes line s is) not_ended in
-    let longer = used_at_end (bytes ++ 0 ∷ []) line s (lexed_is_section (bytes ++ 0 ∷ []) line s (settles line (0 ∷ []) (λ (told : false ≡ true). cc) ∙ is)) not_ended in
+    let longer = used_at_end (bytes ++ 0 ∷ []) line s (lexed_is_section (bytes ++ 0 ∷ []) line s (settles line (0 ∷ []) (λ (reported : false ≡ true). cc) ∙ is)) not_ended in
     absurd (omega (arith, here, longer, length-append bytes (0 ∷ [])))
 
 -- a section that a `.` ends has a byte
@@ -128,7 +128,7 @@ used_some (b ∷ bytes) line s is ended = omega arith
 -- ---- a byte more is read
 
 module _ (text : List ℕ) (byte : ℕ) (old now new : Option (List ℕ)) (taken was : ℕ) (delivered : Consumes old now text) (one : Consumes now new (byte ∷ []))
-    (goes_on : cut_behind text ≡ More) (asked : Asked text) (counted : taken ≡ was + length text) (within : length text ≤ SECTION_BYTES) where
+    (goes_on : cut_after text ≡ More) (asked : Asked text) (counted : taken ≡ was + length text) (within : length text ≤ SECTION_BYTES) where
   pub delivered_more : IsDelivered (text ++ byte ∷ []) old new was (taken + 1)
   delivered_more = record {
     delivered = Consumes-trans old now new text (byte ∷ []) delivered one;
@@ -137,8 +137,8 @@ module _ (text : List ℕ) (byte : ℕ) (old now new : Option (List ℕ)) (taken
     few = omega (arith, within, length-append text (byte ∷ []));
   }
 
-pub goes_at_start : cut_behind [] ≡ More
-unfolding state_behind
+pub goes_at_start : cut_after [] ≡ More
+unfolding state_after
 goes_at_start = refl
 
 pub undecided_at_start : IsUndecided []

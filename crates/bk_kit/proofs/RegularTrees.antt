@@ -1,6 +1,6 @@
 -- Trees of the grammar are regular: their numbers are words, an assignment and a LET have as many values as names, and a section's own
 -- LETs have no variables.
-use Rattle.bk_kit.proofs.Terms.{◌≡◌, ℕ, inl, inr, Bool, true, false, List, [], ◌∷◌, Some, None, cond, refl, subst, ◌∙◌, arith, Symbol, Mention, Expression, Expressions, Command, Commands, Declaration, Declarations, Items, Definition, Definitions, Starts, inner, left, behind, is_relation, start_count, IsSection, starts, Regular, RegularEach, RegularCommand, RegularCommands, RegularItems, RegularDeclaration, RegularDeclarations, RegularDefinition, RegularDefinitions, RegularStarts, DefineNoVariables, DeclareNoVariables, IsRegular}
+use Rattle.bk_kit.proofs.Terms.{◌≡◌, ℕ, inl, inr, Bool, true, false, List, [], ◌∷◌, Some, None, cond, refl, subst, ◌∙◌, arith, Symbol, Mention, Expression, Expressions, Command, Commands, Declaration, Declarations, Items, Definition, Definitions, Starts, inner, left, following, is_relation, start_count, IsSection, starts, Regular, RegularEach, RegularCommand, RegularCommands, RegularItems, RegularDeclaration, RegularDeclarations, RegularDefinition, RegularDefinitions, RegularStarts, DefineNoVariables, DeclareNoVariables, IsRegular}
 use Rattle.bk_tree.specs.declared.tree.Operator.TheVariants as o
 use Rattle.bk_tree.specs.Tree as t
 use Rattle.bk_grammar.specs.Placed.{position_of}
@@ -54,7 +54,7 @@ mutual
   reads rows (t.truth l x) ts us h j = (tt, (subst AreSmall j.1 h).1)
   reads rows (t.query l) ts us h j = (tt, (subst AreSmall j.1 h).1)
   reads rows (t.parens l e) ts us h j = let r = reads 12 e j.1 (j.2 ∷ us) (subst AreSmall j.3 h).1 j.7 in (r.0, r.1.1)
-  reads rows (t.unary l f e) ts us h j = reads (behind f) e j.2 us (subst AreSmall j.3 h).1 j.6
+  reads rows (t.unary l f e) ts us h j = reads (following f) e j.2 us (subst AreSmall j.3 h).1 j.6
   reads rows (t.binary l o.Both s x (t.binary m f n b c)) ts us h (inl j) =
       let r = reads 9 x ts (j.1 ∷ j.2) h j.6 in let q = reads 8 (t.binary m f n b c) j.2 us r.1.1 j.7 in
       ((r.0, q.0), q.1)

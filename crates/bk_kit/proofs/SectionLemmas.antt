@@ -5,7 +5,7 @@ use Rattle.bk_lex.specs.declared.token.Token.{Token}
 use Rattle.bk_tree.specs.declared.section.Section.{Section}
 use Rattle.bk_tree.specs.Limits.{Within}
 use Rattle.bk_syntax.specs.Parsing.{Parses, Gives}
-use Rattle.bk_scope.specs.Points.{first_told}
+use Rattle.bk_scope.specs.Points.{first_reported}
 use Rattle.bk_scope.specs.Faults.{faults}
 use Rattle.bk_scope.specs.FirstFault.{breach_of}
 use Rattle.bk_scope.specs.Wrong.{Breach}
@@ -21,12 +21,12 @@ module _ (symbols : List Symbol) (end : ℕ) (fault : SourceFault) where
 
   -- the section has a wrong name
   pub misnamed : (x : Section) → Parses (Ok x) symbols end → Within (declarations_of x) → ((tree : Declarations) → IsSection tree symbols → Gives (Ok x) tree)
-      → (placed : PlacedFault) → first_told (faults (declarations_of x)) ≡ Some (breach_of placed) → fault ≡ fault_on_line placed → RefusesSymbols (Source fault) symbols end
+      → (placed : PlacedFault) → first_reported (faults (declarations_of x)) ≡ Some (breach_of placed) → fault ≡ fault_on_line placed → RefusesSymbols (Source fault) symbols end
   misnamed x parses within only placed first line = (
     inr (inr record { tree = declarations_of x; section = parses; within = within; placed = placed; first = first; line = line }),
     λ tree is.
         let same = only tree is.section in
-        let none = ap (λ (t : Declarations). first_told (faults t)) same ∙ ap first_told is.faultless in
+        let none = ap (λ (t : Declarations). first_reported (faults t)) same ∙ ap first_reported is.faultless in
         absurd (differ (sym first ∙ none)),
   )
     where

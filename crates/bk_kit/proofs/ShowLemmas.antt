@@ -1,5 +1,5 @@
 -- A source whose sections are written one after another.
-use Rattle.bk_kit.proofs.Terms.{◌≡◌, inl, inr, ◌⊎◌, ℕ, ◌<◌, ◌≤◌, Bool, true, false, List, [], ◌∷◌, ◌++◌, map, Option, None, Some, Result, Ok, Err, IfOk, IfErr, refl, sym, ap, subst, ◌∙◌, append-nil, map-append, Keeps, Begins, Begins-refl, Begins-trans, Begins-Keeps, INPUT_BYTES, Section, lexed, Symbol, Declarations, declarations_of, stmts_of, Stmt, StandsFor, KitFault, Source, Ocode, Intcode, TooSmall, NoStart, Read, Write, Memory, CompiledSection, SectionCode, HasTheseTrees, Compiled, HasCode, Refuses, trees_in, codes_in, is_read, is_read_fault, IsUndecided, IsDelivered, Settles, NotAssembled, ReadsSource, IsTree, Means, stmts_of_tree, Output, NotShown, NotShown as unshown, IsErr, if◌then◌else◌}
+use Rattle.bk_kit.proofs.Terms.{◌≡◌, inl, inr, ◌⊎◌, ℕ, ◌<◌, ◌≤◌, Bool, true, false, List, [], ◌∷◌, ◌++◌, map, Option, None, Some, Result, Ok, Err, IfOk, IfErr, refl, sym, ap, subst, ◌∙◌, append-nil, map-append, Keeps, Begins, Begins-refl, Begins-trans, Begins-Keeps, INPUT_BYTES, Section, lexed, Symbol, Declarations, declarations_of, stmts_of, Stmt, Represents, KitFault, Source, Ocode, Intcode, TooSmall, NoStart, Read, Write, Memory, CompiledSection, SectionCode, HasTheseTrees, Compiled, HasCode, Refuses, trees_in, codes_in, is_read, is_read_fault, IsUndecided, IsDelivered, Settles, NotAssembled, ReadsSource, IsTree, Means, stmts_of_tree, Output, NotShown, NotShown as unshown, IsErr, if◌then◌else◌}
 use Rattle.bk_show.specs.Viewed.{Viewed}
 use Rattle.bk_kit.specs.Showing.{IsViewed, AreViewed, trees_viewed, Written, Stops, HasViewed, ShowsSections, PutsSection, NotPut, Shows, PassesAll, ShowsSource}
 use Rattle.bk_kit.proofs.SourceLemmas.{WithTrees, trees_none, not_read, no_memory, not_compiled, trees_go_on, trees_end, stops_reading, has_read}
@@ -59,9 +59,9 @@ module _ {O : Type 0} (Writes : O → O → Viewed → Type 0) (Fails : O → O 
 
   -- what was written of a section
   pub section_put : (section : SectionCode) (c : CompiledSection) (text : List ℕ) (line : ℕ) (s : Section) (old new : O) (x : Viewed) → Compiled c text line → c.code ≡ Some section
-      → lexed text line ≡ Ok s → x.symbols ≡ s.symbols → x.tree ≡ declarations_of section.tree → x.code ≡ stmts_of section.code → StandsFor x.segment (stmts_of section.code)
+      → lexed text line ≡ Ok s → x.symbols ≡ s.symbols → x.tree ≡ declarations_of section.tree → x.code ≡ stmts_of section.code → Represents x.segment (stmts_of section.code)
       → Writes old new x → PutsSection Writes Fails c.code old new
-  section_put section c text line s old new x compiled some lexed_as symbols tree code stands writes =
+  section_put section c text line s old new x compiled some lexed_as symbols tree code applies writes =
       let same : compiled.tokens ≡ s = let e = sym compiled.lexed_as ∙ lexed_as in cc in
       let has : HasCode compiled.tokens.symbols (codes_in (Some section)) (trees_in (Some section)) =
       subst (λ (o : Option SectionCode). HasCode compiled.tokens.symbols (codes_in o) (trees_in o)) some compiled.has in
@@ -69,7 +69,7 @@ module _ {O : Type 0} (Writes : O → O → Viewed → Type 0) (Fails : O → O 
       let letters : compiled.tokens.symbols ≡ x.symbols = ap (λ (t : Section). t.symbols) same ∙ sym symbols in
       let tree_is : IsTree x.tree x.symbols = subst (λ (t : Declarations). IsTree t x.symbols) (sym tree) (subst (IsTree (declarations_of section.tree)) letters is.0) in
       let code_is : x.code ≡ stmts_of_tree x.tree = code ∙ is.1 ∙ ap stmts_of_tree (sym tree) in
-      let viewed_is : IsViewed x = record { tree = tree_is; code = code_is; stands = subst (λ (l : List Stmt). StandsFor x.segment l) (sym code) stands } in
+      let viewed_is : IsViewed x = record { tree = tree_is; code = code_is; applies = subst (λ (l : List Stmt). Represents x.segment l) (sym code) applies } in
       let puts : PutsSection Writes Fails (Some section) old new = (x, viewed_is, tree, writes) in
       subst (λ (o : Option SectionCode). PutsSection Writes Fails o old new) (sym some) puts
 

@@ -8,14 +8,14 @@ use Rattle.bk_lex.specs.declared.machine.Header.{Header}
 use Rattle.bk_lex.specs.declared.machine.Header.TheVariants.{Plain, Formatted}
 use Rattle.bk_lex.specs.Bytes.{digit_value}
 use Rattle.bk_lex.specs.Machine.{digits_in}
-use Rattle.bk_lex.specs.Values.{word_from, behind_hash, number_word, escaped, character_byte}
+use Rattle.bk_lex.specs.Values.{word_from, after_hash, number_word, escaped, character_byte}
 use Rattle.bk_lex.specs.Header.{header_symbols}
 use Rattle.bk_lex.specs.Insertion.{inserted}
 use Rattle.bk_lex.specs.Pieces.{Piece, CutsTo}
 use Rattle.bk_lex.specs.Tokens.{what_of, header_named, Putting, putting, seen, named_as, put_as, is_dot_sort, put, puts, IsSection}
 use Rattle.bk_tree.specs.Tree as t
 use Rattle.bk_grammar.specs.Spelling.{tag_of}
-use Rattle.bk_grammar.specs.Brackets.{same_tag, Closing, one_more, up_to_tag, closed_by, in_front, plain_behind, plain_by, plain}
+use Rattle.bk_grammar.specs.Brackets.{same_tag, Closing, one_more, up_to_tag, closed_by, in_front, plain_after, plain_by, plain}
 
 -- ---- numbers and characters
 
@@ -27,7 +27,7 @@ word_small : (base : Base) (v : ℕ) (bs : List ℕ) → v < 2 ^ 32 → word_fro
 word_small base v [] h = h
 word_small base v (b ∷ bs) h = word_small base ((v * digits_in base + digit_value b) % 2 ^ 32) bs (mod_below (v * digits_in base + digit_value b) (2 ^ 32) (omega arith))
 
-hash_small : (bs : List ℕ) → behind_hash bs < 2 ^ 32
+hash_small : (bs : List ℕ) → after_hash bs < 2 ^ 32
 hash_small [] = omega arith
 hash_small (b ∷ bs) = if_small (b == 88 || b == 120) _ _ (word_small Hexadecimal 0 bs (omega arith)) (word_small Octal 0 (b ∷ bs) (omega arith))
 
@@ -167,7 +167,7 @@ closed_small s [] ((x ∷ xs) ∷ opens) h = tt
 closed_small s (x ∷ xs) opens h = tag_small s (x ∷ xs) opens h
 
 behind_small : (rest : List (List ℕ) → Option (List Symbol)) (o : Option Closing) (out : List Symbol) → IsSmallClosing o → ((opens : List (List ℕ)) (us : List Symbol) → rest opens ≡ Some us → AreSmall us)
-    → plain_behind rest o ≡ Some out → AreSmall out
+    → plain_after rest o ≡ Some out → AreSmall out
 behind_small rest None out h f e = absurd cc
 behind_small rest (Some c) out h f e = front_small c.closings (rest c.still) out h (f c.still) e
 

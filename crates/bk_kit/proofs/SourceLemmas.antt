@@ -1,5 +1,5 @@
 -- A source whose sections are assembled one after another, and then loaded and run.
-use Rattle.bk_kit.proofs.Terms.{◌≡◌, ◌≢◌, inl, inr, ◌⊎◌, ℕ, ◌+◌, ◌≤◌, ◌<◌, ◌++◌, Bool, true, false, List, [], ◌∷◌, Option, None, Some, Result, Ok, Err, IfErr, map, arith, refl, sym, ap, subst, ◌∙◌, append-nil, IsErr, map-append, Begins, INPUT_BYTES, STORE_MOST, End, WriteFault, stmts_of, stmts_of_parts, AreBytes, Stmt, section_whole, Item, Registers, items_of, SEGMENTS, stack_start, any_starts, loaded_store, Ran, Blames, segment_whole, Part, segments, image, items_of_part, StandsFor, KitFault, Source, Ocode, Intcode, TooSmall, NoStart, Read, Memory, CompiledSection, SectionCode, Declarations, AnyBytes, Streams, devices_of, first_registers, is_read_fault, is_read, IsUndecided, Settles, Follows, IsDelivered, EachSource, codes_in, trees_in, Compiled, Refuses, HasTrees, IsRefused, HasParts, Headline, meanings, MeaningRuns, MeaningTooSmall, MeaningStartless, LoadFault, LoadFault as load}
+use Rattle.bk_kit.proofs.Terms.{◌≡◌, ◌≢◌, inl, inr, ◌⊎◌, ℕ, ◌+◌, ◌≤◌, ◌<◌, ◌++◌, Bool, true, false, List, [], ◌∷◌, Option, None, Some, Result, Ok, Err, IfErr, map, arith, refl, sym, ap, subst, ◌∙◌, append-nil, IsErr, map-append, Begins, INPUT_BYTES, STORE_MOST, End, WriteFault, stmts_of, stmts_of_parts, AreBytes, Stmt, section_whole, Item, Registers, items_of, SEGMENTS, stack_start, any_starts, loaded_store, Ran, Blames, segment_whole, Part, segments, image, items_of_part, Represents, KitFault, Source, Ocode, Intcode, TooSmall, NoStart, Read, Memory, CompiledSection, SectionCode, Declarations, AnyBytes, Streams, devices_of, first_registers, is_read_fault, is_read, IsUndecided, Settles, Follows, IsDelivered, EachSource, codes_in, trees_in, Compiled, Refuses, HasTrees, IsRefused, HasParts, Headline, meanings, MeaningRuns, MeaningTooSmall, MeaningStartless, LoadFault, LoadFault as load}
 use Rattle.bk_ocode.specs.declared.section.Ocode as o
 use Rattle.bk_machine.specs.declared.segment.Intcode as i
 use Rattle.bk_kit.specs.Sources.{Accepted, Refused, bytes_of, trees_of, codes_of, stmts_of_tree}
@@ -22,22 +22,22 @@ each_source_as old new ended This That so each = record {
 -- ---- segments that stand for sections
 
 -- the part of a section and of the segment that is generated from it
-abbrev part_of : (code : o.Ocode) (segment : i.Intcode) → StandsFor (items_of segment) (stmts_of code) → Part
-part_of code segment stands = record {
+abbrev part_of : (code : o.Ocode) (segment : i.Intcode) → Represents (items_of segment) (stmts_of code) → Part
+part_of code segment applies = record {
   stmts = stmts_of code;
   items = items_of segment;
   accepted = (section_whole code).0;
   whole = segment_whole segment;
-  stands = stands;
+  applies = applies;
 }
 
 -- it is one more
-pub generated_one : (before : List i.Intcode) (section : SectionCode) (segment : i.Intcode) → StandsFor (items_of segment) (stmts_of section.code)
+pub generated_one : (before : List i.Intcode) (section : SectionCode) (segment : i.Intcode) → Represents (items_of segment) (stmts_of section.code)
     → Generated (map items_of before) (map items_of (before ++ segment ∷ [])) (codes_in (Some section))
-generated_one before section segment stands = (
+generated_one before section segment applies = (
   items_of segment ∷ [],
   map-append items_of before (segment ∷ []),
-  record { parts = part_of section.code segment stands ∷ []; segments_are = refl; stmts_are = refl },
+  record { parts = part_of section.code segment applies ∷ []; segments_are = refl; stmts_are = refl },
 )
 
 -- both together

@@ -18,7 +18,7 @@ pub record Stood (end : End) (steps : ℕ) (store : List ℕ) (first : Registers
   pub read : List ℕ
   pub written : List ℕ
   pub exchanged : Exchanged before after read written
-  pub stands : (rest : List ℕ) → Follows after rest → StandsSo end (run steps store first (read ++ rest) []) rest written
+  pub applies : (rest : List ℕ) → Follows after rest → StandsSo end (run steps store first (read ++ rest) []) rest written
 
 module _ (Holds : List ℕ → Type 0) (steps : ℕ) (store : List ℕ) (first : Registers) (store' : List ℕ) (registers : Registers) (before after : Devices) where
   begun : (end : End) → ((m : Standing) (rest written : List ℕ) → (more : List ℕ) × (output_of m ≡ written ++ more) → StandsSo end m rest written) → Beginning Holds steps store first before after → Stood end steps store first before after
@@ -26,7 +26,7 @@ module _ (Holds : List ℕ → Type 0) (steps : ℕ) (store : List ℕ) (first :
     read = ran.read;
     written = ran.written;
     exchanged = ran.exchanged;
-    stands = λ rest follows. so (run steps store first (ran.read ++ rest) []) rest ran.written (ran.begins rest [] follows);
+    applies = λ rest follows. so (run steps store first (ran.read ++ rest) []) rest ran.written (ran.begins rest [] follows);
   }
 
   finished : (end : End) → ((m : Standing) (rest written : List ℕ) → m ≡ Over end rest written → StandsSo end m rest written) → Finished Holds end steps store first before after → Stood end steps store first before after
@@ -34,7 +34,7 @@ module _ (Holds : List ℕ → Type 0) (steps : ℕ) (store : List ℕ) (first :
     read = ran.read;
     written = ran.written;
     exchanged = ran.exchanged;
-    stands = λ rest follows. so (run steps store first (ran.read ++ rest) []) rest ran.written (ran.ends rest [] follows);
+    applies = λ rest follows. so (run steps store first (ran.read ++ rest) []) rest ran.written (ran.ends rest [] follows);
   }
 
   pub stood : (end : End) → Ran Holds end steps store first store' registers before after → Stood end steps store first before after
@@ -46,7 +46,7 @@ module _ (Holds : List ℕ → Type 0) (steps : ℕ) (store : List ℕ) (first :
     read = ran.read;
     written = ran.written;
     exchanged = ran.exchanged;
-    stands = λ rest follows. (store', registers, ran.leads rest [] follows);
+    applies = λ rest follows. (store', registers, ran.leads rest [] follows);
   }
   stood ReadFault ran = begun ReadFault (λ m rest written is. is) (waiting-begins Holds steps store first before after ran)
   stood WriteFault ran = begun WriteFault (λ m rest written is. is) (broken-begins Holds steps store first before after ran)

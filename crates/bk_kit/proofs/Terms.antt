@@ -7,7 +7,7 @@ pub use Rattle.std.specs.Option.{option_map_or}
 pub use Rattle.std.specs.Prelude.{IsErr, ⊤, pos, Box}
 pub use Rattle.std.specs.Str.Parse.{ParsesUnsigned, ExplainsUnsignedError, HasUnsignedDigitsIfOk, ParsesBool}
 pub use Rattle.bk_base.specs.Bounds.{Bounds}
-pub use Rattle.bk_base.specs.DeviceLaws.{Begins-trans, Appends-trans, AppendsPart-behind, AppendsPart-front, Appends-Keeps, AppendsPart-kept, Begins-refl, Consumes-nothing, Consumes-trans, Appends-nothing, Begins-Keeps}
+pub use Rattle.bk_base.specs.DeviceLaws.{Begins-trans, Appends-trans, AppendsPart-after, AppendsPart-front, Appends-Keeps, AppendsPart-kept, Begins-refl, Consumes-nothing, Consumes-trans, Appends-nothing, Begins-Keeps}
 pub use Rattle.bk_base.specs.Devices.{NothingLeft, AppendsPart, Begins}
 pub use Rattle.bk_base.specs.declared.limit.TheConstants.{INPUT_BYTES, STORE_MOST, FRAME_WORDS_LEAST, FRAME_WORDS, SECTION_BYTES, GLOBAL_NUMBER, VEC_NUMBER}
 pub use Rattle.bk_base.specs.declared.ocode_fault.OcodeFault.{OcodeFault}
@@ -17,8 +17,8 @@ pub use Rattle.bk_base.specs.declared.run_end.End.{End}
 pub use Rattle.bk_base.specs.declared.run_end.End.TheVariants.{WriteFault, Status, DivideByZero, StoreLimit, StepLimit, BadOperation, ReadFault}
 pub use Rattle.bk_base.specs.declared.source_fault.SourceFault.{SourceFault}
 pub use Rattle.bk_gen.specs.BackEnd.{Part, segments, image, items_of_part, depth_of, own_of, parts_at, program_of, start_of, machine_after, IsPartly, going, stopped, HoldsFrames, BackEnd, BackEndHolds, PartsAreWellPlaced, PartsWithoutStart}
-pub use Rattle.bk_gen.specs.StandsFor.{frame_words, StandsFor, EndsWithFrame}
-pub use Rattle.bk_grammar.specs.Rows.{inner, left, behind, is_relation, leaf}
+pub use Rattle.bk_gen.specs.Represents.{frame_words, Represents, EndsWithFrame}
+pub use Rattle.bk_grammar.specs.Rows.{inner, left, following, is_relation, leaf}
 pub use Rattle.bk_grammar.specs.SyntaxFault.{IsSection}
 pub use Rattle.bk_machine.specs.Placement.{SEGMENTS, stack_start, any_starts, greatest_frame, loaded_store, segment_size}
 pub use Rattle.bk_machine.specs.Runs.{Ran, Blames, HeldBy, Paused, Standing, Over, output_of, Going, run, Finished, Devices, Went}
@@ -31,8 +31,8 @@ pub use Rattle.bk_intcode.specs.ItemText.{item_text}
 pub use Rattle.bk_lex.proofs.Lemmas.{more_undecided, means_as, lexed_has_fault, lexed_told, lexed_is_section, section_is_lexed}
 pub use Rattle.bk_lex.specs.Counting.{Step, start, step_of, finished, ◌>>=◌}
 pub use Rattle.bk_lex.specs.Cutting.{goes_on_from, then_on, cut_as, NotEnded, Settled}
-unfoldable pub use Rattle.bk_lex.specs.Cutting.{state_behind}
-pub use Rattle.bk_lex.specs.Found.{cut_behind, SectionBytes}
+unfoldable pub use Rattle.bk_lex.specs.Cutting.{state_after}
+pub use Rattle.bk_lex.specs.Found.{cut_after, SectionBytes}
 pub use Rattle.bk_lex.specs.Lexing.{Section, section_of, lexed, inserted_symbols}
 pub use Rattle.bk_lex.specs.Symbol.{Symbol, symbols_of, symbol}
 pub use Rattle.bk_lex.specs.declared.counting.State.{State}
@@ -45,9 +45,9 @@ pub use Rattle.bk_ocode.specs.StmtRange.{AreBytes, AreTyped}
 pub use Rattle.bk_ocode.specs.declared.stmt.Stmt.{Stmt}
 pub use Rattle.bk_scope.specs.Constants.{constant_word, is_prefix_of_constants, is_infix_of_constants, divides_by_zero}
 pub use Rattle.bk_scope.specs.Entering.{with_formals, labels_of, labels_of_each}
-pub use Rattle.bk_scope.specs.Names.{words_of_start, place_behind, variables_of, parenthesised, role_of_operand, role_of_operands, place_of_second}
+pub use Rattle.bk_scope.specs.Names.{words_of_start, place_after, variables_of, parenthesised, role_of_operand, role_of_operands, place_of_second}
 pub use Rattle.bk_scope.specs.Scope.{Binding, bound_in, bind, bind_all, is_global, has_address}
-pub use Rattle.bk_scope.specs.Scoping.{labels_in_scope, procedure_in_scope, procedures_in_scope, variables_in_scope, manifests_in_scope, statics_in_scope, globals_in_scope, scope_behind_one, place_behind_one, scope_behind, place_behind_one_defined, place_behind_all}
+pub use Rattle.bk_scope.specs.Scoping.{labels_in_scope, procedure_in_scope, procedures_in_scope, variables_in_scope, manifests_in_scope, statics_in_scope, globals_in_scope, scope_after_one, place_after_one, scope_after, place_after_one_defined, place_after_all}
 pub use Rattle.bk_scope.specs.declared.bound.Bound.{Bound}
 pub use Rattle.bk_scope.specs.declared.place.Enclosing.{Enclosing}
 pub use Rattle.bk_simulation.specs.Regular.{Regular, RegularItems, RegularDeclaration, RegularDeclarations, starts, RegularEach, RegularCommand, RegularCommands, RegularDefinition, RegularDefinitions, RegularStarts, DefineNoVariables, DeclareNoVariables, IsRegular}
@@ -79,9 +79,9 @@ pub use Rattle.bk_kit.specs.Sizes.{sizes_line, Reports}
 pub use Rattle.bk_kit.specs.SourceCode.{IsCodeOf, InterpretsSources, FramesAreOfSources, RunsAs, FiltersWriteCode, GeneratesAs, OneAfterAnother}
 pub use Rattle.bk_kit.specs.SourceMeaning.{meanings_with, meanings, MeaningRuns, MeaningTooSmall, MeaningStartless, frame_of, HasWords, HasFramesOf, HasNoStart, MeaningEnds, MeaningGoesOn, EnoughToEnd, EnoughToGo, Placing, StepsToEnd, StepsToGo, image_of, MeaningRefuses}
 pub use Rattle.bk_kit.specs.SourceSections.{HasTrees, IsRefused, HasParts}
-pub use Rattle.bk_kit.specs.Sources.{IsTree, Means, Accepted, WholeSection, bytes_of, trees_of, AreAccepted, stmts_of_tree, codes_of_trees, codes_of, texts_of, line_behind}
+pub use Rattle.bk_kit.specs.Sources.{IsTree, Means, Accepted, WholeSection, bytes_of, trees_of, AreAccepted, stmts_of_tree, codes_of_trees, codes_of, texts_of, line_following}
 pub use Rattle.bk_kit.specs.Telling.{Output}
-pub use Rattle.bk_kit.specs.Texts.{part_number, Format, parts, refused, all_words, AreWhole, SaysWhateverFollows, Stands, StopsInPart}
+pub use Rattle.bk_kit.specs.Texts.{part_number, Format, parts, refused, all_words, AreWhole, SaysWhateverFollows, Applies, StopsInPart}
 pub use Rattle.bk_kit.specs.Tracing.{OcodeRefused, FileRead, RefusesNames}
 pub use Rattle.bk_kit.specs.declared.kit_fault.KitFault.{KitFault}
 pub use Rattle.bk_kit.specs.declared.kit_fault.KitFault.TheVariants.{Source, Ocode, Intcode, TooSmall, NoStart, Read, Write, Memory}

@@ -3,7 +3,7 @@ use Rattle.bk_kit.proofs.Terms.{◌≡◌, inl, inr, ℕ, ◌<◌, ◌++◌, Boo
 
 -- a text that is short enough ends only where the end was told
 at_end : (ended : Bool) (taken more : List ℕ) → length (taken ++ more) < INPUT_BYTES → (IsTrue ended → more ≡ []) → AtEnd ended (length taken) → more ≡ []
-at_end ended taken more short over (inl told) = over told
+at_end ended taken more short over (inl reported) = over reported
 at_end ended taken more short over (inr full) = absurd (omega (arith, short, full, length-append taken more))
 
 shorter : (front taken more : List ℕ) → length ((front ++ taken) ++ more) < INPUT_BYTES → length (taken ++ more) < INPUT_BYTES
@@ -39,8 +39,8 @@ module _ {Part Kind : Type 0} (format : Format Part Kind) where
   module _ (all : List Part) (front : List ℕ) (was : Bool) (read : Read all front was) where
     module _ (taken : List ℕ) (ended : Bool) (not_over : IsTrue was → ⊥) where
       -- all words are those of the parts and what the bytes behind them say
-      words_behind : (more : List ℕ) → length ((front ++ taken) ++ more) < INPUT_BYTES → words_of ((front ++ taken) ++ more) ≡ all_words format all ++ words_of (taken ++ more)
-      words_behind more short =
+      words_after : (more : List ℕ) → length ((front ++ taken) ++ more) < INPUT_BYTES → words_of ((front ++ taken) ++ more) ≡ all_words format all ++ words_of (taken ++ more)
+      words_after more short =
           let same : (front ++ taken) ++ more ≡ front ++ (taken ++ more) = append_assoc front taken more in
           ap words_of same ∙ read.says (taken ++ more) (λ over. absurd (not_over over)) (omega (arith, short, ap (λ (l : List ℕ). length l) same))
 
@@ -51,7 +51,7 @@ module _ {Part Kind : Type 0} (format : Format Part Kind) where
       read_more last whole are = record {
         are = whole_push all last read.are whole;
         says = λ more over short.
-            words_behind more short
+            words_after more short
             ∙ ap (λ (w : List (List ℕ)). all_words format all ++ w) (are more (at_end ended taken more (shorter front taken more short) over))
             ∙ sym (append_assoc (all_words format all) (format.words last) (words_of more))
             ∙ ap (λ (w : List (List ℕ)). w ++ words_of more) (sym (words_push all last));
@@ -64,7 +64,7 @@ module _ {Part Kind : Type 0} (format : Format Part Kind) where
         all,
         words_of (taken ++ more),
         read.are,
-        words_behind more short,
+        words_after more short,
         refuses more (at_end ended taken more (shorter front taken more short) over),
         refl,
       )
@@ -73,14 +73,14 @@ module _ {Part Kind : Type 0} (format : Format Part Kind) where
       pub says_whole : ((more : List ℕ) → (AtEnd ended (length taken) → more ≡ []) → words_of (taken ++ more) ≡ []) → SaysWhateverFollows format (parts all) (front ++ taken) ended
       says_whole none more over short = (
         read.are,
-        words_behind more short
+        words_after more short
             ∙ ap (λ (w : List (List ℕ)). all_words format all ++ w) (none more (at_end ended taken more (shorter front taken more short) over))
             ∙ append-nil (all_words format all),
       )
 
     -- none, where the end was told before
     pub says_all : (ended : Bool) → (IsTrue was → IsTrue ended) → IsTrue was → SaysWhateverFollows format (parts all) front ended
-    says_all ended stays told more over short = (
+    says_all ended stays reported more over short = (
       read.are,
-      read.says more (λ again. over (stays again)) short ∙ ap (λ (m : List ℕ). all_words format all ++ words_of m) (over (stays told)) ∙ append-nil (all_words format all),
+      read.says more (λ again. over (stays again)) short ∙ ap (λ (m : List ℕ). all_words format all ++ words_of m) (over (stays reported)) ∙ append-nil (all_words format all),
     )

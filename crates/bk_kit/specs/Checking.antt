@@ -1,5 +1,5 @@
 -- What checking a source comes to: the verdict of its meaning, or a fault of its text, or why there is no verdict.
-use Rattle.std.specs.Prelude.{◌≡◌, ℕ, nat_lt, ⊤, Bool, false, List, [], ◌∷◌, ◌++◌, ◌==◌, map, Option, None, Some, Result, Ok, Err, Vec, vec_len, codes, decimal, if◌then◌else◌}
+use Rattle.std.specs.Prelude.{◌≡◌, ℕ, nat_lt, ⊤, Bool, false, List, [], ◌∷◌, ◌++◌, ◌==◌, map, Option, None, Some, option_map, Result, Ok, Err, Vec, vec_len, codes, decimal, if◌then◌else◌}
 use Rattle.std.specs.Global.{Global}
 use Rattle.bk_tree.specs.Position.{line_in}
 use Rattle.bk_tree.specs.Tree.{Declarations}
@@ -9,6 +9,7 @@ use Rattle.bk_checker.specs.declared.report.CheckFault.{CheckFault}
 use Rattle.bk_checker.specs.declared.report.CheckFault.TheVariants as x
 use Rattle.bk_checker.specs.declared.remarks.Remark.{Remark}
 use Rattle.bk_checker.specs.declared.report.Report.{Report}
+use Rattle.bk_checker.specs.declared.report.Notice.{Notice}
 use Rattle.bk_checker.specs.Checks.{Devices, Checks, ChecksPart, Blames, Flushed}
 use Rattle.bk_kit.specs.declared.kit_fault.KitFault.{KitFault}
 use Rattle.bk_kit.specs.declared.checker.Refusal.{Refusal}
@@ -91,13 +92,13 @@ placed_text file place kind what further = file ++ codes ":" ++ place ++ codes "
 abbrev pub place_or_line : Vec ℕ Global → ℕ → List ℕ
 place_or_line place line = if vec_len place == 0 then decimal line else place.items
 
--- where the run stopped, why, and the calls that were active
-abbrev pub stop_text : List ℕ → List ℕ → Report → List ℕ
-stop_text file kind report = placed_text file (place_or_line report.place (line_in report.at)) kind report.what.items report.calls.items
+-- a notice, of this kind
+abbrev pub notice_text : List ℕ → List ℕ → Notice → List ℕ
+notice_text file kind notice = placed_text file (place_or_line notice.place (line_in notice.at)) kind notice.what.items notice.further.items
 
--- what is suspicious, on its line
+-- what is suspicious
 abbrev pub remark_text : List ℕ → Remark → List ℕ
-remark_text file remark = placed_text file (decimal (line_in remark.at)) (codes "suspicious: ") remark.text.items []
+remark_text file remark = notice_text file (codes "suspicious: ") remark.notice
 
 -- a fault of the source: its place and what is meant
 abbrev pub hint_text : List ℕ → Vec ℕ Global → List ℕ
@@ -107,14 +108,13 @@ hint_text file hint = file ++ hint.items
 abbrev pub verdict_text : Verdict → List ℕ → Report → Option (List ℕ)
 verdict_text (v.Status word) file report = None
 verdict_text v.NoStart file report = Some (line_of (codes "no START"))
-verdict_text v.DivideByZero file report = Some (stop_text file [] report)
-verdict_text v.Undefined file report = Some (stop_text file (codes "undefined: ") report)
-verdict_text v.Turns file report = Some (stop_text file [] report)
+verdict_text v.DivideByZero file report = Some (notice_text file [] report.stop)
+verdict_text v.Undefined file report = Some (notice_text file (codes "undefined: ") report.stop)
+verdict_text v.Turns file report = Some (notice_text file [] report.stop)
 
--- the calls that were active where the limits of a check were reached
-abbrev pub calls_text : Option (Vec ℕ Global) → List ℕ
-calls_text None = []
-calls_text (Some calls) = calls.items
+-- where the limits of a check were reached
+abbrev pub limit_text : List ℕ → Option Notice → Option (List ℕ)
+limit_text file = option_map (notice_text file [])
 
 -- These texts are reported one after another, and nothing else.
 abbrev pub ReportsEach : List (List ℕ) → Output → Output → Type 0
@@ -128,8 +128,8 @@ ReportsCheck file (Ok report) old new =
     (mid : Output) × Tells (verdict_text report.verdict file report) old mid × ReportsEach (map (remark_text file) report.remarks.items) mid new
 ReportsCheck file (Err (n.Text refusal)) old new =
     (mid : Output) × ReportsLine (line_of (fault_text refusal.fault)) old mid × ReportsEach (map (hint_text file) refusal.hints.items) mid new
-ReportsCheck file (Err (n.Run stop)) old new =
-    (mid : Output) × ReportsLine (line_of (check_fault_text stop.fault)) old mid × ReportsLine (calls_text stop.calls) mid new
+ReportsCheck file (Err (n.Run given)) old new =
+    (mid : Output) × ReportsLine (line_of (check_fault_text given.fault)) old mid × Tells (limit_text file given.stop) mid new
 
 -- neither input nor output is touched where the source is refused
 abbrev pub Untouched : {I O : Type 0} → NotChecked → I → I → O → O → Type 0

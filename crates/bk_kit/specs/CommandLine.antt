@@ -231,7 +231,7 @@ RefusesValues found (Help help) = ⊥
 RefusesValues found Bad = IsOrder found → ⊥
 RefusesValues found Memory = ⊤
 
--- a fault that stands for an error of clap, by its kind
+-- a fault for an error of clap, by its kind
 abbrev pub IsHelp : ErrorKind → Type 0
 IsHelp k = (k ≡ kind.DisplayHelp) ⊎ (k ≡ kind.DisplayVersion)
 

@@ -10,7 +10,7 @@ use Rattle.bk_ocode.specs.declared.stmt.Stmt.{Stmt}
 use Rattle.bk_kit.specs.declared.kit_fault.KitFault.{KitFault}
 use Rattle.bk_kit.specs.declared.kit_fault.KitFault.TheVariants.{Source, Ocode, Intcode, TooSmall, NoStart, Read, Write, Memory}
 use Rattle.bk_kit.specs.ReadingSource.{IsUndecided, Asked, Follows}
-use Rattle.bk_kit.specs.Sources.{Accepted, Refused, WholeSection, bytes_of, codes_of, codes_of_trees, line_behind, AreAccepted, texts_of}
+use Rattle.bk_kit.specs.Sources.{Accepted, Refused, WholeSection, bytes_of, codes_of, codes_of_trees, line_following, AreAccepted, texts_of}
 use Rattle.bk_kit.specs.Telling.{Output}
 use Rattle.bk_kit.specs.Filters.{Puts, Ends}
 
@@ -64,7 +64,7 @@ pub record Delivered (old new : Option (List ℕ)) : Type 0 where
 -- This holds of the texts of these sections in OCODE, of the bytes of the next, and of the line on which they begin.
 pub record Delivers (old new : Option (List ℕ)) (Holds : List ℕ → List ℕ → ℕ → Type 0) : Type 0 where
   pub front : Delivered old new
-  pub holds : length (bytes_of front.sections ++ front.part) < INPUT_BYTES → Holds (texts_of (codes_of front.sections)) front.part (line_behind 1 front.sections)
+  pub holds : length (bytes_of front.sections ++ front.part) < INPUT_BYTES → Holds (texts_of (codes_of front.sections)) front.part (line_following 1 front.sections)
 
 -- What compiling a source answers, reads and writes.
 pub record Compiles (answer : Result (Unit {0}) KitFault) (old new : Option (List ℕ)) (ended : Bool) (reads : ℕ) (before after : Output) : Type 0 where

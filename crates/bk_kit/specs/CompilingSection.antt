@@ -7,7 +7,7 @@ use Rattle.bk_base.specs.declared.source_fault.SourceFault.{SourceFault}
 use Rattle.bk_lex.specs.Symbol.{Symbol}
 use Rattle.bk_lex.specs.Lexing.{Section, lexed}
 use Rattle.bk_tree.specs.Tree.{Declarations}
-use Rattle.bk_syntax.specs.Parsing.{ToldAt, ToldAtEnd}
+use Rattle.bk_syntax.specs.Parsing.{ReportedAt, ReportedAtEnd}
 use Rattle.bk_ocode.specs.StmtRange.{AreBytes}
 use Rattle.bk_ocode.specs.SectionStmts.{stmts_of}
 use Rattle.bk_tree.specs.Section.{declarations_of}
@@ -58,7 +58,7 @@ pub record Compiled (c : CompiledSection) (text : List ℕ) (from : ℕ) : Type 
 -- These symbols are no section without faults: of its syntax, or else of its names.
 abbrev pub RefusesSymbols : KitFault → List Symbol → ℕ → Type 0
 RefusesSymbols (Source fault) symbols end =
-    (ToldAt fault symbols ⊎ ToldAtEnd fault symbols end ⊎ Misnames fault symbols) × ((tree : Declarations) → IsTree tree symbols → ⊥)
+    (ReportedAt fault symbols ⊎ ReportedAtEnd fault symbols end ⊎ Misnames fault symbols) × ((tree : Declarations) → IsTree tree symbols → ⊥)
 RefusesSymbols Memory symbols end = ⊤
 RefusesSymbols (Ocode number fault) symbols end = ⊥
 RefusesSymbols (Intcode number fault) symbols end = ⊥

@@ -20,7 +20,7 @@ use Rattle.bk_ocode.specs.declared.stmt.Stmt.{Stmt}
 use Rattle.bk_machine.specs.declared.item.Item.{Item}
 use Rattle.bk_machine.specs.Segment.{IsSegment}
 use Rattle.bk_intcode.specs.SegmentText.{segment_text}
-use Rattle.bk_gen.specs.StandsFor.{StandsFor, EndsWithFrame, frame_words}
+use Rattle.bk_gen.specs.Represents.{Represents, EndsWithFrame, frame_words}
 use Rattle.bk_kit.specs.declared.kit_fault.KitFault.{KitFault}
 use Rattle.bk_kit.specs.declared.kit_fault.KitFault.TheVariants.{Source, Ocode, Intcode, TooSmall, NoStart, Read, Write, Memory}
 use Rattle.bk_kit.specs.Telling.{Output}
@@ -50,11 +50,11 @@ pub record IsRead (bytes : List ℕ) (stmts : List Stmt) : Type 0 where
   pub section : IsSection stmts
   pub typed : AreTyped stmts
 
--- The segment stands for the section.
+-- The segment represents the section.
 pub record IsGenerated (g : Generated) : Type 0 where
   pub read : IsRead g.bytes g.stmts
   pub segment : IsSegment g.items
-  pub stands : StandsFor g.items g.stmts
+  pub applies : Represents g.items g.stmts
   -- it states the section's largest depth
   pub frame : EndsWithFrame g.items (frame_words g.stmts)
 
@@ -76,47 +76,47 @@ texts_of (g ∷ rest) = segment_text g.items ++ texts_of rest
 
 -- What ends the generating after whole sections, where so much of the input was left after them, and is left now, and this text
 -- is written of the next: each answer but a refused write. `reads` counts the failures of the input.
-abbrev pub Comes : List Generated → (behind new : Option (List ℕ)) → Bool → ℕ → Result (Unit {0}) KitFault → List ℕ → Type 0
+abbrev pub Comes : List Generated → (following new : Option (List ℕ)) → Bool → ℕ → Result (Unit {0}) KitFault → List ℕ → Type 0
 -- only blanks were left
-Comes sections behind new ended reads (Ok done) text =
-    answers.Takes behind new ended GivesNothing
-    × answers.Takes behind new ended (λ part end. SaysWhateverFollows ocode (parts (sections_of sections)) (bytes_of sections ++ part) ended)
+Comes sections following new ended reads (Ok done) text =
+    answers.Takes following new ended GivesNothing
+    × answers.Takes following new ended (λ part end. SaysWhateverFollows ocode (parts (sections_of sections)) (bytes_of sections ++ part) ended)
     × (text ≡ []) × (reads ≡ 0)
 -- a section is refused: nothing is written of it, and what was taken ends with the words at fault, or one blank after them
-Comes sections behind new ended reads (Err (Ocode number fault)) text =
-    answers.Takes behind new ended (λ part end. GivesFault part end fault.statement fault.kind)
-    × answers.Takes behind new ended (λ part end. SaysWhateverFollows ocode (refused number fault.statement fault.kind) (bytes_of sections ++ part) ended)
+Comes sections following new ended reads (Err (Ocode number fault)) text =
+    answers.Takes following new ended (λ part end. GivesFault part end fault.statement fault.kind)
+    × answers.Takes following new ended (λ part end. SaysWhateverFollows ocode (refused number fault.statement fault.kind) (bytes_of sections ++ part) ended)
     × (text ≡ []) × (reads ≡ 0)
 -- the read failed where the next section had not come to its end
-Comes sections behind new ended reads (Err Read) text = answers.Takes behind new ended (λ part end. StopsAtDevice part) × (text ≡ []) × (reads ≡ 1)
+Comes sections following new ended reads (Err Read) text = answers.Takes following new ended (λ part end. StopsAtDevice part) × (text ≡ []) × (reads ≡ 1)
 -- memory was refused at a word of a section, or after one
-Comes sections behind new ended reads (Err Memory) text =
-    answers.Takes behind new ended (λ part end. StopsAtWord part end ⊎ ((stmts : List Stmt) × IsRead part stmts)) × (text ≡ []) × (reads ≡ 0)
-Comes sections behind new ended reads (Err Write) text = ⊥
-Comes sections behind new ended reads (Err (Source fault)) text = ⊥
-Comes sections behind new ended reads (Err (Intcode number fault)) text = ⊥
-Comes sections behind new ended reads (Err TooSmall) text = ⊥
-Comes sections behind new ended reads (Err NoStart) text = ⊥
+Comes sections following new ended reads (Err Memory) text =
+    answers.Takes following new ended (λ part end. StopsAtWord part end ⊎ ((stmts : List Stmt) × IsRead part stmts)) × (text ≡ []) × (reads ≡ 0)
+Comes sections following new ended reads (Err Write) text = ⊥
+Comes sections following new ended reads (Err (Source fault)) text = ⊥
+Comes sections following new ended reads (Err (Intcode number fault)) text = ⊥
+Comes sections following new ended reads (Err TooSmall) text = ⊥
+Comes sections following new ended reads (Err NoStart) text = ⊥
 
 -- A section was read, with the text of its segment: nothing was read after it.
-abbrev pub Takes : (behind new : Option (List ℕ)) → ℕ → List ℕ → Type 0
-Takes behind new reads text = (g : Generated) × IsGenerated g × Consumes behind new g.bytes × (text ≡ segment_text g.items) × (reads ≡ 0)
+abbrev pub Takes : (following new : Option (List ℕ)) → ℕ → List ℕ → Type 0
+Takes following new reads text = (g : Generated) × IsGenerated g × Consumes following new g.bytes × (text ≡ segment_text g.items) × (reads ≡ 0)
 
 -- Whole sections were taken; then this holds of them and of what was left after them.
 pub record Delivers (old : Option (List ℕ)) (Holds : List Generated → Option (List ℕ) → Type 0) : Type 0 where
   pub sections : List Generated
   pub generated : AreGenerated sections
-  pub behind : Option (List ℕ)
-  pub delivered : Consumes old behind (bytes_of sections)
+  pub following : Option (List ℕ)
+  pub delivered : Consumes old following (bytes_of sections)
   -- a text is taken to have less bytes than one call reads
-  pub holds : length (bytes_of sections) < INPUT_BYTES → Holds sections behind
+  pub holds : length (bytes_of sections) < INPUT_BYTES → Holds sections following
 
 -- What generating answers, reads and writes.
 pub record Generates (answer : Result (Unit {0}) KitFault) (old new : Option (List ℕ)) (ended : Bool) (reads : ℕ) (before after : Output) : Type 0 where
-  pub delivers : Delivers old (λ sections behind. Ends (Comes sections behind new ended reads) (Takes behind new reads) (texts_of sections) before after answer)
+  pub delivers : Delivers old (λ sections following. Ends (Comes sections following new ended reads) (Takes following new reads) (texts_of sections) before after answer)
   pub passes : Begins before.passed after.passed
 
 -- the same before the last flush
 pub record PutsSegments (answer : Result (Unit {0}) KitFault) (old new : Option (List ℕ)) (ended : Bool) (reads : ℕ) (before after : Output) : Type 0 where
-  pub delivers : Delivers old (λ sections behind. Puts (Comes sections behind new ended reads) (Takes behind new reads) (texts_of sections) before after answer)
+  pub delivers : Delivers old (λ sections following. Puts (Comes sections following new ended reads) (Takes following new reads) (texts_of sections) before after answer)
   pub passes : Begins before.passed after.passed

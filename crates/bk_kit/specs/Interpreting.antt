@@ -14,7 +14,7 @@ use Rattle.bk_machine.specs.Runs.{Devices, Ran, Blames}
 use Rattle.bk_intcode.specs.SegmentReading.{StopsAtDevice}
 use Rattle.bk_kit.specs.declared.kit_fault.KitFault.{KitFault}
 use Rattle.bk_kit.specs.declared.kit_fault.KitFault.TheVariants.{Source, Ocode, Intcode, TooSmall, NoStart, Read, Write, Memory}
-use Rattle.bk_kit.specs.Texts.{Stands, StopsInPart, parts, refused}
+use Rattle.bk_kit.specs.Texts.{Applies, StopsInPart, parts, refused}
 use Rattle.bk_kit.specs.Code.{intcode}
 
 -- at least 16 words of the store are left for the stack
@@ -27,7 +27,7 @@ first_registers all = record { c = 1; p = stack_start SEGMENTS all; a = 0; b = 0
 
 -- What refuses a text as it is read.
 abbrev pub TextRefused : KitFault → Option (List ℕ) → Option (List ℕ) → Bool → Type 0
-TextRefused (Intcode number fault) old new ended = Stands intcode (refused number fault.item fault.kind) old new ended
+TextRefused (Intcode number fault) old new ended = Applies intcode (refused number fault.item fault.kind) old new ended
 TextRefused Read old new ended = StopsInPart intcode StopsAtDevice old new
 TextRefused Memory old new ended = ⊤
 TextRefused (Source fault) old new ended = ⊥
@@ -39,14 +39,14 @@ TextRefused Write old new ended = ⊥
 -- What refuses a text before anything runs, given the words of the store.
 abbrev pub CodeRefused : KitFault → ℕ → Option (List ℕ) → Option (List ℕ) → Bool → Type 0
 CodeRefused TooSmall words old new ended =
-    (all : List (List Item)) × Stands intcode (parts all) old new ended × (words < stack_start SEGMENTS all + 16)
+    (all : List (List Item)) × Applies intcode (parts all) old new ended × (words < stack_start SEGMENTS all + 16)
 CodeRefused NoStart words old new ended =
-    (all : List (List Item)) × Stands intcode (parts all) old new ended × HasRoom words all × (any_starts all ≡ false)
+    (all : List (List Item)) × Applies intcode (parts all) old new ended × HasRoom words all × (any_starts all ≡ false)
 CodeRefused fault words old new ended = TextRefused fault old new ended
 
 -- The text is of segments that can be loaded.
 pub record Loadable (all : List (List Item)) (words : ℕ) (old new : Option (List ℕ)) (ended : Bool) : Type 0 where
-  pub stands : Stands intcode (parts all) old new ended
+  pub applies : Applies intcode (parts all) old new ended
   pub room : HasRoom words all
   pub starts : any_starts all ≡ true
 

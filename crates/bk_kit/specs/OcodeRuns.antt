@@ -14,7 +14,7 @@ use Rattle.bk_ocode.specs.OcodeState.{State, Goes, Ends}
 use Rattle.bk_ocode.specs.WellPlaced.{IsWellPlaced}
 use Rattle.bk_ocode.specs.declared.stmt.Stmt.{Stmt}
 use Rattle.bk_gen.specs.BackEnd.{Part, image, program_of, start_of, depth_of, HoldsFrames, ◌begins◌}
-use Rattle.bk_gen.specs.StandsFor.{EndsWithFrame, frame_words}
+use Rattle.bk_gen.specs.Represents.{EndsWithFrame, frame_words}
 use Rattle.bk_kit.specs.declared.kit_fault.KitFault.{KitFault}
 use Rattle.bk_kit.specs.declared.kit_fault.KitFault.TheVariants.{Source, Ocode, Intcode, TooSmall, NoStart, Read, Write, Memory}
 use Rattle.bk_kit.specs.SectionNumbers.{text_of, frame_of, stmts_of_parts}
@@ -50,7 +50,7 @@ FindsNoFault answer = IsNotRefused answer
 -- ---- the end of a run, by the steps of OCODE
 
 -- Sections as the loader places their segments, all the input that the run could read, and the state before the first step. Where a
--- step is wild, no more steps are done, and what is said of those behind it says nothing.
+-- step is wild, no more steps are done, and what is said of those after it says nothing.
 module _ (parts : List Part) (input : List ℕ) (first : State) where
   -- after q steps the run is here
   abbrev pub GoesTo : ℕ → State → Type 0

@@ -19,17 +19,17 @@ use Rattle.bk_kit.specs.Compiling.{Delivered}
 use Rattle.bk_kit.specs.SourceSections.{IsRefused, HasParts}
 use Rattle.bk_kit.specs.SourceMeaning.{meanings}
 
--- Segments that stand for some sections.
+-- Segments that represent some sections.
 pub record Stand (all : List (List Item)) (codes : List (List Stmt)) : Type 0 where
   pub parts : List Part
   pub segments_are : segments parts ≡ all
   pub stmts_are : stmts_of_parts parts ≡ codes
 
--- One segment more stands for each of these sections.
+-- One segment more represents each of these sections.
 abbrev pub Generated : List (List Item) → List (List Item) → List (List Stmt) → Type 0
 Generated before after codes = (more : List (List Item)) × (after ≡ before ++ more) × Stand more codes
 
--- These segments stand for the sections of the source.
+-- These segments represent the sections of the source.
 pub record Assembled (all : List (List Item)) (old new : Option (List ℕ)) (ended : Bool) : Type 0 where
   pub parts : List Part
   pub segments_are : segments parts ≡ all
@@ -68,7 +68,7 @@ RefusesSource fault words old new ended = (steps : ℕ) (before : Streams) → H
 
 -- ---- limits
 
--- Segments that stand for the sections of the source were loaded into a store of just so many words and run for at most so many steps, and
+-- Segments that represent the sections of the source were loaded into a store of just so many words and run for at most so many steps, and
 -- for just so many where the end is `StepLimit`. At each end the bytes read and written are those of the run. Holds says what the reader
 -- of the input can hold.
 pub record RunsSegments (Holds : List ℕ → Type 0) (end : End) (steps words : ℕ) (old new : Option (List ℕ)) (ended : Bool) (before after : Streams) : Type 0 where

@@ -3,7 +3,7 @@ use Rattle.std.specs.Prelude.{◌≡◌, ◌⊎◌, ℕ, Bool, ⊤, List, [], �
 use Rattle.bk_base.specs.Devices.{Begins}
 use Rattle.bk_tree.specs.Tree.{Declarations}
 use Rattle.bk_tree.specs.Section.{declarations_of}
-use Rattle.bk_gen.specs.StandsFor.{StandsFor}
+use Rattle.bk_gen.specs.Represents.{Represents}
 use Rattle.bk_show.specs.Viewed.{Viewed}
 use Rattle.bk_show.specs.declared.section.NotShown.{NotShown}
 use Rattle.bk_show.specs.declared.section.NotShown.TheVariants as unshown
@@ -25,11 +25,11 @@ Shows (Err fault) old new ended reads writes = NotAssembled fault old new ended 
 
 -- ---- the sections, by any layout
 
--- The tree is that of the symbols, the statements are the tree's, and the segment stands for them.
+-- The tree is that of the symbols, the statements are the tree's, and the segment represents them.
 pub record IsViewed (x : Viewed) : Type 0 where
   pub tree : IsTree x.tree x.symbols
   pub code : x.code ≡ stmts_of_tree x.tree
-  pub stands : StandsFor x.segment x.code
+  pub applies : Represents x.segment x.code
 
 abbrev pub AreViewed : List Viewed → Type 0
 AreViewed [] = ⊤

@@ -1,4 +1,4 @@
--- The code of a source: texts of segments that stand for its sections, what interpreting it comes to, and that the filters write it.
+-- The code of a source: texts of segments that represent its sections, what interpreting it comes to, and that the filters write it.
 use Rattle.std.specs.Prelude.{◌≡◌, ◌≢◌, ℕ, ◌<◌, ◌≤◌, Bool, IsTrue, List, [], Option, Some, Result, Ok, OnOk, length}
 use Rattle.std.specs.Io.KnownBytes.{Appends}
 use Rattle.bk_base.specs.declared.limit.TheConstants.{INPUT_BYTES, STORE_MOST}
@@ -21,7 +21,7 @@ use Rattle.bk_kit.specs.Sizes.{sizes_line, Reports}
 use Rattle.bk_kit.specs.SourceSections.{HasTrees, HasParts}
 use Rattle.bk_kit.specs.SourceMeaning.{frame_of, image_of, meanings_with}
 
--- A text of segments of which each stands for its section of the source: their words, with any blanks between them.
+-- A text of segments of which each represents its section of the source: their words, with any blanks between them.
 pub record IsCodeOf (source code : List ℕ) : Type 0 where
   pub parts : List Part
   pub has : HasParts parts source

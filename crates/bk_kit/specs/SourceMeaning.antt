@@ -21,7 +21,7 @@ use Rattle.bk_meaning.specs.Lasting.{program_of, first_memory}
 use Rattle.bk_meaning.specs.World as world
 use Rattle.bk_meaning.specs.Program as program
 use Rattle.bk_meaning.specs.Program.{meaning}
-use Rattle.bk_simulation.specs.Placement.{StandFor}
+use Rattle.bk_simulation.specs.Placement.{Represent}
 use Rattle.bk_simulation.specs.Simulation.{end_of, EndsWithin, ComesWithin}
 use Rattle.bk_kit.specs.declared.kit_fault.KitFault.TheVariants.{Source, TooSmall, NoStart}
 use Rattle.bk_kit.specs.Interpreting.{AnyBytes, Streams, devices_of, first_registers}
@@ -69,7 +69,7 @@ pub record Placing (trees : List Declarations) (input : List ℕ) (image : ℕ) 
   pub placed : Program
   pub first : ℕ
   pub low : first ≤ image
-  pub stands : StandFor trees placed.sections
+  pub applies : Represent trees placed.sections
   pub well : IsWellPlaced placed first FRAME_WORDS
   pub state : State
   pub begins : first_state placed first input ≡ Some state
@@ -134,7 +134,7 @@ module _ (trees : List Declarations) (input : List ℕ) where
     pub left : List ℕ
     pub calls : ℕ
     pub means : meaning trees input turns ≡ program.Going bytes left calls
-    pub comes : (at : Placing trees input image) → (more behind : List ℕ) × ComesWithin at.placed at.first at.state q d (bytes ++ more) behind
+    pub comes : (at : Placing trees input image) → (more following : List ℕ) × ComesWithin at.placed at.first at.state q d (bytes ++ more) following
     pub has_steps : HasStepsOf q steps
     pub has_words : HasFramesOf image trees d words
 
@@ -158,7 +158,7 @@ meanings = meanings_with image_of
 
 -- ---- the laws
 
--- A run of the machine with segments that stand for the source's sections, where the loader takes them, is one of the source.
+-- A run of the machine with segments that represent the source's sections, where the loader takes them, is one of the source.
 abbrev pub MeaningRuns : Type 0
 MeaningRuns = (parts : List Part) (source : List ℕ) (end : End) (steps words : ℕ) (store : List ℕ) (registers : Registers) (before after : Streams)
     → HasParts parts source → image parts + 16 ≤ words → words ≤ STORE_MOST → any_starts (segments parts) ≡ true

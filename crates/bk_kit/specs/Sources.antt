@@ -5,14 +5,14 @@ use Rattle.bk_lex.specs.Symbol.{Symbol}
 use Rattle.bk_lex.specs.Lexing.{Section}
 use Rattle.bk_lex.specs.Tokens.{IsSection}
 use Rattle.bk_lex.specs.TextFault.{HasFault}
-use Rattle.bk_lex.specs.Telling.{Told}
+use Rattle.bk_lex.specs.Telling.{Reported}
 use Rattle.bk_tree.specs.Tree.{Declarations}
 use Rattle.bk_tree.specs.Limits.{Within}
 use Rattle.bk_tree.specs.declared.placed.PlacedFault.{PlacedFault}
 use Rattle.bk_tree.specs.Placed.{fault_on_line}
 use Rattle.bk_grammar.specs.SyntaxFault as syntax
-use Rattle.bk_syntax.specs.Parsing.{ToldAt, ToldAtEnd}
-use Rattle.bk_scope.specs.Points.{first_told}
+use Rattle.bk_syntax.specs.Parsing.{ReportedAt, ReportedAtEnd}
+use Rattle.bk_scope.specs.Points.{first_reported}
 use Rattle.bk_scope.specs.Faults.{faults}
 use Rattle.bk_scope.specs.FirstFault.{breach_of}
 use Rattle.bk_ocode.specs.Lists.{joined}
@@ -50,19 +50,19 @@ pub record Misnames (fault : SourceFault) (symbols : List Symbol) : Type 0 where
   pub section : syntax.IsSection tree symbols
   pub within : Within tree
   pub placed : PlacedFault
-  pub first : first_told (faults tree) ≡ Some (breach_of placed)
+  pub first : first_reported (faults tree) ≡ Some (breach_of placed)
   pub line : fault ≡ fault_on_line placed
 
 -- The first section of a text is refused for this fault: one of its tokens; or else, one of its syntax, at a symbol or at its
 -- end; or else, of its names.
-abbrev pub Stands : SourceFault → List ℕ → ℕ → Type 0
-Stands fault text line =
-    (HasFault line fault text × Told line fault text)
+abbrev pub Applies : SourceFault → List ℕ → ℕ → Type 0
+Applies fault text line =
+    (HasFault line fault text × Reported line fault text)
     ⊎ ((section : Section) × IsSection text line section
-    × (ToldAt fault section.symbols ⊎ ToldAtEnd fault section.symbols section.line ⊎ Misnames fault section.symbols))
+    × (ReportedAt fault section.symbols ⊎ ReportedAtEnd fault section.symbols section.line ⊎ Misnames fault section.symbols))
 
 pub record Refused (fault : SourceFault) (text : List ℕ) (line : ℕ) : Type 0 where
-  pub stands : Stands fault text line
+  pub applies : Applies fault text line
   pub not_accepted : (section : Section) (trees : List Declarations) → Accepted text line section trees → ⊥
 
 -- A section with its bytes, the `.` that ends it included, and its tree, or none.
@@ -83,9 +83,9 @@ abbrev pub codes_of : List WholeSection → List (List Stmt)
 codes_of sections = codes_of_trees (trees_of sections)
 
 -- the line on which it goes on after them
-abbrev pub line_behind : ℕ → List WholeSection → ℕ
-line_behind line [] = line
-line_behind line (section ∷ sections) = line_behind section.tokens.line sections
+abbrev pub line_following : ℕ → List WholeSection → ℕ
+line_following line [] = line
+line_following line (section ∷ sections) = line_following section.tokens.line sections
 
 -- They are the first sections of a text that goes on after them so, each accepted and ended by its `.`.
 abbrev pub AreAccepted : ℕ → List WholeSection → List ℕ → Type 0

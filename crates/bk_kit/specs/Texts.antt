@@ -43,7 +43,7 @@ module _ {Part Kind : Type 0} (format : Format Part Kind) where
       (more : List ℕ) → (IsTrue ended → more ≡ []) → length (taken ++ more) < INPUT_BYTES → Says saying (words_of (taken ++ more))
 
   -- Bytes were taken, and the text says this whatever follows them.
-  pub record Stands (saying : Saying Part Kind) (old new : Option (List ℕ)) (ended : Bool) : Type 0 where
+  pub record Applies (saying : Saying Part Kind) (old new : Option (List ℕ)) (ended : Bool) : Type 0 where
     pub taken : List ℕ
     pub delivered : Consumes old new taken
     pub says : SaysWhateverFollows saying taken ended

@@ -11,7 +11,7 @@ use Rattle.bk_kit.specs.declared.kit_fault.KitFault.{KitFault}
 use Rattle.bk_kit.specs.declared.kit_fault.KitFault.TheVariants.{Source, Ocode, Intcode, TooSmall, NoStart, Read, Write, Memory}
 use Rattle.bk_kit.specs.Generating.{ocode}
 use Rattle.bk_kit.specs.Interpreting.{Streams, devices_of, CodeRefused, Interprets, is_read_fault, is_read}
-use Rattle.bk_kit.specs.Texts.{Stands, StopsInPart, parts, refused}
+use Rattle.bk_kit.specs.Texts.{Applies, StopsInPart, parts, refused}
 use Rattle.bk_kit.specs.Telling.{Output, Tells}
 
 -- THE TRACE. The run is the one of `interpret`, with the same bytes and the same end, unless the output fails: it is flushed at each step, so
@@ -36,7 +36,7 @@ file_read f before after = record { old = f.left before; new = f.left after; end
 
 -- What refuses a text of OCODE as it is read.
 abbrev pub OcodeRefused : KitFault → Option (List ℕ) → Option (List ℕ) → Bool → Type 0
-OcodeRefused (Ocode number fault) old new ended = Stands ocode (refused number fault.statement fault.kind) old new ended
+OcodeRefused (Ocode number fault) old new ended = Applies ocode (refused number fault.statement fault.kind) old new ended
 OcodeRefused Read old new ended = StopsInPart ocode StopsAtDevice old new
 OcodeRefused Memory old new ended = ⊤
 OcodeRefused (Source fault) old new ended = ⊥
@@ -47,7 +47,7 @@ OcodeRefused Write old new ended = ⊥
 
 -- The whole text is of sections.
 abbrev pub HasSections : FileRead → Type 0
-HasSections names = ((sections : List (List Stmt)) × Stands ocode (parts sections) names.old names.new names.ended) × (names.faults ≡ 0)
+HasSections names = ((sections : List (List Stmt)) × Applies ocode (parts sections) names.old names.new names.ended) × (names.faults ≡ 0)
 
 -- The text of OCODE is refused, and nothing was read of the INTCODE and nothing was run.
 abbrev pub RefusesNames : Result End KitFault → FileRead → FileRead → Streams → Streams → Type 0

@@ -50,7 +50,7 @@ fn refused(alloc: Global, text: &[u8], line: Line, fault: KitFault) -> Refusal
     ensures { result.fault ≡ fault }
 {
     let hints = match &fault {
-        KitFault::Source(told) => hints(alloc, text, line, told),
+        KitFault::Source(reported) => hints(alloc, text, line, reported),
         _ => Ok(Vec::new(alloc)),
     };
     match hints {
@@ -136,6 +136,6 @@ pub fn check_source<C: ByteIn, I: ByteIn, O: ByteOut>(
     };
     match check(alloc, trees.as_slice(), turns, input, out) {
         Ok(report) => Ok(texts.shown(report)),
-        Err(stop) => Err(NotChecked::Run(stop)),
+        Err(given) => Err(NotChecked::Run(texts.shown_given_up(given))),
     }
 }

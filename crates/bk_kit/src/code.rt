@@ -3,7 +3,7 @@ ghost use Rattle.std.specs.Prelude.{◌≡◌, ◌≤◌, IfOk, IfErr, map, if�
 ghost use Rattle.bk_base.specs.declared.limit.TheConstants.{STORE_LEAST, STORE_MOST};
 ghost use Rattle.bk_machine.specs.SegmentItems.{items_of};
 ghost use Rattle.bk_machine.specs.State.{words_of};
-ghost use Rattle.bk_kit.specs.Texts.{part_number, parts, Stands};
+ghost use Rattle.bk_kit.specs.Texts.{part_number, parts, Applies};
 ghost use Rattle.bk_kit.specs.Code.{intcode};
 ghost use Rattle.bk_kit.specs.Interpreting.{TextRefused, CodeRefused, Loads, is_read};
 
@@ -15,7 +15,7 @@ use bk_machine::{Intcode, Machine};
 use std::alloc::Global;
 
 /// The number of the segment or section after so many others.
-pub fn number_behind(before: usize) -> u32
+pub fn number_after(before: usize) -> u32
     ensures { result ≡ part_number before }
 {
     before.min(u32::MAX as usize - 1) as u32 + 1
@@ -23,7 +23,7 @@ pub fn number_behind(before: usize) -> u32
 
 /// Reads all segments of a text.
 pub fn read_code<C: ByteIn>(alloc: Global, code: &mut C) -> Result<Vec<Intcode>, KitFault>
-    ensures read { IfOk result (λ list. Stands intcode (parts (map items_of list.items)) (C.left code.old) (C.left code.new) (C.ended code.new)) }
+    ensures read { IfOk result (λ list. Applies intcode (parts (map items_of list.items)) (C.left code.old) (C.left code.new) (C.ended code.new)) }
     ensures refused { IfErr result (λ fault. TextRefused fault (C.left code.old) (C.left code.new) (C.ended code.new)) }
     ensures failures { C.faults code.new ≡ (if is_read result then 1 else 0) }
 {
@@ -37,7 +37,7 @@ pub fn read_code<C: ByteIn>(alloc: Global, code: &mut C) -> Result<Vec<Intcode>,
             }
             Ok(None) => return Ok(list),
             Err(Refused::Fault(fault)) => {
-                return Err(KitFault::Intcode(number_behind(list.len()), fault));
+                return Err(KitFault::Intcode(number_after(list.len()), fault));
             }
             Err(Refused::Memory) => return Err(KitFault::Memory),
             Err(Refused::Device) => return Err(KitFault::Read),

@@ -78,12 +78,13 @@ Examples:
 
 /// What is below the help on `check`.
 const CHECK_NOTES: &str = "\
-Input and output are those of the program; all else is told on the error stream.
-The check ends with the status of `run`, or with 113 where the program does what
-is undefined: it uses a variable that was never set, a word outside its vector,
-an argument that is missing, or the like. What is suspicious in the text is told
-after the run. A check takes much longer than a run. Of a source that is refused
-it shows the place, and says what is meant. FILE may be - for the input.
+Input and output are those of the program; all else is reported on the error
+stream. The check ends with the status of `run`, or with 113 where the program
+does what is undefined: it uses a variable that was never set, a word outside its
+vector, an argument that is missing, or the like. What is suspicious in the text
+is reported after the run. A check takes much longer than a run. Of a source that
+is refused it shows the place, and says what is meant. FILE may be - for the
+input. A terminal shows places in colours, but not where NO_COLOR is set.
 
 Examples:
   bcpl check examples/queens.b

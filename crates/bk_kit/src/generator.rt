@@ -3,7 +3,7 @@ ghost use Rattle.std.specs.Prelude.{◌≡◌};
 ghost use Rattle.bk_kit.specs.Generating.{Generates, PutsSegments, ocode_refused};
 ghost use Rattle.bk_kit.specs.Telling.{output};
 
-use crate::code::number_behind;
+use crate::code::number_after;
 use crate::kit_fault::KitFault;
 use bk_base::{ByteIn, ByteOut, OcodeFault, Refused};
 use bk_gen::generate;
@@ -16,7 +16,7 @@ pub fn section_refused(before: usize, refused: Refused<OcodeFault>) -> KitFault
     ensures { result ≡ ocode_refused before refused }
 {
     match refused {
-        Refused::Fault(fault) => KitFault::Ocode(number_behind(before), fault),
+        Refused::Fault(fault) => KitFault::Ocode(number_after(before), fault),
         Refused::Memory => KitFault::Memory,
         Refused::Device => KitFault::Read,
     }

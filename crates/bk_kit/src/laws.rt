@@ -9,7 +9,7 @@ use bk_simulation::{
 };
 use bk_trans::scheme_is_accepted;
 
-/// Runs of sources. Where the loader takes segments that stand for the sections of an accepted source, a run of the machine is one of
+/// Runs of sources. Where the loader takes segments that represent the sections of an accepted source, a run of the machine is one of
 /// the source, as it is meant; where it finds the store too small or no START, so does the meaning; and a source that is refused is
 /// not accepted.
 pub fn sources_run()
@@ -26,7 +26,7 @@ pub fn sources_run()
     programs_start_with_their_source();
 }
 
-/// The two filters, one after the other, write the code of a source: texts of segments that stand for its sections.
+/// The two filters, one after the other, write the code of a source: texts of segments that represent its sections.
 pub fn filters_write_code()
     ensures { FiltersWriteCode }
 {
@@ -34,7 +34,7 @@ pub fn filters_write_code()
     bk_ocode::one_saying();
 }
 
-/// The code of a source: interpreting a text of any segments that stand for its sections promises what running it promises, with the first
+/// The code of a source: interpreting a text of any segments that represent its sections promises what running it promises, with the first
 /// word of the stack as the words before it; and where they report their frames, the frame that is reported is that of the source.
 pub fn codes_run()
     ensures interprets { InterpretsSources }

@@ -3,7 +3,7 @@ ghost use Rattle.std.specs.Prelude.{◌≡◌, IfErr, IfOk, map, if◌then◌els
 ghost use Rattle.bk_ocode.specs.SectionStmts.{stmts_of};
 ghost use Rattle.bk_kit.specs.Generating.{ocode};
 ghost use Rattle.bk_kit.specs.Interpreting.{is_read};
-ghost use Rattle.bk_kit.specs.Texts.{parts, Stands};
+ghost use Rattle.bk_kit.specs.Texts.{parts, Applies};
 ghost use Rattle.bk_kit.specs.Tracing.{OcodeRefused};
 
 use crate::generator::section_refused;
@@ -16,7 +16,7 @@ use std::alloc::{AllocError, Global};
 
 /// Reads all sections of a text.
 pub fn read_sections<N: ByteIn>(alloc: Global, code: &mut N) -> Result<Vec<Ocode>, KitFault>
-    ensures read { IfOk result (λ list. Stands ocode (parts (map stmts_of list.items)) (N.left code.old) (N.left code.new) (N.ended code.new)) }
+    ensures read { IfOk result (λ list. Applies ocode (parts (map stmts_of list.items)) (N.left code.old) (N.left code.new) (N.ended code.new)) }
     ensures refused { IfErr result (λ fault. OcodeRefused fault (N.left code.old) (N.left code.new) (N.ended code.new)) }
     ensures failures { N.faults code.new ≡ (if is_read result then 1 else 0) }
 {

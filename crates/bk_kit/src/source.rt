@@ -1,7 +1,7 @@
 //! Running a source.
 ghost use Rattle.std.specs.Prelude.{◌≡◌, ◌≤◌, IfOk, IfErr, OnOk, OnErr, map, if◌then◌else◌};
 ghost use Rattle.bk_base.specs.declared.limit.TheConstants.{STORE_LEAST, STORE_MOST};
-ghost use Rattle.bk_gen.specs.StandsFor.{StandsFor};
+ghost use Rattle.bk_gen.specs.Represents.{Represents};
 ghost use Rattle.bk_ocode.specs.SectionStmts.{stmts_of};
 ghost use Rattle.bk_machine.specs.Runs.{HeldBy};
 ghost use Rattle.bk_machine.specs.SegmentItems.{items_of};
@@ -30,7 +30,7 @@ pub(crate) trait SegmentMaker {
         lexer: &Lexer,
         section: &SectionCode,
     ) -> Result<Intcode, AllocError>
-        ensures stands { IfOk result (λ segment. StandsFor (items_of segment) (stmts_of section.now.code)) };
+        ensures applies { IfOk result (λ segment. Represents (items_of segment) (stmts_of section.now.code)) };
 }
 
 /// Segments as `generate` makes them.
@@ -120,7 +120,7 @@ pub(crate) fn load_source<C: ByteIn, M: SegmentMaker>(
 ///
 /// Its contract is the headline: with enough steps and words the run of an accepted source writes exactly the bytes of its meaning
 /// and gives its end. `docs/HEADLINE.md` goes through it word by word. For any source it keeps its limits: each answer of a run is that of
-/// segments that stand for the sections, loaded into just so many words and run for at most so many steps.
+/// segments that represent the sections, loaded into just so many words and run for at most so many steps.
 ///
 /// Nothing is run unless all sections were accepted and loaded. Where the source is refused or cannot be read, neither input
 /// nor output is touched, and no byte of the source is asked for after the section that is refused. `TooSmall` and

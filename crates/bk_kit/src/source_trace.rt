@@ -87,7 +87,7 @@ pub fn trace_source<C: ByteIn, I: ByteIn, O: ByteOut, E: ByteOut>(
     ensures runs_nothing { OnErr result ((input.new ≡ input.old) × (out.new ≡ out.old)) }
     ensures delivered { ReadsSource (is_read result) (C.left source.old) (C.left source.new) }
     ensures read_fails { C.faults source.new ≡ (if is_read result then 1 else 0) }
-    ensures told { Begins (E.taken err.old) (E.taken err.new) × Begins (E.passed err.old) (E.passed err.new) }
+    ensures reported { Begins (E.taken err.old) (E.taken err.new) × Begins (E.passed err.old) (E.passed err.new) }
 {
     sources_run();
     let mut program = Program::new(alloc);

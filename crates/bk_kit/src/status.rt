@@ -4,13 +4,13 @@ ghost use Rattle.bk_kit.specs.FaultLine.{fault_text, line_of};
 ghost use Rattle.bk_kit.specs.Statuses.{stop_status, end_status, end_line, fault_status, run_status, run_line, done_status, done_line};
 ghost use Rattle.bk_kit.specs.Telling.{ReportsLine, Tells, output};
 ghost use Rattle.bk_kit.specs.Pieces.{joined};
-ghost use Rattle.bk_kit.specs.Checking.{verdict_status, check_fault_status, check_fault_text, check_status, placed_text, stop_text, remark_text, hint_text, verdict_text, calls_text, ReportsEach, ReportsCheck};
+ghost use Rattle.bk_kit.specs.Checking.{verdict_status, check_fault_status, check_fault_text, check_status, placed_text, notice_text, remark_text, hint_text, verdict_text, limit_text, ReportsEach, ReportsCheck};
 
 use crate::checker::NotChecked;
 use crate::kit_fault::{KitFault, put_text};
 use crate::pieces::put_pieces;
 use bk_base::{ByteOut, End, Line};
-use bk_checker::{CheckFault, GivenUp, Remark, Report, Verdict};
+use bk_checker::{CheckFault, Notice, Remark, Report, Verdict};
 use itoa::Buffer;
 
 /// The status for STOP of a number.
@@ -177,26 +177,26 @@ fn report_at<E: ByteOut>(
     )
 }
 
-/// Writes what went wrong in a check.
-fn report_stop<E: ByteOut>(report: &Report, kind: &str, file: &str, err: &mut E)
-    ensures { ReportsLine (stop_text file.now kind.now report.now) (output E.ByteOut err.old) (output E.ByteOut err.new) }
+/// Writes a notice of this kind.
+fn report_notice<E: ByteOut>(notice: &Notice, kind: &str, file: &str, err: &mut E)
+    ensures { ReportsLine (notice_text file.now kind.now notice.now) (output E.ByteOut err.old) (output E.ByteOut err.new) }
 {
-    if report.place.is_empty() {
+    if notice.place.is_empty() {
         return report_at(
-            report.at.line(),
+            notice.at.line(),
             kind,
-            &report.what,
-            &report.calls,
+            &notice.what,
+            &notice.further,
             file,
             err,
         );
     }
     report_parts(
         file.as_bytes(),
-        &report.place,
+        &notice.place,
         kind.as_bytes(),
-        &report.what,
-        &report.calls,
+        &notice.what,
+        &notice.further,
         err,
     )
 }
@@ -208,7 +208,7 @@ fn report_remarks<E: ByteOut>(remarks: &[Remark], file: &str, err: &mut E)
     match remarks.split_first() {
         None => {}
         Some((first, rest)) => {
-            report_at(first.at.line(), "suspicious: ", &first.text, &[], file, err);
+            report_notice(&first.notice, "suspicious: ", file, err);
             report_remarks(rest, file, err)
         }
     }
@@ -234,8 +234,8 @@ fn report_verdict<E: ByteOut>(report: &Report, file: &str, err: &mut E)
     match report.verdict {
         Verdict::Status(_) => {}
         Verdict::NoStart => report_line("no START", err),
-        Verdict::DivideByZero | Verdict::Turns => report_stop(report, "", file, err),
-        Verdict::Undefined => report_stop(report, "undefined: ", file, err),
+        Verdict::DivideByZero | Verdict::Turns => report_notice(&report.stop, "", file, err),
+        Verdict::Undefined => report_notice(&report.stop, "undefined: ", file, err),
     }
 }
 
@@ -252,18 +252,17 @@ fn report_check_fault<E: ByteOut>(fault: CheckFault, err: &mut E) -> u8
     }
 }
 
-/// The lines of the calls that were active where a check was given up; none where they are not known.
-fn calls_of(stop: &GivenUp) -> &[u8]
-    ensures { result.now ≡ calls_text stop.now.calls }
+/// Writes where a check was given up, if that is known.
+fn report_limit<E: ByteOut>(stop: &Option<Notice>, file: &str, err: &mut E)
+    ensures { Tells (limit_text file.now stop.now) (output E.ByteOut err.old) (output E.ByteOut err.new) }
 {
-    match &stop.calls {
-        Some(calls) => calls.as_slice(),
-        None => &[],
+    if let Some(stop) = stop {
+        report_notice(stop, "", file, err);
     }
 }
 
 /// Writes where a source is refused and what is meant, after the name of FILE, of each fault that is reported.
-fn report_hints<E: ByteOut>(hints: &[Vec<u8>], file: &str, err: &mut E)
+pub fn report_hints<E: ByteOut>(hints: &[Vec<u8>], file: &str, err: &mut E)
     ensures { ReportsEach (map (hint_text file.now) hints.now) (output E.ByteOut err.old) (output E.ByteOut err.new) }
 {
     match hints.split_first() {
@@ -278,7 +277,7 @@ fn report_hints<E: ByteOut>(hints: &[Vec<u8>], file: &str, err: &mut E)
 /// Writes what is reported of the answer of a check on the error stream, and answers the status. `file` is the name of FILE.
 pub fn report_check<E: ByteOut>(answer: &Result<Report, NotChecked>, file: &str, err: &mut E) -> u8
     ensures status { result ≡ check_status answer.now }
-    ensures told { ReportsCheck file.now answer.now (output E.ByteOut err.old) (output E.ByteOut err.new) }
+    ensures reported { ReportsCheck file.now answer.now (output E.ByteOut err.old) (output E.ByteOut err.new) }
 {
     match answer {
         Ok(report) => {
@@ -291,9 +290,9 @@ pub fn report_check<E: ByteOut>(answer: &Result<Report, NotChecked>, file: &str,
             report_hints(&refusal.hints, file, err);
             status
         }
-        Err(NotChecked::Run(stop)) => {
-            let status = report_check_fault(stop.fault, err);
-            report_pieces(&[calls_of(stop)], err);
+        Err(NotChecked::Run(given)) => {
+            let status = report_check_fault(given.fault, err);
+            report_limit(&given.stop, file, err);
             status
         }
     }

@@ -164,7 +164,7 @@ fn run_step<I: ByteIn, O: ByteOut, E: ByteOut>(
     ensures passes { Begins (O.passed out.old) (O.passed out.new) }
     ensures cause { Blames result (I.faults input.old) (I.faults input.new) (O.faults out.new) }
     ensures paused { result ≡ StepLimit → end_of machine.new ≡ None }
-    ensures told { Begins (E.taken err.old) (E.taken err.new) × Begins (E.passed err.old) (E.passed err.new) }
+    ensures reported { Begins (E.taken err.old) (E.taken err.new) × Begins (E.passed err.old) (E.passed err.new) }
 {
     let mut step = next_step(machine, number);
     let end = machine.run(1, input, out);
@@ -192,7 +192,7 @@ pub(crate) fn run_steps<I: ByteIn, O: ByteOut, E: ByteOut>(
     ensures flushed { result ≢ WriteFault → O.passed out.new ≡ O.taken out.new }
     ensures passes { Begins (O.passed out.old) (O.passed out.new) }
     ensures cause { Blames result (I.faults input.old) (I.faults input.new) (O.faults out.new) }
-    ensures told { Begins (E.taken err.old) (E.taken err.new) × Begins (E.passed err.old) (E.passed err.new) }
+    ensures reported { Begins (E.taken err.old) (E.taken err.new) × Begins (E.passed err.old) (E.passed err.new) }
 {
     for i in 0..limits.steps() {
         let end = run_step(alloc, machine, i + 1, telling, input, out, err);
@@ -233,7 +233,7 @@ fn trace_with<C: ByteIn, I: ByteIn, O: ByteOut, E: ByteOut>(
     ensures traced { Traced (HeldBy I.held) result tracing.now.limits.steps tracing.now.limits.words (C.left code.old) (C.left code.new) (C.ended code.new)
         (streams I.ByteIn O.ByteOut input.old out.old) (streams I.ByteIn O.ByteOut input.new out.new) }
     ensures read_fails { C.faults code.new ≡ (if is_read result then 1 else 0) }
-    ensures told { Begins (E.taken err.old) (E.taken err.new) × Begins (E.passed err.old) (E.passed err.new) }
+    ensures reported { Begins (E.taken err.old) (E.taken err.new) × Begins (E.passed err.old) (E.passed err.new) }
 {
     let mut machine = load_code(alloc, code, tracing.limits.words())?;
     let mut telling = Telling::Code(Progress {
@@ -265,7 +265,7 @@ pub fn trace<C: ByteIn, I: ByteIn, O: ByteOut, E: ByteOut>(
     ensures traced { Traced (HeldBy I.held) result limits.steps limits.words (C.left code.old) (C.left code.new) (C.ended code.new)
         (streams I.ByteIn O.ByteOut input.old out.old) (streams I.ByteIn O.ByteOut input.new out.new) }
     ensures read_fails { C.faults code.new ≡ (if is_read result then 1 else 0) }
-    ensures told { Begins (E.taken err.old) (E.taken err.new) × Begins (E.passed err.old) (E.passed err.new) }
+    ensures reported { Begins (E.taken err.old) (E.taken err.new) × Begins (E.passed err.old) (E.passed err.new) }
 {
     let tracing = Tracing {
         limits,
@@ -289,7 +289,7 @@ pub fn trace_named<C: ByteIn, N: ByteIn, I: ByteIn, O: ByteOut, E: ByteOut>(
         (file_read N.ByteIn files.old.ocode files.new.ocode)
         (file_read C.ByteIn files.old.file files.new.file)
         (streams I.ByteIn O.ByteOut input.old out.old) (streams I.ByteIn O.ByteOut input.new out.new) }
-    ensures told { Begins (E.taken err.old) (E.taken err.new) × Begins (E.passed err.old) (E.passed err.new) }
+    ensures reported { Begins (E.taken err.old) (E.taken err.new) × Begins (E.passed err.old) (E.passed err.new) }
 {
     let sections = read_sections(alloc, &mut files.ocode)?;
     let procedures = procedures_of(alloc, sections.as_slice())?;

@@ -55,19 +55,19 @@ pub record ServesOrder (Holds : List ℕ → Type 0) (words file ocode input : L
   pub names : FileRead
   pub names_are : names.old ≡ Some ocode
   pub after : Streams
-  pub told : Output
-  pub serves : ServesNamed Holds order status read names (streams_before input) after output_before told
+  pub reported : Output
+  pub serves : ServesNamed Holds order status read names (streams_before input) after output_before reported
   pub output_is : after.taken ≡ Some output
-  pub lines_are : told.taken ≡ Some lines
+  pub lines_are : reported.taken ≡ Some lines
 
 -- The words gave no order, and a line says so.
 pub record RefusesWords (words : List ℕ) (status : ℕ) (output lines : List ℕ) : Type 0 where
   pub fault : LineFault
   pub refuses : RefusesBytes words fault
   pub status_is : status ≡ refusal_status fault
-  pub told : Output
-  pub tells : Tells (refusal_line fault) output_before told
-  pub lines_are : told.taken ≡ Some lines
+  pub reported : Output
+  pub tells : Tells (refusal_line fault) output_before reported
+  pub lines_are : reported.taken ≡ Some lines
   pub output_is : IsHelp fault ⊎ (output ≡ [])
 
 -- A COMMAND LINE over these bytes comes to this status, with this output and these lines on the error stream.

@@ -1,4 +1,4 @@
-use Rattle.bk_kit.proofs.Terms.{◌≡◌, ◌+◌, ◌≤◌, Bool, true, false, List, map, rules, sym, ◌∙◌, subst, refl, inl, inr, cases_lt, Item, items_of, SEGMENTS, stack_start, any_starts, parts, Stands, intcode}
+use Rattle.bk_kit.proofs.Terms.{◌≡◌, ◌+◌, ◌≤◌, Bool, true, false, List, map, rules, sym, ◌∙◌, subst, refl, inl, inr, cases_lt, Item, items_of, SEGMENTS, stack_start, any_starts, parts, Applies, intcode}
 use Rattle.bk_machine.specs.declared.segment.Intcode.{Intcode}
 use Rattle.bk_kit.proofs.LoadLemmas.{refused_anyhow}
 use Rattle.bk_kit.proofs.code.load_code.Goals as goal
@@ -10,8 +10,8 @@ returns-in_err-segments-clause-refused g c =
 pub returns-clause-loaded : goal.returns-clause-loaded
 returns-clause-loaded g c =
     let all : List (List Item) = map items_of c.as_slice.result.now in
-    let stands : Stands intcode (parts all) (g.C.ByteIn.left c.args.code.now) (g.C.ByteIn.left c.read_code.new.code) (g.C.ByteIn.ended c.read_code.new.code) =
-    subst (λ (l : List Intcode). Stands intcode (parts (map items_of l)) (g.C.ByteIn.left c.args.code.now) (g.C.ByteIn.left c.read_code.new.code) (g.C.ByteIn.ended c.read_code.new.code))
+    let applies : Applies intcode (parts all) (g.C.ByteIn.left c.args.code.now) (g.C.ByteIn.left c.read_code.new.code) (g.C.ByteIn.ended c.read_code.new.code) =
+    subst (λ (l : List Intcode). Applies intcode (parts (map items_of l)) (g.C.ByteIn.left c.args.code.now) (g.C.ByteIn.left c.read_code.new.code) (g.C.ByteIn.ended c.read_code.new.code))
     (sym c.as_slice.ensures.value) c.in_ok-segments.ensures.read in
     let room : stack_start SEGMENTS all + 16 ≤ c.args.words = elim (cases_lt c.args.words (stack_start SEGMENTS all + 16)) [
       | inl low ↦ absurd (let bad = sym c.in_ok-load.was ∙ c.load.ensures.too_small.1 low in cc)
@@ -20,7 +20,7 @@ returns-clause-loaded g c =
     let not_started : any_starts all ≡ false → ⊥ = λ none. (let bad = sym c.in_ok-load.was ∙ c.load.ensures.no_start.1 (room, none) in cc) in
     record {
       all = all;
-      loadable = record { stands = stands; room = room; starts = by_case (any_starts all) not_started };
+      loadable = record { applies = applies; room = room; starts = by_case (any_starts all) not_started };
       store = c.in_ok-load.ensures.store;
       registers = c.in_ok-load.ensures.registers;
       fresh = c.in_ok-load.ensures.fresh;

@@ -8,16 +8,16 @@ loop-before-init g c = front_empty _ _ _
 pub returns-in-Ok-None : goal.returns-in-Ok-None
 returns-in-Ok-None g c =
     let answers = rw c.in-Ok-None.field-0-is at c.in-Ok-None.ensures.answers in
-    let stands = rw c.in-Ok-None.field-0-is at c.in-Ok-None.ensures.stands in
+    let applies = rw c.in-Ok-None.field-0-is at c.in-Ok-None.ensures.applies in
     record {
-      puts = no_more _ _ _ _ _ _ (g.I.ByteIn.faults c.read_section.new.input) _ _ c.loop-before.invariant answers stands (λ told. (c.in-Ok-None.ensures.ended_again told).1)
-          (λ told. (g.met.I.ByteIn.nothing_behind c.loop-before.input told).0) c.in-Ok-None.ensures.failures;
+      puts = no_more _ _ _ _ _ _ (g.I.ByteIn.faults c.read_section.new.input) _ _ c.loop-before.invariant answers applies (λ reported. (c.in-Ok-None.ensures.ended_again reported).1)
+          (λ reported. (g.met.I.ByteIn.nothing_after c.loop-before.input reported).0) c.in-Ok-None.ensures.failures;
     }
 
 pub returns-in-Err : goal.returns-in-Err
 returns-in-Err g c =
-    let puts = not_read c.loop-before.before _ _ _ _ _ (g.I.ByteIn.faults c.read_section.new.input) _ _ c.loop-before.invariant c.in-Err.refused c.in-Err.ensures.answers c.in-Err.ensures.stands
-    (λ told. let no = (c.in-Err.ensures.ended_again told).0 in cc) c.in-Err.ensures.failures in
+    let puts = not_read c.loop-before.before _ _ _ _ _ (g.I.ByteIn.faults c.read_section.new.input) _ _ c.loop-before.invariant c.in-Err.refused c.in-Err.ensures.answers c.in-Err.ensures.applies
+    (λ reported. let no = (c.in-Err.ensures.ended_again reported).0 in cc) c.in-Err.ensures.failures in
     rw c.section_refused.ensures record { puts = puts }
 
 pub returns-in_err-segment : goal.returns-in_err-segment
@@ -31,14 +31,14 @@ returns-in_default g c =
     let answers = rw c.in-Ok-Some.field-0-is at c.in-Ok-Some.ensures.answers in
     record {
       puts = not_put c.loop-before.before _ _ _ _ _ (g.I.ByteIn.faults c.read_section.new.input) _ _ c.loop-before.invariant c.in-Ok-Some.section answers c.in-Ok-Some.ensures.failures
-          c.in_ok-segment.segment c.in_ok-segment.ensures.stands c.in_ok-segment.ensures.frame _ c.print.ensures.passes c.in_default.ensures.part c.in_default.ensures.failures;
+          c.in_ok-segment.segment c.in_ok-segment.ensures.applies c.in_ok-segment.ensures.frame _ c.print.ensures.passes c.in_default.ensures.part c.in_default.ensures.failures;
     }
 
 pub loop-before-preserved : goal.loop-before-preserved
 loop-before-preserved g c =
     let answers = rw c.in-Ok-Some.field-0-is at c.in-Ok-Some.ensures.answers in
     goes_on c.loop-before.before _ _ _ _ _ (g.I.ByteIn.faults c.read_section.new.input) _ _ c.loop-before.invariant c.in-Ok-Some.section answers c.in-Ok-Some.ensures.failures
-    c.in_ok-segment.segment c.in_ok-segment.ensures.stands c.in_ok-segment.ensures.frame _ c.print.ensures.passes c.in-Ok.ensures.takes (λ told. let no = (c.in-Ok-Some.ensures.ended_again told).0 in let some = c.in-Ok-Some.field-0-is in cc)
+    c.in_ok-segment.segment c.in_ok-segment.ensures.applies c.in_ok-segment.ensures.frame _ c.print.ensures.passes c.in-Ok.ensures.takes (λ reported. let no = (c.in-Ok-Some.ensures.ended_again reported).0 in let some = c.in-Ok-Some.field-0-is in cc)
 
 pub returns : goal.returns
 returns g c = record { puts = too_many c.loop-before.before _ _ _ _ _ _ c.loop-before.invariant (omega arith) }

@@ -1,4 +1,4 @@
-use Rattle.bk_kit.proofs.Terms.{inl, inr, ℕ, List, ◌≡◌, ◌≤◌, ◌⊎◌, [], ◌∷◌, ◌++◌, ◌∙◌, refl, sym, ap, arith, length-append, subst, rules, Consumes-nothing, SectionBytes, cut_behind, more_undecided}
+use Rattle.bk_kit.proofs.Terms.{inl, inr, ℕ, List, ◌≡◌, ◌≤◌, ◌⊎◌, [], ◌∷◌, ◌++◌, ◌∙◌, refl, sym, ap, arith, length-append, subst, rules, Consumes-nothing, SectionBytes, cut_after, more_undecided}
 use Rattle.bk_lex.specs.Cutting.{Means}
 use Rattle.bk_lex.specs.declared.cutter.Cut.TheVariants.{End, More}
 use Rattle.bk_kit.proofs.ReadingLemmas.{delivered_more, goes_at_start, nothing_asked}
@@ -31,7 +31,7 @@ loop-preserved g c =
     let new = c.in-Ok-More.ensures.takes v.goes_on in
     let bytes : c.step.new.self.bytes ≡ c.loop.lexer.bytes ++ c.in-Ok-Some.byte ∷ [] = ap (λ (w : SectionBytes). w.bytes) new in
     let line = ap (λ (w : SectionBytes). w.from) new ∙ v.line in
-    let goes = subst (λ (xs : List ℕ). cut_behind xs ≡ More) bytes (sym (rw c.in-Ok-More.field-0-is at c.in-Ok-More.ensures.says)) in
+    let goes = subst (λ (xs : List ℕ). cut_after xs ≡ More) bytes (sym (rw c.in-Ok-More.field-0-is at c.in-Ok-More.ensures.says)) in
     let means = subst (λ (xs : List ℕ). Means More xs) bytes (rw c.in-Ok-More.field-0-is at c.in-Ok-More.ensures.means v.goes_on) in
     rw bytes record {
       delivered = more.delivered;

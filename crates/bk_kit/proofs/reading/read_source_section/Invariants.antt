@@ -1,4 +1,4 @@
-use Rattle.bk_kit.proofs.Terms.{◌≡◌, ◌⊎◌, ◌+◌, ◌≤◌, length, Consumes, cut_behind, Asked}
+use Rattle.bk_kit.proofs.Terms.{◌≡◌, ◌⊎◌, ◌+◌, ◌≤◌, length, Consumes, cut_after, Asked}
 use Rattle.bk_lex.specs.declared.cutter.Cut.TheVariants.{More}
 use Rattle.bk_kit.proofs.reading.read_source_section.Given as goal
 
@@ -6,7 +6,7 @@ abbrev pub invariant-loop : goal.invariant-loop
 invariant-loop g l = record {
   delivered : Consumes (g.C.ByteIn.left l.initial.source) (g.C.ByteIn.left l.source) l.lexer.bytes;
   line : l.lexer.from ≡ l.fn.from;
-  goes_on : cut_behind l.lexer.bytes ≡ More;
+  goes_on : cut_after l.lexer.bytes ≡ More;
   asked : Asked l.lexer.bytes;
   taken : l.taken ≡ l.initial.taken + length l.lexer.bytes;
   counted : length l.lexer.bytes ≡ l.counter;

@@ -28,8 +28,8 @@ returns-clause-keeps_limits g c = λ sound.
       ran = ran;
     }
 
-pub returns-clause-told : goal.returns-clause-told
-returns-clause-told g c = (
-  Begins-trans _ _ _ c.report_heading.ensures.grows (Begins-trans _ _ _ c.run_steps-end.ensures.told.0 c.report_end.ensures.grows),
-  Begins-trans _ _ _ c.report_heading.ensures.passes (Begins-trans _ _ _ c.run_steps-end.ensures.told.1 c.report_end.ensures.passes),
+pub returns-clause-reported : goal.returns-clause-reported
+returns-clause-reported g c = (
+  Begins-trans _ _ _ c.report_heading.ensures.grows (Begins-trans _ _ _ c.run_steps-end.ensures.reported.0 c.report_end.ensures.grows),
+  Begins-trans _ _ _ c.report_heading.ensures.passes (Begins-trans _ _ _ c.run_steps-end.ensures.reported.1 c.report_end.ensures.passes),
 )

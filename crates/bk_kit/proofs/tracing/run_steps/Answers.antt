@@ -11,8 +11,8 @@ returns-then-ne-clause-ran g c = λ sound.
 pub returns-then-ne-clause-passes : goal.returns-then-ne-clause-passes
 returns-then-ne-clause-passes g c = Begins-trans _ _ _ c.loop-i.invariant.passes c.run_step-end.ensures.passes
 
-pub returns-then-ne-clause-told : goal.returns-then-ne-clause-told
-returns-then-ne-clause-told g c = (Begins-trans _ _ _ c.loop-i.invariant.told.0 c.run_step-end.ensures.told.0, Begins-trans _ _ _ c.loop-i.invariant.told.1 c.run_step-end.ensures.told.1)
+pub returns-then-ne-clause-reported : goal.returns-then-ne-clause-reported
+returns-then-ne-clause-reported g c = (Begins-trans _ _ _ c.loop-i.invariant.reported.0 c.run_step-end.ensures.reported.0, Begins-trans _ _ _ c.loop-i.invariant.reported.1 c.run_step-end.ensures.reported.1)
 
 pub loop-i-preserved : goal.loop-i-preserved
 loop-i-preserved g c =
@@ -23,5 +23,5 @@ loop-i-preserved g c =
       fresh = c.run_step-end.ensures.paused goes;
       unblamed = search rules;
       flushed = λ some. (search rules, search rules);
-      told = (Begins-trans _ _ _ c.loop-i.invariant.told.0 c.run_step-end.ensures.told.0, Begins-trans _ _ _ c.loop-i.invariant.told.1 c.run_step-end.ensures.told.1);
+      reported = (Begins-trans _ _ _ c.loop-i.invariant.reported.0 c.run_step-end.ensures.reported.0, Begins-trans _ _ _ c.loop-i.invariant.reported.1 c.run_step-end.ensures.reported.1);
     }

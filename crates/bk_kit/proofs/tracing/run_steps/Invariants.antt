@@ -10,5 +10,5 @@ invariant-loop-i g l = record {
   fresh : end_of l.machine ≡ None;
   unblamed : g.I.ByteIn.faults l.input ≡ g.I.ByteIn.faults l.initial.input;
   flushed : 1 ≤ l.i → (g.O.ByteOut.passed l.out ≡ g.O.ByteOut.taken l.out) × (g.O.ByteOut.faults l.out ≡ 0);
-  told : Begins (g.E.ByteOut.taken l.initial.err) (g.E.ByteOut.taken l.err) × Begins (g.E.ByteOut.passed l.initial.err) (g.E.ByteOut.passed l.err);
+  reported : Begins (g.E.ByteOut.taken l.initial.err) (g.E.ByteOut.taken l.err) × Begins (g.E.ByteOut.passed l.initial.err) (g.E.ByteOut.passed l.err);
 }

@@ -18,8 +18,8 @@ returns-clause-traced g c =
       c.run_steps.ensures.cause,
     )
 
-pub returns-clause-told : goal.returns-clause-told
-returns-clause-told g c = (
-  Begins-trans _ _ _ c.known_procedures.ensures.grows (Begins-trans _ _ _ c.report_heading.ensures.grows c.run_steps.ensures.told.0),
-  Begins-trans _ _ _ c.known_procedures.ensures.passes (Begins-trans _ _ _ c.report_heading.ensures.passes c.run_steps.ensures.told.1),
+pub returns-clause-reported : goal.returns-clause-reported
+returns-clause-reported g c = (
+  Begins-trans _ _ _ c.known_procedures.ensures.grows (Begins-trans _ _ _ c.report_heading.ensures.grows c.run_steps.ensures.reported.0),
+  Begins-trans _ _ _ c.known_procedures.ensures.passes (Begins-trans _ _ _ c.report_heading.ensures.passes c.run_steps.ensures.reported.1),
 )
