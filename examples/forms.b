@@ -44,7 +44,7 @@ $( LET V = VEC 5
    FOR I = 10 TO 1 BY -4 DO P(I)
    FOR I = 1 TO 5 DO SWITCHON I INTO
    $( CASE 1: P(21); ENDCASE
-      CASE 3: P(23)
+      CASE 3: P(23) // and then what CASE 4 does
       CASE 4: P(24); ENDCASE
       DEFAULT: P(20)
    $)
