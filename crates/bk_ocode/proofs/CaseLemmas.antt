@@ -1,5 +1,5 @@
 -- Cases of a switch, one case more.
-use Rattle.bk_ocode.proofs.Terms.{◌≡◌, ◌⊎◌, inl, inr, ℕ, zero, suc, ℤ, FitsSigned, w32, ◌<◌, ◌^◌, ◌++◌, ◌||◌, Bool, true, false, if◌then◌else◌, List, [], ◌∷◌, Some, None, length, slice_get, arith, refl, sym, ap, ◌∙◌, subst, append_assoc, int_eq, spelling, label_word, case_words, IsLabel, AreCases, has_value, Case}
+use Rattle.bk_ocode.proofs.Terms.{◌≡◌, ◌⊎◌, inl, inr, ℕ, zero, suc, ℤ, FitsSigned, w32, ◌<◌, ◌^◌, ◌++◌, ◌||◌, Bool, true, false, if◌then◌else◌, List, [], ◌∷◌, Some, None, length, slice_get, arith, refl, sym, ap, ◌∙◌, subst, append_assoc, int_eq, spelling, label_word, case_words, IsLabel, AreCases, has_value, Case, or_assoc, or-false, or_right}
 use Rattle.std.proofs.lemmas.Cmp.{int_eq_equiv}
 use Rattle.bk_ocode.proofs.Rows.{joined-append}
 
@@ -9,27 +9,12 @@ at_push [] y (suc k) x is = absurd (let h : None ≡ Some x = is in cc)
 at_push (z ∷ xs) y zero x is = inl (omega arith, is)
 at_push (z ∷ xs) y (suc k) x is = elim (at_push xs y k x is) [ inl p ↦ inl (omega (arith, p.0), p.1) | inr p ↦ inr (ap suc p.0, p.1) ]
 
-or_assoc : (a b c : Bool) → (a || (b || c)) ≡ ((a || b) || c)
-or_assoc true b c = refl
-or_assoc false b c = refl
-
-or_false : (a : Bool) → (a || false) ≡ a
-or_false true = refl
-or_false false = refl
-
-or_true : (a : Bool) → (a || true) ≡ true
-or_true true = refl
-or_true false = refl
-
 cond_or : (t a : Bool) → (if t then true else a) ≡ (a || t)
-cond_or true true = refl
-cond_or true false = refl
-cond_or false true = refl
-cond_or false false = refl
+cond_or t a = grind arith
 
 has_value-push : (value : ℤ) (cases : List Case) (c : Case) → has_value value (cases ++ c ∷ []) ≡ (has_value value cases || int_eq c.value value)
-has_value-push value [] c = or_false (int_eq c.value value)
-has_value-push value (d ∷ cases) c = ap (λ b. int_eq d.value value || b) (has_value-push value cases c) ∙ or_assoc (int_eq d.value value) (has_value value cases) (int_eq c.value value)
+has_value-push value [] c = or-false (int_eq c.value value)
+has_value-push value (d ∷ cases) c = ap (λ b. int_eq d.value value || b) (has_value-push value cases c) ∙ sym (or_assoc (int_eq d.value value) (has_value value cases) (int_eq c.value value))
 
 -- the table of values, one value more
 pub values-push : (value : ℤ) (cases all : List Case) (c : Case) (old new : Bool) → all ≡ cases ++ c ∷ [] → old ≡ has_value value cases → new ≡ (if int_eq c.value value then true else old) → new ≡ has_value value all
@@ -39,7 +24,7 @@ values-push value cases all c old new is was now =
 has_value-at : (cases : List Case) (k : ℕ) (c : Case) (value : ℤ) → slice_get cases k ≡ Some c → c.value ≡ value → has_value value cases ≡ true
 has_value-at [] k c value at is = absurd (let h : None ≡ Some c = at in cc)
 has_value-at (d ∷ cases) zero c value at is = grind arith
-has_value-at (d ∷ cases) (suc k) c value at is = ap (λ b. int_eq d.value value || b) (has_value-at cases k c value at is) ∙ or_true (int_eq d.value value)
+has_value-at (d ∷ cases) (suc k) c value at is = ap (λ b. int_eq d.value value || b) (has_value-at cases k c value at is) ∙ or_right (int_eq d.value value) true refl
 
 pub AreCases-push : (cases all : List Case) (c : Case) → all ≡ cases ++ c ∷ [] → AreCases cases → IsLabel c.label → has_value c.value cases ≡ false → length all < 2 ^ 31 → AreCases all
 AreCases-push cases all c is are label new few = grind (arith, at_push, has_value-at)

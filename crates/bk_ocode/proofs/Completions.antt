@@ -1,5 +1,5 @@
 -- Each beginning of a statement goes on to a whole one.
-use Rattle.bk_ocode.proofs.Terms.{◌≡◌, ◌⊎◌, inl, inr, ℕ, zero, suc, ℤ, pos, FitsSigned, w32, ◌+◌, ◌-◌, ◌<◌, ◌≤◌, ◌^◌, ◌++◌, ◌||◌, Bool, true, false, if◌then◌else◌, List, [], ◌∷◌, Option, Some, None, length, slice_get, codes, arith, refl, sym, ap, ◌∙◌, subst, length-append, append_assoc, append-nil, cases_lt, Decides-int_eq, int_eq, spelling, NAME_BYTES, fits-pos, label_word, natural_word, byte_words, case_words, global_words, stmt_words, IsLabel, IsGlobal, AreBytes, AreCases, IsStmt, BeginsStmt, has_value, owner_words, IsOwner, switch_words, entries_words, partial_words, is_short, IsPartialStmt, ArePartialCases, ArePartialEntries, part_words, IsPartialPart, Case, GlobalEntry, Stmt, keyword_text, context_of, misplaced, Keyword, Partial, Owner, Stmt as stmt, VariableKind as kinds, Keyword as keywords, Partial as begun, Owner as owners, cases_Bool}
+use Rattle.bk_ocode.proofs.Terms.{◌≡◌, ◌⊎◌, inl, inr, ℕ, zero, suc, ℤ, pos, FitsSigned, w32, ◌+◌, ◌-◌, ◌<◌, ◌≤◌, ◌^◌, ◌++◌, ◌||◌, Bool, true, false, if◌then◌else◌, List, [], ◌∷◌, Option, Some, None, length, slice_get, codes, arith, refl, sym, ap, ◌∙◌, subst, length-append, append_assoc, append-nil, cases_lt, Decides-int_eq, int_eq, spelling, NAME_BYTES, fits-pos, label_word, natural_word, byte_words, case_words, global_words, stmt_words, IsLabel, IsGlobal, AreBytes, AreCases, IsStmt, BeginsStmt, has_value, owner_words, IsOwner, switch_words, entries_words, partial_words, is_short, IsPartialStmt, ArePartialCases, ArePartialEntries, part_words, IsPartialPart, Case, GlobalEntry, Stmt, keyword_text, context_of, misplaced, Keyword, Partial, Owner, Stmt as stmt, VariableKind as kinds, Keyword as keywords, Partial as begun, Owner as owners, cases_Bool, cond-true, cond-false}
 use Rattle.bk_ocode.specs.declared.stmt.Variable.TheVariants as variable
 use Rattle.bk_ocode.specs.declared.stmt.Monadic.TheVariants as monadic
 use Rattle.bk_ocode.specs.declared.stmt.Dyadic.TheVariants as dyadic
@@ -144,14 +144,6 @@ abbrev without : ℤ → List Case → List Case
 without z [] = []
 without z (c ∷ rest) = if int_eq c.value z then rest else c ∷ without z rest
 
-if-true : {X : Type 0} (b : Bool) (x y : X) → b ≡ true → (if b then x else y) ≡ x
-if-true true x y e = refl
-if-true false x y e = absurd (let h : false ≡ true = e in cc)
-
-if-false : {X : Type 0} (b : Bool) (x y : X) → b ≡ false → (if b then x else y) ≡ y
-if-false true x y e = absurd (let h : true ≡ false = e in cc)
-if-false false x y e = refl
-
 pub or-second : (a b : Bool) → a ≡ false → (a || b) ≡ b
 or-second true b e = absurd (let h : true ≡ false = e in cc)
 or-second false b e = refl
@@ -159,8 +151,8 @@ or-second false b e = refl
 length-without : (z : ℤ) (cases : List Case) → has_value z cases ≡ true → length cases ≡ length (without z cases) + 1
 length-without z [] has = absurd (let h : false ≡ true = has in cc)
 length-without z (c ∷ rest) has = elim (cases_Bool (int_eq c.value z)) [
-  | inl same ↦ omega (arith, ap (λ (l : List Case). length l) (if-true (int_eq c.value z) rest (c ∷ without z rest) same))
-  | inr other ↦ omega (arith, ap (λ (l : List Case). length l) (if-false (int_eq c.value z) rest (c ∷ without z rest) other), length-without z rest (sym (or-second (int_eq c.value z) (has_value z rest) other) ∙ has))
+  | inl same ↦ omega (arith, ap (λ (l : List Case). length l) (cond-true (int_eq c.value z) rest (c ∷ without z rest) same))
+  | inr other ↦ omega (arith, ap (λ (l : List Case). length l) (cond-false (int_eq c.value z) rest (c ∷ without z rest) other), length-without z rest (sym (or-second (int_eq c.value z) (has_value z rest) other) ∙ has))
 ]
 
 apart : (x y z : ℤ) → int_eq x z ≡ true → (z ≡ y → ⊥) → int_eq x y ≡ false
@@ -169,8 +161,8 @@ apart x y z same other = grind (arith, Decides-int_eq)
 has-without : (y z : ℤ) (cases : List Case) → (z ≡ y → ⊥) → has_value y cases ≡ true → has_value y (without z cases) ≡ true
 has-without y z [] other has = has
 has-without y z (c ∷ rest) other has = elim (cases_Bool (int_eq c.value z)) [
-  | inl same ↦ ap (has_value y) (if-true (int_eq c.value z) rest (c ∷ without z rest) same) ∙ sym (or-second (int_eq c.value y) (has_value y rest) (apart c.value y z same other)) ∙ has
-  | inr no_z ↦ ap (has_value y) (if-false (int_eq c.value z) rest (c ∷ without z rest) no_z) ∙ elim (cases_Bool (int_eq c.value y)) [
+  | inl same ↦ ap (has_value y) (cond-true (int_eq c.value z) rest (c ∷ without z rest) same) ∙ sym (or-second (int_eq c.value y) (has_value y rest) (apart c.value y z same other)) ∙ has
+  | inr no_z ↦ ap (has_value y) (cond-false (int_eq c.value z) rest (c ∷ without z rest) no_z) ∙ elim (cases_Bool (int_eq c.value y)) [
     | inl is ↦ ap (λ b. b || has_value y (without z rest)) is
     | inr no_y ↦ or-second (int_eq c.value y) (has_value y (without z rest)) no_y ∙ has-without y z rest other (sym (or-second (int_eq c.value y) (has_value y rest) no_y) ∙ has)
   ]

@@ -1,6 +1,16 @@
 -- Depths on the way through a section.
 use Rattle.bk_ocode.proofs.Terms.{◌≡◌, ℕ, ◌+◌, ◌<◌, ◌≤◌, max, Bool, true, false, ◌||◌, nat_lt, nat_le, List, [], ◌∷◌, ◌++◌, Option, Some, None, length, take, slice_get, get_or, refl, ◌∙◌, ap, subst, arith, ltb-false, leb-false, zero, suc, if◌then◌else◌, take_more, slice_get-get_or, FRAME_WORDS, OCODE_STATEMENTS, OCODE_WORDS, OcodeKind, stmt_words, next_depth, depth_after, largest_after, least_depth, Context, at_start, after, after_all, context_of, misplaced, label_not_set, label_set_twice, depths_disagree, slot_above, too_long, fault_in, AreFaultless, DepthsSuffice, SectionIsShort, Stmt, or_parts}
 
+-- the places at and before a seam
+pub at_seam : {A : Type 0} (a : List A) (x : A) (c : List A) → slice_get (a ++ x ∷ c) (length a) ≡ Some x
+at_seam [] x c = refl
+at_seam (y ∷ a) x c = at_seam a x c
+
+pub get-append : {A : Type 0} (a c : List A) (k : ℕ) (x : A) → slice_get a k ≡ Some x → slice_get (a ++ c) k ≡ Some x
+get-append [] c k x at = absurd (let h : None ≡ Some x = at in cc)
+get-append (y ∷ a) c zero x at = at
+get-append (y ∷ a) c (suc k) x at = get-append a c k x at
+
 pub depth_after-append : (k : ℕ) (a b : List Stmt) → depth_after k (a ++ b) ≡ depth_after (depth_after k a) b
 depth_after-append k [] b = refl
 depth_after-append k (s ∷ a) b = depth_after-append (next_depth k s) a b
@@ -9,17 +19,9 @@ pub depth_after-more : (k : ℕ) (stmts : List Stmt) (i : ℕ) (d : Stmt) → i 
     depth_after k (take (i + 1) stmts) ≡ next_depth (depth_after k (take i stmts)) (get_or stmts i d)
 depth_after-more k stmts i d low = ap (λ (t : List Stmt). depth_after k t) (take_more stmts i d low) ∙ depth_after-append k (take i stmts) (get_or stmts i d ∷ [])
 
-max_assoc : (a b c : ℕ) → max a (max b c) ≡ max (max a b) c
-max_assoc a b c = omega arith
-
-max_zero : (a : ℕ) → max a 0 ≡ max 0 a
-max_zero a = omega arith
-
 largest_after-one : (k : ℕ) (a : List Stmt) (s : Stmt) → largest_after k (a ++ s ∷ []) ≡ max (largest_after k a) (next_depth (depth_after k a) s)
-largest_after-one k [] s = max_zero (next_depth k s)
-largest_after-one k (t ∷ a) s =
-    ap (λ (n : ℕ). max (next_depth k t) n) (largest_after-one (next_depth k t) a s)
-    ∙ max_assoc (next_depth k t) (largest_after (next_depth k t) a) (next_depth (depth_after (next_depth k t) a) s)
+largest_after-one k [] s = omega arith
+largest_after-one k (t ∷ a) s = omega (arith, largest_after-one (next_depth k t) a s)
 
 pub largest_after-more : (k : ℕ) (stmts : List Stmt) (i : ℕ) (d : Stmt) → i < length stmts →
     largest_after k (take (i + 1) stmts) ≡ max (largest_after k (take i stmts)) (next_depth (depth_after k (take i stmts)) (get_or stmts i d))

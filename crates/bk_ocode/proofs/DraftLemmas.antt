@@ -1,28 +1,23 @@
 -- Labels of a switch and of globals, and the context of statements, one statement more.
-use Rattle.bk_ocode.proofs.Terms.{◌≡◌, ℕ, ◌+◌, ◌-◌, ◌<◌, ◌≤◌, ◌++◌, ◌||◌, ◌&&◌, Bool, true, false, is_some, get_or, take, not, nat_lt, nat_le, List, [], ◌∷◌, None, length, map, arith, refl, sym, ap, ◌∙◌, ltb-false, leb-false, list_all, list_any, map-append, take_more, FRAME_WORDS, OCODE_STATEMENTS, OCODE_WORDS, stmt_words, next_depth, position_after, Context, at_start, changed, all_changed, label_followed, labels_named, start_from, start_after, after, after_all, context_of, is_lab_from, is_other_lab, jumps_set, result_named, own_disagrees, is_entry, data_set, label_not_set, fault_in, Position, LabelUse, Case, GlobalEntry, Stmt, Entry, Switch, Globals, or_parts}
+use Rattle.bk_ocode.proofs.Terms.{append-nil, ◌≡◌, ℕ, ◌+◌, ◌-◌, ◌<◌, ◌≤◌, ◌++◌, ◌||◌, ◌&&◌, Bool, true, false, is_some, get_or, take, not, nat_lt, nat_le, List, [], ◌∷◌, None, length, map, arith, refl, sym, ap, ◌∙◌, ltb-false, leb-false, list_all, list_any, map-append, take_more, FRAME_WORDS, OCODE_STATEMENTS, OCODE_WORDS, stmt_words, next_depth, position_after, Context, at_start, changed, all_changed, label_followed, labels_named, start_from, start_after, after, after_all, context_of, is_lab_from, is_other_lab, jumps_set, result_named, own_disagrees, is_entry, data_set, label_not_set, fault_in, Position, LabelUse, Case, GlobalEntry, Stmt, Entry, Switch, Globals, or_parts}
 use Rattle.bk_ocode.proofs.Depths.{keeps_in}
-
-all-map : {X : Type 0} (f : ℕ → Bool) (g : X → ℕ) (xs : List X) → list_all (λ x. f (g x)) xs ≡ list_all f (map g xs ++ [])
-all-map f g [] = refl
-all-map f g (x ∷ xs) = ap (λ b. f (g x) && b) (all-map f g xs)
 
 any-map : {X : Type 0} (f : ℕ → Bool) (g : X → ℕ) (xs : List X) → list_any (λ x. f (g x)) xs ≡ list_any f (map g xs)
 any-map f g [] = refl
 any-map f g (x ∷ xs) = ap (λ b. f (g x) || b) (any-map f g xs)
 
 any-map-nil : {X : Type 0} (f : ℕ → Bool) (g : X → ℕ) (xs : List X) → list_any (λ x. f (g x)) xs ≡ list_any f (map g xs ++ [])
-any-map-nil f g [] = refl
-any-map-nil f g (x ∷ xs) = ap (λ b. f (g x) || b) (any-map-nil f g xs)
+any-map-nil f g xs = any-map f g xs ∙ ap (list_any f) (sym (append-nil (map g xs)))
 
-all-map-plain : {X : Type 0} (f : ℕ → Bool) (g : X → ℕ) (xs : List X) → list_all (λ x. f (g x)) xs ≡ list_all f (map g xs)
-all-map-plain f g [] = refl
-all-map-plain f g (x ∷ xs) = ap (λ b. f (g x) && b) (all-map-plain f g xs)
+all-map : {X : Type 0} (f : ℕ → Bool) (g : X → ℕ) (xs : List X) → list_all (λ x. f (g x)) xs ≡ list_all f (map g xs)
+all-map f g [] = refl
+all-map f g (x ∷ xs) = ap (λ b. f (g x) && b) (all-map f g xs)
 
 pub jumps_set-switch : (c : Context) (s : Stmt) (default : ℕ) (cases : List Case) → s ≡ Switch default cases → is_lab_from c.start (c.uses default).setting ≡ true →
     list_all (λ e. is_lab_from c.start (c.uses e.label).setting) cases ≡ jumps_set c s
 jumps_set-switch c s default cases is first =
     let f : ℕ → Bool = λ label. is_lab_from c.start (c.uses label).setting in
-    all-map f (λ e. e.label) cases ∙ ap (λ b. b && list_all f (map (λ e. e.label) cases ++ [])) (sym first) ∙ ap (jumps_set c) (sym is)
+    all-map f (λ e. e.label) cases ∙ ap (list_all f) (sym (append-nil (map (λ e. e.label) cases))) ∙ ap (λ b. b && list_all f (map (λ e. e.label) cases ++ [])) (sym first) ∙ ap (jumps_set c) (sym is)
 
 pub own_disagrees-switch : (c : Context) (s : Stmt) (default : ℕ) (cases : List Case) → s ≡ Switch default cases → is_other_lab (c.depth - 1) (c.uses default).setting ≡ false →
     list_any (λ e. is_other_lab (c.depth - 1) (c.uses e.label).setting) cases ≡ own_disagrees c s
@@ -55,7 +50,7 @@ context_of-push before all s is = ap context_of is ∙ after_all-push at_start b
 pub label_not_set-globals : (before : List Stmt) (c : Context) (s : Stmt) (entries : List GlobalEntry) → s ≡ Globals entries →
     not (list_all (data_set c) before && list_all (λ e. is_entry (c.uses e.label).setting) entries) ≡ label_not_set before c s
 label_not_set-globals before c s entries is =
-    ap (λ b. not (list_all (data_set c) before && b)) (all-map-plain (λ label. is_entry (c.uses label).setting) (λ e. e.label) entries) ∙ ap (label_not_set before c) (sym is)
+    ap (λ b. not (list_all (data_set c) before && b)) (all-map (λ label. is_entry (c.uses label).setting) (λ e. e.label) entries) ∙ ap (label_not_set before c) (sym is)
 
 all_changed-more : (cases : List Case) (i : ℕ) (d : Case) (change : LabelUse → LabelUse) (uses : ℕ → LabelUse) → i < length cases →
     changed (get_or cases i d).label change (all_changed (map (λ e. e.label) (take i cases)) change uses) ≡ all_changed (map (λ e. e.label) (take (i + 1) cases)) change uses

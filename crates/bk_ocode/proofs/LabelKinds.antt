@@ -1,10 +1,9 @@
 -- Each label that is used is set, by the right kind of statement; and texts are short.
-use Rattle.bk_ocode.proofs.Terms.{◌≡◌, ◌⊎◌, inl, inr, ℕ, zero, suc, ◌+◌, ◌≤◌, nat_le, nat_lt, Bool, true, false, not, ◌||◌, ◌==◌, List, [], ◌∷◌, ◌++◌, length, take, slice_get, Some, None, refl, sym, ◌∙◌, ap, subst, arith, leb-false, ltb-false, list_all, FRAME_WORDS, OCODE_STATEMENTS, OCODE_WORDS, stmt_words, next_depth, data_labels, item_label, global_labels, role, may_stand, position_after, Context, at_start, after, after_all, context_of, is_data, is_entry, data_set, label_not_set, too_long, AreFaultless, IsSection, text_size, IsAmong, DataFindsItsLabel, ItemFindsItsLabel, GlobalFindsItsEntry, GlobalIsLast, TextIsShort, StmtPlace, Outer, Setting, GlobalEntry, Stmt, Label, Entry, DataLabel, DataAddress, Globals, Position as position, Setting as setting, same_Some, and_parts, not-false, or_cases, or_parts}
+use Rattle.bk_ocode.proofs.Terms.{◌≡◌, ◌⊎◌, inl, inr, ℕ, zero, suc, ◌+◌, ◌≤◌, nat_le, nat_lt, Bool, true, false, not, ◌||◌, ◌==◌, List, [], ◌∷◌, ◌++◌, length, take, slice_get, Some, None, refl, sym, ◌∙◌, ap, subst, arith, leb-false, ltb-false, list_all, FRAME_WORDS, OCODE_STATEMENTS, OCODE_WORDS, stmt_words, next_depth, data_labels, item_label, global_labels, role, may_stand, position_after, Context, at_start, after, after_all, context_of, is_data, is_entry, data_set, label_not_set, too_long, AreFaultless, IsSection, text_size, IsAmong, DataFindsItsLabel, ItemFindsItsLabel, GlobalFindsItsEntry, GlobalIsLast, TextIsShort, StmtPlace, Outer, Setting, GlobalEntry, Stmt, Label, Entry, DataLabel, DataAddress, Globals, Position as position, Setting as setting, same_Some, and_parts, not-false, or_cases, or_parts, take-append_seam}
 use Rattle.bk_ocode.proofs.CaseLemmas.{at_push}
-use Rattle.bk_ocode.proofs.Depths.{keeps_in}
+use Rattle.bk_ocode.proofs.Depths.{keeps_in, at_seam, get-append}
 use Rattle.bk_ocode.proofs.JumpDepths.{after-same, after-label}
 use Rattle.bk_ocode.proofs.JumpPlaces.{all_at, among_all, dec_by, after-entry, after-data}
-use Rattle.bk_ocode.proofs.SoundSteps.{at_front, front_of}
 
 -- the last statement of a section
 last_is : (c : Context) (s : Stmt) (rest : List Stmt) → (after_all c (s ∷ rest)).position ≡ position.Ended → (front : List Stmt) × (entries : List GlobalEntry) × (s ∷ rest ≡ front ++ Globals entries ∷ [])
@@ -70,20 +69,15 @@ record Checked (stmts : List Stmt) : Type 0 where
 checked : (stmts : List Stmt) → IsSection stmts → Checked stmts
 checked stmts are =
     let last = global_is_last stmts are in
-    let at : slice_get stmts (length last.0) ≡ Some (Globals last.1) = ap (λ (l : List Stmt). slice_get l (length last.0)) last.2 ∙ at_front last.0 [] (Globals last.1) in
-    let same : take (length last.0) stmts ≡ last.0 = ap (take (length last.0)) last.2 ∙ front_of last.0 (Globals last.1 ∷ []) in
+    let at : slice_get stmts (length last.0) ≡ Some (Globals last.1) = ap (λ (l : List Stmt). slice_get l (length last.0)) last.2 ∙ at_seam last.0 (Globals last.1) [] in
+    let same : take (length last.0) stmts ≡ last.0 = ap (take (length last.0)) last.2 ∙ take-append_seam last.0 (Globals last.1 ∷ []) in
     let keeps = keeps_in (take (length last.0) stmts) (context_of (take (length last.0) stmts)) (Globals last.1) (are.are_faultless.faultless (length last.0) (Globals last.1) at) in
     let set : label_not_set last.0 (context_of last.0) (Globals last.1) ≡ false = subst (λ (l : List Stmt). label_not_set l (context_of l) (Globals last.1) ≡ false) same keeps.set in
     let two = and_parts (list_all (data_set (context_of last.0)) last.0) (list_all (λ label. is_entry ((context_of last.0).uses label).setting) (global_labels (Globals last.1))) (not-false _ set) in
     record { front = last.0; entries = last.1; whole = last.2; of_data = two.0; of_globals = two.1 }
 
-front_at : (front : List Stmt) (g : Stmt) (j : ℕ) (s : Stmt) → slice_get front j ≡ Some s → slice_get (front ++ g ∷ []) j ≡ Some s
-front_at [] g j s at = absurd (let h : None ≡ Some s = at in cc)
-front_at (t ∷ front) g zero s at = at
-front_at (t ∷ front) g (suc j) s at = front_at front g j s at
-
 in_whole : (stmts front : List Stmt) (g : Stmt) (j : ℕ) (s : Stmt) → stmts ≡ front ++ g ∷ [] → slice_get front j ≡ Some s → slice_get stmts j ≡ Some s
-in_whole stmts front g j s whole at = ap (λ (l : List Stmt). slice_get l j) whole ∙ front_at front g j s at
+in_whole stmts front g j s whole at = ap (λ (l : List Stmt). slice_get l j) whole ∙ get-append front (g ∷ []) j s at
 
 data_there : (stmts : List Stmt) (k : Checked stmts) (l : ℕ) → is_data ((context_of k.front).uses l).setting ≡ true → (place : ℕ) × (slice_get stmts place ≡ Some (DataLabel l))
 data_there stmts k l e = grind (arith, data_exists, is_data-so, in_whole)

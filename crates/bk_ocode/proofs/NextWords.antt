@@ -4,7 +4,8 @@ use Rattle.bk_ocode.specs.declared.stmt.Variable.{Variable}
 use Rattle.bk_ocode.specs.declared.stmt.Variable.TheVariants as variable
 use Rattle.bk_ocode.proofs.KeywordLemmas.{begins_so, same_keyword}
 use Rattle.bk_ocode.proofs.Completions.{or-second}
-use Rattle.bk_ocode.proofs.SameStmts.{first_same, rests_same, natural_same, Each, byte_row, case_row, global_row, IsByte, IsCase, IsEntry, byte_rows, case_rows, global_rows, at_seam, next_row}
+use Rattle.bk_ocode.proofs.Depths.{at_seam, get-append}
+use Rattle.bk_ocode.proofs.SameStmts.{first_same, rests_same, natural_same, Each, byte_row, case_row, global_row, IsByte, IsCase, IsEntry, byte_rows, case_rows, global_rows, next_row}
 
 no_variable : (v : Variable) (w : List ℕ) → IsVariable v → NoVariable (kind_of v) w → variable_word v ≢ w
 no_variable (variable.Local n) w fits none is = none n fits.0 (omega (arith, fits.1)) is
@@ -67,11 +68,6 @@ value_place value (c ∷ cases) is = elim (cases_Bool (int_eq c.value value)) [
   | inl same ↦ (0, c, refl, (Decides-int_eq c.value value).0 same)
   | inr other ↦ let r = value_place value cases (sym (or-second (int_eq c.value value) (has_value value cases) other) ∙ is) in (suc r.0, r.1, r.2, r.3)
 ]
-
-get-append : {A : Type 0} (a c : List A) (k : ℕ) (x : A) → slice_get a k ≡ Some x → slice_get (a ++ c) k ≡ Some x
-get-append [] c k x at = absurd (let h : None ≡ Some x = at in cc)
-get-append (y ∷ a) c zero x at = at
-get-append (y ∷ a) c (suc k) x at = get-append a c k x at
 
 -- a case has a value that none before it has
 new_value : (a c : List Case) (i : Case) → AreCases (a ++ i ∷ c) → has_value i.value a ≡ false

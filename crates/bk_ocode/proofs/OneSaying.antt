@@ -1,22 +1,19 @@
 -- The words of a text say one thing.
 use Rattle.bk_ocode.proofs.Terms.{◌≡◌, ◌≢◌, ◌⊎◌, inl, inr, ℕ, ◌+◌, ◌<◌, ◌≤◌, ◌++◌, true, false, List, [], ◌∷◌, Some, None, length, take, slice_get, if◌then◌else◌, arith, refl, sym, ap, ◌∙◌, subst, append_assoc, append-nil, length-append, cases_lt, take-append_seam, OCODE_WORDS, OcodeKind, BadWord, BadNumber, Truncated, LabelNotSet, LabelSetTwice, DepthsDisagree, SlotAboveDepth, TooLong, keyword, argument_words, stmt_words, section_words, AreTyped, context_of, misplaced, stmt_fault, AreFaultless, IsSection, IsStmt, IsPartial, BeginsStmt, IsBadWord, IsBadNumber, BreaksRule, PassesWords, FaultOf, FaultAt, CutAt, section, nothing, fault, Says, SayOneThing, Outside, Ended, Stmt}
-use Rattle.bk_ocode.proofs.Depths.{keeps_in}
+use Rattle.bk_ocode.proofs.Depths.{keeps_in, at_seam}
 use Rattle.bk_ocode.proofs.DraftLemmas.{fits_behind}
 use Rattle.bk_ocode.proofs.FaultLemmas.{words_tally}
 use Rattle.bk_ocode.proofs.Rows.{joined-append}
-use Rattle.bk_ocode.proofs.SameStmts.{Each, first_same, stmt_same, at_seam, next_row, all_same}
+use Rattle.bk_ocode.proofs.SameStmts.{Each, first_same, rests_same, stmt_same, next_row, all_same}
 
 -- of two lists that begin one, the shorter begins the longer
 split_front : (a b x y : List (List ℕ)) → a ++ x ≡ b ++ y → length a ≤ length b → (c : List (List ℕ)) × (b ≡ a ++ c) × (x ≡ c ++ y)
 split_front [] b x y is short = (b, refl, is)
 split_front (v ∷ a) [] x y is short = absurd (omega arith)
 split_front (v ∷ a) (w ∷ b) x y is short =
-    let r = split_front a b x y (tails v w (a ++ x) (b ++ y) is) (omega arith) in
+    let r = split_front a b x y (rests_same v w (a ++ x) (b ++ y) is) (omega arith) in
     (r.0, both v w b (a ++ r.0) (first_same v w (a ++ x) (b ++ y) is) r.1, r.2)
   where
-    tails : (v w : List ℕ) (s t : List (List ℕ)) → v ∷ s ≡ w ∷ t → s ≡ t
-    tails v w s t e = cc
-
     both : (v w : List ℕ) (s t : List (List ℕ)) → v ≡ w → s ≡ t → w ∷ s ≡ v ∷ t
     both v w s t first rest = cc
 

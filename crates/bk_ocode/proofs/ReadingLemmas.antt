@@ -4,6 +4,7 @@ use Rattle.bk_words.specs.declared.words.Gathered.{Gathered}
 use Rattle.bk_ocode.proofs.CaseLemmas.{at_push}
 use Rattle.bk_ocode.proofs.Rows.{joined-append}
 use Rattle.bk_ocode.proofs.DraftLemmas.{fits_behind}
+use Rattle.bk_ocode.proofs.SameStmts.{none_of}
 
 abbrev pub Comes : Option (List ℕ) → Option (List ℕ) → ℕ → ℕ → Bool → Option Gathered → Type 0
 Comes b c m k ended found = (given : List ℕ) × Consumes b c given × (k ≡ m + length given) × IsNextWord found given (AtEnd ended k)
@@ -24,13 +25,9 @@ grows b c m k ended held n =
 pub all_read : (old a b : Option (List ℕ)) (e f : Bool) (m k : ℕ) (words : List (List ℕ)) → Reads old a e m words → Comes a b m k f None → k ≤ INPUT_BYTES → (IsTrue e → k ≡ m) → ReadsAll old b f k words
 all_read old a b e f m k words reads comes within reported =
     Reads-end old a b e f m k words comes.0 reads comes.3.0 comes.3.1 comes.1 comes.2 (λ at. elim at [
-      | inl t ↦ none comes.0 (omega (arith, reported t, comes.2))
-      | inr full ↦ none comes.0 (omega (arith, full, comes.2, within))
+      | inl t ↦ none_of comes.0 (omega (arith, reported t, comes.2))
+      | inr full ↦ none_of comes.0 (omega (arith, full, comes.2, within))
     ])
-  where
-    none : (l : List ℕ) → length l ≡ 0 → l ≡ []
-    none [] is = refl
-    none (x ∷ l) is = absurd (omega arith)
 
 section_words-push : (stmts all : List Stmt) (s : Stmt) → all ≡ stmts ++ s ∷ [] → section_words all ≡ section_words stmts ++ stmt_words s
 section_words-push stmts all s is =

@@ -3,6 +3,7 @@ use Rattle.bk_ocode.proofs.Terms.{◌≡◌, ℕ, suc, ℤ, FitsSigned, w32, ◌
 use Rattle.std.proofs.lemmas.Fmt.{decimal_injective, signed_decimal_injective}
 use Rattle.bk_ocode.specs.declared.stmt.Variable.{Variable}
 use Rattle.bk_ocode.specs.declared.stmt.Variable.TheVariants as variable
+use Rattle.bk_ocode.proofs.Depths.{at_seam}
 use Rattle.bk_ocode.proofs.KeywordLemmas.{begins_so, same_keyword}
 
 pub first_same : (v w : List ℕ) (s t : List (List ℕ)) → v ∷ s ≡ w ∷ t → v ≡ w
@@ -45,7 +46,7 @@ front_same A row Fine rows (i ∷ a) (j ∷ b) x y p q is short =
     let r = front_same A row Fine rows a b x y (λ k item at. p (suc k) item at) (λ k item at. q (suc k) item at) one.1 (omega arith) in
     (r.0, ap (λ k. k ∷ b) (sym one.0) ∙ ap (λ (l : List A). i ∷ l) r.1, r.2)
 
-none_of : {A : Type 0} (c : List A) → length c ≡ 0 → c ≡ []
+pub none_of : {A : Type 0} (c : List A) → length c ≡ 0 → c ≡ []
 none_of [] is = refl
 none_of (x ∷ c) is = absurd (omega arith)
 
@@ -167,11 +168,6 @@ stmt_same s t x y p q is =
     same_behind s t x y p q
     (same_keyword (keyword_of_stmt s) (keyword_of_stmt t) (sym (begins_so s) ∙ first_same (keyword s) (keyword t) (argument_words s ++ x) (argument_words t ++ y) is ∙ begins_so t))
     (rests_same (keyword s) (keyword t) (argument_words s ++ x) (argument_words t ++ y) is)
-
--- the place behind a list
-pub at_seam : {A : Type 0} (a : List A) (x : A) (c : List A) → slice_get (a ++ x ∷ c) (length a) ≡ Some x
-at_seam [] x c = refl
-at_seam (y ∷ a) x c = at_seam a x c
 
 -- the row behind those that are fewer
 pub next_row : (A : Type 0) (row : A → List (List ℕ)) (Fine : A → Type 0) → AreRows A row Fine → (a b : List A) (x y : List (List ℕ)) → Each Fine a → Each Fine b →

@@ -1,9 +1,9 @@
 -- Each step keeps what the states of a run keep, and so does going on from a rest.
-use Rattle.bk_ocode.proofs.Terms.{◌≡◌, ◌⊎◌, inl, inr, ℕ, zero, suc, ◌+◌, ◌≤◌, Bool, true, false, not, List, [], ◌∷◌, ◌++◌, length, take, slice_get, Option, Some, None, refl, sym, ◌∙◌, ap, subst, arith, append_assoc, word_sum, byte_distance, next_depth, depth_after, least_depth, InRange, may_stand, Context, at_start, after, after_all, context_of, misplaced, AreFaultless, Content, Variable, Temporary, Held, write, byte_at, word_with_byte_at, string_at, Placement, Placed, Routine, Stop, Rdch, Wrch, Newline, Writes, Writen, Writed, Getbyte, Putbyte, Writef, Control, Inside, Following, At, State, Next, Goes, Wild, rest_place, slot, on_some, return, tells, read_byte, routine_step, step_in, step_from, step, Rest, rest_of, or_rest, rests, rests_of, in_hand, kept, resumed_by, resumed, Program, HasFrames, IsProgram, Applies, IsOwn, IsControl, Sound, SoundStep, StepsAreSound, ResumingIsSound, Position, Body, Local, Stmt, Number, True, False, Query, Load, Address, Text, Assign, Jump, JumpIf, Label, TakeResult, Stack, Store, Entry, Save, CallFunction, CallRoutine, Return, EndProcedure, Switch, Finish, DataLabel, DataNumber, DataAddress, Globals, Position as position, same_Some, not-false}
+use Rattle.bk_ocode.proofs.Terms.{◌≡◌, ◌⊎◌, inl, inr, ℕ, zero, suc, ◌+◌, ◌≤◌, Bool, true, false, not, List, [], ◌∷◌, ◌++◌, length, take, slice_get, Option, Some, None, refl, sym, ◌∙◌, ap, subst, arith, append_assoc, word_sum, byte_distance, next_depth, depth_after, least_depth, InRange, may_stand, Context, at_start, after, after_all, context_of, misplaced, AreFaultless, Content, Variable, Temporary, Held, write, byte_at, word_with_byte_at, string_at, Placement, Placed, Routine, Stop, Rdch, Wrch, Newline, Writes, Writen, Writed, Getbyte, Putbyte, Writef, Control, Inside, Following, At, State, Next, Goes, Wild, rest_place, slot, on_some, return, tells, read_byte, routine_step, step_in, step_from, step, Rest, rest_of, or_rest, rests, rests_of, in_hand, kept, resumed_by, resumed, Program, HasFrames, IsProgram, Applies, IsOwn, IsControl, Sound, SoundStep, StepsAreSound, ResumingIsSound, Position, Body, Local, Stmt, Number, True, False, Query, Load, Address, Text, Assign, Jump, JumpIf, Label, TakeResult, Stack, Store, Entry, Save, CallFunction, CallRoutine, Return, EndProcedure, Switch, Finish, DataLabel, DataNumber, DataAddress, Globals, Position as position, same_Some, not-false, take-append_seam, take-append-le, slice_get_within}
 use Rattle.bk_ocode.proofs.Chosen.{on_number-holds, on_some-holds}
-use Rattle.bk_ocode.proofs.Depths.{keeps_in, context-depth, depth_after-append, depths_suffice}
+use Rattle.bk_ocode.proofs.Depths.{keeps_in, context-depth, depth_after-append, depths_suffice, at_seam, get-append}
 use Rattle.bk_ocode.proofs.JumpPlaces.{Within}
-use Rattle.bk_ocode.proofs.SoundSteps.{at_front, front_of, byte_there, Running, changed, slot-changes, variable-changes, inside, StaysNext, ReturnsNext, return-returns, step-stays}
+use Rattle.bk_ocode.proofs.SoundSteps.{byte_there, Running, changed, slot-changes, variable-changes, inside, StaysNext, ReturnsNext, return-returns, step-stays}
 
 -- ---- in a procedure the depth is 2 at least
 
@@ -69,24 +69,14 @@ fine_in stmts are k t at = record {
   least = subst (λ n. least_depth t ≤ n) (sym (context-depth (take k stmts))) (depths_suffice stmts k t are at).0;
 }
 
-slice_front : (before rest : List Stmt) (k : ℕ) (t : Stmt) → slice_get before k ≡ Some t → slice_get (before ++ rest) k ≡ Some t
-slice_front [] rest k t at = absurd (let h : None ≡ Some t = at in cc)
-slice_front (s ∷ before) rest zero t at = at
-slice_front (s ∷ before) rest (suc k) t at = slice_front before rest k t at
-
-take_front : (before rest : List Stmt) (k : ℕ) (t : Stmt) → slice_get before k ≡ Some t → take k (before ++ rest) ≡ take k before
-take_front [] rest k t at = absurd (let h : None ≡ Some t = at in cc)
-take_front (s ∷ before) rest zero t at = refl
-take_front (s ∷ before) rest (suc k) t at = ap (λ (l : List Stmt). s ∷ l) (take_front before rest k t at)
-
 -- the depth at a LAB
 label_deep : (stmts before rest : List Stmt) (l : ℕ) → AreFaultless stmts → stmts ≡ before ++ Label l ∷ rest → 2 ≤ depth_after 0 before
 label_deep stmts before rest l are whole =
     let fine : (k : ℕ) (t : Stmt) → slice_get (before ++ Label l ∷ rest) k ≡ Some t → IsFine (context_of (take k (before ++ Label l ∷ rest))) t =
     subst (λ (x : List Stmt). (k : ℕ) (t : Stmt) → slice_get x k ≡ Some t → IsFine (context_of (take k x)) t) whole (fine_in stmts are) in
     let deep : Deep (context_of before) = deep-all at_start before (λ w. none_within w) (λ k t at.
-    subst (λ (x : List Stmt). IsFine (context_of x) t) (take_front before (Label l ∷ rest) k t at) (fine k t (slice_front before (Label l ∷ rest) k t at))) in
-    let own = subst (λ (x : List Stmt). IsFine (context_of x) (Label l)) (front_of before (Label l ∷ rest)) (fine (length before) (Label l) (at_front before rest (Label l))) in
+    subst (λ (x : List Stmt). IsFine (context_of x) t) (take-append-le k before (Label l ∷ rest) (omega (arith, slice_get_within before k t at))) (fine k t (get-append before (Label l ∷ rest) k t at))) in
+    let own = subst (λ (x : List Stmt). IsFine (context_of x) (Label l)) (take-append_seam before (Label l ∷ rest)) (fine (length before) (Label l) (at_seam before (Label l) rest)) in
     subst (λ n. 2 ≤ n) (context-depth before) (body_deep (context_of before) deep own.placed)
 
 -- ---- rests
@@ -101,7 +91,7 @@ record IsFit (stmts : List Stmt) (r : Rest) : Type 0 where
 
 module _ (places : Placement) (stmts : List Stmt) (are : AreFaultless stmts) where
   range_at : (before rest : List Stmt) (c : Stmt) → stmts ≡ before ++ c ∷ rest → InRange c
-  range_at before rest c whole = are.in_range (length before) c (ap (λ (l : List Stmt). slice_get l (length before)) whole ∙ at_front before rest c)
+  range_at before rest c whole = are.in_range (length before) c (ap (λ (l : List Stmt). slice_get l (length before)) whole ∙ at_seam before c rest)
 
   -- the statements behind one in its place
   following : (before rest : List Stmt) (c : Stmt) → stmts ≡ before ++ c ∷ rest → Applies stmts (next_depth (depth_after 0 before) c) rest

@@ -3,7 +3,7 @@ use Rattle.bk_ocode.proofs.Terms.{◌≡◌, inl, ℕ, suc, ◌-◌, ◌<◌, �
 use Rattle.bk_ocode.specs.SectionData.{Datum, is_in, is_datum, datum_word, GlobalSetting, entry_setting, stmt_globals, globals_of}
 use Rattle.bk_ocode.specs.Library.{library_globals}
 use Rattle.bk_ocode.proofs.Chosen.{chosen-true, chosen-false, write-kept}
-use Rattle.bk_ocode.proofs.SoundSteps.{global_usable}
+use Rattle.bk_ocode.proofs.SoundSteps.{global_usable, mapped}
 
 -- ---- settings of globals that there are
 
@@ -90,17 +90,13 @@ module _ (program : Program) (first : ℕ) (above : global_place GLOBAL_NUMBER <
       by_same place under held false e =
           usable place under (subst IsHeld (write-kept cells (global_place x.global) (Held Variable (Word x.value)) place (λ same. absurd (let z : true ≡ false = sym (eq-eqb place (global_place x.global) same) ∙ e in cc))) held)
 
-mapped_to : {A B : Type 0} → (f : A → B) (o : Option A) (y : B) → option_map f o ≡ Some y → (x : A) × (f x ≡ y)
-mapped_to f (Some x) y e = (x, (let h : Some (f x) ≡ Some y = e in cc))
-mapped_to f None y e = absurd (let h : None ≡ Some y = e in cc)
-
 pub first_state_is_sound : FirstStateIsSound
 first_state_is_sound program first F input s is begins =
     let low : AreLow (library_globals ++ all_globals program.sections) = AreLow-append library_globals (all_globals program.sections) library_low (all_low program.sections is.accepted) in
     let base = unset_cells (all_data program.sections) first program.home in
     let state : ℕ → State = λ start. record { control = At start; cells = first_cells program first; frame = first; hand = None; input = input; output = []; written = [] } in
-    let found = mapped_to state (number_in (content_of (first_cells program first (global_place 1)))) s begins in
-    subst (Sound program first F) found.1 (record {
+    let found = mapped state (number_in (content_of (first_cells program first (global_place 1)))) s begins in
+    subst (Sound program first F) found.2 (record {
       from_first = omega arith;
       control = tt;
       active = inl (

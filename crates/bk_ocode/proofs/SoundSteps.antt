@@ -1,18 +1,10 @@
 -- What the states of a run keep is kept by each step, and by going on from a rest.
-use Rattle.bk_ocode.proofs.Terms.{◌≡◌, ◌⊎◌, inl, inr, ℕ, zero, suc, ◌+◌, ◌-◌, ◌<◌, ◌≤◌, ◌^◌, ◌==◌, nat_lt, Bool, true, false, List, [], ◌∷◌, ◌++◌, length, take, slice_get, Option, Some, None, refl, sym, ◌∙◌, ap, subst, arith, eqb-true, eq-eqb, le-leb, nat_le, ◌&&◌, ◌||◌, if◌then◌else◌, append_assoc, ⊤, ◌%◌, option_map, word_sum, byte_distance, byte_place, FRAME_WORDS, GLOBAL_NUMBER, next_depth, depth_after, largest_after, largest_depth, least_depth, assign_depth, InRange, AreFaultless, Content, Word, Variable, Temporary, Link, Cell, Held, content_of, with_byte, write, below, settle, variable_in, variable_at, number_in, byte_at, word_with_byte_at, Placement, Placed, Inside, At, State, Next, Goes, Ends, Wild, global_place, is_label, slot, on, push, operated, named_place, has_word, from_label, jump, jump_with, case_label, can_be_called, call, return, dyadic_word, step_by, Rest, rest_of, or_rest, rests, rests_of, IsAtRest, Program, is_datum, all_data, HasFrames, start, called, IsHeld, is_usable, IsOpening, Applies, IsOwn, IsControl, Sound, Local, Global, Static, Contents, Negate, Not, Stmt, Number, True, False, Query, Load, Address, Text, Monadic, Dyadic, LoadByte, Assign, AssignAt, AssignByte, Jump, JumpIf, Label, GiveResult, TakeResult, Stack, Store, Entry, Save, CallFunction, CallRoutine, ReturnItem, Return, Switch, Finish}
+use Rattle.bk_ocode.proofs.Terms.{◌≡◌, ◌⊎◌, inl, inr, ℕ, zero, suc, ◌+◌, ◌-◌, ◌<◌, ◌≤◌, ◌^◌, ◌==◌, nat_lt, Bool, true, false, List, [], ◌∷◌, ◌++◌, length, take, slice_get, Option, Some, None, refl, sym, ◌∙◌, ap, subst, arith, eqb-true, eq-eqb, le-leb, nat_le, ◌&&◌, ◌||◌, if◌then◌else◌, append_assoc, ⊤, ◌%◌, option_map, word_sum, byte_distance, byte_place, FRAME_WORDS, GLOBAL_NUMBER, next_depth, depth_after, largest_after, largest_depth, least_depth, assign_depth, InRange, AreFaultless, Content, Word, Variable, Temporary, Link, Cell, Held, content_of, with_byte, write, below, settle, variable_in, variable_at, number_in, byte_at, word_with_byte_at, Placement, Placed, Inside, At, State, Next, Goes, Ends, Wild, global_place, is_label, slot, on, push, operated, named_place, has_word, from_label, jump, jump_with, case_label, can_be_called, call, return, dyadic_word, step_by, Rest, rest_of, or_rest, rests, rests_of, IsAtRest, Program, is_datum, all_data, HasFrames, start, called, IsHeld, is_usable, IsOpening, Applies, IsOwn, IsControl, Sound, Local, Global, Static, Contents, Negate, Not, Stmt, Number, True, False, Query, Load, Address, Text, Monadic, Dyadic, LoadByte, Assign, AssignAt, AssignByte, Jump, JumpIf, Label, GiveResult, TakeResult, Stack, Store, Entry, Save, CallFunction, CallRoutine, ReturnItem, Return, Switch, Finish, take-append_seam}
 use Rattle.bk_ocode.specs.declared.stmt.Variable.{Variable as Named}
 use Rattle.bk_ocode.proofs.Chosen.{below-kept, write-kept, write-there, settle-kept, on_number-holds, on_some-holds, if-holds}
-use Rattle.bk_ocode.proofs.Depths.{depth_after-append, depths_suffice}
+use Rattle.bk_ocode.proofs.Depths.{depth_after-append, depths_suffice, at_seam}
 
 -- ---- a statement in its place
-
-pub at_front : (before rest : List Stmt) (s : Stmt) → slice_get (before ++ s ∷ rest) (length before) ≡ Some s
-at_front [] rest s = refl
-at_front (t ∷ before) rest s = at_front before rest s
-
-pub front_of : (before rest : List Stmt) → take (length before) (before ++ rest) ≡ before
-front_of [] rest = refl
-front_of (t ∷ before) rest = ap (λ (l : List Stmt). t ∷ l) (front_of before rest)
 
 largest_at : (k : ℕ) (before rest : List Stmt) (s : Stmt) → next_depth (depth_after k before) s ≤ largest_after k (before ++ s ∷ rest)
 largest_at k [] rest s = omega arith
@@ -32,10 +24,10 @@ here : (stmts : List Stmt) (k : ℕ) (s : Stmt) (rest : List Stmt) → AreFaultl
 here stmts k s rest are applies other =
     let before = applies.before in
     let depth : k ≡ depth_after 0 before = by_depth applies.same_depth in
-    let at : slice_get stmts (length before) ≡ Some s = ap (λ (l : List Stmt). slice_get l (length before)) applies.whole ∙ at_front before rest s in
+    let at : slice_get stmts (length before) ≡ Some s = ap (λ (l : List Stmt). slice_get l (length before)) applies.whole ∙ at_seam before s rest in
     let d = depths_suffice stmts (length before) s are at in
     let same : depth_after 0 (take (length before) stmts) ≡ k =
-    ap (depth_after 0) (ap (take (length before)) applies.whole ∙ front_of before (s ∷ rest)) ∙ sym depth in
+    ap (depth_after 0) (ap (take (length before)) applies.whole ∙ take-append_seam before (s ∷ rest)) ∙ sym depth in
     record {
       range = are.in_range (length before) s at;
       least = subst (λ n. least_depth s ≤ n) same d.0;
@@ -94,8 +86,8 @@ variable_found y content e = absurd (let h : None ≡ Some content = e in cc)
 variable_there : (top : ℕ) (cells : ℕ → Cell) (a : ℕ) (content : Content) → variable_at top cells a ≡ Some content → cells a ≡ Held Variable content
 variable_there top cells a content e = grind (arith, variable_found)
 
-mapped : {A B : Type 0} → (f : A → B) (o : Option A) (y : B) → option_map f o ≡ Some y → (x : A) × (o ≡ Some x)
-mapped f (Some x) y e = (x, refl)
+pub mapped : {A B : Type 0} → (f : A → B) (o : Option A) (y : B) → option_map f o ≡ Some y → (x : A) × (o ≡ Some x) × (f x ≡ y)
+mapped f (Some x) y e = (x, refl, (let h : Some (f x) ≡ Some y = e in cc))
 mapped f None y e = absurd (let h : None ≡ Some y = e in cc)
 
 pub byte_there : (top : ℕ) (cells : ℕ → Cell) (a i b : ℕ) (content : Content) → word_with_byte_at top cells a i b ≡ Some content →

@@ -37,8 +37,7 @@ returns-then-is_filled_by-clause-answers g c =
 pub returns-in-Err-clause-answers : goal.returns-in-Err-clause-answers
 returns-in-Err-clause-answers g c =
     let v = c.loop-alloc.invariant in
-    let comes = rw c.in-Some.is at c.in-Ok.ensures.gives in
-    let r = word_read _ _ _ _ _ c.loop-alloc.taken c.next_word.new.taken _ c.in-Some.word v.read (λ reported. let h = (c.in-Ok.ensures.ended_again reported).0 in search rules) comes c.in-Ok.ensures.within in
+    let r = word_read _ _ _ _ _ c.loop-alloc.taken c.next_word.new.taken _ c.in-Some.word v.read (λ reported. let h = (c.in-Ok.ensures.ended_again reported).0 in search rules) (rw c.in-Some.is at c.in-Ok.ensures.gives) c.in-Ok.ensures.within in
     subst (λ (x : Refused OcodeFault). Answers (Err x) (g.I.ByteIn.left c.args.input.now) (g.I.ByteIn.left c.next_word.new.input) (g.I.ByteIn.ended c.next_word.new.input)) (sym c.refused.ensures.reported)
     (refused_at _ _ _ c.next_word.new.taken c.len-in-Err.result c.loop-alloc.draft.stmts.items c.loop-alloc.begun r.0 c.in-Err.unfit v.begun c.len-in-Err.ensures r.2
     (words_within _ c.loop-alloc.draft.stmts.items (part_words c.loop-alloc.begun) c.loop-alloc.words _ v.draft.context v.counted c.is_filled_by.ensures c.if-is_filled_by.false)
@@ -51,8 +50,7 @@ returns-in-Some-fault_of-clause-answers g c =
     let part = part_words c.loop-alloc.begun in
     let stmts = c.loop-alloc.draft.stmts.items in
     let s = c.in-Ok-Done.stmt in
-    let comes = rw c.in-Some.is at c.in-Ok.ensures.gives in
-    let r = word_read _ _ _ _ _ c.loop-alloc.taken c.next_word.new.taken _ c.in-Some.word v.read (λ reported. let h = (c.in-Ok.ensures.ended_again reported).0 in search rules) comes c.in-Ok.ensures.within in
+    let r = word_read _ _ _ _ _ c.loop-alloc.taken c.next_word.new.taken _ c.in-Some.word v.read (λ reported. let h = (c.in-Ok.ensures.ended_again reported).0 in search rules) (rw c.in-Some.is at c.in-Ok.ensures.gives) c.in-Ok.ensures.within in
     let step = rw c.in-Ok-Done.field-0-is at (c.in-Ok-Done.ensures.step r.0 r.1) in
     let placed = placed_more (context_of stmts) c.loop-alloc.begun (part ++ r.0 ∷ []) r.0 refl v.placed
     (λ fresh t begins. ap (λ (k : Context). misplaced k t) (sym v.draft.context) ∙ c.in-Ok-Done.ensures.placed fresh r.0 r.1 t begins) s [] (step.1 ∙ sym (append-nil (part ++ r.0 ∷ []))) in
@@ -64,16 +62,14 @@ returns-in-Some-fault_of-clause-answers g c =
 pub fault_of-requires-clause-words : goal.fault_of-requires-clause-words
 fault_of-requires-clause-words g c =
     let v = c.loop-alloc.invariant in
-    let comes = rw c.in-Some.is at c.in-Ok.ensures.gives in
-    let r = word_read _ _ _ _ _ c.loop-alloc.taken c.next_word.new.taken _ c.in-Some.word v.read (λ reported. let h = (c.in-Ok.ensures.ended_again reported).0 in search rules) comes c.in-Ok.ensures.within in
+    let r = word_read _ _ _ _ _ c.loop-alloc.taken c.next_word.new.taken _ c.in-Some.word v.read (λ reported. let h = (c.in-Ok.ensures.ended_again reported).0 in search rules) (rw c.in-Some.is at c.in-Ok.ensures.gives) c.in-Ok.ensures.within in
     let step = rw c.in-Ok-Done.field-0-is at (c.in-Ok-Done.ensures.step r.0 r.1) in
     one_longer (part_words c.loop-alloc.begun) _ r.0 c.loop-alloc.words v.counted step.1
 
 pub add-requires-clause-words : goal.add-requires-clause-words
 add-requires-clause-words g c =
     let v = c.loop-alloc.invariant in
-    let comes = rw c.in-Some.is at c.in-Ok.ensures.gives in
-    let r = word_read _ _ _ _ _ c.loop-alloc.taken c.next_word.new.taken _ c.in-Some.word v.read (λ reported. let h = (c.in-Ok.ensures.ended_again reported).0 in search rules) comes c.in-Ok.ensures.within in
+    let r = word_read _ _ _ _ _ c.loop-alloc.taken c.next_word.new.taken _ c.in-Some.word v.read (λ reported. let h = (c.in-Ok.ensures.ended_again reported).0 in search rules) (rw c.in-Some.is at c.in-Ok.ensures.gives) c.in-Ok.ensures.within in
     let step = rw c.in-Ok-Done.field-0-is at (c.in-Ok-Done.ensures.step r.0 r.1) in
     one_longer (part_words c.loop-alloc.begun) _ r.0 c.loop-alloc.words v.counted step.1
 
@@ -105,8 +101,7 @@ pub into_section-requires-clause-section : goal.into_section-requires-clause-sec
 into_section-requires-clause-section g c =
     let v = c.loop-alloc.invariant in
     let part = part_words c.loop-alloc.begun in
-    let comes = rw c.in-Some.is at c.in-Ok.ensures.gives in
-    let r = word_read _ _ _ _ _ c.loop-alloc.taken c.next_word.new.taken _ c.in-Some.word v.read (λ reported. let h = (c.in-Ok.ensures.ended_again reported).0 in search rules) comes c.in-Ok.ensures.within in
+    let r = word_read _ _ _ _ _ c.loop-alloc.taken c.next_word.new.taken _ c.in-Some.word v.read (λ reported. let h = (c.in-Ok.ensures.ended_again reported).0 in search rules) (rw c.in-Some.is at c.in-Ok.ensures.gives) c.in-Ok.ensures.within in
     let step = rw c.in-Ok-Done.field-0-is at (c.in-Ok-Done.ensures.step r.0 r.1) in
     let ended : (context_of c.add.new.self.stmts.items).position ≡ Ended =
     ap (λ (k : Context). k.position) (sym c.in-Ok-add.ensures.draft.context) ∙ c.is_whole.ensures.whole c.if-is_whole.true in
@@ -115,8 +110,7 @@ into_section-requires-clause-section g c =
 pub into_section-requires-clause-typed : goal.into_section-requires-clause-typed
 into_section-requires-clause-typed g c =
     let v = c.loop-alloc.invariant in
-    let comes = rw c.in-Some.is at c.in-Ok.ensures.gives in
-    let r = word_read _ _ _ _ _ c.loop-alloc.taken c.next_word.new.taken _ c.in-Some.word v.read (λ reported. let h = (c.in-Ok.ensures.ended_again reported).0 in search rules) comes c.in-Ok.ensures.within in
+    let r = word_read _ _ _ _ _ c.loop-alloc.taken c.next_word.new.taken _ c.in-Some.word v.read (λ reported. let h = (c.in-Ok.ensures.ended_again reported).0 in search rules) (rw c.in-Some.is at c.in-Ok.ensures.gives) c.in-Ok.ensures.within in
     let step = rw c.in-Ok-Done.field-0-is at (c.in-Ok-Done.ensures.step r.0 r.1) in
     AreTyped-of c.loop-alloc.draft.stmts.items c.add.new.self.stmts.items c.in-Ok-Done.stmt c.in-Ok-add.ensures.added v.begun step.0
 
@@ -124,8 +118,7 @@ pub returns-then-is_whole-clause-answers : goal.returns-then-is_whole-clause-ans
 returns-then-is_whole-clause-answers g c =
     let v = c.loop-alloc.invariant in
     let part = part_words c.loop-alloc.begun in
-    let comes = rw c.in-Some.is at c.in-Ok.ensures.gives in
-    let r = word_read _ _ _ _ _ c.loop-alloc.taken c.next_word.new.taken _ c.in-Some.word v.read (λ reported. let h = (c.in-Ok.ensures.ended_again reported).0 in search rules) comes c.in-Ok.ensures.within in
+    let r = word_read _ _ _ _ _ c.loop-alloc.taken c.next_word.new.taken _ c.in-Some.word v.read (λ reported. let h = (c.in-Ok.ensures.ended_again reported).0 in search rules) (rw c.in-Some.is at c.in-Ok.ensures.gives) c.in-Ok.ensures.within in
     let step = rw c.in-Ok-Done.field-0-is at (c.in-Ok-Done.ensures.step r.0 r.1) in
     let ended : (context_of c.add.new.self.stmts.items).position ≡ Ended =
     ap (λ (k : Context). k.position) (sym c.in-Ok-add.ensures.draft.context) ∙ c.is_whole.ensures.whole c.if-is_whole.true in
@@ -138,8 +131,7 @@ loop-alloc-preserved g c =
     let part = part_words c.loop-alloc.begun in
     let stmts = c.loop-alloc.draft.stmts.items in
     let all = c.add.new.self.stmts.items in
-    let comes = rw c.in-Some.is at c.in-Ok.ensures.gives in
-    let r = word_read _ _ _ _ _ c.loop-alloc.taken c.next_word.new.taken _ c.in-Some.word v.read (λ reported. let h = (c.in-Ok.ensures.ended_again reported).0 in search rules) comes c.in-Ok.ensures.within in
+    let r = word_read _ _ _ _ _ c.loop-alloc.taken c.next_word.new.taken _ c.in-Some.word v.read (λ reported. let h = (c.in-Ok.ensures.ended_again reported).0 in search rules) (rw c.in-Some.is at c.in-Ok.ensures.gives) c.in-Ok.ensures.within in
     let step = rw c.in-Ok-Done.field-0-is at (c.in-Ok-Done.ensures.step r.0 r.1) in
     let none : stmt_fault stmts c.in-Ok-Done.stmt ≡ None = sym c.in_default-fault_of.ensures in
     let on : (context_of all).position ≢ Ended = λ is. c.is_whole.ensures.goes_on c.if-is_whole.false (ap (λ (k : Context). k.position) c.in-Ok-add.ensures.draft.context ∙ is) in
@@ -161,8 +153,7 @@ loop-alloc-preserved g c =
 pub returns-in_default-add-clause-answers : goal.returns-in_default-add-clause-answers
 returns-in_default-add-clause-answers g c =
     let v = c.loop-alloc.invariant in
-    let comes = rw c.in-Some.is at c.in-Ok.ensures.gives in
-    let r = word_read _ _ _ _ _ c.loop-alloc.taken c.next_word.new.taken _ c.in-Some.word v.read (λ reported. let h = (c.in-Ok.ensures.ended_again reported).0 in search rules) comes c.in-Ok.ensures.within in
+    let r = word_read _ _ _ _ _ c.loop-alloc.taken c.next_word.new.taken _ c.in-Some.word v.read (λ reported. let h = (c.in-Ok.ensures.ended_again reported).0 in search rules) (rw c.in-Some.is at c.in-Ok.ensures.gives) c.in-Ok.ensures.within in
     stops_at _ _ _ c.next_word.new.taken c.loop-alloc.draft.stmts.items (part_words c.loop-alloc.begun) r.0 v.begun r.2
     (words_within _ c.loop-alloc.draft.stmts.items (part_words c.loop-alloc.begun) c.loop-alloc.words _ v.draft.context v.counted c.is_filled_by.ensures c.if-is_filled_by.false)
     (part_goes_on c.loop-alloc.draft.stmts.items c.loop-alloc.begun v.part v.placed)
