@@ -1,5 +1,5 @@
 -- The state of the parser after some symbols of a section, and its answer to all of them.
-use Rattle.std.specs.Prelude.{ℕ, zero, suc, ◌≡◌, ◌⊎◌, Option, Some, None, List, [], ◌∷◌, ◌++◌, length, ◌-◌, take, replicate, Result, Ok, Err}
+use Rattle.std.specs.Prelude.{ℕ, zero, suc, false, ◌≡◌, ◌⊎◌, Option, Some, None, List, [], ◌∷◌, ◌++◌, length, ◌-◌, take, replicate, Result, Ok, Err}
 use Rattle.std.specs.Borrow.{Bor}
 use Rattle.bk_base.specs.declared.source_fault.SourceFault.{SourceFault}
 use Rattle.bk_base.specs.declared.source_fault.SourceKind.{SourceKind}
@@ -8,6 +8,7 @@ use Rattle.bk_base.specs.declared.refused.Refused.{Refused}
 use Rattle.bk_base.specs.declared.refused.Refused.TheVariants.{Fault, Memory, Device}
 use Rattle.bk_lex.specs.Symbol.{Symbol}
 use Rattle.bk_lex.specs.Values.{upper_name}
+use Rattle.bk_lex.specs.declared.token.Kind.{Kind}
 use Rattle.bk_frames.specs.declared.frames.Frames.{Frames}
 use Rattle.bk_frames.specs.declared.frame.ParserState.{ParserState}
 use Rattle.bk_frames.specs.declared.frame.Stop.{Stop}
@@ -23,6 +24,7 @@ use Rattle.bk_tree.specs.Placed.{fault_on_line, on_line}
 use Rattle.bk_tree.specs.declared.placed.PlacedFault.{PlacedFault}
 use Rattle.bk_grammar.specs.Placed.{position_of}
 use Rattle.bk_frames.specs.Bounds.{Passed}
+use Rattle.bk_grammar.specs.Rows.{goes}
 use Rattle.bk_grammar.specs.Brackets.{closed_by, in_front, plain}
 use Rattle.bk_grammar.specs.SyntaxFault.{IsSection, Begins, Applies, First, AppliesAtEnd}
 use Rattle.bk_grammar.specs.Machine.{State, due, in_section, step}
@@ -89,6 +91,10 @@ error_of (Err s.Unexpected) = Err w.Unexpected
 abbrev pub reached : {E : Type 0} → Result Unit E → ParserState → Result ParserState E
 reached (Ok _) now = Ok now
 reached (Err error) now = Err error
+
+-- a whole expression, which may have the operators of all 12 rows, does not go on with this symbol
+abbrev pub EndsExpression : Kind → Type 0
+EndsExpression kind = goes 12 kind ≡ false
 
 -- the limit that a section passes in this state
 abbrev pub IsPassed : ParseError → State → Type 0

@@ -2,7 +2,7 @@
 ghost use Rattle.bk_grammar.specs.Placed.{position_at};
 ghost use Rattle.std.specs.Prelude.{◌≡◌, ◌+◌, ◌==◌, IfOk, Some, None, Option, false, true, ℕ, OnOk};
 ghost use Rattle.bk_tree.specs.Tree.{expression, expressions_in, command_in, mention, more, none};
-ghost use Rattle.bk_grammar.specs.Rows.{goes, repeats};
+ghost use Rattle.bk_grammar.specs.Rows.{repeats};
 ghost use Rattle.bk_frames.specs.declared.frame.Unfinished.TheVariants as Unfinished;
 ghost use Rattle.bk_frames.specs.declared.frame.Phrase.TheVariants as p;
 ghost use Rattle.bk_frames.specs.Sizes.{size_of, size_of_command, both_of, node_of};
@@ -12,7 +12,7 @@ ghost use Rattle.bk_grammar.specs.Machine.{Stack, limit, give, finish, again, de
 ghost use Rattle.bk_tree.specs.Parts.{each_then};
 ghost use Rattle.bk_frames.specs.Unfinished.{phrase_on, clause_on};
 ghost use Rattle.bk_frames.specs.Frames.{stack_of, state, given, finished, heads, Steps, Answers, Lowers, Falls};
-ghost use Rattle.bk_syntax.specs.Parsing.{reached};
+ghost use Rattle.bk_syntax.specs.Parsing.{reached, EndsExpression};
 
 use crate::error::refuse;
 use crate::expressions::whole;
@@ -32,6 +32,14 @@ use bk_lex::Token;
 use bk_tree::make::{assign, call, for_loop};
 use bk_tree::{Command, Def, Expr, Name, Position, at_expressions};
 use std::alloc::{AllocError, Global};
+
+/// A FOR whose start is complete: its position, its variable and the start.
+#[derive(Drop)]
+struct OpenFor {
+    at: Position,
+    name: Name,
+    from: Box<Expr>,
+}
 
 /// A command that is a node with these parts.
 pub fn did(command: Command, parts: Size) -> Done
@@ -189,7 +197,7 @@ impl Parser {
     /// A destination after the first is complete.
     #[inline(never)]
     fn complete_dest(&mut self, before: Vec<Expr>, held: Size, token: &Token) -> Result<Flow, Stop>
-        requires stops { goes 12 token.now.kind ≡ false }
+        requires stops { EndsExpression token.now.kind }
         requires held { held ≡ held_in (Unfinished.Phrase (p.Dests before)) }
         ensures answers { Answers self.new.frames self.new.now result token.now (given (phrase_on (p.Dests before) (stack_of self.old.frames)) self.old.now) }
         ensures lowers { Lowers self.old.frames self.new.frames result }
@@ -204,7 +212,7 @@ impl Parser {
     /// The first expression of a command is complete.
     #[inline(never)]
     fn complete_start(&mut self, token: &Token) -> Result<Flow, Stop>
-        requires stops { goes 12 token.now.kind ≡ false }
+        requires stops { EndsExpression token.now.kind }
         ensures answers { Answers self.new.frames self.new.now result token.now (given (phrase_on p.Start (stack_of self.old.frames)) self.old.now) }
         ensures lowers { Lowers self.old.frames self.new.frames result }
     {
@@ -264,7 +272,7 @@ impl Parser {
         held: Size,
         token: &Token,
     ) -> Result<Flow, Stop>
-        requires stops { goes 12 token.now.kind ≡ false }
+        requires stops { EndsExpression token.now.kind }
         requires held { held ≡ held_in (Unfinished.Phrase (p.Values dests values)) }
         ensures answers { Answers self.new.frames self.new.now result token.now (given (phrase_on (p.Values dests values) (stack_of self.old.frames)) self.old.now) }
         ensures lowers { Lowers self.old.frames self.new.frames result }
@@ -292,7 +300,7 @@ impl Parser {
     /// The expression after a guard is complete.
     #[inline(never)]
     fn complete_guard(&mut self, guard: Guard, at: Position, token: &Token) -> Result<Flow, Stop>
-        requires stops { goes 12 token.now.kind ≡ false }
+        requires stops { EndsExpression token.now.kind }
         ensures answers { Answers self.new.frames self.new.now result token.now (given (phrase_on (p.Guard guard at) (stack_of self.old.frames)) self.old.now) }
         ensures lowers { Lowers self.old.frames self.new.frames result }
     {
@@ -316,7 +324,7 @@ impl Parser {
     /// The condition of a TEST is complete.
     #[inline(never)]
     fn complete_test(&mut self, at: Position, held: Size, token: &Token) -> Result<Flow, Stop>
-        requires stops { goes 12 token.now.kind ≡ false }
+        requires stops { EndsExpression token.now.kind }
         requires held { held ≡ held_in (Unfinished.Phrase (p.Test at)) }
         ensures answers { Answers self.new.frames self.new.now result token.now (given (phrase_on (p.Test at) (stack_of self.old.frames)) self.old.now) }
         ensures lowers { Lowers self.old.frames self.new.frames result }
@@ -336,7 +344,7 @@ impl Parser {
     /// The expression of a RESULTIS is complete.
     #[inline(never)]
     fn complete_result(&mut self, at: Position, held: Size, token: &Token) -> Result<Flow, Stop>
-        requires stops { goes 12 token.now.kind ≡ false }
+        requires stops { EndsExpression token.now.kind }
         requires held { held ≡ held_in (Unfinished.Phrase (p.ResultIs at)) }
         ensures answers { Answers self.new.frames self.new.now result token.now (given (phrase_on (p.ResultIs at) (stack_of self.old.frames)) self.old.now) }
         ensures lowers { Lowers self.old.frames self.new.frames result }
@@ -359,7 +367,7 @@ impl Parser {
         held: Size,
         token: &Token,
     ) -> Result<Flow, Stop>
-        requires stops { goes 12 token.now.kind ≡ false }
+        requires stops { EndsExpression token.now.kind }
         requires held { held ≡ held_in (Unfinished.Phrase (p.RepeatWhile truth body)) }
         ensures answers { Answers self.new.frames self.new.now result token.now (given (phrase_on (p.RepeatWhile truth body) (stack_of self.old.frames)) self.old.now) }
         ensures lowers { Lowers self.old.frames self.new.frames result }
@@ -389,7 +397,7 @@ impl Parser {
         held: Size,
         token: &Token,
     ) -> Result<Flow, Stop>
-        requires stops { goes 12 token.now.kind ≡ false }
+        requires stops { EndsExpression token.now.kind }
         requires held { held ≡ held_in (Unfinished.Phrase (p.From at name)) }
         ensures answers { Answers self.new.frames self.new.now result token.now (given (phrase_on (p.From at name) (stack_of self.old.frames)) self.old.now) }
         ensures lowers { Lowers self.old.frames self.new.frames result }
@@ -409,19 +417,13 @@ impl Parser {
     /// The limit of a FOR is complete.
     #[inline(never)]
     #[tactic(auto, using(bk_frames::proofs::Lemmas::limit_cases))]
-    fn complete_to(
-        &mut self,
-        at: Position,
-        name: Name,
-        from: Box<Expr>,
-        held: Size,
-        token: &Token,
-    ) -> Result<Flow, Stop>
-        requires stops { goes 12 token.now.kind ≡ false }
-        requires held { held ≡ held_in (Unfinished.Phrase (p.To at name from)) }
-        ensures answers { Answers self.new.frames self.new.now result token.now (given (phrase_on (p.To at name from) (stack_of self.old.frames)) self.old.now) }
+    fn complete_to(&mut self, begun: OpenFor, held: Size, token: &Token) -> Result<Flow, Stop>
+        requires stops { EndsExpression token.now.kind }
+        requires held { held ≡ held_in (Unfinished.Phrase (p.To begun.at begun.name begun.from)) }
+        ensures answers { Answers self.new.frames self.new.now result token.now (given (phrase_on (p.To begun.at begun.name begun.from) (stack_of self.old.frames)) self.old.now) }
         ensures lowers { Lowers self.old.frames self.new.frames result }
     {
+        let OpenFor { at, name, from } = begun;
         let ParserState::Have(sized) = self.now.take() else {
             return Err(refuse((name, from)));
         };
@@ -444,18 +446,17 @@ impl Parser {
     #[inline(never)]
     fn complete_by(
         &mut self,
-        at: Position,
-        name: Name,
-        from: Box<Expr>,
+        begun: OpenFor,
         to: Box<Expr>,
         held: Size,
         token: &Token,
     ) -> Result<Flow, Stop>
-        requires stops { goes 12 token.now.kind ≡ false }
-        requires held { held ≡ held_in (Unfinished.Phrase (p.By at name from to)) }
-        ensures answers { Answers self.new.frames self.new.now result token.now (given (phrase_on (p.By at name from to) (stack_of self.old.frames)) self.old.now) }
+        requires stops { EndsExpression token.now.kind }
+        requires held { held ≡ held_in (Unfinished.Phrase (p.By begun.at begun.name begun.from to)) }
+        ensures answers { Answers self.new.frames self.new.now result token.now (given (phrase_on (p.By begun.at begun.name begun.from to) (stack_of self.old.frames)) self.old.now) }
         ensures lowers { Lowers self.old.frames self.new.frames result }
     {
+        let OpenFor { at, name, from } = begun;
         let ParserState::Have(sized) = self.now.take() else {
             return Err(refuse((name, from, to)));
         };
@@ -477,7 +478,7 @@ impl Parser {
         held: Size,
         token: &Token,
     ) -> Result<Flow, Stop>
-        requires stops { goes 12 token.now.kind ≡ false }
+        requires stops { EndsExpression token.now.kind }
         requires held { held ≡ held_in (Unfinished.Phrase unfinished) }
         ensures answers { Answers self.new.frames self.new.now result token.now (given (phrase_on unfinished (stack_of self.old.frames)) self.old.now) }
         ensures lowers { Lowers self.old.frames self.new.frames result }
@@ -491,8 +492,12 @@ impl Parser {
             Phrase::ResultIs(at) => self.complete_result(at, held, token),
             Phrase::RepeatWhile(truth, body) => { self.complete_repeat(truth, body, held, token) }
             Phrase::From(at, name) => self.complete_from(at, name, held, token),
-            Phrase::To(at, name, from) => { self.complete_to(at, name, from, held, token) }
-            Phrase::By(at, name, from, to) => { self.complete_by(at, name, from, to, held, token) }
+            Phrase::To(at, name, from) => {
+                self.complete_to(OpenFor { at, name, from }, held, token)
+            }
+            Phrase::By(at, name, from, to) => {
+                self.complete_by(OpenFor { at, name, from }, to, held, token)
+            }
         }
     }
 

@@ -35,6 +35,22 @@ use bk_tree::make::{block, constants};
 use bk_tree::{Command, ConstItem, Decl, Position, Sort};
 use std::alloc::{AllocError, Global};
 
+/// A declaration with constants that is begun: its position, its sort and the items so far.
+#[derive(Drop)]
+pub struct OpenItems {
+    pub at: Position,
+    pub sort: Sort,
+    pub items: Vec<ConstItem>,
+}
+
+/// A block that is begun: its position, and the declarations and the commands so far.
+#[derive(Drop)]
+struct OpenBlock {
+    at: Position,
+    decls: Vec<Decl>,
+    commands: Vec<Command>,
+}
+
 /// Whether no command of a block came yet.
 fn in_head(commands: &[Command]) -> bool
     ensures { result ≡ in_head (commands_in commands.now) }
@@ -126,19 +142,18 @@ impl Parser {
     #[tactic(auto, using(bk_frames::proofs::Lemmas::constants_cases, bk_tree::proofs::Lemmas::one_more, bk_tree::proofs::Lemmas::more_sizes))]
     pub fn constant(
         &mut self,
-        at: Position,
-        sort: Sort,
-        items: Vec<ConstItem>,
+        begun: OpenItems,
         held: Size,
         item: ConstItem,
         token: &Token,
     ) -> Result<Flow, Stop>
-        requires { held ≡ kept_size (depth_of_items (items_then (items_in items.items) (items_in (item ∷ []))))
-            (nodes_of_items (items_then (items_in items.items) (items_in (item ∷ [])))) }
-        ensures answers { Answers self.new.frames self.new.now result token.now (λ l x t. in_constants at sort
-            (items_then (items_in items.items) (items_in (item ∷ []))) (stack_of self.old.frames) t) }
+        requires { held ≡ kept_size (depth_of_items (items_then (items_in begun.items.items) (items_in (item ∷ []))))
+            (nodes_of_items (items_then (items_in begun.items.items) (items_in (item ∷ [])))) }
+        ensures answers { Answers self.new.frames self.new.now result token.now (λ l x t. in_constants begun.at begun.sort
+            (items_then (items_in begun.items.items) (items_in (item ∷ []))) (stack_of self.old.frames) t) }
         ensures lowers { Lowers self.old.frames self.new.frames result }
     {
+        let OpenItems { at, sort, items } = begun;
         let mut items = items;
         items.push(item)?;
         if is_semicolon(token.kind) {
@@ -192,18 +207,21 @@ impl Parser {
     #[tactic(auto, using(bk_frames::proofs::Lemmas::declaration_cases))]
     fn in_block(
         &mut self,
-        at: Position,
+        begun: OpenBlock,
         free: bool,
-        decls: Vec<Decl>,
-        commands: Vec<Command>,
         held: Size,
         token: &Token,
     ) -> Result<(), Stop>
-        requires held { held ≡ held_in (Unfinished.Place (p.Block at free decls commands)) }
-        requires budgets { HasBudgetsFor self.old.frames (place_on (p.Block at free decls commands) (stack_of self.old.frames)) }
-        ensures { Steps (stack_of self.new.frames) (reached result self.new.now) (take_in_block at free (declarations_in decls.items) (commands_in commands.items)
-            (stack_of self.old.frames) (position_at token.now) token.now.text.now token.now.kind) }
+        requires held { held ≡ held_in (Unfinished.Place (p.Block begun.at free begun.decls begun.commands)) }
+        requires budgets { HasBudgetsFor self.old.frames (place_on (p.Block begun.at free begun.decls begun.commands) (stack_of self.old.frames)) }
+        ensures { Steps (stack_of self.new.frames) (reached result self.new.now) (take_in_block begun.at free (declarations_in begun.decls.items)
+            (commands_in begun.commands.items) (stack_of self.old.frames) (position_at token.now) token.now.text.now token.now.kind) }
     {
+        let OpenBlock {
+            at,
+            decls,
+            commands,
+        } = begun;
         if is_semicolon(token.kind) {
             let block = Place::Block(at, true, decls, commands);
             self.due_still(block, held)?;
@@ -233,18 +251,21 @@ impl Parser {
     #[tactic(auto, using(bk_tree::proofs::Lemmas::one_more, bk_tree::proofs::Lemmas::more_sizes))]
     fn in_commands(
         &mut self,
-        at: Position,
-        decls: Vec<Decl>,
-        commands: Vec<Command>,
+        begun: OpenBlock,
         held: Size,
         command: Command,
         token: &Token,
     ) -> Result<Flow, Stop>
-        requires { held ≡ both_of (held_in (Unfinished.Place (p.Block at true decls commands))) (size_of_command (command_in command)) }
-        ensures answers { Answers self.new.frames self.new.now result token.now (λ l x t. in_commands at (declarations_in decls.items)
-            (commands_then (commands_in commands.items) (also (command_in command) no_commands)) (stack_of self.old.frames) t) }
+        requires { held ≡ both_of (held_in (Unfinished.Place (p.Block begun.at true begun.decls begun.commands))) (size_of_command (command_in command)) }
+        ensures answers { Answers self.new.frames self.new.now result token.now (λ l x t. in_commands begun.at (declarations_in begun.decls.items)
+            (commands_then (commands_in begun.commands.items) (also (command_in command) no_commands)) (stack_of self.old.frames) t) }
         ensures lowers { Lowers self.old.frames self.new.frames result }
     {
+        let OpenBlock {
+            at,
+            decls,
+            commands,
+        } = begun;
         let mut commands = commands;
         commands.push(command)?;
         if is_semicolon(token.kind) {
@@ -277,14 +298,12 @@ impl Parser {
         };
         match unfinished {
             Place::Block(at, _, decls, commands) => {
-                self.in_commands(
+                let begun = OpenBlock {
                     at,
                     decls,
                     commands,
-                    both(held, done.size),
-                    done.command,
-                    token,
-                )
+                };
+                self.in_commands(begun, both(held, done.size), done.command, token)
             }
             other => Err(refuse(other)),
         }
@@ -299,7 +318,12 @@ impl Parser {
     {
         match place {
             Place::Block(at, free, decls, commands) => {
-                self.in_block(at, free, decls, commands, held, token)
+                let begun = OpenBlock {
+                    at,
+                    decls,
+                    commands,
+                };
+                self.in_block(begun, free, held, token)
             }
             Place::Let(at, defs) => self.in_let(at, defs, held, token),
             Place::Named(name) => self.named(name, token),
@@ -315,18 +339,12 @@ impl Parser {
 
     /// Between the items of a declaration.
     #[tactic(auto, using(bk_frames::proofs::Lemmas::named_cases, bk_frames::proofs::Lemmas::items_cases))]
-    fn between_items(
-        &mut self,
-        at: Position,
-        sort: Sort,
-        items: Vec<ConstItem>,
-        held: Size,
-        token: &Token,
-    ) -> Result<(), Stop>
-        requires { held ≡ held_in (Unfinished.Point (t.Items at sort items)) }
-        ensures { Steps (stack_of self.new.frames) (reached result self.new.now) (take_item at sort (items_in items.items)
+    fn between_items(&mut self, begun: OpenItems, held: Size, token: &Token) -> Result<(), Stop>
+        requires { held ≡ held_in (Unfinished.Point (t.Items begun.at begun.sort begun.items)) }
+        ensures { Steps (stack_of self.new.frames) (reached result self.new.now) (take_item begun.at begun.sort (items_in begun.items.items)
             (stack_of self.old.frames) (position_at token.now) token.now.text.now token.now.kind) }
     {
+        let OpenItems { at, sort, items } = begun;
         if !are_no_items(&items) {
             if is_semicolon(token.kind) {
                 self.due_at(Point::Items(at, sort, items), held)?;
@@ -365,7 +383,9 @@ impl Parser {
                 self.due_at(Point::Items(at, sort, Vec::new(self.frames.alloc)), held)?;
                 Ok(())
             }
-            Point::Items(at, sort, items) => { self.between_items(at, sort, items, held, token) }
+            Point::Items(at, sort, items) => {
+                self.between_items(OpenItems { at, sort, items }, held, token)
+            }
             Point::Signed(at, sort, items, name) => {
                 if is_equal(token.kind) || is_colon(token.kind) {
                     self.want_for(Member::Item(at, sort, items, name), held)?;

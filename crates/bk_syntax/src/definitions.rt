@@ -2,7 +2,6 @@
 ghost use Rattle.bk_grammar.specs.Placed.{position_at};
 ghost use Rattle.std.specs.Prelude.{◌≡◌, ◌+◌, ◌==◌, [], ◌∷◌, IfOk, cond, false, map, length};
 ghost use Rattle.bk_tree.specs.Tree.{definition, definitions_in, starts_in, mention, variables};
-ghost use Rattle.bk_grammar.specs.Rows.{goes};
 ghost use Rattle.bk_frames.specs.declared.frame.Unfinished.TheVariants as Unfinished;
 ghost use Rattle.bk_frames.specs.declared.frame.Place.TheVariants as p;
 ghost use Rattle.bk_frames.specs.declared.frame.Member.TheVariants as m;
@@ -14,9 +13,9 @@ ghost use Rattle.bk_grammar.specs.Machine.{defined_by, in_names, in_formals, hea
 ghost use Rattle.bk_tree.specs.Parts.{starts_then};
 ghost use Rattle.bk_frames.specs.Unfinished.{member_on, place_on};
 ghost use Rattle.bk_frames.specs.Frames.{stack_of, HasBudgetsFor, given, Steps, Answers, Lowers, NamedBy, is_let_unfinished, is_block_unfinished};
-ghost use Rattle.bk_syntax.specs.Parsing.{reached};
+ghost use Rattle.bk_syntax.specs.Parsing.{reached, EndsExpression};
 
-use crate::declarations::declare;
+use crate::declarations::{OpenItems, declare};
 use crate::error::refuse;
 use crate::parser::Parser;
 use bk_frames::frame::{
@@ -30,7 +29,7 @@ use bk_grammar::spelling::name;
 use bk_grammar::symbols::{is_and, is_be, is_close, is_comma, is_equal, is_name, is_open, is_vec};
 use bk_lex::Token;
 use bk_tree::make::{self, let_of};
-use bk_tree::{ConstItem, Def, Init, Name, Position, Sort, at_names};
+use bk_tree::{ConstItem, Def, Init, Name, Position, at_names};
 use std::alloc::{AllocError, Global};
 
 /// The name that a symbol is, if it is one.
@@ -143,26 +142,22 @@ impl Parser {
     #[tactic(auto, using(bk_tree::proofs::Lemmas::more_sizes))]
     fn complete_item(
         &mut self,
-        at: Position,
-        sort: Sort,
-        items: Vec<ConstItem>,
+        begun: OpenItems,
         name: Name,
         held: Size,
         token: &Token,
     ) -> Result<Flow, Stop>
-        requires stops { goes 12 token.now.kind ≡ false }
-        requires held { held ≡ held_in (Unfinished.Member (m.Item at sort items name)) }
-        ensures answers { Answers self.new.frames self.new.now result token.now (given (member_on (m.Item at sort items name) (stack_of self.old.frames)) self.old.now) }
+        requires stops { EndsExpression token.now.kind }
+        requires held { held ≡ held_in (Unfinished.Member (m.Item begun.at begun.sort begun.items name)) }
+        ensures answers { Answers self.new.frames self.new.now result token.now (given (member_on (m.Item begun.at begun.sort begun.items name) (stack_of self.old.frames)) self.old.now) }
         ensures lowers { Lowers self.old.frames self.new.frames result }
     {
         let ParserState::Have(sized) = self.now.take() else {
-            return Err(refuse((items, name)));
+            return Err(refuse((begun, name)));
         };
         let held = both(held, of_node(sized.size));
         self.constant(
-            at,
-            sort,
-            items,
+            begun,
             held,
             ConstItem::Item {
                 at: name.at,
@@ -183,7 +178,7 @@ impl Parser {
         held: Size,
         token: &Token,
     ) -> Result<Flow, Stop>
-        requires stops { goes 12 token.now.kind ≡ false }
+        requires stops { EndsExpression token.now.kind }
         requires held { held ≡ held_in (Unfinished.Member (m.Function name formals)) }
         ensures answers { Answers self.new.frames self.new.now result token.now (given (member_on (m.Function name formals) (stack_of self.old.frames)) self.old.now) }
         ensures lowers { Lowers self.old.frames self.new.frames result }
@@ -220,7 +215,7 @@ impl Parser {
         held: Size,
         token: &Token,
     ) -> Result<Flow, Stop>
-        requires stops { goes 12 token.now.kind ≡ false }
+        requires stops { EndsExpression token.now.kind }
         requires held { held ≡ held_in (Unfinished.Member (m.Value names inits)) }
         ensures answers { Answers self.new.frames self.new.now result token.now (given (member_on (m.Value names inits) (stack_of self.old.frames)) self.old.now) }
         ensures lowers { Lowers self.old.frames self.new.frames result }
@@ -244,7 +239,7 @@ impl Parser {
         held: Size,
         token: &Token,
     ) -> Result<Flow, Stop>
-        requires stops { goes 12 token.now.kind ≡ false }
+        requires stops { EndsExpression token.now.kind }
         requires held { held ≡ held_in (Unfinished.Member (m.Vector at names inits)) }
         ensures answers { Answers self.new.frames self.new.now result token.now (given (member_on (m.Vector at names inits) (stack_of self.old.frames)) self.old.now) }
         ensures lowers { Lowers self.old.frames self.new.frames result }
@@ -268,14 +263,15 @@ impl Parser {
         held: Size,
         token: &Token,
     ) -> Result<Flow, Stop>
-        requires stops { goes 12 token.now.kind ≡ false }
+        requires stops { EndsExpression token.now.kind }
         requires held { held ≡ held_in (Unfinished.Member unfinished) }
         ensures answers { Answers self.new.frames self.new.now result token.now (given (member_on unfinished (stack_of self.old.frames)) self.old.now) }
         ensures lowers { Lowers self.old.frames self.new.frames result }
     {
         match unfinished {
             Member::Item(at, sort, items, name) => {
-                self.complete_item(at, sort, items, name, held, token)
+                let begun = OpenItems { at, sort, items };
+                self.complete_item(begun, name, held, token)
             }
             Member::Function(name, formals) => {
                 self.complete_function(name, formals, held, token)

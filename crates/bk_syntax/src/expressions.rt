@@ -38,6 +38,16 @@ use bk_tree::make::{apply, table};
 use bk_tree::{Expr, Operator, Position, Prefix, copy};
 use std::alloc::{AllocError, Global};
 
+/// A relation that a further one shares an operand with: the operator and the position of the further one, all that is before it, and the copy
+/// of the operand.
+#[derive(Drop)]
+struct Chain {
+    operator: Operator,
+    sign: Position,
+    before: Box<Expr>,
+    shared: Box<Expr>,
+}
+
 /// The rows of operators that an operand of this construct may have.
 fn rows_above(unfinished: &Unfinished) -> u8
     ensures { (st : Stack) → result ≡ limit (unfinished_on unfinished.now st) }
@@ -217,19 +227,17 @@ fn shared_size(operator: Operator, right: &Sized) -> Size
 
 /// The `&` of a chain of relations.
 #[inline(never)]
-fn chained(
-    alloc: Global,
-    operator: Operator,
-    sign: Position,
-    before: Box<Expr>,
-    shared: Box<Expr>,
-    parts: Size,
-    right: Sized,
-) -> Result<Sized, AllocError>
-    requires { parts ≡ held_in (Unfinished.OpenExpression (o.Chain operator sign before shared)) }
-    ensures { IfOk result (λ whole. expression whole.expr ≡ binary (at_expression (expression before.value)) Both sign (expression before.value)
-        (binary (at_expression (expression shared.value)) operator sign (expression shared.value) (expression right.expr))) }
+fn chained(alloc: Global, chain: Chain, parts: Size, right: Sized) -> Result<Sized, AllocError>
+    requires { parts ≡ held_in (Unfinished.OpenExpression (o.Chain chain.operator chain.sign chain.before chain.shared)) }
+    ensures { IfOk result (λ whole. expression whole.expr ≡ binary (at_expression (expression chain.before.value)) Both chain.sign (expression chain.before.value)
+        (binary (at_expression (expression chain.shared.value)) chain.operator chain.sign (expression chain.shared.value) (expression right.expr))) }
 {
+    let Chain {
+        operator,
+        sign,
+        before,
+        shared,
+    } = chain;
     let at = before.at();
     let part = right.size;
     let last = Box::new(alloc, right.expr)?;
@@ -576,32 +584,17 @@ impl Parser {
 
     /// The right operand of a further relation is complete.
     #[inline(never)]
-    fn complete_chain(
-        &mut self,
-        operator: Operator,
-        sign: Position,
-        before: Box<Expr>,
-        shared: Box<Expr>,
-        held: Size,
-        token: &Token,
-    ) -> Result<Flow, Stop>
-        requires stops { goes (limit (operand_on (o.Chain operator sign before shared) (stack_of self.old.frames))) token.now.kind ≡ false }
-        requires held { held ≡ held_in (Unfinished.OpenExpression (o.Chain operator sign before shared)) }
-        ensures flows { Answers self.new.frames self.new.now result token.now (given (operand_on (o.Chain operator sign before shared) (stack_of self.old.frames)) self.old.now) }
+    fn complete_chain(&mut self, chain: Chain, held: Size, token: &Token) -> Result<Flow, Stop>
+        requires stops { goes (limit (operand_on (o.Chain chain.operator chain.sign chain.before chain.shared) (stack_of self.old.frames))) token.now.kind ≡ false }
+        requires held { held ≡ held_in (Unfinished.OpenExpression (o.Chain chain.operator chain.sign chain.before chain.shared)) }
+        ensures flows { Answers self.new.frames self.new.now result token.now (given (operand_on (o.Chain chain.operator chain.sign chain.before chain.shared)
+            (stack_of self.old.frames)) self.old.now) }
         ensures lowers { Lowers self.old.frames self.new.frames result }
     {
         let ParserState::Have(sized) = self.now.take() else {
-            return Err(refuse((before, shared)));
+            return Err(refuse(chain));
         };
-        self.now.set(ParserState::Have(chained(
-            self.frames.alloc,
-            operator,
-            sign,
-            before,
-            shared,
-            held,
-            sized,
-        )?));
+        self.now.set(ParserState::Have(chained(self.frames.alloc, chain, held, sized)?));
         Ok(Flow::Comes)
     }
 
@@ -748,9 +741,15 @@ impl Parser {
             OpenExpression::Binary(operator, sign, left) => {
                 self.complete_binary(operator, sign, left, held, token)
             }
-            OpenExpression::Chain(operator, sign, before, shared) => self.complete_chain(
-                operator, sign, before, shared, held, token,
-            ),
+            OpenExpression::Chain(operator, sign, before, shared) => {
+                let chain = Chain {
+                    operator,
+                    sign,
+                    before,
+                    shared,
+                };
+                self.complete_chain(chain, held, token)
+            }
             OpenExpression::Then(sign, condition) => {
                 self.complete_then(sign, condition, held, token)
             }
