@@ -3,21 +3,15 @@ ghost use Rattle.std.specs.Prelude.{◌≡◌};
 
 use crate::remarks::Remark;
 use crate::report::{GivenUp, Notice, Report};
-use crate::spelling::{add, add_number};
-use bk_base::Line;
-use bk_tree::{Position, column_after};
+use bk_lines::{Start, put_line, put_place};
+use bk_tree::Position;
 use std::alloc::{AllocError, Global};
-
-/// How many bytes of a line are shown before the place, and after it.
-const NEAR: usize = 120;
 
 /// The text of a section.
 #[derive(Drop)]
 struct SourceText {
-    /// The number of its first line.
-    line: Line,
-    /// The column at which it begins.
-    column: u32,
+    /// Where it begins in the source.
+    start: Start,
     bytes: Vec<u8>,
 }
 
@@ -28,78 +22,12 @@ pub struct SourceTexts {
     texts: Vec<SourceText>,
 }
 
-/// How many lines end in these bytes.
-fn count_ends(bytes: &[u8]) -> usize {
-    bytes.iter().filter(|byte| **byte == b'\n').count()
-}
-
 /// Whether a text has a position, whose byte is at this place.
 fn has(text: &SourceText, at: Position, place: usize) -> bool {
     match text.bytes.get(..place) {
-        Some(before) => {
-            let line = (text.line.number() as usize).saturating_add(count_ends(before));
-            place < text.bytes.len() && line == at.line().number() as usize
-        }
+        Some(before) => { place < text.bytes.len() && text.start.after(before).line == at.line() }
         None => false,
     }
-}
-
-/// Adds bytes of a line, with a `?` for what is not printed.
-fn add_shown(lines: &mut Vec<u8>, bytes: &[u8]) -> Result<(), AllocError> {
-    for byte in bytes {
-        lines.push(match *byte {
-            b'\t' => b'\t',
-            0..=31 | 127 => b'?',
-            other => other,
-        })?;
-    }
-    Ok(())
-}
-
-/// Adds what is as wide as these bytes of a line.
-fn add_blanks(lines: &mut Vec<u8>, bytes: &[u8]) -> Result<(), AllocError> {
-    for byte in bytes {
-        match *byte {
-            b'\t' => lines.push(b'\t')?,
-            128..=191 => {}
-            _ => lines.push(b' ')?,
-        }
-    }
-    Ok(())
-}
-
-/// Adds the numbered line of a place in a text, and a caret under it.
-fn add_line(
-    lines: &mut Vec<u8>,
-    bytes: &[u8],
-    at: Position,
-    place: usize,
-) -> Result<(), AllocError> {
-    let before = bytes.get(..place).unwrap_or(&[]);
-    let after = bytes.get(place..).unwrap_or(&[]);
-    let start = match before.iter().rposition(|byte| *byte == b'\n') {
-        Some(end) => end.saturating_add(1),
-        None => 0,
-    };
-    let start = start.max(place.saturating_sub(NEAR));
-    let end = match after.iter().position(|byte| *byte == b'\n') {
-        Some(end) => end.min(NEAR),
-        None => after.len().min(NEAR),
-    };
-    add(lines, &[b"  "])?;
-    let number = lines.len();
-    add_number(lines, at.line().number() as usize)?;
-    let digits = lines.len().saturating_sub(number);
-    add(lines, &[b" | "])?;
-    add_shown(lines, before.get(start..).unwrap_or(&[]))?;
-    add_shown(lines, after.get(..end).unwrap_or(&[]))?;
-    add(lines, &[b"\n  "])?;
-    for _ in 0..digits {
-        lines.push(b' ')?;
-    }
-    add(lines, &[b" | "])?;
-    add_blanks(lines, before.get(start..).unwrap_or(&[]))?;
-    add(lines, &[b"^\n"])
 }
 
 impl SourceTexts {
@@ -111,17 +39,12 @@ impl SourceTexts {
         }
     }
 
-    /// Keeps the text of a section whose first line has this number, after those before it.
-    pub fn push(&mut self, line: Line, bytes: &[u8]) -> Result<(), AllocError> {
-        let column = match self.texts.last() {
-            Some(before) => column_after(before.column, &before.bytes),
-            None => 1,
-        };
+    /// Keeps the text of a section that begins here, after those before it.
+    pub fn push(&mut self, start: &Start, bytes: &[u8]) -> Result<(), AllocError> {
         let mut copy = Vec::with_capacity(self.alloc, bytes.len())?;
         copy.extend_from_slice(bytes)?;
         self.texts.push(SourceText {
-            line,
-            column,
+            start: *start,
             bytes: copy,
         })?;
         Ok(())
@@ -135,14 +58,14 @@ impl SourceTexts {
         for text in &self.texts {
             if has(text, at, place) {
                 let mut name = Vec::new(self.alloc);
-                add_number(&mut name, at.line().number() as usize)?;
-                if let Some(column) = at.column(&text.bytes, text.column) {
-                    add(&mut name, &[b":"])?;
-                    add_number(&mut name, column as usize)?;
-                }
+                put_place(
+                    &mut name,
+                    &text.start,
+                    text.bytes.get(..place).unwrap_or(&[]),
+                )?;
                 let mut lines = Vec::new(self.alloc);
-                add_line(&mut lines, &text.bytes, at, place)?;
-                add(&mut lines, &[further])?;
+                put_line(&mut lines, &text.bytes, at.line().number(), place, None)?;
+                lines.extend_from_slice(further)?;
                 return Ok(Some((name, lines)));
             }
         }

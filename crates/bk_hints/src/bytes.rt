@@ -1,9 +1,9 @@
 //! What is reported of a text that can't be cut into symbols.
 
-use crate::lines::line_start;
 use crate::sentence::Reported;
 use bk_base::SourceKind;
 use bk_lex::LexicalFault;
+use bk_lines::line_start;
 use std::alloc::{AllocError, Global};
 
 /// What is reported of a byte that begins no symbol; some are of other languages and systems.

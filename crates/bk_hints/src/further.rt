@@ -1,4 +1,7 @@
 //! The faults of names and constants that a section has after its first.
+ghost use Rattle.std.specs.Prelude.{ℕ, ◌≡◌, ◌++◌, ◌∷◌, [], ◌≤◌, ◌+◌, OnOk, IfOk, length, codes, decimal};
+ghost use Rattle.bk_base.specs.declared.source_fault.SourceFault.{SourceFault};
+ghost use Rattle.bk_hints.specs.Hints.{Reports, AddsFurther};
 
 use crate::lines::Lines;
 use crate::meanings::hint_meaning;
@@ -60,30 +63,49 @@ impl Faulty<'_> {
     }
 
     /// What is reported of a fault of the symbol with this index.
-    fn page(&self, index: usize, fault: PlacedFault) -> Result<Vec<u8>, AllocError> {
-        let source = (self.text, self.lines);
+    fn page(&self, index: usize, fault: PlacedFault) -> Result<Vec<u8>, AllocError>
+        ensures { IfOk result (λ page. (fault : SourceFault) × Reports self.now.lines.now.start self.now.text.now fault page.items) }
+    {
         let fault = SourceFault {
             line: fault.at.line(),
             kind: fault.kind,
         };
+        let source = (self.text, self.lines);
         let scene = Scene::new(self.alloc, source, self.tokens, index, None)?;
         let reported = hint_meaning(&scene, &fault)?;
-        page(self.alloc, source, &fault, reported)
+        page(self.alloc, self.text, self.lines, &fault, reported)
     }
 
-    /// Adds what is reported of a fault, or counts it.
+    /// Adds what is reported of a fault, or counts it, unless one of its symbol was found before.
     fn add(
         &self,
         found: &mut Found,
         index: usize,
         fault: PlacedFault,
         pages: &mut Vec<Vec<u8>>,
-    ) -> Result<(), AllocError> {
+    ) -> Result<(), AllocError>
+        ensures adds { OnOk result (AddsFurther self.now.lines.now.start self.now.text.now pages.old.items pages.new.items) }
+        ensures few { OnOk result (length pages.old.items ≤ 20 → length pages.new.items ≤ 20) }
+    {
+        if found.indices.contains(&index) {
+            return Ok(());
+        }
         found.indices.push(index)?;
         if pages.len() < MOST {
             pages.push(self.page(index, fault)?)?;
         } else {
             found.more = found.more.saturating_add(1);
+        }
+        Ok(())
+    }
+
+    /// Adds how many faults are not shown.
+    fn add_count(&self, more: usize, pages: &mut Vec<Vec<u8>>) -> Result<(), AllocError>
+        ensures adds { OnOk result (AddsFurther self.now.lines.now.start self.now.text.now pages.old.items pages.new.items) }
+        ensures one { OnOk result (length pages.new.items ≤ length pages.old.items + 1) }
+    {
+        if more > 0 {
+            pages.push(count_line(self.alloc, more)?)?;
         }
         Ok(())
     }
@@ -96,7 +118,10 @@ impl Faulty<'_> {
         first: usize,
         kind: &SourceKind,
         pages: &mut Vec<Vec<u8>>,
-    ) -> Result<(), AllocError> {
+    ) -> Result<(), AllocError>
+        ensures adds { OnOk result (AddsFurther self.now.lines.now.start self.now.text.now pages.old.items pages.new.items) }
+        ensures few { OnOk result (length pages.old.items ≤ 20 → length pages.new.items ≤ 21) }
+    {
         let mut mending = Mending::new(self.alloc);
         let mut found = Found {
             indices: Vec::new(self.alloc),
@@ -113,19 +138,17 @@ impl Faulty<'_> {
                 break;
             };
             is_mended = mending.mend(self.tokens, index, &fault.kind)?;
-            if !found.indices.contains(&index) {
-                self.add(&mut found, index, fault, pages)?;
-            }
+            self.add(&mut found, index, fault, pages)?;
         }
-        if found.more > 0 {
-            pages.push(count_line(self.alloc, found.more)?)?;
-        }
+        self.add_count(found.more, pages)?;
         Ok(())
     }
 }
 
 /// The line that says how many faults are not shown.
-fn count_line(alloc: Global, more: usize) -> Result<Vec<u8>, AllocError> {
+fn count_line(alloc: Global, more: usize) -> Result<Vec<u8>, AllocError>
+    ensures { IfOk result (λ line. line.items ≡ codes ": and at least " ++ decimal more ++ codes " more" ++ 10 ∷ []) }
+{
     let mut buffer = Buffer::new();
     let mut line = Vec::new(alloc);
     line.extend_from_slice(b": and at least ")?;

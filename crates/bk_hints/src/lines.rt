@@ -1,7 +1,8 @@
 //! Where the lines of a text begin.
+ghost use Rattle.std.specs.Prelude.{◌≡◌, IfOk};
 
 use bk_base::Line;
-use bk_tree::column_after;
+use bk_lines::Start;
 use std::alloc::{AllocError, Global};
 
 /// The deepest indentation that is distinguished from a deeper one.
@@ -10,15 +11,17 @@ const DEEPEST: usize = 240;
 /// Where the lines of a text begin.
 #[derive(Drop)]
 pub struct Lines {
-    /// The number of the first line.
-    from: Line,
+    /// Where the text begins.
+    pub start: Start,
     /// How many bytes of the text come before each line.
     starts: Vec<usize>,
 }
 
 impl Lines {
-    /// The lines of a text whose first line has this number.
-    pub fn new(alloc: Global, text: &[u8], from: Line) -> Result<Lines, AllocError> {
+    /// The lines of a text that begins here.
+    pub fn new(alloc: Global, text: &[u8], start: Start) -> Result<Lines, AllocError>
+        ensures { IfOk result (λ lines. lines.start ≡ start) }
+    {
         let mut starts = Vec::new(alloc);
         starts.push(0)?;
         for (i, byte) in text.iter().enumerate() {
@@ -26,7 +29,7 @@ impl Lines {
                 starts.push(i.saturating_add(1))?;
             }
         }
-        Ok(Lines { from, starts })
+        Ok(Lines { start, starts })
     }
 
     /// The number of the line that a place is on.
@@ -34,20 +37,20 @@ impl Lines {
         let later = self.starts.iter().position(|start| *start > at);
         let count = later.unwrap_or(self.starts.len()).saturating_sub(1);
         match u32::try_from(count) {
-            Ok(count) => self.from.number().saturating_add(count),
+            Ok(count) => self.start.line.number().saturating_add(count),
             Err(_) => u32::MAX,
         }
     }
 
     /// Where a line begins.
-    pub fn start(&self, line: Line) -> Option<usize> {
-        let index = line.number().checked_sub(self.from.number())?;
+    pub fn begin(&self, line: Line) -> Option<usize> {
+        let index = line.number().checked_sub(self.start.line.number())?;
         self.starts.get(index as usize).copied()
     }
 
     /// How many blanks a line of the text begins with.
     pub fn indentation(&self, text: &[u8], line: Line) -> usize {
-        let Some(start) = self.start(line) else {
+        let Some(start) = self.begin(line) else {
             return 0;
         };
         for i in 0..DEEPEST {
@@ -61,26 +64,9 @@ impl Lines {
 
     /// Whether nothing but blanks is before this place on this line.
     pub fn is_first(&self, text: &[u8], line: Line, place: usize) -> bool {
-        match self.start(line) {
+        match self.begin(line) {
             Some(start) => start.saturating_add(self.indentation(text, line)) == place,
             None => false,
         }
     }
-}
-
-/// Where the line begins that this place is on.
-pub fn line_start(text: &[u8], at: usize) -> usize {
-    let end = text.len().min(at);
-    let before = column_after(1, &text[..end]).saturating_sub(1);
-    end.saturating_sub(before as usize)
-}
-
-/// Where the line ends that this place is on, without what ends it.
-pub fn line_end(text: &[u8], at: usize) -> usize {
-    for (i, byte) in text.iter().enumerate() {
-        if i >= at && matches!(*byte, b'\n' | b'\r') {
-            return i;
-        }
-    }
-    text.len()
 }

@@ -1,151 +1,13 @@
 //! The lines that a person reads: the place and what is wrong there, the lines of the source with carets, and the sentence.
+ghost use Rattle.std.specs.Prelude.{ℕ, List, ◌≡◌, ◌++◌, OnOk, IfOk};
+ghost use Rattle.bk_lines.specs.Places.{Extends};
+ghost use Rattle.bk_hints.specs.Hints.{Places, Reports};
 
-use crate::lines::{Lines, line_end, line_start};
+use crate::lines::Lines;
 use crate::sentence::Reported;
 use bk_base::{Line, SourceFault};
-use bk_tree::column_after;
-use itoa::Buffer;
+use bk_lines::{Start, put_line, put_number, put_place, put_shown};
 use std::alloc::{AllocError, Global};
-
-/// How many bytes of a line are shown before the place, and after it.
-const NEAR: usize = 120;
-
-/// How many bytes the second to fourth of a letter in UTF-8 are, after a byte that begins one; 0 where the byte begins none.
-fn further_bytes(byte: u8) -> usize {
-    match byte {
-        0xC2..=0xDF => 1,
-        0xE0..=0xEF => 2,
-        0xF0..=0xF4 => 3,
-        _ => 0,
-    }
-}
-
-/// Whether the second byte of a letter may come after its first. Those that may not are control characters, and codes that no letter
-/// has.
-fn is_second(first: u8, second: u8) -> bool {
-    match first {
-        0xC2 | 0xE0 => second >= 0xA0,
-        0xED => second < 0xA0,
-        0xF0 => second >= 0x90,
-        0xF4 => second < 0x90,
-        _ => true,
-    }
-}
-
-/// How many bytes after the first one here belong to its letter; none where they are no letter in UTF-8.
-fn letter(bytes: &[u8]) -> usize {
-    let [first, second, ..] = bytes else {
-        return 0;
-    };
-    let count = further_bytes(*first);
-    let Some(further) = bytes.get(1..count.saturating_add(1)) else {
-        return 0;
-    };
-    let is_whole = further.iter().all(|byte| matches!(*byte, 0x80..=0xBF));
-    if is_whole && is_second(*first, *second) {
-        count
-    } else {
-        0
-    }
-}
-
-/// A byte as it is shown, where it is no part of a longer letter: a tab and what is printed stay, any other is a `?`.
-fn shown_byte(byte: u8) -> u8 {
-    match byte {
-        b'\t' | b' '..=b'~' => byte,
-        _ => b'?',
-    }
-}
-
-/// Adds bytes as they are shown, and ends the line.
-fn put_shown(page: &mut Vec<u8>, bytes: &[u8]) -> Result<(), AllocError> {
-    let mut further: usize = 0;
-    for (i, byte) in bytes.iter().enumerate() {
-        if further > 0 {
-            further = further.saturating_sub(1);
-            page.push(*byte)?;
-        } else {
-            further = letter(bytes.get(i..).unwrap_or(&[]));
-            page.push(if further > 0 {
-                *byte
-            } else {
-                shown_byte(*byte)
-            })?;
-        }
-    }
-    page.push(b'\n')?;
-    Ok(())
-}
-
-/// Adds the caret of a place so many bytes after the beginning of these, and one of a further place, and ends the line.
-fn put_carets(
-    page: &mut Vec<u8>,
-    bytes: &[u8],
-    at: usize,
-    also: Option<usize>,
-) -> Result<(), AllocError> {
-    let last = at.max(also.unwrap_or(at));
-    let mut further: usize = 0;
-    for i in 0..last.saturating_add(1) {
-        if i == at || also == Some(i) {
-            page.push(b'^')?;
-            further = letter(bytes.get(i..).unwrap_or(&[]));
-        } else if further > 0 {
-            further = further.saturating_sub(1);
-        } else {
-            further = letter(bytes.get(i..).unwrap_or(&[]));
-            page.push(if bytes.get(i) == Some(&b'\t') {
-                b'\t'
-            } else {
-                b' '
-            })?;
-        }
-    }
-    page.push(b'\n')?;
-    Ok(())
-}
-
-/// The number of a line as it is shown.
-fn put_number(page: &mut Vec<u8>, number: u32) -> Result<usize, AllocError> {
-    let mut buffer = Buffer::new();
-    let digits = buffer.format(number).as_bytes();
-    page.extend_from_slice(digits)?;
-    Ok(digits.len())
-}
-
-/// Adds blanks.
-fn put_blanks(page: &mut Vec<u8>, count: usize) -> Result<(), AllocError> {
-    for _ in 0..count {
-        page.push(b' ')?;
-    }
-    Ok(())
-}
-
-/// Adds the line of the source that a place is on, with its number, and the carets under it.
-fn put_source(
-    page: &mut Vec<u8>,
-    text: &[u8],
-    lines: &Lines,
-    at: usize,
-    also: Option<usize>,
-) -> Result<(), AllocError> {
-    let start = line_start(text, at).max(at.saturating_sub(NEAR));
-    let end = line_end(text, at).min(at.saturating_add(NEAR));
-    let shown = text.get(start..end).unwrap_or(b"");
-    put_blanks(page, 2)?;
-    let width = put_number(page, lines.number(at))?;
-    page.extend_from_slice(b" | ")?;
-    put_shown(page, shown)?;
-    put_blanks(page, width.saturating_add(2))?;
-    page.extend_from_slice(b" | ")?;
-    let also = match also {
-        Some(also) if also >= start && also < start.saturating_add(shown.len()) => Some(
-            also.saturating_sub(start),
-        ),
-        _ => None,
-    };
-    put_carets(page, shown, at.saturating_sub(start), also)
-}
 
 /// Adds the lines of the source that two places are on.
 fn put_sources(
@@ -154,58 +16,65 @@ fn put_sources(
     lines: &Lines,
     at: usize,
     also: Option<usize>,
-) -> Result<(), AllocError> {
+) -> Result<(), AllocError>
+    ensures { OnOk result (Extends page.old.items page.new.items) }
+{
     match also {
         Some(also) if lines.number(also) < lines.number(at) => {
-            put_source(page, text, lines, also, None)?;
-            put_source(page, text, lines, at, None)
+            put_line(page, text, lines.number(also), also, None)?;
+            put_line(page, text, lines.number(at), at, None)
         }
         Some(also) if lines.number(also) > lines.number(at) => {
-            put_source(page, text, lines, at, None)?;
-            put_source(page, text, lines, also, None)
+            put_line(page, text, lines.number(at), at, None)?;
+            put_line(page, text, lines.number(also), also, None)
         }
-        _ => put_source(page, text, lines, at, also),
+        _ => put_line(page, text, lines.number(at), at, also),
     }
 }
 
-/// Adds the line and the column of a place, each from 1, after a `:` each; of no place the line of the fault.
-fn put_place(
+/// Adds the line and the column of a place; of no place the line of the fault.
+fn put_head(
     page: &mut Vec<u8>,
     text: &[u8],
-    lines: &Lines,
+    start: &Start,
     at: Option<usize>,
     line: Line,
-) -> Result<(), AllocError> {
-    page.push(b':')?;
-    let Some(at) = at else {
-        let _digits = put_number(page, line.number())?;
-        return Ok(());
-    };
-    let _digits = put_number(page, lines.number(at))?;
-    page.push(b':')?;
-    let before = text.get(line_start(text, at)..at).unwrap_or(b"");
-    let _digits = put_number(page, column_after(1, before))?;
-    Ok(())
+) -> Result<(), AllocError>
+    ensures { OnOk result ((place : List ℕ) × Places start.now text.now line place × (page.new.items ≡ page.old.items ++ place)) }
+{
+    match at {
+        Some(at) => {
+            put_place(page, start, &text[..text.len().min(at)])?;
+            Ok(())
+        }
+        None => {
+            let _digits = put_number(page, line.number())?;
+            Ok(())
+        }
+    }
 }
 
 /// The lines that a person reads, after the name of the file: its place and what is wrong, the lines of the source, and the sentence.
 pub fn page(
     alloc: Global,
-    source: (&[u8], &Lines),
+    text: &[u8],
+    lines: &Lines,
     fault: &SourceFault,
     reported: Reported,
-) -> Result<Vec<u8>, AllocError> {
-    let (text, lines) = source;
+) -> Result<Vec<u8>, AllocError>
+    ensures { IfOk result (λ page. Reports lines.now.start text.now fault.now page.items) }
+{
+    let Reported { at, also, sentence } = reported;
     let mut page = Vec::new(alloc);
-    put_place(&mut page, text, lines, reported.at, fault.line)?;
+    page.push(b':')?;
+    put_head(&mut page, text, &lines.start, at, fault.line)?;
     page.extend_from_slice(b": ")?;
     page.extend_from_slice(fault.kind.phrase().as_bytes())?;
     page.extend_from_slice(fault.kind.name().as_bytes())?;
     page.push(b'\n')?;
-    if let Some(at) = reported.at {
-        put_sources(&mut page, text, lines, at, reported.also)?;
+    if let Some(at) = at {
+        put_sources(&mut page, text, lines, at, also)?;
     }
-    let sentence = reported.sentence.into_bytes();
-    put_shown(&mut page, sentence.as_slice())?;
+    put_shown(&mut page, sentence.into_bytes().as_slice())?;
     Ok(page)
 }

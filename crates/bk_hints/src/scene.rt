@@ -180,7 +180,7 @@ impl<'a> Scene<'a> {
             }
         }
         let line = self.line(index);
-        let start = self.lines.start(line)?;
+        let start = self.lines.begin(line)?;
         Some(start.saturating_add(self.lines.indentation(self.text, line)))
     }
 

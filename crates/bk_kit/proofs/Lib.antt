@@ -34,3 +34,4 @@ mod ReportLemmas
 mod ShowLemmas
 mod TraceLemmas
 mod LineLemmas
+mod Cuts

@@ -1,8 +1,13 @@
 -- A source whose sections are assembled one after another, and then loaded and run.
-use Rattle.bk_kit.proofs.Terms.{◌≡◌, ◌≢◌, inl, inr, ◌⊎◌, ℕ, ◌+◌, ◌≤◌, ◌<◌, ◌++◌, Bool, true, false, List, [], ◌∷◌, Option, None, Some, Result, Ok, Err, IfErr, map, arith, refl, sym, ap, subst, ◌∙◌, append-nil, IsErr, map-append, Begins, INPUT_BYTES, STORE_MOST, End, WriteFault, stmts_of, stmts_of_parts, AreBytes, Stmt, section_whole, Item, Registers, items_of, SEGMENTS, stack_start, any_starts, loaded_store, Ran, Blames, segment_whole, Part, segments, image, items_of_part, Represents, KitFault, Source, Ocode, Intcode, TooSmall, NoStart, Read, Memory, CompiledSection, SectionCode, Declarations, AnyBytes, Streams, devices_of, first_registers, is_read_fault, is_read, IsUndecided, Settles, Follows, IsDelivered, EachSource, codes_in, trees_in, Compiled, Refuses, HasTrees, IsRefused, HasParts, Headline, meanings, MeaningRuns, MeaningTooSmall, MeaningStartless, LoadFault, LoadFault as load}
+use Rattle.bk_kit.proofs.Terms.{◌≡◌, ◌≢◌, inl, inr, ◌⊎◌, ℕ, ◌+◌, ◌≤◌, ◌<◌, ◌++◌, Bool, true, false, List, [], ◌∷◌, Option, None, Some, Result, Ok, Err, IfErr, map, arith, refl, sym, ap, subst, ◌∙◌, append-nil, IsErr, map-append, Begins, INPUT_BYTES, STORE_MOST, End, WriteFault, stmts_of, stmts_of_parts, AreBytes, Stmt, section_whole, Consumes, Consumes-nothing, Consumes-trans, Item, Registers, items_of, SEGMENTS, stack_start, any_starts, loaded_store, Ran, Blames, segment_whole, Part, segments, image, items_of_part, Represents, KitFault, Source, Ocode, Intcode, TooSmall, NoStart, Read, Memory, CompiledSection, SectionCode, Declarations, AnyBytes, Streams, devices_of, first_registers, is_read_fault, is_read, IsUndecided, Settles, Follows, IsDelivered, EachSource, codes_in, trees_in, Compiled, Refuses, HasTrees, IsRefused, HasParts, Headline, meanings, MeaningRuns, MeaningTooSmall, MeaningStartless, LoadFault, LoadFault as load}
+use Rattle.bk_tree.specs.Position.{column_after}
+use Rattle.bk_lines.specs.declared.places.Start.{Start}
+use Rattle.bk_lines.specs.Places.{line_after}
 use Rattle.bk_ocode.specs.declared.section.Ocode as o
 use Rattle.bk_machine.specs.declared.segment.Intcode as i
 use Rattle.bk_kit.specs.Sources.{Accepted, Refused, bytes_of, trees_of, codes_of, stmts_of_tree}
+use Rattle.bk_kit.specs.declared.checker.Refusal.{Refusal}
+use Rattle.bk_kit.specs.Checking.{StartsAfter, HintsAt, HintsIn, IsCut}
 use Rattle.bk_kit.specs.Loading.{load_refused}
 use Rattle.bk_kit.specs.RunningSource.{Stand, Generated, Assembled, NotAssembled, RefusesSource, ReadsSource, NotLoaded}
 use Rattle.bk_kit.proofs.SourceSectionLemmas.{meaning_refuses, has_delivered, refused_delivered}
@@ -63,14 +68,60 @@ gathered_none known faults = record {
   readable = inl (omega arith);
 }
 
+-- What comes next begins here.
+pub record Reached (old now : Option (List ℕ)) (start : Start) : Type 0 where
+  pub before : List ℕ
+  pub delivered : Consumes old now before
+  pub starts : StartsAfter before start
+
+line_after_both : (xs ys : List ℕ) (line : ℕ) → line_after line (xs ++ ys) ≡ line_after (line_after line xs) ys
+line_after_both [] ys line = refl
+line_after_both (x ∷ xs) ys line = line_after_both xs ys _
+
+column_after_both : (xs ys : List ℕ) (column : ℕ) → column_after column (xs ++ ys) ≡ column_after (column_after column xs) ys
+column_after_both [] ys column = refl
+column_after_both (x ∷ xs) ys column = column_after_both xs ys _
+
+module _ (old now new : Option (List ℕ)) (start : Start) (reached : Reached old now start) (text : List ℕ) (delivered : Consumes now new text) where
+  pub reached_on : (next : Start) → next.line ≡ line_after start.line text → next.column ≡ column_after start.column text → Reached old new next
+  reached_on next line column = record {
+    before = reached.before ++ text;
+    delivered = Consumes-trans old now new reached.before text reached.delivered delivered;
+    starts = record {
+      line_is = line ∙ ap (λ n. line_after n text) reached.starts.line_is ∙ sym (line_after_both reached.before text 1);
+      column_is = column ∙ ap (λ n. column_after n text) reached.starts.column_is ∙ sym (column_after_both reached.before text 1);
+    };
+  }
+
+  pub hinted : (refusal : Refusal) → HintsAt start text refusal.fault refusal.hints.items → IsCut start text refusal.fault refusal.cut → HintsIn refusal old new
+  hinted refusal hints cut = record {
+    before = reached.before;
+    text = text;
+    start = start;
+    delivered = Consumes-trans old now new reached.before text reached.delivered delivered;
+    starts = reached.starts;
+    hints = hints;
+    cut = cut;
+  }
+
+  -- there are none
+  pub not_hinted : (refusal : Refusal) → refusal.hints.items ≡ [] → refusal.cut ≡ None → HintsIn refusal old new
+  not_hinted refusal hints cut = hinted refusal (rw hints tt) (rw cut tt)
+
 -- The same, with their trees.
-pub record WithTrees (old now : Option (List ℕ)) (taken line : ℕ) (trees : List Declarations) (faults : ℕ) : Type 0 where
+pub record WithTrees (old now : Option (List ℕ)) (taken line : ℕ) (start : Start) (trees : List Declarations) (faults : ℕ) : Type 0 where
   pub passed : Passed old now taken line
+  pub reached : Reached old now start
   pub trees_are : trees_of passed.sections ≡ trees
   pub readable : (taken < INPUT_BYTES) ⊎ (faults ≡ 0)
 
-pub trees_none : (known : Option (List ℕ)) (faults : ℕ) → WithTrees known known 0 1 [] faults
-trees_none known faults = record { passed = passed_none known; trees_are = refl; readable = inl (omega arith) }
+pub trees_none : (known : Option (List ℕ)) (start : Start) (faults : ℕ) → start.line ≡ 1 → start.column ≡ 1 → WithTrees known known 0 1 start [] faults
+trees_none known start faults line column = record {
+  passed = passed_none known;
+  reached = record { before = []; delivered = Consumes-nothing known; starts = record { line_is = line; column_is = column } };
+  trees_are = refl;
+  readable = inl (omega arith);
+}
 
 module _ (old now new : Option (List ℕ)) (ended : Bool) (taken taken' line : ℕ) (passed : Passed old now taken line)
     (text : List ℕ) (here : IsDelivered text now new taken taken') (most : taken' ≤ INPUT_BYTES) where
@@ -141,10 +192,11 @@ module _ (old now new : Option (List ℕ)) (ended : Bool) (taken taken' line : �
         with_its_tree = ap (λ l. l ++ compiled.has.trees) are ∙ ap (λ l. trees ++ l) compiled.has.trees_are
 
         -- another follows
-        pub trees_go_on : (next faults' : ℕ) → c.next ≡ Some next → faults' ≡ 0 → WithTrees old new taken' next (trees ++ trees_in c.code) faults'
-        trees_go_on next faults' some none =
+        pub trees_go_on : (next faults' : ℕ) (start : Start) → c.next ≡ Some next → Reached old new start → faults' ≡ 0
+            → WithTrees old new taken' next start (trees ++ trees_in c.code) faults'
+        trees_go_on next faults' start some reached none =
             let more = passed_on old now new taken taken' line passed text here c compiled next some in
-            record { passed = more.0; trees_are = more.2 ∙ with_its_tree; readable = inr none }
+            record { passed = more.0; reached = reached; trees_are = more.2 ∙ with_its_tree; readable = inr none }
 
         -- it is the last
         pub trees_end : c.next ≡ None → EachSource old new ended (λ source. HasTrees source (trees ++ trees_in c.code))

@@ -1,8 +1,14 @@
 -- What checking a source comes to: the verdict of its meaning, or a fault of its text, or why there is no verdict.
-use Rattle.std.specs.Prelude.{◌≡◌, ℕ, nat_lt, ⊤, Bool, false, List, [], ◌∷◌, ◌++◌, ◌==◌, map, Option, None, Some, option_map, Result, Ok, Err, Vec, vec_len, codes, decimal, if◌then◌else◌}
+use Rattle.std.specs.Prelude.{◌≡◌, ℕ, ◌≤◌, nat_lt, ⊤, Bool, true, false, length, List, [], ◌∷◌, ◌++◌, ◌==◌, map, Option, None, Some, option_map, Result, Ok, Err, Vec, vec_len, codes, decimal, if◌then◌else◌}
 use Rattle.std.specs.Global.{Global}
-use Rattle.bk_tree.specs.Position.{line_in}
+use Rattle.std.specs.Io.KnownBytes.{Consumes}
+use Rattle.bk_base.specs.declared.source_fault.SourceKind.{SourceKind}
+use Rattle.bk_base.specs.declared.source_fault.SourceKind.TheVariants.{BadByte, BadString, BadEscape, NumberOver32Bits, NameTooLong, TagTooLong, SectionTooLong, BadGet}
+use Rattle.bk_tree.specs.Position.{line_in, column_after}
 use Rattle.bk_tree.specs.Tree.{Declarations}
+use Rattle.bk_lines.specs.declared.places.Start.{Start}
+use Rattle.bk_lines.specs.Places.{line_after, LineEnd}
+use Rattle.bk_hints.specs.Hints.{Hints}
 use Rattle.bk_checker.specs.declared.report.Verdict.{Verdict}
 use Rattle.bk_checker.specs.declared.report.Verdict.TheVariants as v
 use Rattle.bk_checker.specs.declared.report.CheckFault.{CheckFault}
@@ -12,6 +18,8 @@ use Rattle.bk_checker.specs.declared.report.Report.{Report}
 use Rattle.bk_checker.specs.declared.report.Notice.{Notice}
 use Rattle.bk_checker.specs.Checks.{Devices, Checks, ChecksPart, Blames, Flushed}
 use Rattle.bk_kit.specs.declared.kit_fault.KitFault.{KitFault}
+use Rattle.bk_kit.specs.declared.kit_fault.KitFault.TheVariants.{Source}
+use Rattle.bk_kit.specs.declared.cut.CutSection.{CutSection}
 use Rattle.bk_kit.specs.declared.checker.Refusal.{Refusal}
 use Rattle.bk_kit.specs.declared.checker.NotChecked.{NotChecked}
 use Rattle.bk_kit.specs.declared.checker.NotChecked.TheVariants as n
@@ -22,6 +30,7 @@ use Rattle.bk_kit.specs.RunningSource.{NotAssembled}
 use Rattle.bk_kit.specs.SourceSections.{HasTrees}
 use Rattle.bk_kit.specs.Statuses.{fault_status}
 use Rattle.bk_kit.specs.Telling.{Output, ReportsLine, Tells}
+use Rattle.bk_kit.specs.Tracing.{FileRead}
 
 -- the source could not be read
 abbrev pub fails_reading : {T : Type 0} → Result T Refusal → Bool
@@ -46,14 +55,73 @@ pub record ChecksTrees (verdict : Verdict) (turns : ℕ) (old new : Option (List
   pub has : HasTheseTrees trees old new ended
   pub checks : Checks trees turns verdict (checked_devices before) (checked_devices after)
 
+-- What a person is reported of a fault of a section of this text, which begins here in its source: nothing where memory is refused for it, and
+-- nothing of another fault.
+abbrev pub HintsAt : Start → List ℕ → KitFault → List (Vec ℕ Global) → Type 0
+HintsAt start text fault [] = ⊤
+HintsAt start text (Source fault) pages = Hints start text fault pages
+HintsAt start text fault pages = ⊥
+
+-- After these bytes of a source, what comes next begins here.
+pub record StartsAfter (before : List ℕ) (start : Start) : Type 0 where
+  pub line_is : start.line ≡ line_after 1 before
+  pub column_is : start.column ≡ column_after 1 before
+
+-- the kinds of faults of bytes
+abbrev pub is_kind_of_bytes : SourceKind → Bool
+is_kind_of_bytes BadByte = true
+is_kind_of_bytes BadString = true
+is_kind_of_bytes BadEscape = true
+is_kind_of_bytes NumberOver32Bits = true
+is_kind_of_bytes NameTooLong = true
+is_kind_of_bytes TagTooLong = true
+is_kind_of_bytes SectionTooLong = true
+is_kind_of_bytes BadGet = true
+is_kind_of_bytes kind = false
+
+-- a fault of bytes, which ends the reading of a source within a line
+abbrev pub is_of_bytes : KitFault → Bool
+is_of_bytes (Source fault) = is_kind_of_bytes fault.kind
+is_of_bytes fault = false
+
+-- The text before a fault of bytes; none where memory is refused for it, and none of another fault.
+abbrev pub IsCut : Start → List ℕ → KitFault → Option CutSection → Type 0
+IsCut start text fault None = ⊤
+IsCut start text fault (Some cut) = (cut.start ≡ start) × (cut.text.items ≡ text) × (is_of_bytes fault ≡ true)
+
+-- The hints of a refusal are those of the section that is refused: the last of which bytes were delivered, at its place in the source.
+pub record HintsIn (refusal : Refusal) (old new : Option (List ℕ)) : Type 0 where
+  pub before : List ℕ
+  pub text : List ℕ
+  pub start : Start
+  pub delivered : Consumes old new (before ++ text)
+  pub starts : StartsAfter before start
+  pub hints : HintsAt start text refusal.fault refusal.hints.items
+  pub cut : IsCut start text refusal.fault refusal.cut
+
+-- so of a source that is refused
+abbrev pub TextHints : Result Report NotChecked → Option (List ℕ) → Option (List ℕ) → Type 0
+TextHints (Ok report) old new = ⊤
+TextHints (Err (n.Text refusal)) old new = HintsIn refusal old new
+TextHints (Err (n.Run stop)) old new = ⊤
+
 -- THE CHECK. Nothing is done of a source that is refused.
 abbrev pub ChecksSource : Result Report NotChecked → ℕ → Option (List ℕ) → Option (List ℕ) → Bool → Streams → Streams → Type 0
 ChecksSource (Ok report) turns old new ended before after =
     ChecksTrees report.verdict turns old new ended before after × (after.passed ≡ after.taken) × (after.reads ≡ before.reads) × (after.writes ≡ before.writes)
-ChecksSource (Err (n.Text refusal)) turns old new ended before after = NotAssembled refusal.fault old new ended × (after ≡ before)
+ChecksSource (Err (n.Text refusal)) turns old new ended before after =
+    NotAssembled refusal.fault old new ended × HintsIn refusal old new × (after ≡ before)
 ChecksSource (Err (n.Run stop)) turns old new ended before after =
     ((trees : List Declarations) × HasTheseTrees trees old new ended × ChecksPart trees turns (checked_devices before) (checked_devices after))
     × Blames stop.fault before.reads after.reads before.writes after.writes × Flushed stop.fault after.passed after.taken
+
+-- After a fault of bytes the rest of its line is read, 120 bytes at most, so that the hints show the whole line. `reached` is what was read of
+-- FILE before that.
+abbrev pub ReadsOn : Result Report NotChecked → Result Report NotChecked → (reached file : FileRead) → Type 0
+ReadsOn (Err (n.Text refusal)) said reached file =
+    (whole : Refusal) × (said ≡ Err (n.Text whole)) × (whole.fault ≡ refusal.fault) × HintsIn whole file.old file.new
+    × (more : List ℕ) × LineEnd reached.new file.new more × (length more ≤ 120) × (is_of_bytes refusal.fault ≡ false → file ≡ reached)
+ReadsOn answer said reached file = (said ≡ answer) × (file ≡ reached)
 
 -- ---- statuses and lines
 

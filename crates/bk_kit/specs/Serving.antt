@@ -14,7 +14,7 @@ use Rattle.bk_kit.specs.RunningSource.{ReadsSource, KeepsLimits}
 use Rattle.bk_kit.specs.SourceMeaning.{meanings}
 use Rattle.bk_checker.specs.declared.report.Report.{Report}
 use Rattle.bk_kit.specs.declared.checker.NotChecked.{NotChecked}
-use Rattle.bk_kit.specs.Checking.{fails_check, ChecksSource, check_status, ReportsCheck}
+use Rattle.bk_kit.specs.Checking.{fails_check, ChecksSource, ReadsOn, check_status, ReportsCheck}
 use Rattle.bk_kit.specs.Showing.{ShowsSource}
 use Rattle.bk_kit.specs.Sizes.{store_words, Reports}
 use Rattle.bk_kit.specs.Statuses.{run_status, run_line, done_status, done_line}
@@ -49,9 +49,10 @@ Serves Holds (TraceSource limits extent name) status file before after err_befor
     × Begins before.passed after.passed × ReadsSource (is_read answer) file.old file.new × Fails answer file.faults
     × (status ≡ run_status answer) × ReportsTrace (run_line answer) err_before err_after
 Serves Holds (Check turns name) status file before after err_before err_after =
-    (answer : Result Report NotChecked) × ChecksSource answer turns file.old file.new file.ended before after × Begins before.passed after.passed
-    × ReadsSource (fails_check answer) file.old file.new × (file.faults ≡ (if fails_check answer then 1 else 0))
-    × (status ≡ check_status answer) × ReportsCheck (string_bytes name) answer err_before err_after
+    (answer said : Result Report NotChecked) × (reached : FileRead) × (reached.old ≡ file.old)
+    × ChecksSource answer turns reached.old reached.new reached.ended before after × Begins before.passed after.passed
+    × ReadsSource (fails_check answer) reached.old reached.new × (reached.faults ≡ (if fails_check answer then 1 else 0))
+    × ReadsOn answer said reached file × (status ≡ check_status said) × ReportsCheck (string_bytes name) said err_before err_after
 Serves Holds (Show part name) status file before after err_before err_after =
     (answer : Result (Unit {0}) KitFault) × ShowsSource answer file.old file.new file.ended file.faults (output_of before) (output_of after)
     × (status ≡ done_status answer) × Tells (done_line answer) err_before err_after

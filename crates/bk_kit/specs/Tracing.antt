@@ -31,8 +31,11 @@ pub record FileRead : Type 0 where
   pub ended : Bool
   pub faults : ℕ
 
+abbrev pub read_from : {F : Type 0} → reader.Ghosts F → Option (List ℕ) → F → FileRead
+read_from f old after = record { old = old; new = f.left after; ended = f.ended after; faults = f.faults after }
+
 abbrev pub file_read : {F : Type 0} → reader.Ghosts F → (before after : F) → FileRead
-file_read f before after = record { old = f.left before; new = f.left after; ended = f.ended after; faults = f.faults after }
+file_read f before after = read_from f (f.left before) after
 
 -- What refuses a text of OCODE as it is read.
 abbrev pub OcodeRefused : KitFault → Option (List ℕ) → Option (List ℕ) → Bool → Type 0

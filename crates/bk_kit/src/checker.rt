@@ -1,18 +1,20 @@
 //! The checker.
-ghost use Rattle.std.specs.Prelude.{◌≡◌, ◌++◌, map, IfOk, IfErr, OnOk, if◌then◌else◌};
+ghost use Rattle.std.specs.Prelude.{◌≡◌, [], ◌++◌, None, map, IfOk, IfErr, OnOk, if◌then◌else◌};
 ghost use Rattle.bk_base.specs.Devices.{Begins};
 ghost use Rattle.bk_tree.specs.Section.{declarations_of};
 ghost use Rattle.bk_kit.specs.CompilingSection.{trees_in};
 ghost use Rattle.bk_kit.specs.RunningSource.{NotAssembled, ReadsSource};
-ghost use Rattle.bk_kit.specs.Checking.{fails_reading, fails_check, HasTheseTrees, ChecksSource, Untouched};
+ghost use Rattle.bk_kit.specs.Checking.{fails_reading, fails_check, HasTheseTrees, HintsAt, HintsIn, IsCut, ChecksSource, Untouched};
 ghost use Rattle.bk_kit.specs.Interpreting.{streams};
 
+use crate::cut::{CutSection, cut_at};
 use crate::kit_fault::KitFault;
 use crate::reading::read_source_section;
 use crate::section::{SectionCode, compile_section};
 use bk_base::{ByteIn, ByteOut, Line};
 use bk_checker::{GivenUp, Report, SourceTexts, check};
 use bk_hints::hints;
+use bk_lines::Start;
 use bk_tree::Section;
 use std::alloc::{AllocError, Global};
 
@@ -24,6 +26,8 @@ pub struct Refusal {
     /// What is reported of it and of further faults of its section. Each is lines of text, with their ends, that come after the name of
     /// FILE: the place and what is wrong, the line of the source with a caret, and what is meant.
     pub hints: Vec<Vec<u8>>,
+    /// The text before a fault of bytes, whose line may go on in the source; none where memory is refused for it.
+    pub cut: Option<CutSection>,
 }
 
 /// Why a check of a source gives no verdict.
@@ -36,40 +40,55 @@ pub enum NotChecked {
 }
 
 /// A fault without hints.
-fn no_hint(alloc: Global, fault: KitFault) -> Refusal
-    ensures { result.fault ≡ fault }
+pub fn no_hint(alloc: Global, fault: KitFault) -> Refusal
+    ensures fault { result.fault ≡ fault }
+    ensures hints { result.hints.items ≡ [] }
+    ensures cut { result.cut ≡ None }
 {
     Refusal {
         fault,
         hints: Vec::new(alloc),
+        cut: None,
     }
 }
 
-/// A fault of a section of this text, whose first line has the number `line`, with what a person is reported of it.
-fn refused(alloc: Global, text: &[u8], line: Line, fault: KitFault) -> Refusal
-    ensures { result.fault ≡ fault }
+/// What a person is reported of a fault of a section of this text, which begins here in the source; nothing where memory is refused.
+pub fn hints_of(alloc: Global, text: &[u8], start: &Start, fault: &KitFault) -> Vec<Vec<u8>>
+    ensures { HintsAt start.now text.now fault.now result.items }
 {
-    let hints = match &fault {
-        KitFault::Source(reported) => hints(alloc, text, line, reported),
-        _ => Ok(Vec::new(alloc)),
-    };
-    match hints {
-        Ok(hints) => Refusal { fault, hints },
-        Err(_) => no_hint(alloc, fault),
+    match fault {
+        KitFault::Source(reported) => match hints(alloc, text, start, reported) {
+            Ok(pages) => pages,
+            Err(_) => Vec::new(alloc),
+        },
+        _ => Vec::new(alloc),
     }
 }
 
-/// Adds the tree of a section, if it has one, and its text, whose first line has the number `line`.
+/// A fault of a section of this text, which begins here in the source, with what a person is reported of it.
+fn refused(alloc: Global, text: &[u8], start: &Start, fault: KitFault) -> Refusal
+    ensures fault { result.fault ≡ fault }
+    ensures hints { HintsAt start.now text.now result.fault result.hints.items }
+    ensures cut { IsCut start.now text.now result.fault result.cut }
+{
+    Refusal {
+        hints: hints_of(alloc, text, start, &fault),
+        cut: cut_at(alloc, text, start, &fault),
+        fault,
+    }
+}
+
+/// Adds the tree of a section, if it has one, and its text, which begins here in the source.
 fn push_tree(
     section: Option<SectionCode>,
     trees: &mut Vec<Section>,
-    line: Line,
+    start: &Start,
     text: &[u8],
     texts: &mut SourceTexts,
 ) -> Result<(), AllocError>
     ensures { OnOk result (map declarations_of trees.new.items ≡ map declarations_of trees.old.items ++ trees_in section) }
 {
-    texts.push(line, text)?;
+    texts.push(start, text)?;
     match section {
         Some(section) => {
             trees.push(section.tree)?;
@@ -89,10 +108,12 @@ fn read_trees<C: ByteIn>(
     ensures refused { IfErr result (λ refusal. NotAssembled refusal.fault (C.left source.old) (C.left source.new) (C.ended source.new)) }
     ensures delivered { ReadsSource (fails_reading result) (C.left source.old) (C.left source.new) }
     ensures failures { C.faults source.new ≡ (if fails_reading result then 1 else 0) }
+    ensures hints { IfErr result (λ refusal. HintsIn refusal (C.left source.old) (C.left source.new)) }
 {
     let mut trees = Vec::new(alloc);
     let mut taken = 0;
     let mut line = Line::first();
+    let mut start = Start::of_source();
     loop {
         let lexer = match read_source_section(alloc, source, &mut taken, line) {
             Ok(lexer) => lexer,
@@ -100,12 +121,13 @@ fn read_trees<C: ByteIn>(
         };
         let section = match compile_section(alloc, &lexer) {
             Ok(section) => section,
-            Err(fault) => return Err(refused(alloc, lexer.bytes(), line, fault)),
+            Err(fault) => return Err(refused(alloc, lexer.bytes(), &start, fault)),
         };
         let next = section.next;
-        let Ok(()) = push_tree(section.code, &mut trees, line, lexer.bytes(), texts) else {
+        let Ok(()) = push_tree(section.code, &mut trees, &start, lexer.bytes(), texts) else {
             return Err(no_hint(alloc, KitFault::Memory));
         };
+        start = start.after(lexer.bytes());
         match next {
             Some(next) => line = next,
             None => return Ok(trees),

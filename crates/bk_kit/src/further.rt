@@ -1,11 +1,13 @@
 //! The faults of a source after those of the first section that is refused.
 
+use crate::cut::{is_kind_of_bytes, read_on};
 use crate::kit_fault::KitFault;
 use crate::reading::read_source_section;
 use crate::section::compile_section;
 use bk_base::{ByteIn, Line};
 use bk_hints::hints;
 use bk_lex::Lexer;
+use bk_lines::Start;
 use itoa::Buffer;
 use std::alloc::{AllocError, Global};
 
@@ -20,7 +22,7 @@ const MOST: usize = 20;
 
 /// The sections that are refused, as far as the source is read.
 #[derive(Drop)]
-struct Refused {
+struct LaterSections {
     /// How many sections are refused.
     sections: usize,
     /// How many faults are shown, those of the first section too.
@@ -29,7 +31,7 @@ struct Refused {
     pages: Vec<Vec<u8>>,
 }
 
-impl Refused {
+impl LaterSections {
     /// Adds a section that is refused, with what is reported of its faults: of each but the first section the first fault.
     fn add(&mut self, hints: Vec<Vec<u8>>) -> Result<(), AllocError> {
         let mut hints = hints;
@@ -88,14 +90,15 @@ fn is_apart(bytes: &[u8]) -> bool {
 }
 
 /// The sections that are refused, up to one of which nobody knows where it ends: its bytes have a fault, or the `.` that ends it is not apart.
-fn refused_sections<C: ByteIn>(alloc: Global, source: &mut C) -> Result<Refused, AllocError> {
-    let mut refused = Refused {
+fn refused_sections<C: ByteIn>(alloc: Global, source: &mut C) -> Result<LaterSections, AllocError> {
+    let mut refused = LaterSections {
         sections: 0,
         shown: 0,
         pages: Vec::new(alloc),
     };
     let mut taken = 0;
     let mut line = Line::first();
+    let mut start = Start::of_source();
     for _ in 0..SECTIONS {
         if taken > BYTES {
             break;
@@ -104,11 +107,17 @@ fn refused_sections<C: ByteIn>(alloc: Global, source: &mut C) -> Result<Refused,
             break;
         };
         if let Err(KitFault::Source(fault)) = &compile_section(alloc, &lexer) {
-            refused.add(hints(alloc, lexer.bytes(), line, fault)?)?;
+            let mut text = Vec::new(alloc);
+            text.extend_from_slice(lexer.bytes())?;
+            if is_kind_of_bytes(&fault.kind) {
+                read_on(source, &mut text)?;
+            }
+            refused.add(hints(alloc, &text, &start, fault)?)?;
             if !is_apart(lexer.bytes()) {
                 break;
             }
         }
+        start = start.after(lexer.bytes());
         match next_line(alloc, &lexer) {
             Some(next) => line = next,
             None => break,

@@ -11,6 +11,7 @@ ghost use Rattle.bk_kit.specs.Tracing.{file_read};
 use crate::checker::check_source;
 use crate::command_line::LineFault;
 use crate::compiler::compile;
+use crate::cut::with_whole_line;
 use crate::generator::generate_all;
 use crate::orders::{Files, Order};
 use crate::runner::{interpret, sizes};
@@ -59,6 +60,7 @@ fn serve_check<F: ByteIn, I: ByteIn, O: ByteOut, E: ByteOut>(
         (output E.ByteOut err.old) (output E.ByteOut err.new) }
 {
     let answer = check_source(alloc, file, turns, input, out);
+    let answer = with_whole_line(alloc, file, answer);
     report_check(&answer, name.as_str(), err)
 }
 
