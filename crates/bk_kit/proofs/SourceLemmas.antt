@@ -108,20 +108,21 @@ module _ (old now new : Option (List ℕ)) (start : Start) (reached : Reached ol
   pub not_hinted : (refusal : Refusal) → refusal.hints.items ≡ [] → refusal.cut ≡ None → HintsIn refusal old new
   not_hinted refusal hints cut = hinted refusal (rw hints tt) (rw cut tt)
 
+pub reached_none : (known : Option (List ℕ)) (start : Start) → start.line ≡ 1 → start.column ≡ 1 → Reached known known start
+reached_none known start line column = record {
+  before = [];
+  delivered = Consumes-nothing known;
+  starts = record { line_is = line; column_is = column };
+}
+
 -- The same, with their trees.
-pub record WithTrees (old now : Option (List ℕ)) (taken line : ℕ) (start : Start) (trees : List Declarations) (faults : ℕ) : Type 0 where
+pub record WithTrees (old now : Option (List ℕ)) (taken line : ℕ) (trees : List Declarations) (faults : ℕ) : Type 0 where
   pub passed : Passed old now taken line
-  pub reached : Reached old now start
   pub trees_are : trees_of passed.sections ≡ trees
   pub readable : (taken < INPUT_BYTES) ⊎ (faults ≡ 0)
 
-pub trees_none : (known : Option (List ℕ)) (start : Start) (faults : ℕ) → start.line ≡ 1 → start.column ≡ 1 → WithTrees known known 0 1 start [] faults
-trees_none known start faults line column = record {
-  passed = passed_none known;
-  reached = record { before = []; delivered = Consumes-nothing known; starts = record { line_is = line; column_is = column } };
-  trees_are = refl;
-  readable = inl (omega arith);
-}
+pub trees_none : (known : Option (List ℕ)) (faults : ℕ) → WithTrees known known 0 1 [] faults
+trees_none known faults = record { passed = passed_none known; trees_are = refl; readable = inl (omega arith) }
 
 module _ (old now new : Option (List ℕ)) (ended : Bool) (taken taken' line : ℕ) (passed : Passed old now taken line)
     (text : List ℕ) (here : IsDelivered text now new taken taken') (most : taken' ≤ INPUT_BYTES) where
@@ -192,11 +193,10 @@ module _ (old now new : Option (List ℕ)) (ended : Bool) (taken taken' line : �
         with_its_tree = ap (λ l. l ++ compiled.has.trees) are ∙ ap (λ l. trees ++ l) compiled.has.trees_are
 
         -- another follows
-        pub trees_go_on : (next faults' : ℕ) (start : Start) → c.next ≡ Some next → Reached old new start → faults' ≡ 0
-            → WithTrees old new taken' next start (trees ++ trees_in c.code) faults'
-        trees_go_on next faults' start some reached none =
+        pub trees_go_on : (next faults' : ℕ) → c.next ≡ Some next → faults' ≡ 0 → WithTrees old new taken' next (trees ++ trees_in c.code) faults'
+        trees_go_on next faults' some none =
             let more = passed_on old now new taken taken' line passed text here c compiled next some in
-            record { passed = more.0; reached = reached; trees_are = more.2 ∙ with_its_tree; readable = inr none }
+            record { passed = more.0; trees_are = more.2 ∙ with_its_tree; readable = inr none }
 
         -- it is the last
         pub trees_end : c.next ≡ None → EachSource old new ended (λ source. HasTrees source (trees ++ trees_in c.code))

@@ -1,10 +1,11 @@
 use Rattle.bk_kit.proofs.Terms.{◌-◌, ◌^◌, map, declarations_of}
-use Rattle.bk_kit.proofs.SourceLemmas.{WithTrees}
+use Rattle.bk_kit.proofs.SourceLemmas.{WithTrees, Reached}
 use Rattle.bk_kit.proofs.checker.read_trees.Given as goal
 
 abbrev pub invariant-loop-lexer : goal.invariant-loop-lexer
 invariant-loop-lexer g l =
-    WithTrees (g.C.ByteIn.left l.initial.source) (g.C.ByteIn.left l.source) l.taken l.line l.start (map declarations_of l.trees.items) (g.C.ByteIn.faults l.source)
+    WithTrees (g.C.ByteIn.left l.initial.source) (g.C.ByteIn.left l.source) l.taken l.line (map declarations_of l.trees.items) (g.C.ByteIn.faults l.source)
+    × Reached (g.C.ByteIn.left l.initial.source) (g.C.ByteIn.left l.source) l.start
 
 abbrev pub decreases-loop-lexer : goal.decreases-loop-lexer
 decreases-loop-lexer g l = 2 ^ 64 - l.taken
