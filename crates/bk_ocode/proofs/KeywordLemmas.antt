@@ -1,13 +1,13 @@
 -- The words that begin statements are known again.
-use Rattle.bk_ocode.proofs.Terms.{◌≡◌, ◌≢◌, ℕ, List, [], ◌∷◌, ◌++◌, ◌==◌, Option, Bool, true, false, not, ◌&&◌, nat_eq, nat_lt, if◌then◌else◌, ◌≤◌, ◌<◌, length, arith, ltb-true, Some, None, refl, sym, ap, ◌∙◌, list_all, keyword, role, may_stand, Context, misplaced, StmtPlace, keyword_text, two, three, four, five, six, seven, eight, keywords_of_length, find_keyword, keyword_of_stmt, keyword_role, Stmt, Keyword, Stmt as stmt, VariableKind as kinds, and_parts}
-use lib.Pointwise.{pointwise}
+use Rattle.bk_ocode.proofs.Terms.{◌≡◌, ◌≢◌, ℕ, ◌-◌, is_blank, List, Option, Bool, true, not, ◌&&◌, nat_lt, ◌≤◌, ◌<◌, length, arith, ltb-true, Some, refl, sym, ap, ◌∙◌, list_all, keyword, role, may_stand, Context, misplaced, StmtPlace, keyword_text, candidate_with, keyword_of_stmt, keyword_role, Stmt, Keyword, Stmt as stmt, VariableKind as kinds, and_parts}
+use Rattle.std.proofs.Common.{slice_index}
 use Rattle.bk_ocode.specs.declared.stmt.Variable.TheVariants as variable
 use Rattle.bk_ocode.specs.declared.stmt.Monadic.TheVariants as monadic
 use Rattle.bk_ocode.specs.declared.stmt.Dyadic.TheVariants as dyadic
 use Rattle.bk_ocode.specs.declared.keyword.Keyword.TheVariants.{Number, Load, Address, Assign, Monadic, Dyadic, JumpIf}
 
 abbrev find : List ℕ → Option Keyword
-find word = find_keyword (keywords_of_length (length word)) word
+find word = candidate_with (length word) (slice_index word 0) (slice_index word (length word - 1))
 
 -- each is found
 pub all_found : (k : Keyword) → find (keyword_text k) ≡ Some k
@@ -20,8 +20,8 @@ all_found (Dyadic dyadic.Multiply) = refl
 all_found (JumpIf true) = refl
 all_found _ = refl
 
-pub none_found : (word : List ℕ) → find word ≡ None → (k : Keyword) → keyword_text k ≢ word
-none_found word none k is = let h : None ≡ Some k = sym none ∙ ap find (sym is) ∙ all_found k in cc
+pub only_candidate : (word : List ℕ) (k : Keyword) → keyword_text k ≡ word → find word ≡ Some k
+only_candidate word k is = ap find (sym is) ∙ all_found k
 
 -- no two have one word
 pub same_keyword : (j k : Keyword) → keyword_text j ≡ keyword_text k → j ≡ k
@@ -39,52 +39,29 @@ pub stands_so : (s : Stmt) → role s ≡ keyword_role (keyword_of_stmt s)
 stands_so (stmt.Number value) = refl
 stands_so _ = refl
 
--- what holds of all keywords of a list holds of one that is found there
-found_holds : (p : Keyword → Bool) (list : List Keyword) (word : List ℕ) (k : Keyword) → find_keyword list word ≡ Some k → list_all p list ≡ true → p k ≡ true
-found_holds p [] word k found all = absurd (let h : None ≡ Some k = found in cc)
-found_holds p (j ∷ list) word k found all =
-    let both = and_parts (p j) (list_all p list) all in
-    first_or (pointwise nat_eq (keyword_text j) word) found both.0 (λ later. found_holds p list word k later both.1)
-  where
-    first_or : (b : Bool) → (if b then Some j else find_keyword list word) ≡ Some k → p j ≡ true → (find_keyword list word ≡ Some k → p k ≡ true) → p k ≡ true
-    first_or true is here later = let same : j ≡ k = cc in ap p (sym same) ∙ here
-    first_or false is here later = later is
+-- a word of 1 to 8 bytes, none of them a blank
+abbrev is_short_word : List ℕ → Bool
+is_short_word word = nat_lt 0 (length word) && (nat_lt (length word) 9 && list_all (λ b. not (is_blank b)) word)
 
-all_append : (p : Keyword → Bool) (xs ys : List Keyword) → list_all p (xs ++ ys) ≡ true → (list_all p xs ≡ true) × (list_all p ys ≡ true)
-all_append p [] ys all = (refl, all)
-all_append p (x ∷ xs) ys all =
-    let both = and_parts (p x) (list_all p (xs ++ ys)) all in
-    let rest = all_append p xs ys both.1 in
-    (ap (λ b. b && list_all p xs) both.0 ∙ rest.0, rest.1)
+all_short : (k : Keyword) → is_short_word (keyword_text k) ≡ true
+all_short Number = refl
+all_short (Load kinds.Local) = refl
+all_short (Address kinds.Local) = refl
+all_short (Assign kinds.Local) = refl
+all_short (Monadic monadic.Contents) = refl
+all_short (Dyadic dyadic.Multiply) = refl
+all_short (JumpIf true) = refl
+all_short _ = refl
 
-all_either : (p : Keyword → Bool) (b : Bool) (xs ys : List Keyword) → list_all p xs ≡ true → list_all p ys ≡ true → list_all p (if b then xs else ys) ≡ true
-all_either p true xs ys x y = x
-all_either p false xs ys x y = y
-
--- and what holds of all of them holds of each
-abbrev pub keywords : List Keyword
-keywords = two ++ (three ++ (four ++ (five ++ (six ++ (seven ++ eight)))))
-
-all_of_length : (p : Keyword → Bool) → list_all p keywords ≡ true → (n : ℕ) → list_all p (keywords_of_length n) ≡ true
-all_of_length p all n =
-    let h2 = all_append p two (three ++ (four ++ (five ++ (six ++ (seven ++ eight))))) all in
-    let h3 = all_append p three (four ++ (five ++ (six ++ (seven ++ eight)))) h2.1 in
-    let h4 = all_append p four (five ++ (six ++ (seven ++ eight))) h3.1 in
-    let h5 = all_append p five (six ++ (seven ++ eight)) h4.1 in
-    let h6 = all_append p six (seven ++ eight) h5.1 in
-    let h7 = all_append p seven eight h6.1 in
-    all_either p (n == 2) two _ h2.0 (all_either p (n == 3) three _ h3.0 (all_either p (n == 4) four _ h4.0 (all_either p (n == 5) five _ h5.0
-    (all_either p (n == 6) six _ h6.0 (all_either p (n == 7) seven _ h7.0 (all_either p (n == 8) eight _ h7.1 refl))))))
-
-pub holds_of_each : (p : Keyword → Bool) → list_all p keywords ≡ true → (k : Keyword) → p k ≡ true
-holds_of_each p all k = found_holds p (keywords_of_length (length (keyword_text k))) (keyword_text k) k (all_found k) (all_of_length p all (length (keyword_text k)))
-
--- none is long
-short : (k : Keyword) → length (keyword_text k) ≤ 8
-short k = let low = ltb-true (length (keyword_text k)) 9 (holds_of_each (λ (j : Keyword). nat_lt (length (keyword_text j)) 9) refl k) in omega arith
+pub short_word : (k : Keyword) → (0 < length (keyword_text k)) × (length (keyword_text k) ≤ 8) × (list_all (λ b. not (is_blank b)) (keyword_text k) ≡ true)
+short_word k =
+    let some = and_parts _ _ (all_short k) in
+    let few = and_parts _ _ some.1 in
+    let below : length (keyword_text k) < 9 = ltb-true _ 9 few.0 in
+    (ltb-true 0 _ some.0, omega (arith, below), few.1)
 
 pub not_long : (s : Stmt) (word : List ℕ) → 16 < length word → keyword s ≢ word
-not_long s word long is = absurd (omega (arith, short (keyword_of_stmt s), ap (λ (w : List ℕ). length w) (sym (begins_so s)), ap (λ (w : List ℕ). length w) is, long))
+not_long s word long is = absurd (omega (arith, (short_word (keyword_of_stmt s)).1, ap (λ (w : List ℕ). length w) (sym (begins_so s)), ap (λ (w : List ℕ). length w) is, long))
 
 -- a word that is none begins no statement
 pub begins_none : (word : List ℕ) → ((k : Keyword) → keyword_text k ≢ word) → (s : Stmt) → keyword s ≢ word

@@ -1,8 +1,8 @@
 -- The words of what is printed.
-use Rattle.bk_ocode.proofs.Terms.{◌≡◌, ℕ, suc, ℤ, pos, FitsSigned, w32, ◌<◌, ◌^◌, ◌++◌, ◌&&◌, not, nat_lt, Bool, true, List, [], ◌∷◌, length, arith, refl, sym, ap, ◌∙◌, append_assoc, ltb-true, ⊤, list_all, spelling, is_blank, words_of, AreInWord, words_of-front, fits-pos, spelling-some, spelling-inside, joined, keyword, argument_words, stmt_words, stmt_text, spaced, natural_word, label_word, variable_word, byte_words, section_text, section_words, IsLabel, IsVariable, IsStmt, keyword_text, keyword_of_stmt, Case, GlobalEntry, Stmt, Keyword, Stmt as stmt, and_parts, not-true}
+use Rattle.bk_ocode.proofs.Terms.{◌≡◌, ℕ, suc, ℤ, pos, FitsSigned, w32, ◌<◌, ◌^◌, ◌++◌, ◌&&◌, not, nat_lt, Bool, true, List, [], ◌∷◌, length, arith, refl, sym, ap, ◌∙◌, append_assoc, ⊤, list_all, spelling, is_blank, words_of, AreInWord, words_of-front, fits-pos, spelling-some, spelling-inside, joined, keyword, argument_words, stmt_words, stmt_text, spaced, natural_word, label_word, variable_word, byte_words, section_text, section_words, IsLabel, IsVariable, IsStmt, keyword_text, keyword_of_stmt, Case, GlobalEntry, Stmt, Keyword, Stmt as stmt, and_parts, not-true}
 use Rattle.bk_ocode.specs.declared.stmt.Variable.{Variable}
 use Rattle.bk_ocode.specs.declared.stmt.Variable.TheVariants as variable
-use Rattle.bk_ocode.proofs.KeywordLemmas.{holds_of_each, begins_so}
+use Rattle.bk_ocode.proofs.KeywordLemmas.{short_word, begins_so}
 use Rattle.bk_ocode.proofs.SameStmts.{Each, byte_row, case_row, global_row, IsByte, IsCase, IsEntry}
 
 -- a word has a byte at least, and no blank
@@ -40,7 +40,7 @@ in_word [] is = tt
 in_word (b ∷ word) is = let p = and_parts (not (is_blank b)) (inside word) is in (not-true (is_blank b) p.0, in_word word p.1)
 
 keyword-word : (k : Keyword) → IsWord (keyword_text k)
-keyword-word k = grind (arith, holds_of_each, ltb-true, in_word)
+keyword-word k = let word = short_word k in (word.0, in_word (keyword_text k) word.2)
 
 first-word : (s : Stmt) → IsWord (keyword s)
 first-word s = rw (begins_so s) (keyword-word (keyword_of_stmt s))

@@ -41,7 +41,7 @@ pub use Rattle.bk_ocode.specs.Drafts.{context_in, IsDraft}
 pub use Rattle.bk_ocode.specs.Faults.{misplaced, is_lab_from, is_other_lab, are_other_jumps, jumps_disagree, result_named, follows_badly, own_disagrees, fault_in, stmt_fault, is_entry, data_set, is_set, set_again, jumps_set, label_not_set, is_data, too_long, label_set_twice, depths_disagree, slot_above, over, left_after, is_badly_followed, not_followed}
 pub use Rattle.bk_ocode.specs.FirstFault.{IsStmt, IsPartial, BeginsStmt, IsBadWord, IsBadNumber, BreaksRule, PassesWords, FaultOf, FaultAt, CutAt, section, nothing, fault, Says, SayOneThing, Saying}
 pub use Rattle.bk_ocode.specs.Frames.{start, HasFrames, called}
-pub use Rattle.bk_ocode.specs.Keywords.{kind_of, keyword_text, keyword_of_stmt, two, three, four, five, six, seven, eight, keywords_of_length, find_keyword, keyword_role}
+pub use Rattle.bk_ocode.specs.Keywords.{kind_of, keyword_text, keyword_of_stmt, candidate_with, keyword_role}
 pub use Rattle.bk_ocode.specs.KnownUses.{use_or}
 unfoldable pub use Rattle.bk_ocode.specs.KnownUses.{uses_of}
 pub use Rattle.bk_ocode.specs.Labels.{jump_labels, label_set, other_labels, result_label, data_labels, item_label, global_labels}

@@ -1,6 +1,5 @@
 -- What the first word of a statement says of it.
-use Rattle.std.specs.Prelude.{ℕ, ◌==◌, nat_eq, true, false, List, [], ◌∷◌, codes, Option, Some, None, if◌then◌else◌}
-use lib.Pointwise.{pointwise}
+use Rattle.std.specs.Prelude.{ℕ, ◌==◌, true, false, List, codes, Option, Some, None, if◌then◌else◌}
 use Rattle.bk_ocode.specs.StmtText.{monadic_keyword, dyadic_keyword, jump_keyword}
 use Rattle.bk_ocode.specs.declared.standing.StmtPlace.{StmtPlace}
 use Rattle.bk_ocode.specs.declared.standing.StmtPlace.TheVariants.{Outer, First, Body, Taker, Last, Datum}
@@ -119,33 +118,75 @@ keyword_role DataNumber = Datum
 keyword_role DataAddress = Datum
 keyword_role _ = Body
 
--- the keywords whose words have so many letters
-abbrev pub two : List Keyword
-two = (Load kinds.Local) ∷ Number ∷ (Load kinds.Global) ∷ (Assign kinds.Local) ∷ (Load kinds.Static) ∷ (JumpIf false) ∷ (Monadic monadic.Contents) ∷ (Dyadic dyadic.Equal) ∷ (Assign kinds.Global) ∷ (Assign kinds.Static) ∷ (JumpIf true) ∷ (Dyadic dyadic.Less) ∷ (Dyadic dyadic.AtMost) ∷ (Dyadic dyadic.Greater) ∷ (Dyadic dyadic.AtLeast) ∷ (Dyadic dyadic.Unequal) ∷ []
+-- The keyword whose word may have so many letters, and these as the first and the last. No two have the same. A word that begins and
+-- ends as one does can still be another, so it is compared.
+abbrev pub with_two : ℕ → ℕ → Option Keyword
+with_two first last =
+    if first == 76 then (if last == 80 then Some (Load kinds.Local) else if last == 78 then Some Number else if last == 71 then Some (Load kinds.Global) else if last == 76 then Some (Load kinds.Static) else if last == 69 then Some (Dyadic dyadic.AtMost) else Some (Dyadic dyadic.Less)) else
+    if first == 83 then (if last == 80 then Some (Assign kinds.Local) else if last == 71 then Some (Assign kinds.Global) else Some (Assign kinds.Static)) else
+    if first == 74 then (if last == 70 then Some (JumpIf false) else Some (JumpIf true)) else
+    if first == 82 then Some (Monadic monadic.Contents) else
+    if first == 69 then Some (Dyadic dyadic.Equal) else
+    if first == 71 then (if last == 82 then Some (Dyadic dyadic.Greater) else Some (Dyadic dyadic.AtLeast)) else
+    if first == 78 then Some (Dyadic dyadic.Unequal) else
+    None
 
-abbrev pub three : List Keyword
-three = Label ∷ GiveResult ∷ (Monadic monadic.Not) ∷ (Monadic monadic.Negate) ∷ (Dyadic dyadic.Divide) ∷ (Dyadic dyadic.Remainder) ∷ (Address kinds.Local) ∷ (Address kinds.Static) ∷ (Address kinds.Global) ∷ (Dyadic dyadic.Eqv) ∷ []
+abbrev pub with_three : ℕ → ℕ → Option Keyword
+with_three first last =
+    if first == 76 then (if last == 66 then Some Label else if last == 80 then Some (Address kinds.Local) else if last == 76 then Some (Address kinds.Static) else Some (Address kinds.Global)) else
+    if first == 82 then (if last == 83 then Some GiveResult else Some (Dyadic dyadic.Remainder)) else
+    if first == 78 then (if last == 84 then Some (Monadic monadic.Not) else Some (Monadic monadic.Negate)) else
+    if first == 68 then Some (Dyadic dyadic.Divide) else
+    if first == 69 then Some (Dyadic dyadic.Eqv) else
+    None
 
-abbrev pub four : List Keyword
-four = (Dyadic dyadic.Add) ∷ CallRoutine ∷ Jump ∷ CallFunction ∷ Text ∷ (Dyadic dyadic.Multiply) ∷ ReturnItem ∷ Return ∷ Save ∷ True ∷ (Dyadic dyadic.Neqv) ∷ []
+abbrev pub with_four : ℕ → ℕ → Option Keyword
+with_four first last =
+    if first == 80 then Some (Dyadic dyadic.Add) else
+    if first == 82 then (if last == 80 then Some CallRoutine else Some Return) else
+    if first == 70 then (if last == 80 then Some CallFunction else Some ReturnItem) else
+    if first == 74 then Some Jump else
+    if first == 76 then Some Text else
+    if first == 77 then Some (Dyadic dyadic.Multiply) else
+    if first == 83 then Some Save else
+    if first == 84 then Some True else
+    if first == 78 then Some (Dyadic dyadic.Neqv) else
+    None
 
-abbrev pub five : List Keyword
-five = Stack ∷ Store ∷ AssignAt ∷ (Dyadic dyadic.Subtract) ∷ Entry ∷ (Dyadic dyadic.Or) ∷ False ∷ DataNumber ∷ DataAddress ∷ Query ∷ []
+abbrev pub with_five : ℕ → ℕ → Option Keyword
+with_five first last =
+    if first == 83 then (if last == 75 then Some Stack else if last == 69 then Some Store else Some AssignAt) else
+    if first == 77 then Some (Dyadic dyadic.Subtract) else
+    if first == 69 then Some Entry else
+    if first == 76 then Some (Dyadic dyadic.Or) else
+    if first == 70 then Some False else
+    if first == 73 then (if last == 78 then Some DataNumber else Some DataAddress) else
+    if first == 81 then Some Query else
+    None
 
-abbrev pub six : List Keyword
-six = TakeResult ∷ (Dyadic dyadic.And) ∷ (Dyadic dyadic.ShiftLeft) ∷ (Dyadic dyadic.ShiftRight) ∷ Finish ∷ Globals ∷ []
+abbrev pub with_six : ℕ → ℕ → Option Keyword
+with_six first last =
+    if first == 82 then (if last == 75 then Some TakeResult else Some (Dyadic dyadic.ShiftRight)) else
+    if first == 76 then (if last == 68 then Some (Dyadic dyadic.And) else Some (Dyadic dyadic.ShiftLeft)) else
+    if first == 70 then Some Finish else
+    if first == 71 then Some Globals else
+    None
 
-abbrev pub seven : List Keyword
-seven = EndProcedure ∷ LoadByte ∷ AssignByte ∷ DataLabel ∷ []
+abbrev pub with_seven : ℕ → Option Keyword
+with_seven first =
+    if first == 69 then Some EndProcedure else
+    if first == 71 then Some LoadByte else
+    if first == 80 then Some AssignByte else
+    if first == 68 then Some DataLabel else
+    None
 
-abbrev pub eight : List Keyword
-eight = Switch ∷ []
-
-abbrev pub keywords_of_length : ℕ → List Keyword
-keywords_of_length n =
-    if n == 2 then two else if n == 3 then three else if n == 4 then four else if n == 5 then five else if n == 6 then six else if n == 7 then seven else if n == 8 then eight else []
-
--- the first keyword of a list with this word
-abbrev pub find_keyword : List Keyword → List ℕ → Option Keyword
-find_keyword [] word = None
-find_keyword (k ∷ rest) word = if pointwise nat_eq (keyword_text k) word then Some k else find_keyword rest word
+abbrev pub candidate_with : ℕ → ℕ → ℕ → Option Keyword
+candidate_with len first last =
+    if len == 2 then with_two first last else
+    if len == 3 then with_three first last else
+    if len == 4 then with_four first last else
+    if len == 5 then with_five first last else
+    if len == 6 then with_six first last else
+    if len == 7 then with_seven first else
+    if len == 8 then Some Switch else
+    None

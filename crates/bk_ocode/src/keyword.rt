@@ -1,6 +1,6 @@
 //! The words that begin statements.
 ghost use Rattle.std.specs.Prelude.{◌≡◌, ◌≢◌, IfSome, IfNone, ℕ, List};
-ghost use Rattle.bk_ocode.specs.Keywords.{keyword_text, keywords_of_length, find_keyword, keyword_role};
+ghost use Rattle.bk_ocode.specs.Keywords.{keyword_text, with_two, with_three, with_four, with_five, with_six, with_seven, candidate_with, keyword_role};
 ghost use Rattle.bk_ocode.specs.declared.keyword.Keyword.TheVariants.{Load, Address, Assign};
 ghost use Rattle.bk_ocode.specs.declared.keyword.Keyword.{Keyword};
 
@@ -88,108 +88,6 @@ pub(crate) enum Keyword {
     Dyadic(Dyadic),
     /// JT, JF.
     JumpIf(bool),
-}
-
-// Keywords by the length of their words. Those that a text has most come first, since they are tried in turn.
-
-static TWO: [Keyword; 16] = [
-    Keyword::Load(VariableKind::Local),
-    Keyword::Number,
-    Keyword::Load(VariableKind::Global),
-    Keyword::Assign(VariableKind::Local),
-    Keyword::Load(VariableKind::Static),
-    Keyword::JumpIf(false),
-    Keyword::Monadic(Monadic::Contents),
-    Keyword::Dyadic(Dyadic::Equal),
-    Keyword::Assign(VariableKind::Global),
-    Keyword::Assign(VariableKind::Static),
-    Keyword::JumpIf(true),
-    Keyword::Dyadic(Dyadic::Less),
-    Keyword::Dyadic(Dyadic::AtMost),
-    Keyword::Dyadic(Dyadic::Greater),
-    Keyword::Dyadic(Dyadic::AtLeast),
-    Keyword::Dyadic(Dyadic::Unequal),
-];
-
-static THREE: [Keyword; 10] = [
-    Keyword::Label,
-    Keyword::GiveResult,
-    Keyword::Monadic(Monadic::Not),
-    Keyword::Monadic(Monadic::Negate),
-    Keyword::Dyadic(Dyadic::Divide),
-    Keyword::Dyadic(Dyadic::Remainder),
-    Keyword::Address(VariableKind::Local),
-    Keyword::Address(VariableKind::Static),
-    Keyword::Address(VariableKind::Global),
-    Keyword::Dyadic(Dyadic::Eqv),
-];
-
-static FOUR: [Keyword; 11] = [
-    Keyword::Dyadic(Dyadic::Add),
-    Keyword::CallRoutine,
-    Keyword::Jump,
-    Keyword::CallFunction,
-    Keyword::Text,
-    Keyword::Dyadic(Dyadic::Multiply),
-    Keyword::ReturnItem,
-    Keyword::Return,
-    Keyword::Save,
-    Keyword::True,
-    Keyword::Dyadic(Dyadic::Neqv),
-];
-
-static FIVE: [Keyword; 10] = [
-    Keyword::Stack,
-    Keyword::Store,
-    Keyword::AssignAt,
-    Keyword::Dyadic(Dyadic::Subtract),
-    Keyword::Entry,
-    Keyword::Dyadic(Dyadic::Or),
-    Keyword::False,
-    Keyword::DataNumber,
-    Keyword::DataAddress,
-    Keyword::Query,
-];
-
-static SIX: [Keyword; 6] = [
-    Keyword::TakeResult,
-    Keyword::Dyadic(Dyadic::And),
-    Keyword::Dyadic(Dyadic::ShiftLeft),
-    Keyword::Dyadic(Dyadic::ShiftRight),
-    Keyword::Finish,
-    Keyword::Globals,
-];
-
-static SEVEN: [Keyword; 4] = [
-    Keyword::EndProcedure,
-    Keyword::LoadByte,
-    Keyword::AssignByte,
-    Keyword::DataLabel,
-];
-
-static EIGHT: [Keyword; 1] = [Keyword::Switch];
-
-/// The keywords whose words have so many letters.
-fn of_length(len: usize) -> &'static [Keyword]
-    ensures { result.now ≡ keywords_of_length len }
-{
-    if len == 2 {
-        &TWO
-    } else if len == 3 {
-        &THREE
-    } else if len == 4 {
-        &FOUR
-    } else if len == 5 {
-        &FIVE
-    } else if len == 6 {
-        &SIX
-    } else if len == 7 {
-        &SEVEN
-    } else if len == 8 {
-        &EIGHT
-    } else {
-        &[]
-    }
 }
 
 /// The first word of a statement that pushes a variable.
@@ -281,23 +179,173 @@ pub(crate) fn place_of(keyword: Keyword) -> StmtPlace
     }
 }
 
-/// The keyword among these whose word the bytes are.
-fn find_in(keywords: &[Keyword], bytes: &[u8]) -> Option<Keyword>
-    ensures first { result ≡ find_keyword keywords.now bytes.now }
-    ensures found { IfSome result (λ k. keyword_text k ≡ bytes.now) }
+// No two keywords have the same length, first letter and last letter. So these leave one that a word can be.
+
+/// The keyword whose word of two letters may have these as the first and the last.
+fn of_two(first: u8, last: u8) -> Option<Keyword>
+    ensures { result ≡ with_two first last }
 {
-    for keyword in keywords {
-        if text_of(*keyword).as_bytes() == bytes {
-            return Some(*keyword);
-        }
+    match first {
+        b'L' => match last {
+            b'P' => Some(Keyword::Load(VariableKind::Local)),
+            b'N' => Some(Keyword::Number),
+            b'G' => Some(Keyword::Load(VariableKind::Global)),
+            b'L' => Some(Keyword::Load(VariableKind::Static)),
+            b'E' => Some(Keyword::Dyadic(Dyadic::AtMost)),
+            _ => Some(Keyword::Dyadic(Dyadic::Less)),
+        },
+        b'S' => match last {
+            b'P' => Some(Keyword::Assign(VariableKind::Local)),
+            b'G' => Some(Keyword::Assign(VariableKind::Global)),
+            _ => Some(Keyword::Assign(VariableKind::Static)),
+        },
+        b'J' => match last {
+            b'F' => Some(Keyword::JumpIf(false)),
+            _ => Some(Keyword::JumpIf(true)),
+        },
+        b'R' => Some(Keyword::Monadic(Monadic::Contents)),
+        b'E' => Some(Keyword::Dyadic(Dyadic::Equal)),
+        b'G' => match last {
+            b'R' => Some(Keyword::Dyadic(Dyadic::Greater)),
+            _ => Some(Keyword::Dyadic(Dyadic::AtLeast)),
+        },
+        b'N' => Some(Keyword::Dyadic(Dyadic::Unequal)),
+        _ => None,
     }
-    None
+}
+
+/// The keyword whose word of three letters may have these as the first and the last.
+fn of_three(first: u8, last: u8) -> Option<Keyword>
+    ensures { result ≡ with_three first last }
+{
+    match first {
+        b'L' => match last {
+            b'B' => Some(Keyword::Label),
+            b'P' => Some(Keyword::Address(VariableKind::Local)),
+            b'L' => Some(Keyword::Address(VariableKind::Static)),
+            _ => Some(Keyword::Address(VariableKind::Global)),
+        },
+        b'R' => match last {
+            b'S' => Some(Keyword::GiveResult),
+            _ => Some(Keyword::Dyadic(Dyadic::Remainder)),
+        },
+        b'N' => match last {
+            b'T' => Some(Keyword::Monadic(Monadic::Not)),
+            _ => Some(Keyword::Monadic(Monadic::Negate)),
+        },
+        b'D' => Some(Keyword::Dyadic(Dyadic::Divide)),
+        b'E' => Some(Keyword::Dyadic(Dyadic::Eqv)),
+        _ => None,
+    }
+}
+
+/// The keyword whose word of four letters may have these as the first and the last.
+fn of_four(first: u8, last: u8) -> Option<Keyword>
+    ensures { result ≡ with_four first last }
+{
+    match first {
+        b'P' => Some(Keyword::Dyadic(Dyadic::Add)),
+        b'R' => match last {
+            b'P' => Some(Keyword::CallRoutine),
+            _ => Some(Keyword::Return),
+        },
+        b'F' => match last {
+            b'P' => Some(Keyword::CallFunction),
+            _ => Some(Keyword::ReturnItem),
+        },
+        b'J' => Some(Keyword::Jump),
+        b'L' => Some(Keyword::Text),
+        b'M' => Some(Keyword::Dyadic(Dyadic::Multiply)),
+        b'S' => Some(Keyword::Save),
+        b'T' => Some(Keyword::True),
+        b'N' => Some(Keyword::Dyadic(Dyadic::Neqv)),
+        _ => None,
+    }
+}
+
+/// The keyword whose word of five letters may have these as the first and the last.
+fn of_five(first: u8, last: u8) -> Option<Keyword>
+    ensures { result ≡ with_five first last }
+{
+    match first {
+        b'S' => match last {
+            b'K' => Some(Keyword::Stack),
+            b'E' => Some(Keyword::Store),
+            _ => Some(Keyword::AssignAt),
+        },
+        b'M' => Some(Keyword::Dyadic(Dyadic::Subtract)),
+        b'E' => Some(Keyword::Entry),
+        b'L' => Some(Keyword::Dyadic(Dyadic::Or)),
+        b'F' => Some(Keyword::False),
+        b'I' => match last {
+            b'N' => Some(Keyword::DataNumber),
+            _ => Some(Keyword::DataAddress),
+        },
+        b'Q' => Some(Keyword::Query),
+        _ => None,
+    }
+}
+
+/// The keyword whose word of six letters may have these as the first and the last.
+fn of_six(first: u8, last: u8) -> Option<Keyword>
+    ensures { result ≡ with_six first last }
+{
+    match first {
+        b'R' => match last {
+            b'K' => Some(Keyword::TakeResult),
+            _ => Some(Keyword::Dyadic(Dyadic::ShiftRight)),
+        },
+        b'L' => match last {
+            b'D' => Some(Keyword::Dyadic(Dyadic::And)),
+            _ => Some(Keyword::Dyadic(Dyadic::ShiftLeft)),
+        },
+        b'F' => Some(Keyword::Finish),
+        b'G' => Some(Keyword::Globals),
+        _ => None,
+    }
+}
+
+/// The keyword whose word of seven letters may have this as the first.
+fn of_seven(first: u8) -> Option<Keyword>
+    ensures { result ≡ with_seven first }
+{
+    match first {
+        b'E' => Some(Keyword::EndProcedure),
+        b'G' => Some(Keyword::LoadByte),
+        b'P' => Some(Keyword::AssignByte),
+        b'D' => Some(Keyword::DataLabel),
+        _ => None,
+    }
+}
+
+/// The keyword whose word may have so many letters, and these as the first and the last.
+fn candidate(len: usize, first: u8, last: u8) -> Option<Keyword>
+    ensures { result ≡ candidate_with len first last }
+{
+    match len {
+        2 => of_two(first, last),
+        3 => of_three(first, last),
+        4 => of_four(first, last),
+        5 => of_five(first, last),
+        6 => of_six(first, last),
+        7 => of_seven(first),
+        8 => Some(Keyword::Switch),
+        _ => None,
+    }
 }
 
 /// The keyword whose word the bytes are.
+#[tactic(auto, using(crate::proofs::KeywordLemmas::only_candidate))]
 pub(crate) fn keyword_of(bytes: &[u8]) -> Option<Keyword>
     ensures found { IfSome result (λ k. keyword_text k ≡ bytes.now) }
     ensures none { IfNone result ((k : Keyword) → keyword_text k ≢ bytes.now) }
 {
-    find_in(of_length(bytes.len()), bytes)
+    let first = *bytes.first()?;
+    let last = *bytes.last()?;
+    let keyword = candidate(bytes.len(), first, last)?;
+    if text_of(keyword).as_bytes() == bytes {
+        Some(keyword)
+    } else {
+        None
+    }
 }

@@ -18,7 +18,7 @@ use crate::keyword::{keyword_of, place_of};
 use crate::partial::{Partial, Progress, Unfit, begin, take};
 use crate::section::Ocode;
 use bk_base::{ByteIn, OcodeFault, OcodeKind, Refused};
-use bk_words::{Gathered, next_word};
+use bk_words::{Gathered, take_word};
 use std::alloc::Global;
 
 /// A fault at the statement after so many others.
@@ -111,6 +111,7 @@ fn next_section<I: ByteIn>(
     ensures ended_again { IsTrue (I.ended input.old) → (result ≡ Ok None) × IsTrue (I.ended input.new) }
 {
     let mut draft = Draft::new(alloc);
+    let mut word = Gathered::new();
     let mut taken = 0;
     let mut begun = None;
     let mut words = 0;
@@ -118,12 +119,12 @@ fn next_section<I: ByteIn>(
         if draft.is_filled_by(words) {
             return Err(fault_after(draft.len(), OcodeKind::TooLong));
         }
-        let Ok(found) = next_word(input, &mut taken) else {
+        let Ok(found) = take_word(&mut word, input, &mut taken) else {
             return Err(Refused::Device);
         };
-        let Some(word) = found else {
+        if !found {
             return at_end(draft.len(), words);
-        };
+        }
         words += 1;
         match step_of(&draft, begun, &word, alloc) {
             Err(unfit) => return Err(refused(draft.len(), unfit)),

@@ -1,10 +1,9 @@
 -- Laws of the spellings of numbers, for the crates above.
 use Rattle.std.proofs.Common.{◌≡◌, ◌≢◌, ℕ, ◌<◌, ◌≤◌, ◌^◌, ◌++◌, ◌==◌, ◌||◌, Bool, true, false, pos, negsuc, ℤ, FitsSigned, w32, List, [], ◌∷◌, length, get_or, suc, arith, refl, sym, ap, ◌∙◌, ◌⊎◌, inl, inr, nat_eq, eq-eqb}
-use lib.Signed.{mag, lt_z}
-use borrow.Author.Tests.{ltb-true}
+use lib.Signed.{mag}
 use Rattle.std.specs.Int.{IsInRange}
 use Rattle.std.specs.Fmt.{decimal}
-use Rattle.std.proofs.lemmas.Fmt.{length-decimal-le, length_signed_le, digits_decimal, decimal_nonempty, signed_decimal_injective, decimal_injective}
+use Rattle.std.proofs.lemmas.Fmt.{length-decimal-le, length_signed_le, digits_decimal, decimal_nonempty, decimal_injective}
 use Rattle.std.proofs.lemmas.Str.Parse.{numerals_by_value, tells_by_index}
 use Rattle.std.proofs.lemmas.Bool.{ne_eqb}
 use Rattle.bk_base.specs.Decimal.{spelling}
@@ -35,17 +34,6 @@ first-numeral n small b rest is =
 pub first-spelling : (z : ℤ) → FitsSigned w32 z → (b : ℕ) (rest : List ℕ) → spelling z ≡ b ∷ rest → (b ≡ 45) ⊎ ((48 ≤ b) × (b ≤ 57))
 first-spelling (pos n) fits b rest is = let h : mag (pos n) < 2 ^ 63 = mag-fits (pos n) fits in inr (first-numeral n (omega arith) b rest is)
 first-spelling (negsuc n) fits b rest is = inl (let h : 45 ∷ decimal (suc n) ≡ b ∷ rest = is in cc)
-
--- what no number spells, no natural number spells
-pub no_natural : (bytes : List ℕ) → ((z : ℤ) → FitsSigned w32 z → spelling z ≢ bytes) → (n : ℕ) → n < 2 ^ 31 → spelling (pos n) ≢ bytes
-no_natural bytes none n small = none (pos n) (fits-pos n small)
-
--- what a number below 0 spells, no natural number spells
-pub no_natural-below : (z : ℤ) (bytes : List ℕ) → FitsSigned w32 z → spelling z ≡ bytes → lt_z z (pos 0) ≡ true → (n : ℕ) → n < 2 ^ 31 → spelling (pos n) ≢ bytes
-no_natural-below (pos m) bytes fits is below n small = λ again. absurd (omega (arith, ltb-true m 0 below))
-no_natural-below (negsuc m) bytes fits is below n small = λ again.
-    let same : negsuc m ≡ pos n = signed_decimal_injective (negsuc m) (pos n) (mag-fits (negsuc m) fits) (mag-fits (pos n) (fits-pos n small)) (is ∙ sym again) in
-    cc
 
 -- what a number outside of bounds spells, no number within them spells
 pub no_number-outside : (m least most : ℕ) (bytes : List ℕ) → m < 2 ^ 31 → most < 2 ^ 31 → spelling (pos m) ≡ bytes → (m < least) ⊎ (most < m) → (n : ℕ) → least ≤ n → n ≤ most → spelling (pos n) ≢ bytes

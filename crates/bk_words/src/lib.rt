@@ -7,4 +7,4 @@ mod words;
 
 pub use numbers::{natural, number, within};
 pub use word_buffer::{SIZE, WordBuffer};
-pub use words::{Gathered, next_word};
+pub use words::{Gathered, next_word, take_word};

@@ -3,7 +3,7 @@ ghost use Rattle.std.specs.Prelude.{◌≡◌, ◌≢◌, ℕ, ℤ, pos, FitsSig
 ghost use Rattle.std.specs.Int.{w32};
 ghost use Rattle.bk_base.specs.Decimal.{spelling};
 
-use bk_base::read_word;
+use bk_base::{read_natural, read_word};
 
 /// The number of 32 bits that the bytes spell.
 pub fn number(bytes: &[u8]) -> Option<i32>
@@ -18,11 +18,7 @@ pub fn natural(bytes: &[u8]) -> Option<u32>
     ensures found { IfSome result (λ n. (n < 2 ^ 31) × (spelling (pos n) ≡ bytes.now)) }
     ensures none { IfNone result ((n : ℕ) → n < 2 ^ 31 → spelling (pos n) ≢ bytes.now) }
 {
-    let word = number(bytes)?;
-    if word < 0 {
-        return None;
-    }
-    Some(word as u32)
+    read_natural(bytes)
 }
 
 /// The number in these bounds that the bytes spell.

@@ -1,5 +1,5 @@
 //! Taking words from a device.
-ghost use Rattle.std.specs.Prelude.{◌≡◌, ◌≢◌, ℕ, ℤ, pos, FitsSigned, ◌+◌, ◌^◌, ◌<◌, ◌≤◌, false, IsTrue, List, [], ◌∷◌, ◌++◌, length, Option, Some, None, Ok, IfSome, IfNone, IfOk, OnOk, OnErr, IsErr};
+ghost use Rattle.std.specs.Prelude.{◌≡◌, ◌≢◌, ℕ, ℤ, pos, FitsSigned, ◌+◌, ◌^◌, ◌<◌, ◌≤◌, false, IsTrue, List, [], ◌∷◌, ◌++◌, length, Option, Some, None, Ok, IfSome, IfNone, IfOk, if◌then◌else◌, OnOk, OnErr, IsErr};
 ghost use Rattle.std.specs.Io.KnownBytes.{Consumes, Keeps};
 ghost use Rattle.std.specs.Int.{w32};
 ghost use Rattle.bk_base.specs.Decimal.{spelling};
@@ -79,6 +79,17 @@ pub struct Gathered {
 }
 
 impl Gathered {
+    /// No word yet.
+    pub fn new() -> Gathered
+        ensures { Holds result [] }
+    {
+        Gathered {
+            word: WordBuffer::new(),
+            long: false,
+            last: false,
+        }
+    }
+
     /// Its bytes, unless there are more than `SIZE`.
     pub fn bytes(&self) -> Option<&[u8]>
         ensures short { IfSome result (λ bytes. (word : List ℕ) → Holds self.now word → bytes.now ≡ word) }
@@ -137,10 +148,15 @@ impl Gathered {
 }
 
 /// Takes a word whose first byte was taken, and the blank after it if there is one.
-fn rest_of_word<I: ByteIn>(first: u8, input: &mut I, taken: &mut u64) -> Result<Gathered, Failed>
+fn rest_of_word<I: ByteIn>(
+    first: u8,
+    held: &mut Gathered,
+    input: &mut I,
+    taken: &mut u64,
+) -> Result<(), Failed>
     requires { I.faults input.old ≡ 0 }
-    ensures gives { IfOk result (λ held. (rest following : List ℕ) × AreInWord rest × Holds held (first ∷ rest)
-        × IsAfterWord following held.last (AtEnd (I.ended input.new) taken.new)
+    ensures gives { OnOk result ((rest following : List ℕ) × AreInWord rest × Holds held.new (first ∷ rest)
+        × IsAfterWord following held.new.last (AtEnd (I.ended input.new) taken.new)
         × Consumes (I.left input.old) (I.left input.new) (rest ++ following)
         × (taken.new ≡ taken.old + length (rest ++ following))) }
     ensures within { OnOk result (taken.new ≤ INPUT_BYTES) }
@@ -149,32 +165,49 @@ fn rest_of_word<I: ByteIn>(first: u8, input: &mut I, taken: &mut u64) -> Result<
     ensures stops { OnErr result ((rest : List ℕ) × AreInWord rest × Consumes (I.left input.old) (I.left input.new) rest
         × (taken.new ≡ taken.old + length rest) × (taken.new < INPUT_BYTES)) }
 {
-    let mut word = WordBuffer::new();
-    word.push(first);
-    let mut long = false;
+    held.word.clear();
+    held.word.push(first);
+    held.long = false;
+    held.last = false;
     loop {
-        match next_byte(input, taken)? {
-            None => return Ok(Gathered {
-                word,
-                long,
-                last: true,
-            }),
-            Some(byte) => {
-                if is_blank_byte(byte) {
-                    return Ok(Gathered {
-                        word,
-                        long,
-                        last: false,
-                    });
-                }
-                if word.len() < SIZE {
-                    word.push(byte);
-                } else {
-                    long = true;
-                }
-            }
+        let Some(byte) = next_byte(input, taken)? else {
+            held.last = true;
+            return Ok(());
+        };
+        if is_blank_byte(byte) {
+            return Ok(());
+        }
+        if held.word.len() < SIZE {
+            held.word.push(byte);
+        } else {
+            held.long = true;
         }
     }
+}
+
+/// Takes the word that a device gives next into `held`, and says whether there is one, as `next_word` does.
+pub fn take_word<I: ByteIn>(
+    held: &mut Gathered,
+    input: &mut I,
+    taken: &mut u64,
+) -> Result<bool, Failed>
+    requires { 0 < taken.old → I.faults input.old ≡ 0 }
+    ensures gives { IfOk result (λ found. (given : List ℕ) × Consumes (I.left input.old) (I.left input.new) given
+        × (taken.new ≡ taken.old + length given) × IsNextWord (if found then Some held.new else None) given (AtEnd (I.ended input.new) taken.new)) }
+    ensures within { OnOk result (taken.new ≤ INPUT_BYTES) }
+    ensures clear { OnOk result (I.faults input.new ≡ 0) }
+    ensures failed { OnErr result (I.faults input.new ≡ 1) }
+    ensures stops { OnErr result ((given : List ℕ) × Consumes (I.left input.old) (I.left input.new) given
+        × (taken.new ≡ taken.old + length given) × (taken.new < INPUT_BYTES) × BeginsWord given) }
+    ensures failed_again { I.faults input.old ≡ 1 → IsErr result × Keeps (I.left input.old) (I.left input.new) }
+    ensures ended_again { IsTrue (I.ended input.old) → (result ≡ Ok false) × IsTrue (I.ended input.new) }
+    ensures ended_there { IsTrue (I.ended input.old) → taken.new ≡ taken.old }
+{
+    let Some(first) = first_byte(input, taken)? else {
+        return Ok(false);
+    };
+    rest_of_word(first, held, input, taken)?;
+    Ok(true)
 }
 
 /// The word that a device gives next, or None where only blanks are left. It takes the blanks before the word, the word,
@@ -193,9 +226,10 @@ pub fn next_word<I: ByteIn>(input: &mut I, taken: &mut u64) -> Result<Option<Gat
     ensures ended_again { IsTrue (I.ended input.old) → (result ≡ Ok None) × IsTrue (I.ended input.new) }
     ensures ended_there { IsTrue (I.ended input.old) → taken.new ≡ taken.old }
 {
-    let Some(first) = first_byte(input, taken)? else {
-        return Ok(None);
-    };
-    let held = rest_of_word(first, input, taken)?;
-    Ok(Some(held))
+    let mut held = Gathered::new();
+    if take_word(&mut held, input, taken)? {
+        Ok(Some(held))
+    } else {
+        Ok(None)
+    }
 }
