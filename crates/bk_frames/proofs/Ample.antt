@@ -1,5 +1,5 @@
 -- Lists of rooms, and the rooms that ways leave of them.
-use Rattle.bk_frames.proofs.Terms.{◌≡◌, ◌≤◌, ◌<◌, ℕ, zero, suc, ◌+◌, ◌-◌, max, leb, Bool, true, false, ◌&&◌, ◌||◌, Option, Some, None, List, [], ◌∷◌, ◌++◌, length, get_or, take, refl, sym, subst, ap, ◌∙◌, arith, nat_tests, Category, Closing, Assigning, Listing, Going, Repeating, Operating, Budget, Completion, Following, kept, category_number, next_number, next_of, is_next, serves, holds, covered, counted, raised, Within, AreAdded, IsKept, leads, by_budget, by_completion, take_more, take_all, or_left, or_right}
+use Rattle.bk_frames.proofs.Terms.{◌≡◌, ◌≤◌, ◌<◌, ℕ, zero, suc, ◌+◌, ◌-◌, max, leb, Bool, true, false, ◌&&◌, ◌||◌, Option, Some, List, [], ◌∷◌, ◌++◌, length, get_or, take, sym, subst, ap, ◌∙◌, arith, nat_tests, Category, Closing, Assigning, Listing, Going, Repeating, Operating, Budget, Completion, Following, kept, category_number, next_number, next_of, is_next, serves, holds, covered, counted, raised, Within, AreAdded, IsKept, leads, by_budget, by_completion, take_more, take_all, or_left, or_right}
 use Rattle.std.specs.List.{remove}
 use Rattle.bk_frames.specs.declared.budget.Category.TheVariants.{Expression, Label, Call, Operated, Command, Missing, Definition, Declaration, Due, Closed}
 use Rattle.bk_frames.specs.declared.budget.Lookahead.{Lookahead}
@@ -28,8 +28,7 @@ category_of _ = Closed
 
 category_back : (x : Category) → category_of (category_number x) ≡ x
 unfolding category_of
-category_back Expression = refl
-category_back _ = refl
+category_back x = grind arith
 
 next_from : ℕ → Lookahead
 next_from zero = Closing
@@ -41,8 +40,7 @@ next_from _ = Operating
 
 next_back : (x : Lookahead) → next_from (next_number x) ≡ x
 unfolding next_from
-next_back Closing = refl
-next_back _ = refl
+next_back x = grind arith
 
 category_is : (x y : Category) → category_number x ≡ category_number y → x ≡ y
 category_is x y e = sym (category_back x) ∙ ap category_of e ∙ category_back y
@@ -62,14 +60,10 @@ covered_at (s ∷ rs) zero r z lt h is x c d n k = let P : Budget → Type 0 = �
 covered_at (s ∷ rs) (suc i) r z lt h is x c d n k = or_right (holds s x c d n) (covered rs x c d n) (covered_at rs i r z (omega (arith, lt)) h is x c d n k)
 
 absorbed : (a b c : Bool) → (b ≡ true → a ≡ true) → a || (b || c) ≡ a || c
-absorbed true b c h = refl
-absorbed false false c h = refl
-absorbed false true c h = absurd (let e = h refl in cc)
+absorbed a b c h = grind arith
 
 swapped : (a b c e : Bool) → a || c ≡ a || e → a || (b || c) ≡ a || (b || e)
-swapped true b c e h = refl
-swapped false true c e h = refl
-swapped false false c e h = h
+swapped a b c e h = grind arith
 
 pub dropped : (rs : List Budget) (i : ℕ) (r z : Budget) → i < length rs → Within z r → z ≡ get_or rs i z → AreBeside r rs (remove rs i)
 dropped [] i r z lt h is x c d n = absurd (omega (arith, lt))
@@ -77,18 +71,13 @@ dropped (s ∷ rs) zero r z lt h is x c d n = let P : Budget → Type 0 = λ y. 
 dropped (s ∷ rs) (suc i) r z lt h is x c d n = swapped (holds r x c d n) (holds s x c d n) (covered rs x c d n) (covered (remove rs i) x c d n) (dropped rs i r z (omega (arith, lt)) h is x c d n)
 
 or_assoc : (a b c : Bool) → (a || b) || c ≡ a || (b || c)
-or_assoc true b c = refl
-or_assoc false b c = refl
+or_assoc a b c = grind arith
 
 or_none : (a : Bool) → a || false ≡ a
-or_none true = refl
-or_none false = refl
+or_none a = grind arith
 
 or_swap : (a b : Bool) → a || b ≡ b || a
-or_swap true true = refl
-or_swap true false = refl
-or_swap false true = refl
-or_swap false false = refl
+or_swap a b = grind arith
 
 covered_push : (rs : List Budget) (r : Budget) (x : Category) (c : w.Lookahead) (d n : ℕ) → covered (rs ++ r ∷ []) x c d n ≡ covered rs x c d n || holds r x c d n
 covered_push [] r x c d n = or_none (holds r x c d n)
@@ -98,13 +87,8 @@ covered_push (s ∷ rs) r x c d n = ap (λ y. holds s x c d n || y) (covered_pus
 pub pushed : (rs ss ts : List Budget) (r : Budget) → AreBeside r rs ss → ts ≡ ss ++ r ∷ [] → (x : Category) (c : w.Lookahead) (d n : ℕ) → covered ts x c d n ≡ (covered rs x c d n || holds r x c d n)
 pushed rs ss ts r h is x c d n = ap (λ y. covered y x c d n) is ∙ covered_push ss r x c d n ∙ or_swap (covered ss x c d n) (holds r x c d n) ∙ sym (h x c d n) ∙ or_swap (holds r x c d n) (covered rs x c d n)
 
-already : (a b : Bool) → (b ≡ true → a ≡ true) → a ≡ a || b
-already true b h = refl
-already false false h = refl
-already false true h = absurd (let e = h refl in cc)
-
 pub added_none : (rs : List Budget) (r : Budget) → IsCovered r rs → (x : Category) (c : w.Lookahead) (d n : ℕ) → covered rs x c d n ≡ (covered rs x c d n || holds r x c d n)
-added_none rs r h x c d n = already (covered rs x c d n) (holds r x c d n) (h x c d n)
+added_none rs r h x c d n = grind (arith, (h x c d n))
 
 -- one room less, after others
 pub dropped_behind : (r z : Budget) (old now new : List Budget) (i : ℕ) → AreBeside r old now → i < length now → Within z r → z ≡ get_or now i z → new ≡ remove now i → AreBeside r old new
@@ -117,37 +101,28 @@ held_already rs ss r z i h lt k is x c d n = added_none ss r (covered_at ss i r 
 -- ---- what a way leaves
 
 absorb : (a s z q : Bool) → s ≡ false → false ≡ a && ((s && z) && q)
-absorb false s z q e = refl
-absorb true false z q e = refl
-absorb true true z q e = absurd cc
+absorb a s z q e = grind arith
 
 pub unserved : (b : Bool) (y : Completion) (r : Budget) → serves r.category y.onto ≡ false → (o : Option Following) (x : Category) (c : w.Lookahead) (d n : ℕ) → false ≡ leads b y r o x c d n
-unserved b y r e None x c d n = refl
-unserved b y r e (Some m) x c d n = absorb (serves y.category x) (serves r.category y.onto) _ _ e
+unserved b y r h1 o x c d n = grind (arith, absorb)
 
 unfit_depth : (a s p q t : Bool) → p ≡ false → false ≡ a && ((s && (p && q)) && t)
-unfit_depth true true true q t e = absurd cc
-unfit_depth x y z q t e = refl
+unfit_depth a s p q t e = grind arith
 
 unfit_nodes : (a s p q t : Bool) → q ≡ false → false ≡ a && ((s && (p && q)) && t)
-unfit_nodes true true true true t e = absurd cc
-unfit_nodes x y z u t e = refl
+unfit_nodes a s p q t e = grind arith
 
 leb_not : (a b : ℕ) → b < a → leb a b ≡ false
 leb_not a b p = grind (arith, nat_tests)
 
 over_floor : (m : Bool) (f r d e g : ℕ) → g ≡ kept (raised m f) → e < g → e ≤ 200 → e < raised m (max f (d + r))
-over_floor true f r d e g p q s = omega (arith, p, q, s)
-over_floor false f r d e g p q s = omega (arith, p, q, s)
+over_floor m f r d e g p q s = grind arith
 
 over_rise : (m : Bool) (f r d e g : ℕ) → g ≡ kept (raised m r) → e < g → e ≤ 200 → e < raised m (max f (d + r))
-over_rise true f r d e g p q s = omega (arith, p, q, s)
-over_rise false f r d e g p q s = omega (arith, p, q, s)
+over_rise m f r d e g p q s = grind arith
 
 over_nodes : (b m : Bool) (k n e g i : ℕ) → i ≡ kept (raised m k) → g ≡ counted b i → e < g → e ≤ 65536 → e < n + counted b (raised m k)
-over_nodes true true k n e g i o p q s = omega (arith, o, p, q, s)
-over_nodes true false k n e g i o p q s = omega (arith, o, p, q, s)
-over_nodes false m k n e g i o p q s = omega (arith, p, q)
+over_nodes b m k n e g i o p q s = grind arith
 
 pub above_floor : (b : Bool) (y : Completion) (r : Budget) (m : Following) (f : ℕ) → f ≡ kept (raised m.more y.floor) → r.depth < f → (x : Category) (c : w.Lookahead) (d n : ℕ) → false ≡ leads b y r (Some m) x c d n
 above_floor b y r m f e p x c d n = let s = r.small in unfit_depth (serves y.category x) (serves r.category y.onto) _ _ _ (leb_not (raised m.more (max y.floor (d + y.rise))) r.depth (over_floor m.more y.floor y.rise d r.depth f e p s.0))
@@ -162,18 +137,13 @@ leb_same : (a b c d : ℕ) → (a ≤ b → c ≤ d) → (c ≤ d → a ≤ b) �
 leb_same a b c d f g = grind (arith, nat_tests, f, g)
 
 fits_depth : (m : Bool) (f r d e g h : ℕ) → g ≡ kept (raised m f) → h ≡ kept (raised m r) → g ≤ e → h ≤ e → e ≤ 200 → leb d (e - h) ≡ leb (raised m (max f (d + r))) e
-fits_depth true f r d e g h p q s t u = leb_same d (e - h) (max f (d + r) + 1) e (λ a. omega (arith, p, q, s, t, u, a)) (λ a. omega (arith, p, q, s, t, u, a))
-fits_depth false f r d e g h p q s t u = leb_same d (e - h) (max f (d + r)) e (λ a. omega (arith, p, q, s, t, u, a)) (λ a. omega (arith, p, q, s, t, u, a))
+fits_depth m f r d e g h p q s t u = grind (arith, leb_same)
 
 fits_nodes : (b m : Bool) (k n e g i : ℕ) → i ≡ kept (raised m k) → g ≡ counted b i → g ≤ e → e ≤ 65536 → leb n (e - g) ≡ leb (n + counted b (raised m k)) e
-fits_nodes true true k n e g i o p q s = leb_same n (e - g) (n + (k + 1)) e (λ a. omega (arith, o, p, q, s, a)) (λ a. omega (arith, o, p, q, s, a))
-fits_nodes true false k n e g i o p q s = leb_same n (e - g) (n + k) e (λ a. omega (arith, o, p, q, s, a)) (λ a. omega (arith, o, p, q, s, a))
-fits_nodes false m k n e g i o p q s = leb_same n (e - g) (n + 0) e (λ a. omega (arith, p, q, s, a)) (λ a. omega (arith, p, q, s, a))
+fits_nodes b m k n e g i o p q s = grind (arith, leb_same)
 
 shuffled : (i a p q : Bool) → i && (a && (p && q)) ≡ a && ((true && (p && q)) && i)
-shuffled true true true true = refl
-shuffled false true true true = refl
-shuffled x y z u = refl
+shuffled i a p q = grind arith
 
 pub leaves : (b : Bool) (k y : Completion) (r : Budget) (m : Following) (f g i h : ℕ) → IsKept k y → serves r.category k.onto ≡ true → f ≡ kept (raised m.more y.floor) → g ≡ kept (raised m.more y.rise) → i ≡ kept (raised m.more y.nodes) → h ≡ counted b i
     → f ≤ r.depth → g ≤ r.depth → h ≤ r.nodes
@@ -197,8 +167,7 @@ pub by_completion_more : (b : Bool) (y : Completion) (rs : List Budget) (i : ℕ
 by_completion_more b y rs i r lt is old new now h k x c d n = grind (arith, or_assoc, (covered old x c d n), (by_completion_push b y (take i rs) r x c d n), (take_more rs i r lt))
 
 pub left_none : (a b z : Bool) → a ≡ false → a ≡ b → z ≡ z || b
-left_none a b true p q = refl
-left_none a b false p q = sym p ∙ q
+left_none a b z p q = grind arith
 
 pub by_completion_all : (b : Bool) (y : Completion) (rs : List Budget) (i : ℕ) → length rs ≤ i → (old new : List Budget) → AreAdded (by_completion b y (take i rs)) old new → AreAdded (by_completion b y rs) old new
 by_completion_all b y rs i le old new h = let P : List Budget → Type 0 = λ z. AreAdded (by_completion b y z) old new in subst P (take_all i rs le) h

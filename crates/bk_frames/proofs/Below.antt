@@ -1,5 +1,5 @@
 -- The rooms that ways leave of those below are the rooms of the stack.
-use Rattle.bk_frames.proofs.Terms.{◌≡◌, ℕ, ◌+◌, max, Bool, true, false, ◌&&◌, ◌||◌, Option, Some, None, List, [], ◌∷◌, refl, sym, ap, ◌∙◌, arith, Unfinished, Category, Closing, Assigning, Listing, Going, Repeating, Operating, Budget, Link, Completion, Completions, One, Two, Three, Five, Following, Stack, unfinished_on, next_of, is_next, serves, holds, covered, counted, raised, reached, some_next, led_following, led_by, led_completion, led, goes_on, completions, AreBudgets, AreAdded, leads, by_budget, by_completion, by_completions, Unfinished as b, OpenExpression as o, Phrase as p, Member as m, Clause as c, Place as a, Point as t, and_left}
+use Rattle.bk_frames.proofs.Terms.{◌≡◌, ℕ, ◌+◌, max, Bool, false, ◌&&◌, ◌||◌, Option, List, [], ◌∷◌, refl, sym, ap, ◌∙◌, arith, Unfinished, Category, Closing, Assigning, Listing, Going, Repeating, Operating, Budget, Link, Completion, Completions, Following, Stack, unfinished_on, next_of, is_next, serves, holds, covered, counted, raised, reached, some_next, led_following, led_by, led_completion, led, goes_on, completions, AreBudgets, AreAdded, leads, by_budget, by_completion, by_completions, Unfinished as b, OpenExpression as o, Phrase as p, Member as m, Clause as c, Place as a, Point as t, and_left}
 use Rattle.bk_frames.specs.declared.budget.Lookahead.{Lookahead}
 use Rattle.bk_frames.specs.Completing as w
 use Rattle.bk_frames.proofs.Links.{next_in}
@@ -7,25 +7,19 @@ use Rattle.bk_frames.proofs.Links.{next_in}
 -- ---- tests
 
 or_none : (x : Bool) → x || false ≡ x
-or_none true = refl
-or_none false = refl
+or_none x = grind arith
 
 and_none : (x : Bool) → x && false ≡ false
-and_none true = refl
-and_none false = refl
+and_none x = grind arith
 
 or_cross : (x y z u : Bool) → (x || y) || (z || u) ≡ (x || z) || (y || u)
-or_cross false true true u = refl
-or_cross x v w u = refl
+or_cross x y z u = grind arith
 
 and_or : (x y z : Bool) → x && (y || z) ≡ (x && y) || (x && z)
-and_or true y z = refl
-and_or false y z = refl
+and_or x y z = grind arith
 
 or_and : (x y z : Bool) → (x || y) && z ≡ (x && z) || (y && z)
-or_and true true true = refl
-or_and true false true = refl
-or_and x u v = refl
+or_and x y z = grind arith
 
 -- ---- some symbol
 
@@ -42,26 +36,18 @@ pick : (x1 x2 x3 x4 x5 x6 y1 y2 y3 y4 y5 y6 : Bool) → x1 ≡ y1 → x2 ≡ y2 
 pick x1 x2 x3 x4 x5 x6 y1 y2 y3 y4 y5 y6 e1 e2 e3 e4 e5 e6 = cc
 
 only : (f : Lookahead → Bool) (k : Lookahead) → ((j : Lookahead) → is_next (next_of k) (next_of j) ≡ false → f j ≡ false) → some_next f ≡ f k
-only f Closing h = pick (f Closing) (f Assigning) (f Listing) (f Going) (f Repeating) (f Operating) (f Closing) false false false false false refl (h Assigning refl) (h Listing refl) (h Going refl) (h Repeating refl) (h Operating refl) ∙ or_none (f Closing)
-only f Assigning h = pick (f Closing) (f Assigning) (f Listing) (f Going) (f Repeating) (f Operating) false (f Assigning) false false false false (h Closing refl) refl (h Listing refl) (h Going refl) (h Repeating refl) (h Operating refl) ∙ or_none (f Assigning)
-only f Listing h = pick (f Closing) (f Assigning) (f Listing) (f Going) (f Repeating) (f Operating) false false (f Listing) false false false (h Closing refl) (h Assigning refl) refl (h Going refl) (h Repeating refl) (h Operating refl) ∙ or_none (f Listing)
-only f Going h = pick (f Closing) (f Assigning) (f Listing) (f Going) (f Repeating) (f Operating) false false false (f Going) false false (h Closing refl) (h Assigning refl) (h Listing refl) refl (h Repeating refl) (h Operating refl) ∙ or_none (f Going)
-only f Repeating h = pick (f Closing) (f Assigning) (f Listing) (f Going) (f Repeating) (f Operating) false false false false (f Repeating) false (h Closing refl) (h Assigning refl) (h Listing refl) (h Going refl) refl (h Operating refl) ∙ or_none (f Repeating)
-only f Operating h = pick (f Closing) (f Assigning) (f Listing) (f Going) (f Repeating) (f Operating) false false false false false (f Operating) (h Closing refl) (h Assigning refl) (h Listing refl) (h Going refl) (h Repeating refl) refl ∙ refl
+only f k h = grind (arith, h)
 
 -- ---- one symbol behind the whole
 
 following_as : (k : Option Following) (f g : ℕ → ℕ → Bool) → ((d n : ℕ) → f d n ≡ g d n) → (d n : ℕ) (x : w.Lookahead) → led_following k f d n x ≡ led_following k g d n x
-following_as None f g h d n x = refl
-following_as (Some k) f g h d n x = ap (λ z. z && is_next (next_of k.next) x) (h (raised k.more d) (raised k.more n))
+following_as k f g h1 d n x = grind arith
 
 following_none : (k : Option Following) (d n : ℕ) (x : w.Lookahead) → led_following k (λ e i. false) d n x ≡ false
-following_none None d n x = refl
-following_none (Some k) d n x = refl
+following_none k d n x = grind arith
 
 following_or : (k : Option Following) (f g : ℕ → ℕ → Bool) (d n : ℕ) (x : w.Lookahead) → led_following k (λ e i. f e i || g e i) d n x ≡ led_following k f d n x || led_following k g d n x
-following_or None f g d n x = refl
-following_or (Some k) f g d n x = or_and (f (raised k.more d) (raised k.more n)) (g (raised k.more d) (raised k.more n)) (is_next (next_of k.next) x)
+following_or k f g d n x = grind (arith, or_and)
 
 by_as : (k : Link) (f g : w.Lookahead → ℕ → ℕ → Bool) → ((j : w.Lookahead) (d n : ℕ) → f j d n ≡ g j d n) → (d n : ℕ) (x : w.Lookahead) → led_by k f d n x ≡ led_by k g d n x
 by_as k f g h d n x = some_as (λ j. led_following (reached k j) (f (next_of j)) d n x) (λ j. led_following (reached k j) (g (next_of j)) d n x) (λ j. following_as (reached k j) (f (next_of j)) (g (next_of j)) (h (next_of j)) d n x)
@@ -80,14 +66,11 @@ not_there : (k : Option Following) (f : ℕ → ℕ → Bool) → ((d n : ℕ) �
 not_there k f h d n x = following_as k f (λ e i. false) h d n x ∙ following_none k d n x
 
 summed : (q e : Bool) (n k : ℕ) → counted q (raised e (n + k)) ≡ counted q n + counted q (raised e k)
-summed true true n k = omega arith
-summed true false n k = refl
-summed false e n k = refl
+summed q e n k = grind arith
 
 there : (q : Bool) (y : Completion) (r : Budget) (k : Option Following) (x : Category) (c : w.Lookahead) (d n : ℕ)
     → serves y.category x && led_following k (λ e i. holds r y.onto (next_of r.next) e (counted q i)) (max y.floor (d + y.rise)) (n + y.nodes) c ≡ leads q y r k x c d (counted q n)
-there q y r None x c d n = and_none (serves y.category x)
-there q y r (Some k) x c d n = grind (arith, next_in, summed)
+there q y r k x c d n = grind (arith, and_none, next_in, summed)
 
 one_budget : (q : Bool) (y : Completion) (r : Budget) (x : Category) (c : w.Lookahead) (d n : ℕ)
     → serves y.category x && led_by y.link (λ j e i. holds r y.onto j e (counted q i)) (max y.floor (d + y.rise)) (n + y.nodes) c ≡ by_budget q y r x c d (counted q n)
@@ -117,10 +100,7 @@ completion_led q st y rs h x c d n =
     ∙ ap (λ z. serves y.category x && z) (by_as y.link (λ j e i. covered rs y.onto j e (counted q i)) (goes_on q st y.onto) (λ j e i. h y.onto j e i) (max y.floor (d + y.rise)) (n + y.nodes) c)
 
 completions_led : (q : Bool) (st : Stack) (ys : Completions) (rs : List Budget) → AreBudgets q st rs → (x : Category) (c : w.Lookahead) (d n : ℕ) → by_completions q ys rs x c d (counted q n) ≡ led ys (goes_on q st) x c d n
-completions_led q st (One s) rs h x c d n = completion_led q st s rs h x c d n
-completions_led q st (Two s u) rs h x c d n = let e1 = completion_led q st s rs h x c d n in let e2 = completion_led q st u rs h x c d n in cc
-completions_led q st (Three s u v) rs h x c d n = let e1 = completion_led q st s rs h x c d n in let e2 = completion_led q st u rs h x c d n in let e3 = completion_led q st v rs h x c d n in cc
-completions_led q st (Five s u v y z) rs h x c d n = let e1 = completion_led q st s rs h x c d n in let e2 = completion_led q st u rs h x c d n in let e3 = completion_led q st v rs h x c d n in let e4 = completion_led q st y rs h x c d n in let e5 = completion_led q st z rs h x c d n in cc
+completions_led q st ys rs h1 x c d n = grind (arith, completion_led)
 
 by_unfinished : (q : Bool) (x : Unfinished) (st : Stack) (k : Category) (c : w.Lookahead) (d n : ℕ) → goes_on q (unfinished_on x st) k c d n ≡ led (completions (unfinished_on x st)) (goes_on q st) k c d n
 by_unfinished q (b.OpenExpression (o.Parens v_l)) st k c d n = refl

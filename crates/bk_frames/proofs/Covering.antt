@@ -1,13 +1,12 @@
 -- A step of the machine leads to nothing that could not be completed before it.
-use Rattle.bk_frames.proofs.Terms.{◌≡◌, ◌≤◌, ℕ, ◌+◌, max, Bool, true, false, cond, ◌==◌, length, Option, Some, None, refl, sym, subst, inl, inr, List, [], ◌∷◌, ◌++◌, length-append, Result, Ok, arith, eq_is, each_depth, each_nodes, commands_depth, commands_nodes, declarations_depth, declarations_nodes, definitions_depth, definitions_nodes, items_depth, items_nodes, starts_depth, starts_nodes, Kind, Operator, Both, nat_lt, Prefix, Sort, Guard, Form, depth, depth_of_each, depth_of_command, depth_of_commands, depth_of_declaration, depth_of_declarations, depth_of_items, depth_of_definition, depth_of_definitions, depth_of_starts, nodes, nodes_of_each, nodes_of_command, nodes_of_commands, nodes_of_declaration, nodes_of_declarations, nodes_of_items, nodes_of_definition, nodes_of_definitions, nodes_of_starts, inner, following, is_relation, infix_of, prefix_of, sort_of, begins_command, repeats, assigns, is_and, is_comma, goes, last, at_expression, at_expressions, at_names, at_command, size, start_count, each_then, commands_then, declarations_then, items_then, definitions_then, starts_then, form_of, owed, falls, behind_ok, inner_ok, pushes, repeated, size_then, count_then, no_comma, Kind as k, Operator as ops, Guard as g}
+use Rattle.bk_frames.proofs.Terms.{◌≡◌, ◌≤◌, ℕ, ◌+◌, max, Bool, true, false, cond, ◌==◌, length, Option, Some, None, refl, sym, subst, inl, inr, List, [], ◌∷◌, ◌++◌, length-append, Result, Ok, arith, eq_is, each_depth, each_nodes, commands_depth, commands_nodes, declarations_depth, declarations_nodes, definitions_depth, definitions_nodes, items_depth, items_nodes, starts_depth, starts_nodes, Kind, Operator, Both, nat_lt, Prefix, Sort, Guard, Form, depth, depth_of_each, depth_of_command, depth_of_commands, depth_of_declaration, depth_of_declarations, depth_of_items, depth_of_definition, depth_of_definitions, depth_of_starts, nodes, nodes_of_each, nodes_of_command, nodes_of_commands, nodes_of_declaration, nodes_of_declarations, nodes_of_items, nodes_of_definition, nodes_of_definitions, nodes_of_starts, inner, following, is_relation, infix_of, prefix_of, sort_of, begins_command, repeats, assigns, is_and, is_comma, goes, last, at_expression, at_expressions, at_names, at_command, size, start_count, each_then, commands_then, declarations_then, items_then, definitions_then, starts_then, form_of, owed, falls, behind_ok, inner_ok, pushes, repeated, size_then, count_then, no_comma, Kind as k, Guard as g, Lookahead, Any, AtClosing, AtListing, Unlisted, AtPart, If, Closed, Missing, Started, Answered, Whole, Guarded, Taken, Gives, Does, Operates, Defines, Declares, Wants, Misses, Lists, Due, Completes}
 use Rattle.bk_lex.specs.Symbol.{Symbol}
 use Rattle.bk_frames.specs.declared.size.Form.TheVariants.{Label, Call, Callable, Other}
 use Rattle.bk_tree.specs.Tree.{Mention, Expression, Expressions, Command, Commands, Declaration, Declarations, Items, Definition, Starts, name, parens, unary, binary, choice, apply, valof, table, none, more, empty, assign, label, default, test, for_loop, result, block, repeat_while, no_commands, also, constants, definitions, no_declarations, declare, no_items, item, routine, function, variables, no_definitions, define, no_starts, value, vector, call, goto}
 use Rattle.bk_grammar.specs.Machine.{Stack, in_section, in_block, in_let, at_name, at_formals, at_formal, at_formal_end, at_head, at_variable, at_variable_end, at_starts, at_opening, at_items, at_sign, at_goto, at_for, at_forward, at_default, in_parens, in_unary, in_binary, in_chain, in_then, in_else, in_args, in_table, in_start, in_dests, in_values, in_guard, in_test, in_result, in_while, in_from, in_to, in_by, in_item, in_function, in_value, in_vector, in_valof, in_label, in_guarded, in_default, in_do, in_or, in_for, in_routine, State, want, have, begin, maybe, did, due, linked, infixed, push, is_close, is_colon, is_do, is_or, is_to, is_equal, is_semicolon, opens, closes, is_vec, is_let, is_open, is_sign_of, named, guarded, after_sign, no_args, bars, take_operand, take_command, sorted, take_declaration, take_in_section, in_head, take_in_block, declared, declared_by, defined_by, again, dests, labelled, is_call, call_of, in_constants, to_or_do, give, finish, without, inside, in_names, in_formals, headed, take_item, take_due, step, prefixed, counted, whole, run, stepped_by, going}
 use Rattle.bk_frames.specs.Completing as nx
-use Rattle.bk_frames.specs.Completing.{Lookahead, Any, AtClosing, AtListing, AtArgument, AtAssignment, Unlisted, AtPart, If, Closed, Missing, Started, Answered, Whole, Guarded, Taken, Gives, Does, Operates, Defines, Declares, Wants, Misses, Lists, Due, Completes}
 use Rattle.bk_frames.proofs.Turns.{guarded_depth, guarded_nodes}
-use Rattle.bk_frames.proofs.Lowering.{Down, Falls, any, unlisted, any_falls, any_closed, any_missing, whole_falls, gives_falls, does_falls, defines_fall, declares_fall}
+use Rattle.bk_frames.proofs.Lowering.{Down, Falls, from_closing, from_listing, any_falls, any_closed, any_missing, whole_falls, gives_falls, does_falls, defines_fall, declares_fall}
 use Rattle.bk_grammar.specs.Placed.{position_of}
 
 -- where what comes can be completed, so can what was before it
@@ -18,36 +17,24 @@ Leads P X (Some y) = Completes P y → X
 -- ---- unions
 
 unclosed : (F : ℕ → ℕ → Lookahead → Type 0) → Falls F → (d n : ℕ) → (c : Lookahead) → Closed F d n c → Any (F d n)
-unclosed F f d n nx.going h = absurd h
-unclosed F f d n nx.operating h = absurd h
-unclosed F f d n nx.repeating h = any_falls F f d (d + 1) n (n + 1) (omega arith) (omega arith) h
-unclosed F f d n x h = (x, h)
+unclosed F h1 d n c h2 = grind (arith, any_falls)
 
 -- a command that an expression ends, as one
 opened : (F : ℕ → ℕ → Lookahead → Type 0) → Falls F → (d e n m : ℕ) → d ≤ e → n ≤ m → Any (Closed F e m) → Any (F d n)
 opened F f d e n m p q h = any_falls F f d e n m p q (unclosed F f e m h.0 h.1)
 
 unmissing : (F : ℕ → ℕ → Lookahead → Type 0) → Falls F → (d n : ℕ) → (c : Lookahead) → Missing F d n c → Any (F d n)
-unmissing F f d n nx.going h = absurd h
-unmissing F f d n nx.repeating h = any_falls F f d (d + 1) n (n + 1) (omega arith) (omega arith) h
-unmissing F f d n x h = (x, h)
+unmissing F h1 d n c h2 = grind (arith, any_falls)
 
 missed : (F : ℕ → ℕ → Lookahead → Type 0) → Falls F → (d e n m : ℕ) → d ≤ e → n ≤ m → Any (Missing F e m) → Any (F d n)
 missed F f d e n m p q h = any_falls F f d e n m p q (unmissing F f e m h.0 h.1)
 
 started_label : (F : ℕ → ℕ → Lookahead → Type 0) → Falls F → (f : Form) (d n : ℕ) → 1 ≤ d → 1 ≤ n → (c : Lookahead) → Started F f d n c → Any (Started F Label 1 1)
-started_label F k f d n p q nx.assigning h = (nx.assigning, any_closed F k (max 1 1 + 1) (max d 1 + 1) (1 + 2) (n + 2) (omega arith) (omega (arith, q)) h)
-started_label F k f d n p q nx.listing h = (nx.listing, any_closed F k (max 1 1 + 1) (max d 1 + 1) (1 + 4) (n + 4) (omega arith) (omega (arith, q)) h)
-started_label F k Label d n p q nx.closing h = (nx.closing, h)
-started_label F k Call d n p q nx.closing h = (nx.closing, inl (nx.closing, k 1 d 1 n p q nx.closing h))
-started_label F k Call d n p q nx.repeating h = (nx.closing, inl (nx.repeating, any_falls F k (1 + 1) (d + 1) (1 + 1) (n + 1) (omega (arith, p)) (omega (arith, q)) h))
-started_label x k y d n p q z h = absurd h
+started_label F h1 f d n h2 h3 c h4 = grind (arith, any_closed, any_falls)
 
 -- a name is the least operand
 least : (P : ℕ → ℕ → Type 0) → Down P → (st : Stack) (f : Form) (d n : ℕ) → 1 ≤ d → 1 ≤ n → (c : Lookahead) → Gives P st f d n c → Any (Gives P st Label 1 1)
 least P w (in_start st) f d n p q c h = started_label (Does P st) (does_falls P w st) f d n p q c h
-least P w (in_parens l st) f d n p q c h = (c, gives_falls P w (in_parens l st) Label 1 d 1 n p q c h)
-least P w (in_args s x es st) f d n p q c h = (c, gives_falls P w (in_args s x es st) Label 1 d 1 n p q c h)
 least P w st f d n p q c h = (c, gives_falls P w st Label 1 d 1 n p q c h)
 
 least_whole : (P : ℕ → ℕ → Type 0) → Down P → (st : Stack) (f : Form) (d n : ℕ) → 1 ≤ d → 1 ≤ n → Whole (Gives P st) f d n → Any (Gives P st Label 1 1)
@@ -57,45 +44,28 @@ least_whole P w st f d n p q (inr h) = least P w st Call (d + 1) (n + 1) (omega 
 pub wants : (P : ℕ → ℕ → Type 0) → Down P → (st : Stack) → Any (Gives P st Label 1 1) → Wants P st
 wants P w (in_args s x none st) (nx.closing, h) = whole_falls (Gives P st) (gives_falls P w st) Call (depth x + 1) (max (depth x) (max 0 1) + 1) (nodes x + 1) (nodes x + (0 + 1) + 1) (omega arith) (omega arith) h
 wants P w (in_args s x none st) (nx.listing, h) = whole_falls (Gives P st) (gives_falls P w st) Call (depth x + 1) (max (depth x) (max 0 (max 1 1)) + 1) (nodes x + 1) (nodes x + (0 + 1) + 2) (omega arith) (omega arith) h
-wants P w (in_args s x none st) (nx.assigning, h) = absurd h
-wants P w (in_args s x none st) (nx.going, h) = absurd h
-wants P w (in_args s x none st) (nx.operating, h) = absurd h
-wants P w (in_args s x none st) (nx.repeating, h) = absurd h
+wants P w (in_args s x none st) (c, h) = absurd h
 wants P w (in_args s x (more y ys) st) h = h
 wants P w st h = h
 
 -- a destination with more behind it can be called
 started_call : (F : ℕ → ℕ → Lookahead → Type 0) (d n : ℕ) (c : Lookahead) → Started F Other d n c → Started F Call d n c
-started_call F d n nx.assigning h = h
-started_call F d n nx.listing h = h
-started_call x d n y h = absurd h
+started_call F d n c h1 = grind arith
 
 called : (P : ℕ → ℕ → Type 0) (st : Stack) (d n : ℕ) (c : Lookahead) → Gives P st Other d n c → Gives P st Call d n c
 called P (in_start st) d n c h = started_call (Does P st) d n c h
-called P (in_parens l st) d n c h = h
 called P st d n c h = h
 
 -- ---- steps
 
 leads_if : (P : ℕ → ℕ → Type 0) (X : Type 0) (b : Bool) (x y : Option State) → (b ≡ true → Leads P X x) → (b ≡ false → Leads P X y) → Leads P X (cond b x y)
-leads_if P X true x y h j = h refl
-leads_if P X false x y h j = j refl
+leads_if P X b x y h1 h2 = grind arith
 
 leads_by : (P : ℕ → ℕ → Type 0) (X Y : Type 0) (r : Option State) → (X → Y) → Leads P X r → Leads P Y r
-leads_by P X Y None f h = tt
-leads_by P X Y (Some y) f h = λ c. f (h c)
+leads_by P X Y r h1 h2 = grind arith
 
 leads_named : (P : ℕ → ℕ → Type 0) (X : Type 0) (t : Kind) (l : ℕ) (x : List ℕ) (f : Mention → State) → ((y : Mention) → Completes P (f y) → X) → Leads P X (named t l x f)
-leads_named P X k.Name l x f h = h _
-leads_named P X _ l x f h = tt
-
-from_closing : {X : Type 0} → Any (AtClosing X) → X
-from_closing (nx.closing, h) = h
-from_closing (x, h) = absurd h
-
-from_listing : {X : Type 0} → Any (AtListing X) → X
-from_listing (nx.listing, h) = h
-from_listing (x, h) = absurd h
+leads_named P X t l x f h1 = grind arith
 
 again_leads : (P : ℕ → ℕ → Type 0) → Down P → (t : Kind) (st : Stack) (c : Command) → Leads P (Any (Does P st (depth_of_command c + 1) (nodes_of_command c + 1))) (again st c t)
 again_leads P w k.Repeat st c = λ h. h
@@ -119,30 +89,18 @@ valof_least : (P : ℕ → ℕ → Type 0) → Down P → (st : Stack) → Any (
 valof_least P w st (nx.going, h) = least P w st Call 3 3 (omega arith) (omega arith) h.0 h.1
 valof_least P w st (nx.operating, h) = let y = operates_any P w st 2 2 h in least P w st Other 3 4 (omega arith) (omega arith) y.0 y.1
 valof_least P w st (nx.repeating, h) = absurd h
-valof_least P w st (nx.closing, h) = least P w st Callable 2 2 (omega arith) (omega arith) nx.closing h
-valof_least P w st (nx.assigning, h) = least P w st Callable 2 2 (omega arith) (omega arith) nx.assigning h
-valof_least P w st (nx.listing, h) = least P w st Callable 2 2 (omega arith) (omega arith) nx.listing h
+valof_least P w st (x, h) = least P w st Callable 2 2 (omega arith) (omega arith) x h
 
 unlisted_least : (P : ℕ → ℕ → Type 0) → Down P → (st : Stack) (d n : ℕ) → 1 ≤ d → 1 ≤ n → Any (Unlisted (Gives P st Other d n)) → Any (Gives P st Label 1 1)
 unlisted_least P w st d n p q (nx.listing, h) = absurd h
-unlisted_least P w st d n p q (nx.closing, h) = least P w st Other d n p q nx.closing h
-unlisted_least P w st d n p q (nx.assigning, h) = least P w st Other d n p q nx.assigning h
-unlisted_least P w st d n p q (nx.going, h) = least P w st Other d n p q nx.going h
-unlisted_least P w st d n p q (nx.operating, h) = least P w st Other d n p q nx.operating h
-unlisted_least P w st d n p q (nx.repeating, h) = least P w st Other d n p q nx.repeating h
+unlisted_least P w st d n p q (x, h) = least P w st Other d n p q x h
 
 table_least : (P : ℕ → ℕ → Type 0) → Down P → (l : ℕ) (st : Stack) → Any (Gives P (in_table l none st) Label 1 1) → Any (Gives P st Label 1 1)
 table_least P w l st (nx.listing, h) = unlisted_least P w st (max 0 (max 1 1) + 1) (0 + 1 + 2) (omega arith) (omega arith) h
-table_least P w l st (nx.closing, h) = least P w st Other (max 0 1 + 1) (0 + 1 + 1) (omega arith) (omega arith) nx.closing h
-table_least P w l st (nx.assigning, h) = least P w st Other (max 0 1 + 1) (0 + 1 + 1) (omega arith) (omega arith) nx.assigning h
-table_least P w l st (nx.going, h) = least P w st Other (max 0 1 + 1) (0 + 1 + 1) (omega arith) (omega arith) nx.going h
-table_least P w l st (nx.operating, h) = least P w st Other (max 0 1 + 1) (0 + 1 + 1) (omega arith) (omega arith) nx.operating h
-table_least P w l st (nx.repeating, h) = least P w st Other (max 0 1 + 1) (0 + 1 + 1) (omega arith) (omega arith) nx.repeating h
+table_least P w l st (x, h) = least P w st Other (max 0 1 + 1) (0 + 1 + 1) (omega arith) (omega arith) x h
 
 no_args_leads : (P : ℕ → ℕ → Type 0) → Down P → (st : Stack) → Leads P (Wants P st) (no_args st)
-no_args_leads P w (in_args s x none st) = λ h. whole_falls (Gives P st) (gives_falls P w st) Call (depth x + 1) (max (depth x) 0 + 1) (nodes x + 1) (nodes x + 0 + 1) (omega arith) (omega arith) h
-no_args_leads P w (in_args s x (more y ys) st) = tt
-no_args_leads P w _ = tt
+no_args_leads P h1 st = grind (arith, whole_falls, depth)
 
 prefixed_leads : (P : ℕ → ℕ → Type 0) → Down P → (z : Option Prefix) (st : Stack) (l : ℕ) → Leads P (Wants P st) (prefixed st l z)
 prefixed_leads P w None st l = tt
@@ -168,16 +126,10 @@ operand_leads P w t st l x = prefixed_leads P w (prefix_of t) st l
 -- ---- a command is due
 
 started_any : (F : ℕ → ℕ → Lookahead → Type 0) → Falls F → Any (Started F Label 1 1) → Any (F 1 1)
-started_any F f (nx.assigning, h) = opened F f 1 (max 1 1 + 1) 1 (1 + 2) (omega arith) (omega arith) h
-started_any F f (nx.listing, h) = opened F f 1 (max 1 1 + 1) 1 (1 + 4) (omega arith) (omega arith) h
-started_any F f (nx.closing, inl h) = missed F f 1 1 1 1 (omega arith) (omega arith) h
-started_any F f (nx.closing, inr h) = any_falls F f 1 2 1 2 (omega arith) (omega arith) h
-started_any F f (x, h) = absurd h
+started_any F h1 h2 = grind (arith, opened, missed, any_falls)
 
 guarded_any : (gd : Guard) (F : ℕ → ℕ → Lookahead → Type 0) → Falls F → Guarded gd F 1 1 → Any (F 1 1)
-guarded_any g.Case F f (inl h) = missed F f 1 2 1 2 (omega arith) (omega arith) h
-guarded_any g.Case F f (inr h) = any_falls F f 1 (max 1 1 + 1) 1 (1 + 2) (omega arith) (omega arith) h
-guarded_any _ F f h = any_falls F f 1 (max 1 1 + 1) 1 (1 + 2) (omega arith) (omega arith) h
+guarded_any gd F h1 h2 = grind (arith, missed, any_falls)
 
 command_leads : (P : ℕ → ℕ → Type 0) → Down P → (t : Kind) (st : Stack) (l : ℕ) (x : List ℕ) → Leads P (Any (Does P st 1 1)) (take_command st l x t)
 command_leads P w k.Goto st l x = λ h. h
@@ -205,8 +157,7 @@ command_leads P w t st l x = leads_by P (Wants P (in_start st)) (Any (Does P st 
 -- ---- declarations
 
 sorted_leads : (P : ℕ → ℕ → Type 0) → Down P → (z : Option Sort) (st : Stack) (l : ℕ) (other : Option State) → Leads P (Declares P st 0 0) other → Leads P (Declares P st 0 0) (sorted st l z other)
-sorted_leads P w None st l other h = h
-sorted_leads P w (Some s) st l other h = λ j. declares_fall P w st 0 2 0 2 (omega arith) (omega arith) j
+sorted_leads P h1 z st l other h2 = grind (arith, declares_fall)
 
 declaration_leads : (P : ℕ → ℕ → Type 0) → Down P → (t : Kind) (st : Stack) (l : ℕ) (other : Option State) → Leads P (Declares P st 0 0) other → Leads P (Declares P st 0 0) (take_declaration st l t other)
 declaration_leads P w t st l other h = grind (arith, leads_if, due, declares_fall, sorted_leads)
@@ -241,9 +192,7 @@ declared_by_leads P w t (in_block b free ds cs st) d l x =
 declared_by_leads P w t _ d l x = tt
 
 declared_leads : (P : ℕ → ℕ → Type 0) → Down P → (st : Stack) (d : Declaration) → Leads P (Declares P st (depth_of_declaration d) (nodes_of_declaration d)) (declared st d)
-declared_leads P w (in_section ds) d = grind (arith, declarations_depth, declarations_nodes)
-declared_leads P w (in_block b free ds cs st) d = grind (arith, declarations_depth, declarations_nodes, any_falls)
-declared_leads P w _ d = tt
+declared_leads P h1 st d = grind (arith, declarations_depth, declarations_nodes, any_falls)
 
 defined_leads : (P : ℕ → ℕ → Type 0) → Down P → (t : Kind) (st : Stack) (d : Definition) (l : ℕ) (x : List ℕ) → Leads P (Defines P st (depth_of_definition d) (nodes_of_definition d)) (defined_by st d l x t)
 defined_leads P w t (in_let m ds st) d l x =
@@ -261,12 +210,10 @@ defined_leads P w t _ d l x = tt
 -- ---- what is complete
 
 leads_none : (P : ℕ → ℕ → Type 0) (X : Type 0) (r : Option State) → r ≡ None → Leads P X r
-leads_none P X None h = tt
-leads_none P X (Some y) h = absurd cc
+leads_none P X r h1 = cc
 
 counted_leads : (P : ℕ → ℕ → Type 0) (b : Bool) (F G : Lookahead → Type 0) (c : Lookahead) (r : Option State) (t : Kind) (y : State) → Leads P (F c) r → (is_comma t ≡ true → Leads P (G c) (Some y)) → Leads P (If b F G c) (counted b r t y)
-counted_leads P true F G c r t y h j = h
-counted_leads P false F G c r t y h j = leads_if P (G c) (is_comma t) (Some y) None j (λ e. tt)
+counted_leads P b F G c r t y h1 h2 = grind (arith, leads_if)
 
 values_by : (P : ℕ → ℕ → Type 0) → Down P → (b : Bool) (xs ys : Expressions) (st : Stack) (d n : ℕ) → (b ≡ true → size xs ≡ size ys + 1)
     → Any (If b (Closed (Does P st) (max (depth_of_each xs) (max (depth_of_each ys) d) + 1) (nodes_of_each xs + (nodes_of_each ys + n) + 1)) (AtListing (Any (Closed (Does P st) (max (depth_of_each xs) (max (depth_of_each ys) (max d 1)) + 1) (nodes_of_each xs + (nodes_of_each ys + n) + owed (size xs) (size ys) + 1)))))
@@ -288,17 +235,13 @@ abbrev Plain : Kind → Type 0
 Plain t = (is_and t ≡ false) × (is_let t ≡ false) × (sort_of t ≡ None) × (is_semicolon t ≡ false) × (closes t ≡ false)
 
 nothing : (b : Bool) (x : Option State) → cond b x x ≡ x
-nothing true x = refl
-nothing false x = refl
+nothing b x = grind arith
 
 declared_none : (st : Stack) (d : Declaration) (l : ℕ) (x : List ℕ) (t : Kind) → Plain t → declared_by st d l x t ≡ None
-declared_none (in_section ds) d l x t h = let a = h.1 in let b = h.2 in let c = h.3 in rw c (rw a (rw b refl))
-declared_none (in_block b free ds cs st) d l x t h = let a = h.1 in let e = h.2 in let c = h.3 in let f = h.4 in rw c (rw f (rw a (rw e (nothing (in_head cs) None))))
-declared_none _ d l x t h = refl
+declared_none st d l x t h1 = grind (arith, nothing)
 
 defined_none : (st : Stack) (d : Definition) (l : ℕ) (x : List ℕ) (t : Kind) → Plain t → defined_by st d l x t ≡ None
-defined_none (in_let m ds st) d l x t h = let a = h.0 in rw a (declared_none st (definitions m (definitions_then ds (define d no_definitions))) l x t h)
-defined_none _ d l x t h = refl
+defined_none st d l x t h1 = grind (arith, declared_none)
 
 -- what holds after each symbol that repeats a command
 abbrev Each : (ℕ → ℕ → Type 0) → Type 0 → (Kind → Option State) → Type 0
@@ -308,13 +251,10 @@ each_by : (P : ℕ → ℕ → Type 0) (X Y : Type 0) (f : Kind → Option State
 each_by P X Y f g h = (leads_by P X Y (f k.Repeat) g h.0, leads_by P X Y (f k.RepeatWhile) g h.1, leads_by P X Y (f k.RepeatUntil) g h.2)
 
 each_counted : (P : ℕ → ℕ → Type 0) (b : Bool) (F G : Lookahead → Type 0) (c : Lookahead) (f : Kind → Option State) (y : State) → Each P (F c) f → Each P (If b F G c) (λ (t : Kind). counted b (f t) t y)
-each_counted P true F G c f y h = h
-each_counted P false F G c f y h = (tt, tt, tt)
+each_counted P b F G c f y h1 = grind arith
 
 each_guard : (P : ℕ → ℕ → Type 0) (X : Type 0) (gd : Guard) (y : State) → Each P X (λ (t : Kind). cond (is_sign_of gd t) (Some y) None)
-each_guard P X g.SwitchOn y = (tt, tt, tt)
-each_guard P X g.Case y = (tt, tt, tt)
-each_guard P X _ y = (tt, tt, tt)
+each_guard P X gd y = grind arith
 
 each_defined : (P : ℕ → ℕ → Type 0) (X : Type 0) (st : Stack) (d : Definition) (l : ℕ) (x : List ℕ) → Each P X (defined_by st d l x)
 each_defined P X st d l x = grind (arith, leads_none, defined_none)
@@ -332,8 +272,6 @@ give_repeat P w (in_else s y a st) e l x = give_repeat P w st (choice (at_expres
 give_repeat P w (in_table m es st) e l x = each_by P (Gives P st Other (depth_of_each (each_then es (more e none)) + 1) (nodes_of_each (each_then es (more e none)) + 1) nx.repeating) (Gives P st Other (max (depth_of_each es) (depth e) + 1) (nodes_of_each es + nodes e + 1) nx.repeating) (give st (table m (each_then es (more e none))) l x)
     (let a = each_depth es e in let b = each_nodes es e in gives_falls P w st Other (max (depth_of_each es) (depth e) + 1) (depth_of_each (each_then es (more e none)) + 1) (nodes_of_each es + nodes e + 1) (nodes_of_each (each_then es (more e none)) + 1) (omega (arith, a)) (omega (arith, b)) nx.repeating) (give_repeat P w st (table m (each_then es (more e none))) l x)
 give_repeat P w (in_start st) (apply m s y es) l x = finish_repeat P w st (call m y es) l x
-give_repeat P w (in_start st) e l x = (tt, tt, tt)
-give_repeat P w (in_dests xs st) e l x = (tt, tt, tt)
 give_repeat P w (in_values xs ys st) e l x =
     let zs : Expressions = each_then ys (more e none) in
     let a = each_depth ys e in
@@ -360,12 +298,7 @@ give_repeat P w (in_vector m xs is st) e l x =
 give_repeat P w _ e l x = (tt, tt, tt)
 
 parts_any : {F G H : Lookahead → Type 0} → ((c : Lookahead) → F c → H c) → ((c : Lookahead) → G c → H c) → Any (AtPart F G) → Any (Unlisted H)
-parts_any f k (nx.listing, h) = any (unlisted k) h
-parts_any f k (nx.closing, h) = (nx.closing, f nx.closing h)
-parts_any f k (nx.assigning, h) = (nx.assigning, f nx.assigning h)
-parts_any f k (nx.going, h) = (nx.going, f nx.going h)
-parts_any f k (nx.operating, h) = (nx.operating, f nx.operating h)
-parts_any f k (nx.repeating, h) = (nx.repeating, f nx.repeating h)
+parts_any h1 h2 h3 = grind arith
 
 -- ---- a comma
 
@@ -403,8 +336,7 @@ values_more P w xs ys st e h =
 starts_by : (P : ℕ → ℕ → Type 0) → Down P → (b : Bool) (many : ℕ) (js : Starts) (st : Stack) → (b ≡ true → many ≡ start_count js + 1)
     → Any (If b (AtClosing (Defines P st (max (depth_of_starts js) 1 + 1) (nodes_of_starts js + 1 + 1))) (AtListing (Defines P st (max (depth_of_starts js) (max 1 1) + 1) (nodes_of_starts js + 1 + owed many (start_count js) + 1))))
     → Defines P st (max (depth_of_starts js) 1 + 1) (nodes_of_starts js + 1 + owed many (start_count js) + 1)
-starts_by P w true many js st is h = let e = is refl in defines_fall P w st (max (depth_of_starts js) 1 + 1) (max (depth_of_starts js) 1 + 1) (nodes_of_starts js + 1 + owed many (start_count js) + 1) (nodes_of_starts js + 1 + 1) (omega arith) (omega (arith, e)) (from_closing h)
-starts_by P w false many js st is h = defines_fall P w st (max (depth_of_starts js) 1 + 1) (max (depth_of_starts js) (max 1 1) + 1) (nodes_of_starts js + 1 + owed many (start_count js) + 1) (nodes_of_starts js + 1 + owed many (start_count js) + 1) (omega arith) (omega arith) (from_listing h)
+starts_by P h1 b many js st h2 h3 = grind (arith, defines_fall)
 
 starts_any : (P : ℕ → ℕ → Type 0) → Down P → (xs : List Mention) (js : Starts) (st : Stack) → Any (Gives P (in_value xs js st) Label 1 1) → Defines P st (max (depth_of_starts js) 1 + 1) (nodes_of_starts js + 1 + owed (length xs) (start_count js) + 1)
 starts_any P w xs js st h = starts_by P w (length xs == start_count js + 1) (length xs) js st (eq_is (length xs) (start_count js + 1)) h
@@ -422,13 +354,10 @@ two_by P F G f g h = (leads_by P (F nx.assigning) (G nx.assigning) (f k.Assign) 
 
 two_counted : (P : ℕ → ℕ → Type 0) (b : Bool) (F G : Lookahead → Type 0) (f : Kind → Option State) (y : State) → Two P F f → Leads P (G nx.listing) (Some y)
     → Leads P (If b F G nx.assigning) (counted b (f k.Assign) k.Assign y) × Leads P (If b F G nx.listing) (counted b (f k.Comma) k.Comma y)
-two_counted P true F G f y h j = h
-two_counted P false F G f y h j = (tt, j)
+two_counted P b F G f y h1 h2 = grind arith
 
 two_guard : (P : ℕ → ℕ → Type 0) (X : Type 0) (gd : Guard) (y : State) → Leads P ⊥ (cond (is_sign_of gd k.Assign) (Some y) None) × Leads P ⊥ (cond (is_sign_of gd k.Comma) (Some y) None)
-two_guard P X g.SwitchOn y = (tt, tt)
-two_guard P X g.Case y = (tt, tt)
-two_guard P X _ y = (tt, tt)
+two_guard P X gd y = grind arith
 
 two_defined : (P : ℕ → ℕ → Type 0) (F : Lookahead → Type 0) (st : Stack) (d : Definition) (l : ℕ) (x : List ℕ) → Two P F (defined_by st d l x)
 two_defined P F st d l x = grind (arith, leads_none, defined_none)
@@ -503,18 +432,7 @@ abbrev Inner : Kind → Type 0
 Inner t = Plain t × (repeats t ≡ false) × (is_or t ≡ false)
 
 inner_of : (t : Kind) → goes 12 t ≡ true → Inner t
-inner_of k.And h = absurd cc
-inner_of k.Let h = absurd cc
-inner_of k.Manifest h = absurd cc
-inner_of k.Static h = absurd cc
-inner_of k.Global h = absurd cc
-inner_of k.Semicolon h = absurd cc
-inner_of k.SectionClose h = absurd cc
-inner_of k.Or h = absurd cc
-inner_of k.Repeat h = absurd cc
-inner_of k.RepeatWhile h = absurd cc
-inner_of k.RepeatUntil h = absurd cc
-inner_of _ h = ((refl, refl, refl, refl, refl), refl, refl)
+inner_of t h1 = grind arith
 
 call_opens : (P : ℕ → ℕ → Type 0) → Down P → (st : Stack) (e : Expression) (l : ℕ) → Wants P (in_args l e none st) → Any (Gives P st Call (depth e + 1) (nodes e + 1))
 call_opens P w st e l (inl h) = h
@@ -543,13 +461,10 @@ push_leads P w k.Arrow o st e l = λ h. any_falls (Gives P st Other) (gives_fall
 push_leads P w t o st e l = infixed_leads P w (infix_of t) st e l
 
 none_goes : (t : Kind) → is_open t ≡ false → goes 1 t ≡ false
-none_goes k.Open h = absurd cc
-none_goes _ h = refl
+none_goes t h1 = cc
 
 goes_tight : (q : Operator) (t : Kind) → is_open t ≡ false → goes (inner q) t ≡ true → nat_lt 1 (inner q) ≡ true
-goes_tight ops.Subscript t o h = absurd (let z = none_goes t o in cc)
-goes_tight ops.Byte t o h = absurd (let z = none_goes t o in cc)
-goes_tight _ t o h = refl
+goes_tight q t h1 h2 = grind (arith, none_goes)
 
 push_binary : (P : ℕ → ℕ → Type 0) → Down P → (t : Kind) → is_open t ≡ false → (q : Operator) (s : ℕ) (a : Expression) (st : Stack) (e : Expression) (l : ℕ) → goes (inner q) t ≡ true → Leads P (Operates P (in_binary q s a st) (Gives P (in_binary q s a st)) (depth e) (nodes e)) (push (in_binary q s a st) e t l)
 push_binary P w t o q s a st e l h = grind (arith, (depth a), (depth e + 1), (depth e), (goes_tight q t o h), (push_leads P w t o (in_binary q s a st) e l))
@@ -602,8 +517,7 @@ finish_open P w _ c l x = tt
 
 no_dests : (t : Kind) (xs : Expressions) (st : Stack) → assigns t ≡ false → dests xs st t ≡ None
 no_dests k.Comma xs st h = absurd cc
-no_dests k.Assign xs st h = absurd cc
-no_dests _ xs st h = refl
+no_dests x0 xs st h = cc
 
 start_leads : (P : ℕ → ℕ → Type 0) (st : Stack) (e : Expression) (l : ℕ) (x : List ℕ) (t : Kind) → ((c : Command) → Leads P (Does P st (depth_of_command c) (nodes_of_command c) nx.closing) (finish st c l x t))
     → Leads P (Started (Does P st) (form_of e) (depth e) (nodes e) nx.closing) (cond (is_call e) (finish st (call_of e) l x t) (cond (is_colon t) (labelled e st) None))
@@ -622,8 +536,7 @@ limit_leads P w k.Do m y a e st = λ h. any_falls (Does P st) (does_falls P w st
 limit_leads P w _ m y a e st = tt
 
 listed_leads : (P : ℕ → ℕ → Type 0) → Down P → (js : Items) (st : Stack) → Lists P st js → Declares P st (depth_of_items js) (nodes_of_items js)
-listed_leads P w no_items st h = declares_fall P w st 0 2 0 2 (omega arith) (omega arith) h
-listed_leads P w (item l y e is) st h = h
+listed_leads P h1 js st h2 = grind (arith, declares_fall)
 
 constants_leads : (P : ℕ → ℕ → Type 0) → Down P → (t : Kind) (m : ℕ) (s : Sort) (js : Items) (st : Stack) → Leads P (Declares P st (depth_of_items js) (nodes_of_items js)) (in_constants m s js st t)
 constants_leads P w k.Semicolon m s js st = listed_leads P w js st
@@ -737,14 +650,10 @@ names_lead P w k.Equal xs st = λ h. defines_fall P w st 2 (max 0 1 + 1) (length
 names_lead P w _ xs st = tt
 
 formals_lead : (P : ℕ → ℕ → Type 0) (t : Kind) (y : Mention) (fs : List Mention) (st : Stack) → Leads P (Defines P st 2 2) (in_formals y fs st t)
-formals_lead P k.Comma y fs st = λ h. h
-formals_lead P k.Close y fs st = λ h. h
-formals_lead P _ y fs st = tt
+formals_lead P t y fs st = grind arith
 
 headed_leads : (P : ℕ → ℕ → Type 0) (t : Kind) (y : Mention) (fs : List Mention) (st : Stack) → Leads P (Defines P st 2 2) (headed y fs st t)
-headed_leads P k.Be y fs st = λ h. from_closing h
-headed_leads P k.Equal y fs st = λ h. from_closing h
-headed_leads P _ y fs st = tt
+headed_leads P t y fs st = grind arith
 
 item_leads : (P : ℕ → ℕ → Type 0) → Down P → (t : Kind) (m : ℕ) (s : Sort) (is : Items) (st : Stack) (l : ℕ) (x : List ℕ) → Leads P (Lists P st is) (take_item m s is st l x t)
 item_leads P w t m s no_items st l x = leads_named P (Declares P st 2 2) t l x (λ y. due (at_sign m s no_items y st)) (λ y h. declares_fall P w st 2 (max 2 0) 2 (0 + 2) (omega arith) (omega arith) h)
@@ -782,19 +691,12 @@ due_leads P w t _ l x = tt
 -- ---- any symbol
 
 by_test : {X : Type 0} (b : Bool) → (b ≡ true → X) → (b ≡ false → X) → X
-by_test true f g = f refl
-by_test false f g = g refl
+by_test b h1 h2 = grind arith
 
 -- what holds of each class holds of each symbol
 by_class : (Q : Kind → Type 0) → Q k.Assign → Q k.Comma → Q k.Repeat × Q k.RepeatWhile × Q k.RepeatUntil → Q k.Open
     → ((t : Kind) → goes 12 t ≡ true → is_open t ≡ false → Q t) → ((t : Kind) → goes 12 t ≡ false → repeats t ≡ false → assigns t ≡ false → Q t) → (t : Kind) → Q t
-by_class Q a b r o f h k.Assign = a
-by_class Q a b r o f h k.Comma = b
-by_class Q a b r o f h k.Repeat = r.0
-by_class Q a b r o f h k.RepeatWhile = r.1
-by_class Q a b r o f h k.RepeatUntil = r.2
-by_class Q a b r o f h k.Open = o
-by_class Q a b r o f h t = by_test (goes 12 t) (λ g. f t g refl) (λ g. h t g refl refl)
+by_class Q h1 h2 h3 h4 h5 h6 t = grind (arith, by_test, goes)
 
 operated : (P : ℕ → ℕ → Type 0) → Down P → (st : Stack) (d n : ℕ) → Any (Gives P st Other (d + 1) (n + 2)) → Any (Gives P st Call (d + 1) (n + 1))
 operated P w st d n h = any_falls (Gives P st Call) (gives_falls P w st Call) (d + 1) (d + 1) (n + 1) (n + 2) (omega arith) (omega arith) (h.0, called P st (d + 1) (n + 2) h.0 h.1)
@@ -865,14 +767,10 @@ step_leads P w (due st) l s t = due_leads P w t st l s
 -- ---- all the symbols
 
 whole_leads : (P : ℕ → ℕ → Type 0) → Down P → (X : Type 0) (r : Option State) (ds : Declarations) → Leads P X r → whole r ≡ Ok ds → P (depth_of_declarations ds) (nodes_of_declarations ds) → X
-whole_leads P w X None ds h is p = absurd cc
-whole_leads P w X (Some (due (in_section es))) ds h is p = grind arith
-whole_leads P w X (Some (due _)) ds h is p = absurd cc
-whole_leads P w X (Some _) ds h is p = absurd cc
+whole_leads P h1 X r ds h2 h3 h4 = grind arith
 
 going_leads : (P : ℕ → ℕ → Type 0) (X : Type 0) (ts : List Symbol) (r : Option State) (f : State → Result Declarations (List Symbol)) (ds : Declarations) → Leads P X r → going ts f r ≡ Ok ds → ((y : State) → f y ≡ Ok ds → Completes P y) → X
-going_leads P X ts None f ds h is j = absurd cc
-going_leads P X ts (Some y) f ds h is j = h (j y is)
+going_leads P X ts r f ds h1 h2 h3 = grind arith
 
 -- each section that is read from a state on is one to which it can be completed
 pub run_completes : (P : ℕ → ℕ → Type 0) → Down P → (ts : List Symbol) (x : State) (ds : Declarations) → run ts x ≡ Ok ds → P (depth_of_declarations ds) (nodes_of_declarations ds) → Completes P x

@@ -1,5 +1,5 @@
 -- What goes on from a stack, by its ways, is what the ways on say.
-use Rattle.bk_frames.proofs.Terms.{◌≡◌, ◌↔◌, ℕ, ◌+◌, ◌==◌, max, not, Bool, true, false, ◌&&◌, length, refl, sym, subst, ◌∙◌, arith, nat_lt, nat_tests, Guard, Category, Completions, none, more, no_items, item, depth, depth_of_each, depth_of_declarations, depth_of_starts, nodes, nodes_of_each, nodes_of_declarations, nodes_of_starts, inner, size, start_count, Stack, in_section, in_block, in_let, at_name, at_formals, at_formal, at_formal_end, at_head, at_variable, at_variable_end, at_starts, at_opening, at_items, at_sign, at_goto, at_for, at_forward, at_default, in_parens, in_unary, in_binary, in_chain, in_then, in_else, in_args, in_table, in_start, in_dests, in_values, in_guard, in_test, in_result, in_while, in_from, in_to, in_by, in_item, in_function, in_value, in_vector, in_valof, in_label, in_guarded, in_default, in_do, in_or, in_for, in_routine, owed, Limit, is_tight, Test, led, goes_on, is_next, completions_of_binary, completions_of_values, completions_of_starts, completions_of_valof, completions_of_guard, AtClosing, within, serves, ◌||◌, Guard as g, Form, Form as f}
+use Rattle.bk_frames.proofs.Terms.{◌≡◌, ◌↔◌, ℕ, ◌+◌, ◌==◌, max, not, Bool, true, false, ◌&&◌, length, refl, sym, subst, ◌∙◌, arith, nat_lt, Guard, Category, Completions, none, more, no_items, item, depth, depth_of_each, depth_of_declarations, depth_of_starts, nodes, nodes_of_each, nodes_of_declarations, nodes_of_starts, inner, size, start_count, Stack, in_section, in_block, in_let, at_name, at_formals, at_formal, at_formal_end, at_head, at_variable, at_variable_end, at_starts, at_opening, at_items, at_sign, at_goto, at_for, at_forward, at_default, in_parens, in_unary, in_binary, in_chain, in_then, in_else, in_args, in_table, in_start, in_dests, in_values, in_guard, in_test, in_result, in_while, in_from, in_to, in_by, in_item, in_function, in_value, in_vector, in_valof, in_label, in_guarded, in_default, in_do, in_or, in_for, in_routine, owed, Limit, is_tight, Test, led, goes_on, is_next, completions_of_binary, completions_of_values, completions_of_starts, completions_of_valof, completions_of_guard, AtClosing, within, serves, ◌||◌, Form, Form as f}
 use Rattle.bk_frames.specs.declared.budget.Category.TheVariants.{Expression, Label, Call, Operated, Command, Missing, Definition, Declaration, Due, Closed}
 use Rattle.bk_frames.specs.Completing as w
 use Rattle.bk_frames.proofs.Joints.{Budgets, none_is, shut}
@@ -7,12 +7,10 @@ use Rattle.bk_frames.proofs.Phrases.{parens, unary, chain, then_, else_, table, 
 use Rattle.bk_frames.proofs.Clauses.{valof_, label_, label_missing, default_, default_missing, guarded_, guarded_missing, do_, or_, for_, routine_, block_, block_declares, block_due, let_defines, let_due, name_, formals_, formal_, formal_end_, head_, variable_, variable_end_, opening_, items_none, items_some, sign_, goto_, at_for_, forward_, at_default_, starts_}
 
 within_is : (b : Bool) (d n : ℕ) → Limit b d n ↔ (within b d n ≡ true)
-within_is true d n = (λ h. grind (arith, nat_tests, h), λ e. (grind (arith, nat_tests), grind (arith, nat_tests)))
-within_is false d n = (λ h. grind (arith, nat_tests, h), λ e. grind (arith, nat_tests))
+within_is b d n = grind arith
 
 at_section : {X : Type 0} {a : Bool} → X ↔ (a ≡ true) → (c : w.Lookahead) → AtClosing X c ↔ (is_next w.closing c && a ≡ true)
-at_section f w.closing = f
-at_section f x = none_is
+at_section h1 c = grind (arith, none_is)
 
 section_due : (b : Bool) (e m d n : ℕ) → (d ≡ 0) × (n ≡ 0) → Limit b (max e 0) (m + 0) ↔ (within b (max e d) (m + n) ≡ true)
 section_due b e m d n z = let P : ℕ → Type 0 = λ x. Limit b (max e 0) (m + 0) ↔ (within b (max e x) (m + n) ≡ true) in let Q : ℕ → Type 0 = λ y. Limit b (max e 0) (m + 0) ↔ (within b (max e 0) (m + y) ≡ true) in subst P (sym z.0) (subst Q (sym z.1) (within_is b (max e 0) (m + 0)))
@@ -20,41 +18,31 @@ section_due b e m d n z = let P : ℕ → Type 0 = λ x. Limit b (max e 0) (m + 
 -- where the ways on are those of expressions, a label and a call are expressions, and nothing else is
 
 both : (q a b : Bool) → (q && a) || (q && b) ≡ q && (a || b)
-both true a b = refl
-both false a b = refl
+both q a b = grind arith
 
 each : (q a b c : Bool) → (q && a) || ((q && b) || (q && c)) ≡ q && (a || (b || c))
-each true a b c = refl
-each false a b c = refl
+each q a b c = grind arith
 
 with_none : (q p a b : Bool) → p ≡ false → (q && a) || (p && b) ≡ q && (a || false)
-with_none true false a b h = refl
-with_none false false a b h = refl
-with_none q true a b h = absurd cc
+with_none q p a b h = grind arith
 
 abbrev Serve : Completions → Category → Category → Type 0
 Serve ws y x = (T : Test) (c : w.Lookahead) (e m : ℕ) → led ws T x c e m ≡ serves y x && led ws T y c e m
 
 serve_binary : (t u : Bool) (d n : ℕ) (x : Category) → serves Operated x ≡ false → Serve (completions_of_binary t u d n) Expression x
-serve_binary false u d n x h T c e m = refl
-serve_binary true true d n x h T c e m = with_none (serves Expression x) (serves Operated x) _ _ h
-serve_binary true false d n x h T c e m = with_none (serves Expression x) (serves Operated x) _ _ h
+serve_binary t u d n x h1 = grind (arith, with_none)
 
 serve_values : (t : Bool) (d n o : ℕ) (x : Category) → Serve (completions_of_values t d n o) Expression x
-serve_values true d n o x T c e m = both (serves Expression x) _ _
-serve_values false d n o x T c e m = refl
+serve_values t d n o x = grind (arith, both)
 
 serve_starts : (t : Bool) (d n o : ℕ) (x : Category) → Serve (completions_of_starts t d n o) Expression x
-serve_starts true d n o x T c e m = refl
-serve_starts false d n o x T c e m = refl
+serve_starts t d n o x = grind arith
 
 serve_guard : (k : Guard) (x : Category) → Serve (completions_of_guard k) Expression x
-serve_guard g.Case x T c e m = both (serves Expression x) _ _
-serve_guard k x T c e m = refl
+serve_guard k x = grind (arith, both)
 
 serve_valof : (t : Bool) (x : Category) → Serve (completions_of_valof t) Command x
-serve_valof true x T c e m = each (serves Command x) _ _ _
-serve_valof false x T c e m = each (serves Command x) _ _ _
+serve_valof t x T c e m = grind (arith, each)
 
 as_formed : {X : Type 0} {a b : Bool} → X ↔ (b ≡ true) → a ≡ b → X ↔ (a ≡ true)
 as_formed f e = (λ x. e ∙ f.0 x, λ h. f.1 (sym e ∙ h))

@@ -1,8 +1,8 @@
 -- What the end completes is no larger than any other completion.
-use Rattle.bk_frames.proofs.Terms.{◌≡◌, ◌≤◌, ◌+◌, ◌==◌, max, length, ℕ, List, [], Bool, true, false, cond, Option, Some, None, refl, subst, inl, inr, arith, nat_lt, Form, Both, inner, at_expression, at_expressions, at_names, at_command, size, start_count, depth, depth_of_each, depth_of_command, depth_of_declarations, depth_of_definition, depth_of_definitions, depth_of_starts, nodes, nodes_of_each, nodes_of_command, nodes_of_declarations, nodes_of_definition, nodes_of_definitions, nodes_of_starts, each_then, starts_then, definitions_then, declarations_then, form_of, Lookahead, closing, assigning, listing, going, repeating, operating, Any, AtClosing, AtPart, If, Unlisted, Closed, Missing, Started, Answered, Whole, Taken, Gives, Does, Operates, Defines, Completes, each_depth, each_nodes, declarations_depth, declarations_nodes, definitions_depth, definitions_nodes, starts_depth, starts_nodes, Kind as k, Guard as g}
-use Rattle.bk_frames.specs.declared.size.Form.TheVariants.{Label, Call, Callable, Other}
-use Rattle.bk_tree.specs.Tree.{Expression, Expressions, Command, Definition, Declarations, name, unary, binary, choice, apply, table, call, assign, result, repeat_while, function, variables, value, vector, valof, label, default, test, for_loop, routine, empty, none, more, no_starts, no_items, item, declare, no_declarations, definitions, define, no_definitions}
-use Rattle.bk_grammar.specs.Machine.{Stack, State, want, have, maybe, did, due, in_section, in_block, in_let, at_name, at_starts, at_items, in_unary, in_binary, in_chain, in_else, in_table, in_start, in_values, in_guard, in_result, in_while, in_function, in_value, in_vector, in_valof, in_label, in_guarded, in_default, in_or, in_for, in_routine, give, finish, defined_by, stepped_by, counted, guarded, inside}
+use Rattle.bk_frames.proofs.Terms.{◌≡◌, ◌≤◌, ◌+◌, ◌==◌, max, length, ℕ, List, [], Bool, true, cond, Option, Some, None, inl, inr, arith, nat_lt, Form, Both, inner, at_expression, at_expressions, at_names, at_command, size, start_count, depth, depth_of_each, depth_of_command, depth_of_declarations, depth_of_definition, depth_of_starts, nodes, nodes_of_each, nodes_of_command, nodes_of_declarations, nodes_of_definition, nodes_of_starts, each_then, starts_then, form_of, Lookahead, Any, AtClosing, AtPart, If, Unlisted, Closed, Missing, Started, Answered, Whole, Taken, Gives, Does, Operates, Defines, Completes, each_depth, each_nodes, declarations_depth, declarations_nodes, definitions_depth, definitions_nodes, starts_depth, starts_nodes, Kind as k, Guard as g}
+use Rattle.bk_frames.specs.declared.size.Form.TheVariants.{Label, Call, Other}
+use Rattle.bk_tree.specs.Tree.{Expression, Expressions, Command, Definition, Declarations, unary, binary, choice, apply, table, call, assign, result, repeat_while, function, variables, value, vector, valof, label, default, test, for_loop, routine, empty, none, more, no_starts, no_items}
+use Rattle.bk_grammar.specs.Machine.{Stack, State, want, have, maybe, did, due, in_section, at_name, at_starts, at_items, in_unary, in_binary, in_chain, in_else, in_table, in_start, in_values, in_guard, in_result, in_while, in_function, in_value, in_vector, in_valof, in_label, in_guarded, in_default, in_or, in_for, in_routine, give, finish, defined_by, stepped_by, counted, guarded, inside}
 use Rattle.bk_frames.proofs.Turns.{guarded_depth, guarded_nodes}
 use Rattle.bk_frames.proofs.Lowering.{Down}
 
@@ -18,8 +18,7 @@ abbrev NoLess : (ℕ → ℕ → Type 0) → Declarations → (ℕ → ℕ → L
 NoLess P ds F a b = (d n : ℕ) → a ≤ d → b ≤ n → (c : Lookahead) → F d n c → Has P ds
 
 counted_is : (b : Bool) (whole : Option State) (next : State) (ds : Declarations) → Ended (counted b whole k.Semicolon next) ds → (b ≡ true) × Ended whole ds
-counted_is true whole next ds h = (refl, h)
-counted_is false whole next ds h = absurd cc
+counted_is b whole next ds h1 = grind arith
 
 section_is : (gs ds : Declarations) → Ended (Some (due (in_section gs))) ds → gs ≡ ds
 section_is gs ds h = cc
@@ -27,60 +26,37 @@ section_is gs ds h = cc
 -- ---- unions
 
 closed_has : (P : ℕ → ℕ → Type 0) (ds : Declarations) (F : ℕ → ℕ → Lookahead → Type 0) (a b : ℕ) → NoLess P ds F a b → NoLess P ds (Closed F) a b
-closed_has P ds F a b f d n p q repeating h = f (d + 1) (n + 1) (omega (arith, p)) (omega (arith, q)) h.0 h.1
-closed_has P ds F a b f d n p q going h = absurd h
-closed_has P ds F a b f d n p q operating h = absurd h
-closed_has P ds F a b f d n p q x h = f d n p q x h
+closed_has P ds F a b h1 = grind arith
 
 missing_has : (P : ℕ → ℕ → Type 0) (ds : Declarations) (F : ℕ → ℕ → Lookahead → Type 0) (a b : ℕ) → NoLess P ds F a b → NoLess P ds (Missing F) a b
-missing_has P ds F a b f d n p q repeating h = f (d + 1) (n + 1) (omega (arith, p)) (omega (arith, q)) h.0 h.1
-missing_has P ds F a b f d n p q going h = absurd h
-missing_has P ds F a b f d n p q x h = f d n p q x h
+missing_has P ds F a b h1 = grind arith
 
 -- behind a call at the start of a command
 started_has : (P : ℕ → ℕ → Type 0) (ds : Declarations) (F : ℕ → ℕ → Lookahead → Type 0) (a b : ℕ) → NoLess P ds F a b → (f : Form) → (f ≡ Label → ⊥) → NoLess P ds (Started F f) a b
-started_has P ds F a b w Label other d n p q c h = absurd (other refl)
-started_has P ds F a b w f other d n p q assigning h = closed_has P ds F a b w (max d 1 + 1) (n + 2) (omega (arith, p)) (omega (arith, q)) h.0 h.1
-started_has P ds F a b w f other d n p q listing h = closed_has P ds F a b w (max d 1 + 1) (n + 4) (omega (arith, p)) (omega (arith, q)) h.0 h.1
-started_has P ds F a b w Call other d n p q closing h = w d n p q closing h
-started_has P ds F a b w Call other d n p q repeating h = w (d + 1) (n + 1) (omega (arith, p)) (omega (arith, q)) h.0 h.1
-started_has P ds F a b w _ other d n p q _ h = absurd h
+started_has P ds F a b h1 f h2 = grind (arith, closed_has)
 
 unlisted_has : (X : Type 0) (F : Lookahead → Type 0) → ((c : Lookahead) → F c → X) → Any (Unlisted F) → X
-unlisted_has X F f (closing, h) = f closing h
-unlisted_has X F f (assigning, h) = f assigning h
-unlisted_has X F f (listing, h) = absurd h
-unlisted_has X F f (going, h) = f going h
-unlisted_has X F f (repeating, h) = f repeating h
-unlisted_has X F f (operating, h) = f operating h
+unlisted_has X F h1 h2 = grind arith
 
 part_has : (X : Type 0) (F G : Lookahead → Type 0) → ((c : Lookahead) → F c → X) → ((c : Lookahead) → G c → X) → (c : Lookahead) → AtPart F G c → X
-part_has X F G f j listing h = unlisted_has X G j h
-part_has X F G f j x h = f x h
+part_has X F G h1 h2 c h3 = grind (arith, unlisted_has)
 
 at_closing_has : (X Y : Type 0) → (Y → X) → (c : Lookahead) → AtClosing Y c → X
-at_closing_has X Y f closing h = f h
-at_closing_has X Y f _ h = absurd h
+at_closing_has X Y h1 c h2 = grind arith
 
 answered_has : (P : ℕ → ℕ → Type 0) (ds : Declarations) (G : Form → ℕ → ℕ → Lookahead → Type 0) (H : ℕ → ℕ → Type 0) (a b : ℕ) → ((f : Form) → (f ≡ Label → ⊥) → NoLess P ds (G f) (a + 1) (b + 1)) → ((d n : ℕ) → a + 1 ≤ d → b + 1 ≤ n → H d n → Has P ds)
     → NoLess P ds (Answered G H) a b
-answered_has P ds G H a b f j d n p q going h = f Call (λ e. cc) (d + 2) (n + 2) (omega (arith, p)) (omega (arith, q)) h.0 h.1
-answered_has P ds G H a b f j d n p q operating h = j (d + 1) (n + 1) (omega (arith, p)) (omega (arith, q)) h
-answered_has P ds G H a b f j d n p q repeating h = absurd h
-answered_has P ds G H a b f j d n p q x h = f Callable (λ e. cc) (d + 1) (n + 1) (omega (arith, p)) (omega (arith, q)) x h
+answered_has P ds G H a b h1 h2 = grind arith
 
 taken_has : (b : Bool) (X Y Z : Type 0) → (Y → X) → (Z → X) → Taken b Y Z → X
-taken_has true X Y Z f j h = f h
-taken_has false X Y Z f j h = j h
+taken_has b X Y Z h1 h2 h3 = grind arith
 
 -- the last value is complete
 values_have : (P : ℕ → ℕ → Type 0) (ds : Declarations) (F : ℕ → ℕ → Lookahead → Type 0) (a b : ℕ) (X : Lookahead → Type 0) (last : Bool) → last ≡ true → NoLess P ds F a b → (d n : ℕ) → a ≤ d → b ≤ n → (c : Lookahead) → If last (Closed F d n) X c → Has P ds
-values_have P ds F a b X true is f d n p q c h = closed_has P ds F a b f d n p q c h
-values_have P ds F a b X false is f d n p q c h = absurd cc
+values_have P ds F a b X last h1 h2 d n h3 h4 c h5 = grind (arith, closed_has)
 
 starts_have : (X Y : Type 0) (Z : Lookahead → Type 0) (last : Bool) → last ≡ true → (Y → X) → (c : Lookahead) → If last (AtClosing Y) Z c → X
-starts_have X Y Z true is f c h = at_closing_has X Y f c h
-starts_have X Y Z false is f c h = absurd cc
+starts_have X Y Z last h1 h2 c h3 = grind (arith, at_closing_has)
 
 -- ---- by the stack
 
@@ -90,20 +66,15 @@ Apart Label (apply m s x es) = ⊥
 Apart _ _ = Unit {0}
 
 no_label : (f : Form) (m s : ℕ) (x : Expression) (es : Expressions) → Apart f (apply m s x es) → f ≡ Label → ⊥
-no_label Label m s x es a h = a
-no_label _ m s x es a h = cc
+no_label f m s x es h1 h2 = grind arith
 
 not_call : (f : Form) (m : ℕ) (y : Command) → Apart f (valof m y)
-not_call Label m y = tt
-not_call _ m y = tt
+not_call f m y = grind arith
 
 -- a definition is complete
 defines : (P : ℕ → ℕ → Type 0) → Down P → (st : Stack) (y : Definition) (l : ℕ) (x : List ℕ) (ds : Declarations) → Ended (defined_by st y l x k.Semicolon) ds
     → (d n : ℕ) → depth_of_definition y ≤ d → nodes_of_definition y ≤ n → Defines P st d n → Has P ds
-defines P w (in_let m es (in_section gs)) y l x ds h d n p q i = grind (arith, section_is, declarations_depth, declarations_nodes, definitions_depth, definitions_nodes)
-defines P w (in_let m es (in_block b free fs cs st)) y l x ds h d n p q i = absurd cc
-defines P w (in_let m es _) y l x ds h d n p q i = absurd cc
-defines P w _ y l x ds h d n p q i = absurd cc
+defines P h1 st y l x ds h2 d n h3 h4 h5 = grind (arith, section_is, declarations_depth, declarations_nodes, definitions_depth, definitions_nodes)
 
 mutual
   -- an expression is complete
@@ -175,16 +146,13 @@ mutual
   operates P w _ e l x ds h f d n p q i = f (d + 1) (n + 2) (omega (arith, p)) (omega (arith, q)) i.0 i.1
 
 inside_not : (b : Bool) (ds : Declarations) → Ended (cond b None None) ds → ⊥
-inside_not true ds h = cc
-inside_not false ds h = cc
+inside_not b ds h1 = grind arith
 
 form_apart : (e : Expression) → Apart (form_of e) e
-form_apart (name l x) = tt
-form_apart _ = tt
+form_apart e = grind arith
 
 whole_has : (P : ℕ → ℕ → Type 0) (ds : Declarations) (F : Form → ℕ → ℕ → Lookahead → Type 0) (f : Form) (a b : ℕ) → NoLess P ds (F f) a b → NoLess P ds (F Call) a b → Whole F f a b → Has P ds
-whole_has P ds F f a b i j (inl h) = i a b (omega arith) (omega arith) h.0 h.1
-whole_has P ds F f a b i j (inr h) = j (a + 1) (b + 1) (omega arith) (omega arith) h.0 h.1
+whole_has P ds F f a b h1 h2 h3 = grind arith
 
 missed : (P : ℕ → ℕ → Type 0) (ds : Declarations) (F : ℕ → ℕ → Lookahead → Type 0) (G : ℕ → ℕ → Lookahead → Type 0) (a b : ℕ) → NoLess P ds F a b → Any (Missing F a b) → Has P ds
 missed P ds F G a b f h = missing_has P ds F a b f a b (omega arith) (omega arith) h.0 h.1
@@ -196,8 +164,6 @@ ends P w (did st c) ds h i = finishes P w st c 1 [] ds h (depth_of_command c) (n
 ends P w (due (in_section gs)) ds h i = grind (arith, section_is)
 ends P w (due (at_name n st)) ds h i = absurd (inside_not (inside st) ds h)
 ends P w (due (at_items m s no_items st)) ds h i = absurd cc
-ends P w (due (at_items m s (item b y e is) st)) ds h i = absurd cc
-ends P w (due _) ds h i = absurd cc
 ends P w (maybe (in_label m n st)) ds h (inl i) = missed P ds (Does P st) (Does P st) 1 1 (finishes P w st (label m n empty) 1 [] ds h) i
 ends P w (maybe (in_label m n st)) ds h (inr i) = finishes P w st (label m n empty) 1 [] ds h 2 2 (omega arith) (omega arith) i.0 i.1
 ends P w (maybe (in_guarded gd m e st)) ds h (inl i) =
@@ -207,5 +173,4 @@ ends P w (maybe (in_guarded gd m e st)) ds h (inl i) =
 ends P w (maybe (in_guarded gd m e st)) ds h (inr i) = grind (arith, guarded_depth, empty, guarded_nodes, finishes, depth)
 ends P w (maybe (in_default m st)) ds h (inl i) = missed P ds (Does P st) (Does P st) 1 1 (finishes P w st (default m empty) 1 [] ds h) i
 ends P w (maybe (in_default m st)) ds h (inr i) = finishes P w st (default m empty) 1 [] ds h 2 2 (omega arith) (omega arith) i.0 i.1
-ends P w (maybe _) ds h i = absurd cc
 ends P w _ ds h i = absurd cc

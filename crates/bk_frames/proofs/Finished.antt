@@ -1,5 +1,5 @@
 -- The section at the end is within the limits, and so is the empty one.
-use Rattle.bk_frames.proofs.Terms.{◌≡◌, List, [], Some, sym, subst, ap, ◌∙◌, Result, Ok, Err, arith, IfOk, TREE_DEPTH, TREE_NODES, Frame, Decl, Declarations, no_declarations, Stack, State, due, in_section, stepped_by, stack, AtMost, Bounded, Kind as k}
+use Rattle.bk_frames.proofs.Terms.{◌≡◌, List, [], Some, Result, arith, IfOk, TREE_DEPTH, TREE_NODES, Frame, Decl, Declarations, State, due, in_section, stepped_by, stack, AtMost, Bounded, Kind as k}
 use Rattle.bk_base.specs.declared.source_fault.SourceFault.{SourceFault}
 use Rattle.bk_base.specs.declared.refused.Refused.{Refused}
 use Rattle.bk_tree.specs.declared.section.Section.{Section}
@@ -16,5 +16,4 @@ pub empty_bounded : (ds : List Decl) (xs : List Frame) → ds ≡ [] → xs ≡ 
 empty_bounded ds xs no_decls nothing = grind (arith, stack, in_section, stack_none, due)
 
 pub within_limits : (r : Result Section (Refused SourceFault)) → IfOk r (λ x. Within (declarations_of x))
-within_limits (Ok x) = x.within
-within_limits (Err e) = tt
+within_limits r = grind arith

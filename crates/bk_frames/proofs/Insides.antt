@@ -28,17 +28,12 @@ let_in x l xs st = refl
 
 inside_two : (x y : Unfinished) (st : Stack) → inside (unfinished_on x (unfinished_on y st)) ≡ cond (is_let_unfinished x) (is_block_unfinished y) false
 inside_two (b.OpenExpression (o.Parens l)) y st = refl
-inside_two (b.OpenExpression _) y st = refl
 inside_two (b.Phrase p.Start) y st = refl
-inside_two (b.Phrase _) y st = refl
 inside_two (b.Member (m.Function n fs)) y st = refl
-inside_two (b.Member _) y st = refl
 inside_two (b.Clause (c.Valof l)) y st = refl
-inside_two (b.Clause _) y st = refl
 inside_two (b.Place (a.Let l xs)) y st = let_in y l xs st
-inside_two (b.Place _) y st = refl
 inside_two (b.Point (t.Goto l)) y st = refl
-inside_two (b.Point _) y st = refl
+inside_two _ y st = refl
 
 pub inside_at : (ds : List Decl) (xs : List Frame) (n : ℕ) (x y : Frame) → n ≡ length xs → 2 ≤ n → x ≡ get_or xs (n - 1) x → y ≡ get_or xs (n - 2) y → inside (stack ds xs) ≡ cond (is_let_unfinished x.unfinished) (is_block_unfinished y.unfinished) false
 inside_at ds xs n x y is two at_x at_y =

@@ -1,26 +1,23 @@
 -- The ways on, taken apart.
-use Rattle.bk_frames.proofs.Terms.{◌≡◌, ◌⊎◌, ◌↔◌, inl, inr, ℕ, ◌+◌, ◌==◌, max, not, Bool, true, false, ◌||◌, refl, arith, nat_lt, nat_tests, TREE_DEPTH, TREE_NODES, Category, Expression, Form, inner, Stack, in_parens, in_binary, in_start, owed, Limit, is_tight, Tight, Part, Sized, goes_on, Any, AtClosing, AtListing, AtArgument, AtAssignment, AtPart, Unlisted, Started, Answered, Whole, Taken, Gives, Does, Operates, Defines, Declares, Form as f, or_cases, or_left, or_right}
+use Rattle.bk_frames.proofs.Terms.{◌≡◌, ◌⊎◌, ◌↔◌, inl, ℕ, ◌+◌, ◌==◌, max, not, Bool, true, false, ◌||◌, arith, nat_lt, nat_tests, Category, Expression, Form, inner, Stack, in_binary, in_start, owed, Limit, is_tight, Tight, Part, Sized, goes_on, Any, AtClosing, AtListing, AtArgument, AtAssignment, AtPart, Unlisted, Started, Answered, Whole, Taken, Gives, Does, Operates, Defines, Declares, Form as f, or_cases, or_left, or_right}
 use Rattle.bk_frames.specs.Completing as w
-use Rattle.bk_frames.proofs.Lowering.{Down, at_most_down, levels_down, Falls, at_closing, gives_falls, operates_fall, defines_fall, declares_fall, any_falls}
+use Rattle.bk_frames.proofs.Lowering.{Down, Falls, from_closing, from_listing, at_closing, gives_falls, operates_fall, defines_fall, declares_fall, any_falls}
 use Rattle.bk_frames.proofs.Links.{At, at_in, at_of, Ended, Decided}
 
 abbrev pub Budgets : Bool → Stack → Type 0
 Budgets b st = (x : Category) (c : w.Lookahead) (d n : ℕ) → Sized x d n → Part (Limit b) st x c d n ↔ (goes_on b st x c d n ≡ true)
 
 pub limit_down : (b : Bool) → Down (Limit b)
-limit_down true = at_most_down TREE_DEPTH TREE_NODES
-limit_down false = levels_down TREE_DEPTH
+limit_down b = grind arith
 
 pub via : {X Y Z : Type 0} → (X ↔ Y) → (Y ↔ Z) → X ↔ Z
 via f g = (λ x. g.0 (f.0 x), λ z. f.1 (g.1 z))
 
 or_in : {X Y : Type 0} → (a b : Bool) → (X → a ≡ true) → (Y → b ≡ true) → X ⊎ Y → a || b ≡ true
-or_in a b f g (inl x) = or_left a b (f x)
-or_in a b f g (inr y) = or_right a b (g y)
+or_in a b h1 h2 h3 = grind (arith, or_left, or_right)
 
 or_of : {X Y : Type 0} → (a b : Bool) → (a ≡ true → X) → (b ≡ true → Y) → (a ≡ true) ⊎ (b ≡ true) → X ⊎ Y
-or_of a b f g (inl x) = inl (f x)
-or_of a b f g (inr y) = inr (g y)
+or_of a b h1 h2 h3 = grind arith
 
 pub either : {X Y : Type 0} {a b : Bool} → (X ↔ (a ≡ true)) → (Y ↔ (b ≡ true)) → (X ⊎ Y) ↔ (a || b ≡ true)
 either {a = a} {b = b} f g = (or_in a b f.0 g.0, λ h. or_of a b f.1 g.1 (or_cases a b h))
@@ -28,16 +25,20 @@ either {a = a} {b = b} f g = (or_in a b f.0 g.0, λ h. or_of a b f.1 g.1 (or_cas
 pub none_is : ⊥ ↔ (false ≡ true)
 none_is = (λ x. absurd x, λ e. absurd cc)
 
+left : {X Y : Type 0} → X ⊎ Y → (Y → ⊥) → X
+left h1 h2 = grind arith
+
+right : {X Y : Type 0} → X ⊎ Y → (X → ⊥) → Y
+right h1 h2 = grind arith
+
 sum_none : {X : Type 0} → X ⊎ ⊥ → X
-sum_none (inl x) = x
-sum_none (inr x) = absurd x
+sum_none h = left h (λ x. x)
 
 pub add_none : {X : Type 0} → X ↔ (X ⊎ ⊥)
 add_none = (inl, sum_none)
 
 shut_in : (c : w.Lookahead) → AtClosing ⊥ c → false ≡ true
-shut_in w.closing x = absurd x
-shut_in y x = absurd x
+shut_in c h1 = grind arith
 
 pub shut : (c : w.Lookahead) → AtClosing ⊥ c ↔ (false ≡ true)
 shut c = (shut_in c, λ e. absurd cc)
@@ -54,22 +55,14 @@ listing_as f c = at_as w.listing f c
 pub operating_as : {X Y : Type 0} → (X ↔ Y) → (c : w.Lookahead) → At w.operating X c ↔ At w.operating Y c
 operating_as f c = at_as w.operating f c
 
-any_closed_of : {X : Type 0} → Any (AtClosing X) → X
-any_closed_of (w.closing, x) = x
-any_closed_of (y, x) = absurd x
-
-any_listed_of : {X : Type 0} → Any (AtListing X) → X
-any_listed_of (w.listing, x) = x
-any_listed_of (y, x) = absurd x
-
 pub any_closing : (X : Type 0) → Any (AtClosing X) ↔ X
-any_closing X = (any_closed_of, λ x. (w.closing, x))
+any_closing X = (from_closing, λ x. (w.closing, x))
 
 pub any_listing : (X : Type 0) → Any (AtListing X) ↔ X
-any_listing X = (any_listed_of, λ x. (w.listing, x))
+any_listing X = (from_listing, λ x. (w.listing, x))
 
 closed_any : {X : Type 0} → X ↔ Any (AtClosing X)
-closed_any = (λ x. (w.closing, x), any_closed_of)
+closed_any = (λ x. (w.closing, x), from_closing)
 
 pub closing_any : (X : Type 0) (c : w.Lookahead) → AtClosing X c ↔ AtClosing (Any (AtClosing X)) c
 closing_any X c = closing_as closed_any c
@@ -78,67 +71,46 @@ pub listing_any : (X : Type 0) (c : w.Lookahead) → AtListing X c ↔ AtListing
 listing_any X c = listing_as closed_any c
 
 pub sum_closing : (X Y : Type 0) (c : w.Lookahead) → AtClosing (X ⊎ Y) c ↔ (AtClosing X c ⊎ AtClosing Y c)
-sum_closing X Y w.closing = (λ h. h, λ h. h)
-sum_closing x y z = (λ h. absurd h, sum_none)
+sum_closing X Y c = grind (arith, sum_none)
 
 none_sum : {X : Type 0} → ⊥ ⊎ X → X
-none_sum (inl x) = absurd x
-none_sum (inr x) = x
+none_sum h = right h (λ x. x)
 
 pub split_argument : (X Y : Type 0) (c : w.Lookahead) → AtArgument X Y c ↔ (AtClosing X c ⊎ AtListing Y c)
-split_argument X Y w.closing = (inl, sum_none)
-split_argument X Y w.listing = (inr, none_sum)
-split_argument x y z = (λ h. absurd h, sum_none)
+split_argument X Y c = grind (arith, sum_none, none_sum)
 
 other_at : {X Y : Type 0} {k c : w.Lookahead} → (k ≡ c → ⊥) → ((k ≡ c) × X) ⊎ Y → Y
-other_at f (inl h) = absurd (f h.0)
-other_at f (inr y) = y
+other_at f h = right h (λ x. f x.0)
 
 assignment_of : {X : Type 0} → ((w.assigning ≡ w.assigning) × X) ⊎ ⊥ → X
-assignment_of (inl h) = h.1
-assignment_of (inr h) = absurd h
+assignment_of h = (left h (λ x. x)).1
 
 pub split_assignment : (X Y : Type 0) (c : w.Lookahead) → AtAssignment X Y c ↔ (At w.assigning X c ⊎ AtListing Y c)
-split_assignment X Y w.assigning = (λ h. inl (refl, h), assignment_of)
-split_assignment X Y w.listing = (inr, other_at (λ e. absurd cc))
-split_assignment x y z = (λ h. absurd h, other_at (λ e. absurd cc))
+split_assignment X Y c = grind (arith, assignment_of, other_at)
 
 pub split_part : (F G : w.Lookahead → Type 0) (c : w.Lookahead) → AtPart F G c ↔ (Unlisted F c ⊎ AtListing (Any (Unlisted G)) c)
-split_part F G w.listing = (inr, none_sum)
-split_part x y z = (inl, sum_none)
+split_part F G c = grind (arith, none_sum, sum_none)
 
 at_other : {X Y : Type 0} {k c : w.Lookahead} → (k ≡ c → ⊥) → X ⊎ ((k ≡ c) × Y) → X
-at_other f (inl x) = x
-at_other f (inr h) = absurd (f h.0)
+at_other f h = left h (λ x. f x.0)
 
 at_same : {Y : Type 0} {k : w.Lookahead} → ⊥ ⊎ ((k ≡ k) × Y) → Y
-at_same (inl x) = absurd x
-at_same (inr h) = h.1
+at_same h = (right h (λ x. x)).1
 
 pub split_closed : (F : ℕ → ℕ → w.Lookahead → Type 0) (d n : ℕ) (c : w.Lookahead) → w.Closed F d n c ↔ (Ended (F d n) c ⊎ At w.repeating (Any (F (d + 1) (n + 1))) c)
-split_closed F d n w.repeating = (λ h. inr (refl, h), at_same)
-split_closed x d n y = (inl, at_other (λ e. absurd cc))
+split_closed F d n c = grind (arith, at_same, at_other)
 
 at_none : {X Y Z : Type 0} {c : w.Lookahead} → (w.going ≡ c → ⊥) → (w.operating ≡ c → ⊥) → X ⊎ (((w.going ≡ c) × Y) ⊎ ((w.operating ≡ c) × Z)) → X
-at_none f k (inl x) = x
-at_none f k (inr (inl h)) = absurd (f h.0)
-at_none f k (inr (inr h)) = absurd (k h.0)
+at_none f k h = left h (λ x. k (right x (λ y. f y.0)).0)
 
 at_going : {Y Z : Type 0} → ⊥ ⊎ (((w.going ≡ w.going) × Y) ⊎ ((w.operating ≡ w.going) × Z)) → Y
-at_going (inl x) = absurd x
-at_going (inr (inl h)) = h.1
-at_going (inr (inr h)) = let e : w.operating ≡ w.going = h.0 in absurd cc
+at_going h = (left (right h (λ x. x)) (λ y. let e : w.operating ≡ w.going = y.0 in cc)).1
 
 at_operating : {Y Z : Type 0} → ⊥ ⊎ (((w.going ≡ w.operating) × Y) ⊎ ((w.operating ≡ w.operating) × Z)) → Z
-at_operating (inl x) = absurd x
-at_operating (inr (inl h)) = let e : w.going ≡ w.operating = h.0 in absurd cc
-at_operating (inr (inr h)) = h.1
+at_operating h = (right (right h (λ x. x)) (λ y. let e : w.going ≡ w.operating = y.0 in cc)).1
 
 pub split_answered : (G : Form → ℕ → ℕ → w.Lookahead → Type 0) (H : ℕ → ℕ → Type 0) (d n : ℕ) (c : w.Lookahead) → Answered G H d n c ↔ (Ended (G f.Callable (d + 1) (n + 1)) c ⊎ (At w.going (Any (G f.Call (d + 2) (n + 2))) c ⊎ At w.operating (H (d + 1) (n + 1)) c))
-split_answered G H d n w.repeating = (λ h. absurd h, at_none (λ e. absurd cc) (λ e. absurd cc))
-split_answered G H d n w.going = (λ h. inr (inl (refl, h)), at_going)
-split_answered G H d n w.operating = (λ h. inr (inr (refl, h)), at_operating)
-split_answered x y d n z = (inl, at_none (λ e. absurd cc) (λ e. absurd cc))
+split_answered G H d n c = grind (arith, at_none, at_going, at_operating)
 
 -- ---- the start of a command
 
@@ -149,50 +121,31 @@ abbrev Lists : (ℕ → ℕ → w.Lookahead → Type 0) → ℕ → ℕ → w.Lo
 Lists F d n c = AtListing (Any (w.Closed F (max d 1 + 1) (n + 4))) c
 
 third : {X Z : Type 0} {c : w.Lookahead} → (w.assigning ≡ c → ⊥) → ((w.assigning ≡ c) × X) ⊎ (⊥ ⊎ Z) → Z
-third f (inl h) = absurd (f h.0)
-third f (inr (inl h)) = absurd h
-third f (inr (inr h)) = h
+third f h = right (right h (λ x. f x.0)) (λ x. x)
 
 assigned : {X Z : Type 0} → (Z → ⊥) → ((w.assigning ≡ w.assigning) × X) ⊎ (⊥ ⊎ Z) → X
-assigned f (inl h) = h.1
-assigned f (inr (inl h)) = absurd h
-assigned f (inr (inr h)) = absurd (f h)
+assigned f h = (left h (λ x. f (right x (λ y. y)))).1
 
 listed : {X Y Z : Type 0} → (Z → ⊥) → ((w.assigning ≡ w.listing) × X) ⊎ (Y ⊎ Z) → Y
-listed f (inl h) = let e : w.assigning ≡ w.listing = h.0 in absurd cc
-listed f (inr (inl h)) = h
-listed f (inr (inr h)) = absurd (f h)
+listed f h = left (right h (λ x. let e : w.assigning ≡ w.listing = x.0 in cc)) f
 
 pub split_start : (F : ℕ → ℕ → w.Lookahead → Type 0) (d n : ℕ) (c : w.Lookahead) → Started F f.Other d n c ↔ (Assigns F d n c ⊎ (Lists F d n c ⊎ ⊥))
-split_start F d n w.assigning = (λ h. inl (refl, h), assigned (λ z. z))
-split_start F d n w.listing = (λ h. inr (inl h), listed (λ z. z))
-split_start x d n y = (λ h. absurd h, third (λ e. absurd cc))
+split_start F d n c = grind (arith, assigned, listed, third)
 
 no_call : {Y : Type 0} {c : w.Lookahead} → (w.repeating ≡ c → ⊥) → ⊥ ⊎ ((w.repeating ≡ c) × Y) → ⊥
-no_call f (inl h) = h
-no_call f (inr h) = f h.0
+no_call f h = f (right h (λ x. x)).0
 
 call_closing : {X Y : Type 0} → X ⊎ ((w.repeating ≡ w.closing) × Y) → X
-call_closing (inl h) = h
-call_closing (inr h) = let e : w.repeating ≡ w.closing = h.0 in absurd cc
+call_closing h = left h (λ x. let e : w.repeating ≡ w.closing = x.0 in cc)
 
 pub split_start_call : (F : ℕ → ℕ → w.Lookahead → Type 0) (d n : ℕ) (c : w.Lookahead) → Started F f.Call d n c ↔ (Assigns F d n c ⊎ (Lists F d n c ⊎ (AtClosing (F d n w.closing) c ⊎ At w.repeating (Any (F (d + 1) (n + 1))) c)))
-split_start_call F d n w.assigning = (λ h. inl (refl, h), assigned (no_call (λ e. absurd cc)))
-split_start_call F d n w.listing = (λ h. inr (inl h), listed (no_call (λ e. absurd cc)))
-split_start_call F d n w.closing = (λ h. inr (inr (inl h)), λ h. call_closing (third (λ e. absurd cc) h))
-split_start_call F d n w.going = (λ h. absurd h, λ h. no_call (λ e. absurd cc) (third (λ e. absurd cc) h))
-split_start_call F d n w.repeating = (λ h. inr (inr (inr (refl, h))), λ h. at_same (third (λ e. absurd cc) h))
-split_start_call F d n w.operating = (λ h. absurd h, λ h. no_call (λ e. absurd cc) (third (λ e. absurd cc) h))
+split_start_call F d n c = grind (arith, assigned, no_call, listed, call_closing, third, at_same)
 
 pub split_start_label : (F : ℕ → ℕ → w.Lookahead → Type 0) (d n : ℕ) (c : w.Lookahead) → Started F f.Label d n c ↔ (Assigns F d n c ⊎ (Lists F d n c ⊎ (AtClosing (Any (w.Missing F 1 1) ⊎ Any (F 2 2)) c ⊎ ⊥)))
-split_start_label F d n w.assigning = (λ h. inl (refl, h), assigned sum_none)
-split_start_label F d n w.listing = (λ h. inr (inl h), listed sum_none)
-split_start_label F d n w.closing = (λ h. inr (inr (inl h)), λ h. sum_none (third (λ e. absurd cc) h))
-split_start_label x d n y = (λ h. absurd h, λ h. sum_none (third (λ e. absurd cc) h))
+split_start_label F d n c = grind (arith, assigned, sum_none, listed, third)
 
 with_command : (F : ℕ → ℕ → w.Lookahead → Type 0) → Any (w.Missing F 1 1) ⊎ Any (F 2 2) → Any (w.Missing F 1 1)
-with_command F (inl h) = h
-with_command F (inr h) = (w.repeating, h)
+with_command F h1 = grind arith
 
 pub label_closing : (F : ℕ → ℕ → w.Lookahead → Type 0) (c : w.Lookahead) → AtClosing (Any (w.Missing F 1 1) ⊎ Any (F 2 2)) c ↔ AtClosing (Any (w.Missing F 1 1)) c
 label_closing F c = closing_as (with_command F, inl) c
@@ -200,19 +153,16 @@ label_closing F c = closing_as (with_command F, inl) c
 -- ---- calls
 
 whole_of : (G : Form → ℕ → ℕ → w.Lookahead → Type 0) → ((v : Form) → Falls (G v)) → (d n : ℕ) → Whole G f.Call d n → Any (G f.Call d n)
-whole_of G k d n (inl h) = h
-whole_of G k d n (inr h) = any_falls (G f.Call) (k f.Call) d (d + 1) n (n + 1) (omega arith) (omega arith) h
+whole_of G h1 d n h2 = grind (arith, any_falls)
 
 pub call_whole : (G : Form → ℕ → ℕ → w.Lookahead → Type 0) → ((v : Form) → Falls (G v)) → (d n : ℕ) → Whole G f.Call d n ↔ Any (G f.Call d n)
 call_whole G k d n = (whole_of G k d n, inl)
 
 callable_start : (F : ℕ → ℕ → w.Lookahead → Type 0) (d n : ℕ) (c : w.Lookahead) → Started F f.Callable d n c ↔ Started F f.Other d n c
-callable_start F d n w.closing = (λ h. h, λ h. h)
-callable_start x d n y = (λ h. h, λ h. h)
+callable_start F d n c = grind arith
 
 pub plain : (P : ℕ → ℕ → Type 0) (st : Stack) (d n : ℕ) (c : w.Lookahead) → Gives P st f.Callable d n c ↔ Gives P st f.Other d n c
 plain P (in_start st) d n c = callable_start (Does P st) d n c
-plain P (in_parens k st) d n c = (λ h. h, λ h. h)
 plain P st d n c = (λ h. h, λ h. h)
 
 pub callable : (b : Bool) (st : Stack) → Budgets b st → Decided (Gives (Limit b) st f.Callable) (goes_on b st Expression)
@@ -236,23 +186,20 @@ pub declared_falls : (b : Bool) (st : Stack) → Falls (declared b st)
 declared_falls b st d e n m p q c h = at_closing (declares_fall (Limit b) (limit_down b) st d e n m p q) c h
 
 tight_falls : {X Y : Type 0} → (t : Bool) → (X → Y) → Tight t X → Tight t Y
-tight_falls true f h = f h
-tight_falls false f h = h
+tight_falls t h1 h2 = grind arith
 
 pub operated_falls : (b : Bool) (st : Stack) → Falls (operated b st)
 operated_falls b st d e n m p q c h = at_closing (tight_falls (is_tight st) (operates_fall (Limit b) (limit_down b) st (gives_falls (Limit b) (limit_down b) st) d e n m p q)) c h
 
 is_taken : (X Y : Type 0) (t : Bool) → not t ≡ false → Taken t X Y ↔ X
-is_taken X Y true e = (λ h. h, λ h. h)
-is_taken X Y false e = absurd cc
+is_taken X Y t h1 = grind arith
 
 pub loose : (b : Bool) (st : Stack) → is_tight st ≡ false → (d n : ℕ) → Operates (Limit b) st (Gives (Limit b) st) d n ↔ Any (Gives (Limit b) st f.Other (d + 1) (n + 2))
 loose b (in_binary o s a st) e d n = is_taken _ _ (nat_lt 1 (inner o)) e
 loose b st e d n = (λ h. h, λ h. h)
 
 is_tightened : {X : Type 0} → (t : Bool) → t ≡ true → X ↔ Tight t X
-is_tightened true e = (λ h. h, λ h. h)
-is_tightened false e = absurd cc
+is_tightened t h1 = grind arith
 
 pub tight : (b : Bool) (st : Stack) → is_tight st ≡ true → (d n : ℕ) → Operates (Limit b) st (Gives (Limit b) st) d n ↔ Any (operated b st d n)
 tight b st e d n = via (is_tightened (is_tight st) e) closed_any

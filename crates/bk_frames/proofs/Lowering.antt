@@ -1,5 +1,5 @@
 -- What can be completed with a part can be completed with a smaller one.
-use Rattle.bk_frames.proofs.Terms.{◌≤◌, ℕ, ◌+◌, max, Bool, true, false, ◌==◌, length, inl, inr, arith, Guard, Form, depth, depth_of_each, depth_of_command, depth_of_commands, depth_of_declarations, depth_of_items, depth_of_definitions, depth_of_starts, nodes, nodes_of_each, nodes_of_command, nodes_of_commands, nodes_of_declarations, nodes_of_items, nodes_of_definitions, nodes_of_starts, nat_lt, inner, size, start_count, Stack, in_section, in_block, in_let, in_parens, in_unary, in_binary, in_chain, in_then, in_else, in_args, in_table, in_start, in_dests, in_values, in_guard, in_test, in_result, in_while, in_from, in_to, in_by, in_item, in_function, in_value, in_vector, in_valof, in_label, in_guarded, in_default, in_do, in_or, in_for, in_routine, owed, AtMost, LevelsAtMost, Lookahead, closing, assigning, listing, going, repeating, operating, Any, AtClosing, AtListing, AtArgument, AtAssignment, Unlisted, AtPart, If, Closed, Missing, Started, Answered, Whole, Guarded, Taken, Gives, Does, Operates, Defines, Declares, Guard as g}
+use Rattle.bk_frames.proofs.Terms.{◌≤◌, ℕ, ◌+◌, max, Bool, ◌==◌, length, arith, Guard, Form, depth, depth_of_each, depth_of_command, depth_of_commands, depth_of_declarations, depth_of_items, depth_of_definitions, depth_of_starts, nodes, nodes_of_each, nodes_of_command, nodes_of_commands, nodes_of_declarations, nodes_of_items, nodes_of_definitions, nodes_of_starts, nat_lt, inner, size, start_count, Stack, in_section, in_block, in_let, in_parens, in_unary, in_binary, in_chain, in_then, in_else, in_args, in_table, in_start, in_dests, in_values, in_guard, in_test, in_result, in_while, in_from, in_to, in_by, in_item, in_function, in_value, in_vector, in_valof, in_label, in_guarded, in_default, in_do, in_or, in_for, in_routine, owed, AtMost, LevelsAtMost, Lookahead, Any, AtClosing, AtListing, AtArgument, AtAssignment, Unlisted, AtPart, If, Closed, Missing, Started, Answered, Whole, Guarded, Taken, Gives, Does, Operates, Defines, Declares}
 use Rattle.bk_frames.specs.declared.size.Form.TheVariants.{Call, Callable, Other}
 
 -- a smaller section has the property too
@@ -16,48 +16,40 @@ abbrev pub Falls : (ℕ → ℕ → Lookahead → Type 0) → Type 0
 Falls F = (d e n m : ℕ) → d ≤ e → n ≤ m → (c : Lookahead) → F e m c → F d n c
 
 pub at_closing : {X Y : Type 0} → (X → Y) → (c : Lookahead) → AtClosing X c → AtClosing Y c
-at_closing f closing h = f h
-at_closing f x h = h
+at_closing h1 c h2 = grind arith
 
 pub at_listing : {X Y : Type 0} → (X → Y) → (c : Lookahead) → AtListing X c → AtListing Y c
-at_listing f listing h = f h
-at_listing f x h = h
+at_listing h1 c h2 = grind arith
 
 pub at_argument : {X Y A B : Type 0} → (X → Y) → (A → B) → (c : Lookahead) → AtArgument X A c → AtArgument Y B c
-at_argument f k closing h = f h
-at_argument f k listing h = k h
-at_argument f k x h = h
+at_argument h1 h2 c h3 = grind arith
 
 pub at_assignment : {X Y A B : Type 0} → (X → Y) → (A → B) → (c : Lookahead) → AtAssignment X A c → AtAssignment Y B c
-at_assignment f k assigning h = f h
-at_assignment f k listing h = k h
-at_assignment f k x h = h
+at_assignment h1 h2 c h3 = grind arith
+
+pub from_closing : {X : Type 0} → Any (AtClosing X) → X
+from_closing h1 = grind arith
+
+pub from_listing : {X : Type 0} → Any (AtListing X) → X
+from_listing h1 = grind arith
 
 pub any : {F G : Lookahead → Type 0} → ((c : Lookahead) → F c → G c) → Any F → Any G
 any f h = (h.0, f h.0 h.1)
 
 pub unlisted : {F G : Lookahead → Type 0} → ((c : Lookahead) → F c → G c) → (c : Lookahead) → Unlisted F c → Unlisted G c
-unlisted f listing h = h
-unlisted f x h = f x h
+unlisted h1 c h2 = grind arith
 
 pub at_part : {F G A B : Lookahead → Type 0} → ((c : Lookahead) → F c → G c) → ((c : Lookahead) → A c → B c) → (c : Lookahead) → AtPart F A c → AtPart G B c
-at_part f k listing h = any (unlisted k) h
-at_part f k x h = f x h
+at_part h1 h2 c h3 = grind (arith, any, unlisted)
 
 pub either : {F G A B : Lookahead → Type 0} → (b : Bool) → ((c : Lookahead) → F c → G c) → ((c : Lookahead) → A c → B c) → (c : Lookahead) → If b F A c → If b G B c
-either true f k c h = f c h
-either false f k c h = k c h
+either b h1 h2 c h3 = grind arith
 
 pub closed_falls : (F : ℕ → ℕ → Lookahead → Type 0) → Falls F → Falls (Closed F)
-closed_falls F f d e n m p q going h = h
-closed_falls F f d e n m p q operating h = h
-closed_falls F f d e n m p q repeating h = any (f (d + 1) (e + 1) (n + 1) (m + 1) (omega (arith, p)) (omega (arith, q))) h
-closed_falls F f d e n m p q x h = f d e n m p q x h
+closed_falls F h1 = grind (arith, any)
 
 pub missing_falls : (F : ℕ → ℕ → Lookahead → Type 0) → Falls F → Falls (Missing F)
-missing_falls F f d e n m p q going h = h
-missing_falls F f d e n m p q repeating h = any (f (d + 1) (e + 1) (n + 1) (m + 1) (omega (arith, p)) (omega (arith, q))) h
-missing_falls F f d e n m p q x h = f d e n m p q x h
+missing_falls F h1 = grind (arith, any)
 
 pub any_falls : (F : ℕ → ℕ → Lookahead → Type 0) → Falls F → (d e n m : ℕ) → d ≤ e → n ≤ m → Any (F e m) → Any (F d n)
 any_falls F f d e n m p q h = any (f d e n m p q) h
@@ -69,30 +61,19 @@ pub any_closed : (F : ℕ → ℕ → Lookahead → Type 0) → Falls F → (d e
 any_closed F f d e n m p q h = any (closed_falls F f d e n m p q) h
 
 started_falls : (F : ℕ → ℕ → Lookahead → Type 0) → Falls F → (f : Form) → Falls (Started F f)
-started_falls F k f d e n m p q assigning h = any_closed F k (max d 1 + 1) (max e 1 + 1) (n + 2) (m + 2) (omega (arith, p)) (omega (arith, q)) h
-started_falls F k f d e n m p q listing h = any_closed F k (max d 1 + 1) (max e 1 + 1) (n + 4) (m + 4) (omega (arith, p)) (omega (arith, q)) h
-started_falls F k Call d e n m p q closing h = k d e n m p q closing h
-started_falls F k Call d e n m p q repeating h = any_falls F k (d + 1) (e + 1) (n + 1) (m + 1) (omega (arith, p)) (omega (arith, q)) h
-started_falls x k y d e n m p q z h = h
+started_falls F h1 f = grind (arith, any_closed, any_falls)
 
 answered_falls : (G : Form → ℕ → ℕ → Lookahead → Type 0) → ((f : Form) → Falls (G f)) → (H : ℕ → ℕ → Type 0) → Down H → Falls (Answered G H)
-answered_falls G k H j d e n m p q going h = any (k Call (d + 2) (e + 2) (n + 2) (m + 2) (omega (arith, p)) (omega (arith, q))) h
-answered_falls G k H j d e n m p q operating h = j (d + 1) (e + 1) (n + 1) (m + 1) (omega (arith, p)) (omega (arith, q)) h
-answered_falls G k H j d e n m p q repeating h = h
-answered_falls G k H j d e n m p q x h = k Callable (d + 1) (e + 1) (n + 1) (m + 1) (omega (arith, p)) (omega (arith, q)) x h
+answered_falls G h1 H h2 = grind (arith, any)
 
 pub whole_falls : (G : Form → ℕ → ℕ → Lookahead → Type 0) → ((f : Form) → Falls (G f)) → (f : Form) → (d e n m : ℕ) → d ≤ e → n ≤ m → Whole G f e m → Whole G f d n
-whole_falls G k f d e n m p q (inl h) = inl (any (k f d e n m p q) h)
-whole_falls G k f d e n m p q (inr h) = inr (any (k Call (d + 1) (e + 1) (n + 1) (m + 1) (omega (arith, p)) (omega (arith, q))) h)
+whole_falls G h1 f d e n m h2 h3 h4 = grind (arith, any)
 
-taken : {X Y A B : Type 0} → (b : Bool) → (X → Y) → (A → B) → Taken b X A → Taken b Y B
-taken true f k h = f h
-taken false f k h = k h
+pub taken : {X Y A B : Type 0} → (b : Bool) → (X → Y) → (A → B) → Taken b X A → Taken b Y B
+taken b h1 h2 h3 = grind arith
 
 guarded_falls : (gd : Guard) (F : ℕ → ℕ → Lookahead → Type 0) → Falls F → (d e n m : ℕ) → d ≤ e → n ≤ m → Guarded gd F e m → Guarded gd F d n
-guarded_falls g.Case F k d e n m p q (inl h) = inl (any_missing F k (d + 1) (e + 1) (n + 1) (m + 1) (omega (arith, p)) (omega (arith, q)) h)
-guarded_falls g.Case F k d e n m p q (inr h) = inr (any_falls F k (max d 1 + 1) (max e 1 + 1) (n + 2) (m + 2) (omega (arith, p)) (omega (arith, q)) h)
-guarded_falls _ F k d e n m p q h = any_falls F k (max d 1 + 1) (max e 1 + 1) (n + 2) (m + 2) (omega (arith, p)) (omega (arith, q)) h
+guarded_falls gd F h1 d e n m h2 h3 h4 = grind (arith, any_missing, any_falls)
 
 mutual
   pub gives_falls : (P : ℕ → ℕ → Type 0) → Down P → (st : Stack) (f : Form) → Falls (Gives P st f)

@@ -1,8 +1,6 @@
 -- Each state that fits can be completed, if nothing is asked of the section.
-use Rattle.bk_frames.proofs.Terms.{◌≡◌, ◌<◌, ℕ, ◌+◌, max, Bool, true, false, ◌==◌, List, [], ◌∷◌, length, inl, inr, refl, sym, subst, arith, nat_lt, nat_tests, Guard, Form, no_items, item, none, more, depth_of_each, nodes_of_each, size, start_count, Stack, in_section, in_block, in_let, at_name, at_formals, at_formal, at_formal_end, at_head, at_variable, at_variable_end, at_starts, at_opening, at_items, at_sign, at_goto, at_for, at_forward, at_default, in_parens, in_unary, in_binary, in_chain, in_then, in_else, in_args, in_table, in_start, in_dests, in_values, in_guard, in_test, in_result, in_while, in_from, in_to, in_by, in_item, in_function, in_value, in_vector, in_valof, in_label, in_guarded, in_default, in_do, in_or, in_for, in_routine, State, want, have, begin, maybe, did, due, bars, Always, ForExpression, ForCommand, ForDefinition, ForDeclaration, ForSymbol, Fits, Guard as g}
+use Rattle.bk_frames.proofs.Terms.{◌≡◌, ◌<◌, ℕ, ◌+◌, max, Bool, true, false, ◌==◌, List, [], ◌∷◌, length, inl, inr, subst, arith, nat_lt, nat_tests, Guard, Form, no_items, item, none, depth_of_each, nodes_of_each, size, start_count, Stack, in_section, in_block, in_let, at_name, at_formals, at_formal, at_formal_end, at_head, at_variable, at_variable_end, at_starts, at_opening, at_items, at_sign, at_goto, at_for, at_forward, at_default, in_parens, in_unary, in_binary, in_chain, in_then, in_else, in_args, in_table, in_start, in_dests, in_values, in_guard, in_test, in_result, in_while, in_from, in_to, in_by, in_item, in_function, in_value, in_vector, in_valof, in_label, in_guarded, in_default, in_do, in_or, in_for, in_routine, State, want, have, begin, maybe, did, due, bars, Always, ForExpression, ForCommand, ForDefinition, ForDeclaration, ForSymbol, Fits, Lookahead, closing, assigning, listing, going, repeating, Any, AtListing, Unlisted, AtPart, If, Guarded, Gives, Does, Defines, Declares, Wants, Due, Completes}
 use Rattle.bk_frames.specs.declared.size.Form.TheVariants.{Label, Call, Callable, Other}
-use Rattle.bk_frames.specs.Completing.{Lookahead, closing, assigning, listing, going, repeating, Any, AtListing, Unlisted, AtPart, If, Guarded, Gives, Does, Defines, Declares, Wants, Due, Completes}
-use Rattle.bk_frames.proofs.Lowering.{unlisted}
 
 -- behind an expression a comma is owed, or something else may come
 abbrev GoesOn : Bool → (Lookahead → Type 0) → Type 0
@@ -10,27 +8,22 @@ GoesOn true F = F listing
 GoesOn false F = Any (Unlisted F)
 
 unlisted_any : (F : Lookahead → Type 0) → Any (Unlisted F) → Any F
-unlisted_any F (listing, h) = absurd h
-unlisted_any F (x, h) = (x, h)
+unlisted_any F h1 = grind arith
 
 any_of : (b : Bool) (F : Lookahead → Type 0) → GoesOn b F → Any F
-any_of true F h = (listing, h)
-any_of false F h = unlisted_any F h
+any_of b F h1 = grind (arith, unlisted_any)
 
 -- the same under another name
 same : (b : Bool) (F G : Lookahead → Type 0) → ((c : Lookahead) → F c → G c) → GoesOn b F → GoesOn b G
-same true F G f h = f listing h
-same false F G f h = (h.0, unlisted f h.0 h.1)
+same b F G h1 h2 = grind arith
 
 -- a TABLE takes the comma
 table_goes : (F G : Lookahead → Type 0) → Any (Unlisted F) → Any (Unlisted (AtPart F G))
-table_goes F G (listing, h) = absurd h
-table_goes F G (x, h) = (x, h)
+table_goes F G h1 = grind arith
 
 -- the last value, or a comma
 list_goes : (w b : Bool) (F : Lookahead → Type 0) (X : Type 0) → (b ≡ true → w ≡ false) → (b ≡ false → w ≡ true) → Any (Unlisted F) → X → GoesOn w (If b F (AtListing X))
-list_goes w true F X h j one further = let P : Bool → Type 0 = λ z. GoesOn z (If true F (AtListing X)) in subst P (sym (h refl)) (one.0, unlisted {F = F} (λ c z. z) one.0 one.1)
-list_goes w false F X h j one further = let P : Bool → Type 0 = λ z. GoesOn z (If false F (AtListing X)) in subst P (sym (j refl)) further
+list_goes w b F X h1 h2 h3 h4 = grind arith
 
 last_one : (all done : ℕ) → (all == done + 1) ≡ true → nat_lt (done + 1) all ≡ false
 last_one all done h = grind (arith, nat_tests, h)
@@ -40,8 +33,7 @@ not_last all done lt h = grind (arith, nat_tests, lt, h)
 
 -- behind the sign of a guard
 guarded : (k : Guard) (F : ℕ → ℕ → Lookahead → Type 0) → ((d n : ℕ) → Any (F d n)) → (d n : ℕ) → Guarded k F d n
-guarded g.Case F f d n = inr (f (max d 1 + 1) (n + 2))
-guarded _ F f d n = f (max d 1 + 1) (n + 2)
+guarded k F h1 d n = grind arith
 
 mutual
   gives : (st : Stack) (os : List (List ℕ)) → ForExpression st os → (f : Form) (d n : ℕ) → GoesOn (bars st) (Gives Always st f d n)
@@ -110,8 +102,6 @@ any_does st os h d n = unlisted_any (Does Always st d n) (does st os h d n)
 
 wants : (st : Stack) (os : List (List ℕ)) → ForExpression st os → Wants Always st
 wants (in_args s x none st) os h = inl (any_gives st os h Call _ _)
-wants (in_args s x (more e es) st) os h = any_gives (in_args s x (more e es) st) os h Label 1 1
-wants (in_parens l st) os h = any_gives (in_parens l st) os h Label 1 1
 wants st os h = any_gives st os h Label 1 1
 
 dues : (st : Stack) (os : List (List ℕ)) → ForSymbol st os → Due Always st

@@ -1,5 +1,5 @@
 -- Frames as a stack.
-use Rattle.bk_frames.proofs.Terms.{◌≡◌, ℕ, zero, suc, Bool, true, false, if◌then◌else◌, Option, Some, None, append-nil, slice_get, sym, subst, ◌+◌, ◌-◌, ◌<◌, ◌≤◌, List, [], ◌∷◌, ◌++◌, length, get_or, take, refl, ap, ◌∙◌, ◌⊎◌, inl, inr, arith, MatchOption, take-append-add, take-length, Frame, Decl, declarations_in, Stack, in_section, unfinished_on, Size, Leaves, above, stack, spare_under, spare_below, Spared, Ample, AreBudgets, take_more, take_all, take-append-le, length-append}
+use Rattle.bk_frames.proofs.Terms.{◌≡◌, ℕ, zero, suc, Bool, true, if◌then◌else◌, Option, Some, None, append-nil, slice_get, sym, subst, ◌+◌, ◌-◌, ◌<◌, ◌≤◌, List, [], ◌∷◌, ◌++◌, length, get_or, take, refl, ap, ◌∙◌, ◌⊎◌, inl, inr, arith, MatchOption, take-append-add, take-length, Frame, Decl, declarations_in, Stack, in_section, unfinished_on, Size, Leaves, above, stack, spare_under, spare_below, Spared, Ample, AreBudgets, take_more, take_all, take-append-le, length-append}
 use Rattle.std.specs.Option.{option_to_list}
 use Rattle.std.proofs.lemmas.Option.{slice_get_within, get_or_from_slice_get, slice_get-get_or, slice_get_read}
 use Rattle.bk_frames.specs.declared.budget.FrameBudgets.{FrameBudgets}
@@ -38,8 +38,7 @@ spared_pop s (y ∷ ys) w h zero x is = h zero x is
 spared_pop s (y ∷ ys) w h (suc i) x is = spared_pop y.spare ys w (λ j z. h (suc j) z) i x is
 
 pub spared_pushed : (ok : Bool) (s : Size) (xs zs : List Frame) (w : Frame) → zs ≡ (if ok then xs ++ w ∷ [] else xs) → Spared s xs → Leaves (spare_under s xs) w.unfinished w.spare → Spared s zs
-spared_pushed true s xs zs w is h g = let P : List Frame → Type 0 = λ z. Spared s z in subst P (sym is) (spared_push s xs w h g)
-spared_pushed false s xs zs w is h g = let P : List Frame → Type 0 = λ z. Spared s z in subst P (sym is) h
+spared_pushed ok s xs zs w h1 h2 h3 = grind (arith, spared_push)
 
 pub spared_popped : (r : Option Frame) (s : Size) (xs ys : List Frame) → xs ≡ ys ++ option_to_list r → Spared s xs → Spared s ys
 spared_popped None s xs ys is h = let P : List Frame → Type 0 = λ z. Spared s z in subst P (is ∙ append-nil ys) h
@@ -75,8 +74,7 @@ budgets_in_push ds xs w rs h g i r at lt =
 
 pub budgets_pushed : (ok : Bool) (ds : List Decl) (xs zs : List Frame) (w : Frame) (rs : List FrameBudgets) → zs ≡ (if ok then xs ++ w ∷ [] else xs) → Ample ds xs rs
     → ((r : FrameBudgets) → slice_get rs (length xs) ≡ Some r → AreBudgets true (unfinished_on w.unfinished (stack ds xs)) r.budgets.items) → Ample ds zs rs
-budgets_pushed true ds xs zs w rs is h g = let P : List Frame → Type 0 = λ z. Ample ds z rs in subst P (sym is) (budgets_in_push ds xs w rs h g)
-budgets_pushed false ds xs zs w rs is h g = let P : List Frame → Type 0 = λ z. Ample ds z rs in subst P (sym is) h
+budgets_pushed ok ds xs zs w rs h1 h2 h3 = grind (arith, budgets_in_push)
 
 pub budgets_popped : (r : Option Frame) (ds : List Decl) (xs ys : List Frame) (rs : List FrameBudgets) → xs ≡ ys ++ option_to_list r → Ample ds xs rs → Ample ds ys rs
 budgets_popped r ds xs ys rs is h i x at lt =
@@ -129,8 +127,7 @@ unfolding spare_under
 spare_none s xs is = ap (spare_under s) (sym (none_last xs is))
 
 take_none : (xs : List Frame) → take 0 xs ≡ []
-take_none [] = refl
-take_none (x ∷ xs) = refl
+take_none xs = cc
 
 pub stack_first : (ds : List Decl) (xs : List Frame) (n : ℕ) → n ≡ 0 → stack ds (take n xs) ≡ in_section (declarations_in ds)
 stack_first ds xs n is = ap (λ i. stack ds (take i xs)) is ∙ ap (stack ds) (take_none xs) ∙ stack_none ds

@@ -1,9 +1,8 @@
 -- What is surely spare on a stack leaves what is surely spare above it.
-use Rattle.bk_frames.proofs.Terms.{◌≡◌, ◌≤◌, ◌<◌, ℕ, zero, suc, List, [], ◌∷◌, cond, refl, ◌+◌, ◌==◌, max, Bool, true, false, length, inl, inr, ap, arith, TREE_DEPTH, Guard, Size, Frame, Decl, Unfinished, ParserState, Form, depth, depth_of_each, depth_of_command, depth_of_commands, depth_of_declarations, depth_of_items, depth_of_definitions, depth_of_starts, nodes, nodes_of_each, nodes_of_command, nodes_of_commands, nodes_of_declarations, nodes_of_items, nodes_of_definitions, nodes_of_starts, nat_lt, nat_le, map, nat_tests, inner, size, start_count, Stack, in_section, in_args, unfinished_on, kept, owed, form_of, size_of_declarations, held_depth, held_nodes, Always, Limit, owes, alone, spare_of_section, Leaves, IsSmall, above, stack, spare_under, spare_below, Spared, state, part_of, Guard as g, OpenExpression as o, Phrase as p, Member as member, Clause as c, Place as a, Point as t, Unfinished as b, ParserState as n}
+use Rattle.bk_frames.proofs.Terms.{◌≡◌, ◌≤◌, ◌<◌, ℕ, zero, suc, List, [], ◌∷◌, cond, refl, ◌+◌, ◌==◌, max, Bool, true, length, inl, inr, ap, arith, TREE_DEPTH, Guard, Size, Frame, Decl, Unfinished, ParserState, Form, depth, depth_of_each, depth_of_command, depth_of_commands, depth_of_declarations, depth_of_items, depth_of_definitions, depth_of_starts, nodes, nodes_of_each, nodes_of_command, nodes_of_commands, nodes_of_declarations, nodes_of_items, nodes_of_definitions, nodes_of_starts, nat_lt, nat_le, map, inner, size, start_count, Stack, in_section, in_args, unfinished_on, kept, owed, form_of, size_of_declarations, held_depth, held_nodes, Always, Limit, owes, alone, spare_of_section, Leaves, IsSmall, above, stack, spare_under, spare_below, Spared, state, part_of, OpenExpression as o, Phrase as p, Member as member, Clause as c, Place as a, Point as t, Unfinished as b, ParserState as n, Lookahead, going, repeating, operating, Closed, Missing, Started, Whole, Guarded, Gives, Does, Operates, Defines, Declares, Wants, Misses, Lists, Due, Completes}
 use Rattle.bk_frames.specs.declared.size.Form.TheVariants.{Label, Call, Callable, Other}
 use Rattle.bk_tree.specs.Tree.{Expression, Expressions, Items, Declarations, no_items, item, none, more, mention, expression, expressions_in, step_in, command_in, commands_in, declarations_in, items_in, definitions_in, starts_in}
-use Rattle.bk_frames.specs.Completing.{Lookahead, closing, assigning, listing, going, repeating, operating, Closed, Missing, Started, Whole, Guarded, Taken, Gives, Does, Operates, Defines, Declares, Wants, Misses, Lists, Due, Completes}
-use Rattle.bk_frames.proofs.Lowering.{at_closing, at_listing, at_argument, at_assignment, any, at_part, either}
+use Rattle.bk_frames.proofs.Lowering.{at_closing, at_listing, at_argument, at_assignment, any, at_part, either, taken}
 
 abbrev Completions : Type 1
 Completions = ℕ → ℕ → Lookahead → Type 0
@@ -17,37 +16,19 @@ abbrev Lifts : ℕ → ℕ → Completions → Completions → Type 0
 Lifts e m F G = (d n : ℕ) → d ≤ e → n ≤ m → (c : Lookahead) → F d n c → G d n c
 
 closed_in : (e m : ℕ) (F G : Completions) → Lifts e m F G → (d n : ℕ) → d + 1 ≤ e → n + 1 ≤ m → (c : Lookahead) → Closed F d n c → Closed G d n c
-closed_in e m F G f d n p q going h = h
-closed_in e m F G f d n p q operating h = h
-closed_in e m F G f d n p q repeating h = any (f (d + 1) (n + 1) p q) h
-closed_in e m F G f d n p q x h = f d n (omega (arith, p)) (omega (arith, q)) x h
+closed_in e m F G h1 d n h2 h3 c h4 = grind arith
 
 missing_in : (e m : ℕ) (F G : Completions) → Lifts e m F G → (d n : ℕ) → d + 1 ≤ e → n + 1 ≤ m → (c : Lookahead) → Missing F d n c → Missing G d n c
-missing_in e m F G f d n p q going h = h
-missing_in e m F G f d n p q repeating h = any (f (d + 1) (n + 1) p q) h
-missing_in e m F G f d n p q x h = f d n (omega (arith, p)) (omega (arith, q)) x h
+missing_in e m F G h1 d n h2 h3 c h4 = grind arith
 
 started_in : (e m : ℕ) (F G : Completions) → Lifts e m F G → (f : Form) (d n : ℕ) → max d 1 + 2 ≤ e → n + 5 ≤ m → (c : Lookahead) → Started F f d n c → Started G f d n c
-started_in e m F G k f d n p q assigning h = any (closed_in e m F G k (max d 1 + 1) (n + 2) (omega (arith, p)) (omega (arith, q))) h
-started_in e m F G k f d n p q listing h = any (closed_in e m F G k (max d 1 + 1) (n + 4) (omega (arith, p)) (omega (arith, q))) h
-started_in e m F G k Label d n p q closing (inl h) = inl (any (missing_in e m F G k 1 1 (omega (arith, p)) (omega (arith, q))) h)
-started_in e m F G k Label d n p q closing (inr h) = inr (any (k 2 2 (omega (arith, p)) (omega (arith, q))) h)
-started_in e m F G k Call d n p q closing h = k d n (omega (arith, p)) (omega (arith, q)) closing h
-started_in e m F G k Call d n p q repeating h = any (k (d + 1) (n + 1) (omega (arith, p)) (omega (arith, q))) h
-started_in e m x y k z d n p q u h = h
+started_in e m F G h1 f d n h2 h3 c h4 = grind (arith, closed_in, missing_in)
 
 whole_in : (e m : ℕ) (F G : Form → Completions) → ((f : Form) → Lifts e m (F f) (G f)) → (f : Form) (d n : ℕ) → d + 1 ≤ e → n + 1 ≤ m → Whole F f d n → Whole G f d n
-whole_in e m F G k f d n p q (inl h) = inl (any (k f d n (omega (arith, p)) (omega (arith, q))) h)
-whole_in e m F G k f d n p q (inr h) = inr (any (k Call (d + 1) (n + 1) p q) h)
+whole_in e m F G h1 f d n h2 h3 h4 = grind arith
 
 guarded_in : (e m : ℕ) (F G : Completions) → Lifts e m F G → (k : Guard) (d n : ℕ) → max d 1 + 2 ≤ e → n + 2 ≤ m → Guarded k F d n → Guarded k G d n
-guarded_in e m F G f g.Case d n p q (inl h) = inl (any (missing_in e m F G f (d + 1) (n + 1) (omega (arith, p)) (omega (arith, q))) h)
-guarded_in e m F G f g.Case d n p q (inr h) = inr (any (f (max d 1 + 1) (n + 2) (omega (arith, p)) q) h)
-guarded_in e m F G f _ d n p q h = any (f (max d 1 + 1) (n + 2) (omega (arith, p)) q) h
-
-taken : {X Y A B : Type 0} → (b : Bool) → (X → Y) → (A → B) → Taken b X A → Taken b Y B
-taken true f k h = f h
-taken false f k h = k h
+guarded_in e m F G h1 k d n h2 h3 h4 = grind (arith, missing_in)
 
 -- with any part of at most this depth and so many nodes on this stack, and with what is due on it
 pub record Sure (levels most : ℕ) (st : Stack) : Type 0 where
@@ -145,9 +126,7 @@ module _ (e m l k : ℕ) (st : Stack) (s : Sure l k st) where
   does_on (b.Clause (c.Valof i)) (u, v, w, y, z) d n p q going h = any (s.gives Call (d + 2) (n + 2) (omega (arith, u, p)) (omega (arith, w, q))) h
   does_on (b.Clause (c.Valof i)) (u, v, w, y, z) d n p q operating h = s.operates (d + 1) (n + 1) (omega (arith, u, p)) (omega (arith, w, q)) h
   does_on (b.Clause (c.Valof i)) (u, v, w, y, z) d n p q repeating h = h
-  does_on (b.Clause (c.Valof i)) (u, v, w, y, z) d n p q closing h = s.gives Callable (d + 1) (n + 1) (omega (arith, u, p)) (omega (arith, w, q)) closing h
-  does_on (b.Clause (c.Valof i)) (u, v, w, y, z) d n p q assigning h = s.gives Callable (d + 1) (n + 1) (omega (arith, u, p)) (omega (arith, w, q)) assigning h
-  does_on (b.Clause (c.Valof i)) (u, v, w, y, z) d n p q listing h = s.gives Callable (d + 1) (n + 1) (omega (arith, u, p)) (omega (arith, w, q)) listing h
+  does_on (b.Clause (c.Valof i)) (u, v, w, y, z) d n p q x h = s.gives Callable (d + 1) (n + 1) (omega (arith, u, p)) (omega (arith, w, q)) x h
   does_on (b.Clause (c.Label i j)) (u, v, w, y, z) d n p q c h = s.does (d + 1) (n + 1) (omega (arith, u, p)) (omega (arith, w, q)) c h
   does_on (b.Clause (c.Guarded i j x1)) (u, v, w, y, z) d n p q c h =
       let e1 = expression x1.value in
@@ -182,17 +161,12 @@ module _ (e m l k : ℕ) (st : Stack) (s : Sure l k st) where
       taken (nat_lt 1 (inner i)) (any (s.gives Other (max (depth e1) (d + 1) + 1) (nodes e1 + (n + 2) + 1) (omega (arith, u, v, p)) (omega (arith, w, q))))
       (s.operates (max (depth e1) d + 1) (nodes e1 + n + 1) (omega (arith, u, v, p)) (omega (arith, w, q))) h
   operates_on (b.OpenExpression (o.Parens i)) a d n p q h = any (gives_on (b.OpenExpression (o.Parens i)) a Other (d + 1) (n + 2) p q) h
-  operates_on (b.OpenExpression x) a d n p q h = any (gives_on (b.OpenExpression x) a Other (d + 1) (n + 2) p q) h
   operates_on (b.Phrase p.Start) a d n v q h = any (gives_on (b.Phrase p.Start) a Other (d + 1) (n + 2) v q) h
-  operates_on (b.Phrase x) a d n p q h = any (gives_on (b.Phrase x) a Other (d + 1) (n + 2) p q) h
   operates_on (b.Member (member.Function i j)) a d n p q h = any (gives_on (b.Member (member.Function i j)) a Other (d + 1) (n + 2) p q) h
-  operates_on (b.Member x) a d n p q h = any (gives_on (b.Member x) a Other (d + 1) (n + 2) p q) h
   operates_on (b.Clause (c.Valof i)) a d n p q h = any (gives_on (b.Clause (c.Valof i)) a Other (d + 1) (n + 2) p q) h
-  operates_on (b.Clause x) a d n p q h = any (gives_on (b.Clause x) a Other (d + 1) (n + 2) p q) h
   operates_on (b.Place (a.Let i j)) v d n p q h = any (gives_on (b.Place (a.Let i j)) v Other (d + 1) (n + 2) p q) h
-  operates_on (b.Place x) a d n p q h = any (gives_on (b.Place x) a Other (d + 1) (n + 2) p q) h
   operates_on (b.Point (t.Goto i)) a d n p q h = any (gives_on (b.Point (t.Goto i)) a Other (d + 1) (n + 2) p q) h
-  operates_on (b.Point x) a d n p q h = any (gives_on (b.Point x) a Other (d + 1) (n + 2) p q) h
+  operates_on x a d n p q h = any (gives_on x a Other (d + 1) (n + 2) p q) h
 
   defines_on : (x : Unfinished) → Fewer e m l k x → (d n : ℕ) → d ≤ e → n ≤ m → Defines Always (unfinished_on x st) d n → Defines Most (unfinished_on x st) d n
   defines_on (b.Place (a.Let i x1)) (u, v, w, y, z) d n p q h =
@@ -226,17 +200,12 @@ module _ (e m l k : ℕ) (st : Stack) (s : Sure l k st) where
   wants_on (b.OpenExpression (o.Args i x1 xs)) (u, v, w, y, z) h =
       args_want (expression x1.value) (expressions_in xs.items) i (omega (arith, v)) (omega (arith, w)) (gives_on (b.OpenExpression (o.Args i x1 xs)) (u, v, w, y, z)) y z h
   wants_on (b.OpenExpression (o.Parens i)) (u, v, w, y, z) h = any (gives_on (b.OpenExpression (o.Parens i)) (u, v, w, y, z) Label 1 1 y z) h
-  wants_on (b.OpenExpression x) (u, v, w, y, z) h = any (gives_on (b.OpenExpression x) (u, v, w, y, z) Label 1 1 y z) h
   wants_on (b.Phrase (p.Start)) (u, v, w, y, z) h = any (gives_on (b.Phrase (p.Start)) (u, v, w, y, z) Label 1 1 y z) h
-  wants_on (b.Phrase x) (u, v, w, y, z) h = any (gives_on (b.Phrase x) (u, v, w, y, z) Label 1 1 y z) h
   wants_on (b.Member (member.Function i j)) (u, v, w, y, z) h = any (gives_on (b.Member (member.Function i j)) (u, v, w, y, z) Label 1 1 y z) h
-  wants_on (b.Member x) (u, v, w, y, z) h = any (gives_on (b.Member x) (u, v, w, y, z) Label 1 1 y z) h
   wants_on (b.Clause (c.Valof i)) (u, v, w, y, z) h = any (gives_on (b.Clause (c.Valof i)) (u, v, w, y, z) Label 1 1 y z) h
-  wants_on (b.Clause x) (u, v, w, y, z) h = any (gives_on (b.Clause x) (u, v, w, y, z) Label 1 1 y z) h
   wants_on (b.Place (a.Let i j)) (u, v, w, y, z) h = any (gives_on (b.Place (a.Let i j)) (u, v, w, y, z) Label 1 1 y z) h
-  wants_on (b.Place x) (u, v, w, y, z) h = any (gives_on (b.Place x) (u, v, w, y, z) Label 1 1 y z) h
   wants_on (b.Point (t.Goto i)) (u, v, w, y, z) h = any (gives_on (b.Point (t.Goto i)) (u, v, w, y, z) Label 1 1 y z) h
-  wants_on (b.Point x) (u, v, w, y, z) h = any (gives_on (b.Point x) (u, v, w, y, z) Label 1 1 y z) h
+  wants_on x (u, v, w, y, z) h = any (gives_on x (u, v, w, y, z) Label 1 1 y z) h
 
   misses_on : (x : Unfinished) → Fewer e m l k x → Misses Always (unfinished_on x st) → Misses Most (unfinished_on x st)
   misses_on (b.Clause (c.Label i j)) (u, v, w, y, z) h = any (missing_in l k (Does Always st) (Does Most st) s.does 1 1 (omega (arith, u, y)) (omega (arith, w))) h
@@ -245,16 +214,11 @@ module _ (e m l k : ℕ) (st : Stack) (s : Sure l k st) where
       any (missing_in l k (Does Always st) (Does Most st) s.does (depth e1 + 1) (nodes e1 + 1) (omega (arith, v)) (omega (arith, w))) h
   misses_on (b.Clause (c.Default i)) (u, v, w, y, z) h = any (missing_in l k (Does Always st) (Does Most st) s.does 1 1 (omega (arith, u, y)) (omega (arith, w))) h
   misses_on (b.OpenExpression (o.Parens i)) _ h = h
-  misses_on (b.OpenExpression _) _ h = h
   misses_on (b.Phrase (p.Start)) _ h = h
-  misses_on (b.Phrase _) _ h = h
   misses_on (b.Member (member.Function i j)) _ h = h
-  misses_on (b.Member _) _ h = h
-  misses_on (b.Clause _) _ h = h
   misses_on (b.Place (a.Let i j)) _ h = h
-  misses_on (b.Place _) _ h = h
   misses_on (b.Point (t.Goto i)) _ h = h
-  misses_on (b.Point _) _ h = h
+  misses_on _ _ h = h
 
   lists_on : (is : Items) → depth_of_items is + 2 ≤ l → nodes_of_items is + 2 ≤ k → 2 ≤ l → 2 ≤ k → Lists Always st is → Lists Most st is
   lists_on no_items p q u w h = s.declares 2 2 u w h
@@ -317,8 +281,7 @@ spare_all st s [] h f = h
 spare_all st s (x ∷ xs) h f = spare_all (unfinished_on x.unfinished st) x.spare xs (spare_on x st s (f zero x refl) h) (λ i. f (suc i))
 
 at_most_by : (a b : ℕ) (t : Bool) → nat_le a b ≡ t → 0 < cond t b 0 → (a ≤ b) × (cond (nat_le a b) b 0 ≤ b)
-at_most_by a b true is h = let p : a ≤ b = grind (arith, nat_tests, is) in let q : cond (nat_le a b) b 0 ≤ b = rw is (omega arith) in (p, q)
-at_most_by a b false is h = absurd (omega (arith, h))
+at_most_by a b t h1 h2 = grind arith
 
 at_most : (a b : ℕ) → 0 < cond (nat_le a b) b 0 → (a ≤ b) × (cond (nat_le a b) b 0 ≤ b)
 at_most a b h = at_most_by a b (nat_le a b) refl h

@@ -22,7 +22,7 @@ pub use Rattle.bk_tree.specs.declared.tree.Prefix.{Prefix}
 pub use Rattle.bk_tree.specs.declared.tree.Sort.{Sort}
 pub use Rattle.bk_frames.specs.Bounds.{AtMost, LevelsAtMost, Always, Bounded}
 pub use Rattle.bk_frames.specs.Budgets.{IsKept, AreAdded, by_completion, Limit, is_tight, Tight, Part, Sized, goes_on, AreKept, node, completions_of_guard, Test, led, is_next, completions_of_binary, completions_of_values, completions_of_starts, completions_of_valof, within, next_of, serves, holds, covered, counted, raised, reached, some_next, led_following, led_by, led_completion, completions, AreBudgets, leads, by_budget, by_completions, fits, has_budget, category_of, Closes, category_number, next_number, Within, holds_if}
-pub use Rattle.bk_frames.specs.Completing.{Any, AtClosing, AtListing, AtArgument, AtAssignment, AtPart, Unlisted, Started, Answered, Whole, Taken, Gives, Does, Operates, Defines, Declares, Lookahead, closing, assigning, listing, going, repeating, operating, If, Closed, Missing, Guarded, Misses, Wants, Completes}
+pub use Rattle.bk_frames.specs.Completing.{Any, AtClosing, AtListing, AtArgument, AtAssignment, AtPart, Unlisted, Started, Answered, Whole, Taken, Gives, Does, Operates, Defines, Declares, Lookahead, closing, assigning, listing, going, repeating, operating, If, Closed, Missing, Guarded, Misses, Wants, Completes, Lists, Due}
 pub use Rattle.bk_frames.specs.Frames.{is_let_unfinished, is_block_unfinished, related, heads, declaring, stack_of, state, part_of}
 pub use Rattle.bk_frames.specs.Sizes.{owed, form_of, are_none, are_no_items, kept, node_of, size_of_declarations, held_depth, held_nodes, kept_size}
 pub use Rattle.bk_frames.specs.Spares.{spare_of_section, Leaves, owes, alone, IsSmall}

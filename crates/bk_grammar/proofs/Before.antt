@@ -1,63 +1,47 @@
 -- What is read is in the grammar: what was begun, and expressions.
-use Rattle.bk_grammar.proofs.Terms.{◌≡◌, ℕ, zero, suc, ◌<◌, ◌≤◌, Bool, true, false, cond, List, [], ◌∷◌, Option, Some, None, refl, ap, subst, ◌⊎◌, inl, inr, arith, nat_lt, ltb-false, le-ltb, Kind, Kind as k, Symbol, Operator, Operator as o, Prefix, Guard as g, Mention, Expression, Expressions, Commands, Declarations, Items, Definitions, Starts, unary, binary, choice, apply, none, more, no_commands, also, no_declarations, declare, no_items, item, no_definitions, define, no_starts, value, vector, row, inner, left, following, is_relation, infix_of, prefix_of, sort_of, guard_of, sign_of, is_and, is_comma, goes, SpellsName, Names, Formals, Semis, last, Full, Filled, repeats_while, Reads, Each, Does, Heads, Defines, Stack, in_section, in_block, in_let, at_name, at_formals, at_formal, at_formal_end, at_head, at_variable, at_variable_end, at_starts, at_opening, at_items, at_sign, at_goto, at_for, at_forward, at_default, in_parens, in_unary, in_binary, in_chain, in_then, in_else, in_args, in_table, in_start, in_dests, in_values, in_guard, in_test, in_result, in_while, in_from, in_to, in_by, in_item, in_function, in_value, in_vector, in_valof, in_label, in_guarded, in_default, in_do, in_or, in_for, in_routine, State, want, have, begin, maybe, did, due, limit, is_close, is_colon, is_do, is_or, is_to, is_equal, is_semicolon, opens, closes, is_vec, is_let, is_open, if_is, inside}
-use Rattle.bk_tree.specs.declared.tree.Prefix.TheVariants.{Contents}
-use Rattle.bk_grammar.specs.Placed.{position_of}
+use Rattle.bk_grammar.proofs.Terms.{◌≡◌, ℕ, zero, suc, ◌<◌, ◌≤◌, Bool, true, false, cond, List, [], ◌∷◌, Option, Some, None, refl, ap, subst, ◌⊎◌, inl, inr, arith, nat_lt, ltb-false, le-ltb, Kind, Kind as k, Symbol, Operator, Operator as o, Prefix, Guard as g, Mention, Expression, Expressions, Commands, Declarations, Items, Definitions, Starts, unary, binary, choice, apply, none, more, no_commands, also, no_declarations, declare, no_items, item, no_definitions, define, no_starts, value, vector, row, inner, left, following, is_relation, infix_of, prefix_of, sort_of, guard_of, sign_of, is_and, is_comma, goes, SpellsName, Names, Formals, Semis, last, Full, Filled, repeats_while, Reads, Each, Does, Heads, Defines, Stack, in_section, in_block, in_let, at_name, at_formals, at_formal, at_formal_end, at_head, at_variable, at_variable_end, at_starts, at_opening, at_items, at_sign, at_goto, at_for, at_forward, at_default, in_parens, in_unary, in_binary, in_chain, in_then, in_else, in_args, in_table, in_start, in_dests, in_values, in_guard, in_test, in_result, in_while, in_from, in_to, in_by, in_item, in_function, in_value, in_vector, in_valof, in_label, in_guarded, in_default, in_do, in_or, in_for, in_routine, State, want, have, begin, maybe, did, due, limit, is_close, is_colon, is_do, is_or, is_to, is_equal, is_semicolon, opens, closes, is_vec, is_let, is_open, if_is, inside, position_of}
 
 pub is_close_kind : (t : Kind) → is_close t ≡ true → t ≡ k.Close
-is_close_kind k.Close h = refl
-is_close_kind _ h = absurd cc
+is_close_kind t h1 = grind arith
 
 pub is_comma_kind : (t : Kind) → is_comma t ≡ true → t ≡ k.Comma
-is_comma_kind k.Comma h = refl
-is_comma_kind _ h = absurd cc
+is_comma_kind t h1 = grind arith
 
 pub is_colon_kind : (t : Kind) → is_colon t ≡ true → t ≡ k.Colon
-is_colon_kind k.Colon h = refl
-is_colon_kind _ h = absurd cc
+is_colon_kind t h1 = grind arith
 
 pub is_do_kind : (t : Kind) → is_do t ≡ true → t ≡ k.Do
-is_do_kind k.Do h = refl
-is_do_kind _ h = absurd cc
+is_do_kind t h1 = grind arith
 
 pub is_or_kind : (t : Kind) → is_or t ≡ true → t ≡ k.Or
-is_or_kind k.Or h = refl
-is_or_kind _ h = absurd cc
+is_or_kind t h1 = grind arith
 
 pub is_to_kind : (t : Kind) → is_to t ≡ true → t ≡ k.To
-is_to_kind k.To h = refl
-is_to_kind _ h = absurd cc
+is_to_kind t h1 = grind arith
 
 pub is_and_kind : (t : Kind) → is_and t ≡ true → t ≡ k.And
-is_and_kind k.And h = refl
-is_and_kind _ h = absurd cc
+is_and_kind t h1 = grind arith
 
 pub is_equal_kind : (t : Kind) → is_equal t ≡ true → t ≡ k.Equal
-is_equal_kind k.Equal h = refl
-is_equal_kind _ h = absurd cc
+is_equal_kind t h1 = grind arith
 
 pub is_semicolon_kind : (t : Kind) → is_semicolon t ≡ true → t ≡ k.Semicolon
-is_semicolon_kind k.Semicolon h = refl
-is_semicolon_kind _ h = absurd cc
+is_semicolon_kind t h1 = grind arith
 
 pub opens_kind : (t : Kind) → opens t ≡ true → t ≡ k.SectionOpen
-opens_kind k.SectionOpen h = refl
-opens_kind _ h = absurd cc
+opens_kind t h1 = grind arith
 
 pub closes_kind : (t : Kind) → closes t ≡ true → t ≡ k.SectionClose
-closes_kind k.SectionClose h = refl
-closes_kind _ h = absurd cc
+closes_kind t h1 = grind arith
 
 pub is_vec_kind : (t : Kind) → is_vec t ≡ true → t ≡ k.Vec
-is_vec_kind k.Vec h = refl
-is_vec_kind _ h = absurd cc
+is_vec_kind t h1 = grind arith
 
 pub is_let_kind : (t : Kind) → is_let t ≡ true → t ≡ k.Let
-is_let_kind k.Let h = refl
-is_let_kind _ h = absurd cc
+is_let_kind t h1 = grind arith
 
 pub is_open_kind : (t : Kind) → is_open t ≡ true → t ≡ k.Open
-is_open_kind k.Open h = refl
-is_open_kind _ h = absurd cc
+is_open_kind t h1 = grind arith
 
 -- expressions with a comma behind each
 abbrev pub Commas : Expressions → List Symbol → List Symbol → Type 0
@@ -200,12 +184,10 @@ mono j m (binary l o.Both s x (binary n q i b c)) ts us le (inr h) = inr (omega 
 mono j m (binary l q s a b) ts us le h = (omega arith, h.1, h.2, h.3, h.4, h.5, h.6, h.7, h.8)
 mono j m (choice l s c a b) ts us le h = (omega arith, h.1, h.2, h.3, h.4, h.5, h.6, h.7, h.8, h.9, h.10, h.11, h.12)
 mono j m (apply l s f none) ts us le h = h
-mono j m (apply l s f (more x xs)) ts us le h = h
 mono j m _ ts us le h = h
 
 pub split : (b : Bool) (x y : Option State) (n : State) → cond b x y ≡ Some n → ((b ≡ true) × (x ≡ Some n)) ⊎ ((b ≡ false) × (y ≡ Some n))
-split true x y n h = inl (refl, h)
-split false x y n h = inr (refl, h)
+split b x y n h1 = grind arith
 
 abbrev pub some_state : State → Option State
 some_state x = Some x
@@ -214,8 +196,7 @@ pub to : (x n : State) (a us : List Symbol) → some_state x ≡ Some n → Inv 
 to x n a us h i = let P : State → Type 0 = λ y. Inv y a us in let e : x ≡ n = cc in subst P e i
 
 pub if_at : (b : Bool) (x n : State) (a us : List Symbol) → if_is b x ≡ Some n → (b ≡ true → Inv x a us) → Inv n a us
-if_at true x n a us h i = to x n a us h (i refl)
-if_at false x n a us h i = absurd cc
+if_at b x n a us h1 h2 = grind (arith, to)
 
 -- the rows that the expression has reached, before a symbol
 pub record Reached (j : ℕ) (e : Expression) (ms us : List Symbol) (t : Symbol) : Type 0 where
@@ -224,52 +205,25 @@ pub record Reached (j : ℕ) (e : Expression) (ms us : List Symbol) (t : Symbol)
   pub top : (j ≤ 11) ⊎ (goes 12 t.kind ≡ false)
 
 pub behind_ok : (p : Prefix) → (1 ≤ following p) × (following p ≤ 12)
-behind_ok Contents = (omega arith, omega arith)
-behind_ok _ = (omega arith, omega arith)
+behind_ok p = grind arith
 
 pub inner_ok : (q : Operator) → (1 ≤ inner q) × (inner q ≤ 12)
-inner_ok o.Subscript = (omega arith, omega arith)
-inner_ok _ = (omega arith, omega arith)
+inner_ok q = grind arith
 
 pub row_11 : (q : Operator) → row q ≤ 11
-row_11 o.Subscript = omega arith
-row_11 _ = omega arith
+row_11 q = grind arith
 
 lower : (l s : ℕ) (q : Operator) (a b : Expression) → row q ≤ 6 → last (binary l q s a b) ≡ None → row q ≤ 5
-lower l s o.Subscript a b h e = omega arith
-lower l s q a b h e = first_of (omega arith, cc)
+lower l s q a b h1 h2 = grind arith
 
 lowers : (n m r : ℕ) → m ≤ n → nat_lt r n ≡ false → nat_lt r m ≡ false
 lowers n m r le h = le-ltb r m (omega (arith, ltb-false r n h))
 
 pub falls : (m n : ℕ) (t : Kind) → m ≤ n → goes n t ≡ false → goes m t ≡ false
-falls m n k.Open le h = h
-falls m n k.Arrow le h = lowers n m 11 le h
-falls m n k.Bang le h = lowers n m 1 le h
-falls m n k.Percent le h = lowers n m 1 le h
-falls m n k.Star le h = lowers n m 3 le h
-falls m n k.Slash le h = lowers n m 3 le h
-falls m n k.Rem le h = lowers n m 3 le h
-falls m n k.Plus le h = lowers n m 4 le h
-falls m n k.Minus le h = lowers n m 4 le h
-falls m n k.Equal le h = lowers n m 5 le h
-falls m n k.NotEqual le h = lowers n m 5 le h
-falls m n k.Less le h = lowers n m 5 le h
-falls m n k.Greater le h = lowers n m 5 le h
-falls m n k.LessEqual le h = lowers n m 5 le h
-falls m n k.GreaterEqual le h = lowers n m 5 le h
-falls m n k.ShiftLeft le h = lowers n m 6 le h
-falls m n k.ShiftRight le h = lowers n m 6 le h
-falls m n k.Ampersand le h = lowers n m 8 le h
-falls m n k.Bar le h = lowers n m 9 le h
-falls m n k.Eqv le h = lowers n m 10 le h
-falls m n k.Neqv le h = lowers n m 10 le h
-falls m n _ le h = refl
+falls m n t h1 h2 = grind (arith, lowers)
 
 pub limit_ok : (st : Stack) → (1 ≤ limit st) × (limit st ≤ 12)
-limit_ok (in_unary l p st) = behind_ok p
-limit_ok (in_binary q s a st) = inner_ok q
-limit_ok _ = (omega arith, omega arith)
+limit_ok st = grind (arith, behind_ok, inner_ok)
 
 -- with a parenthesis the rows are 0
 pub zero_row : (j : ℕ) (e : Expression) (ms us : List Symbol) (t : Symbol) → Reached j e ms us t → t.kind ≡ k.Open → Reads 0 e ms (t ∷ us)
@@ -283,5 +237,4 @@ one_less (binary l o.Both s x (binary m q n b c)) ts us (inr h) none_is = let e 
 one_less (binary l q s a b) ts us h none_is = (lower l s q a b h.0 none_is, h.1, h.2, h.3, h.4, h.5, h.6, h.7, h.8)
 one_less (choice l s c a b) ts us h none_is = absurd (omega arith)
 one_less (apply l s f none) ts us h none_is = h
-one_less (apply l s f (more x xs)) ts us h none_is = h
 one_less _ ts us h none_is = h

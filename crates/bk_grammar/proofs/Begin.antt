@@ -1,7 +1,6 @@
 -- What the grammar allows is read.
-use Rattle.bk_grammar.proofs.Terms.{◌≡◌, ℕ, ◌+◌, ◌<◌, ◌≤◌, Bool, true, false, cond, List, ◌∷◌, Some, None, refl, sym, ap, subst, ◌∙◌, inl, inr, arith, Kind, Kind as k, Symbol, Operator, Operator as o, Expression, Expressions, Command, Commands, Declarations, name, parens, unary, binary, choice, apply, valof, table, none, more, empty, assign, call, goto, label, default, when, test, while, for_loop, result, simple, block, repeat, repeat_while, no_declarations, declare, row, inner, left, is_relation, infix_of, begins_operand, begins_command, repeats, assigns, is_comma, goes, Fails, Stops, Leaf, last, Full, EndsCommand, Filled, if_or_unless, while_or_until, Reads, Each, Does, at_expression, at_expressions, size, Stack, in_block, in_binary, in_chain, in_table, in_start, in_values, State, want, have, begin, maybe, did, due, limit, linked, guarded, after_sign, bars, give, finish, without, stepped_by, run, each_then}
+use Rattle.bk_grammar.proofs.Terms.{◌≡◌, ℕ, ◌+◌, ◌<◌, ◌≤◌, Bool, true, false, cond, List, ◌∷◌, Some, None, refl, sym, ap, subst, ◌∙◌, inl, inr, arith, Kind, Kind as k, Symbol, Operator, Operator as o, Expression, Expressions, Command, Commands, Declarations, parens, unary, binary, choice, apply, valof, table, none, more, empty, assign, call, goto, label, default, when, test, while, for_loop, result, simple, block, repeat, repeat_while, no_declarations, declare, row, inner, left, is_relation, infix_of, begins_operand, begins_command, repeats, assigns, is_comma, goes, Fails, Stops, Leaf, last, Full, EndsCommand, Filled, if_or_unless, while_or_until, Reads, Each, Does, at_expression, at_expressions, size, Stack, in_block, in_binary, in_chain, in_table, in_start, in_values, State, want, have, begin, maybe, did, due, limit, linked, guarded, after_sign, bars, give, finish, without, stepped_by, run, each_then, position_of}
 use Rattle.bk_grammar.proofs.Steps.{stepped, same_step, alike, takes, failing, failing_both, stops_alike, repeats_alike, pushes, row_le, infix_goes, push_infix, prefix_begins, leaf_begins, operand_begins, simple_begins, guard_begins, at_operand, at_item, same_eq, less_eq}
-use Rattle.bk_grammar.specs.Placed.{position_of}
 
 -- ---- expressions
 
@@ -11,8 +10,7 @@ pub takes_infix : (st : Stack) (a : Expression) (q : Operator) (t : Symbol) (ms 
 takes_infix st a q t ms is le = grind (arith, stepped, is, push_infix, (pushes st a (position_of t) t.text t.kind (infix_goes t.kind q (limit st) is le) ∙ push_infix t.kind q st a (position_of t) is), (infix_goes t.kind q (limit st) is le))
 
 pub cond_pick : (b : Bool) (x y : State) → (b ≡ true → x ≡ y) → cond b x y ≡ y
-cond_pick true x y h = h refl
-cond_pick false x y h = refl
+cond_pick b x y h1 = grind arith
 
 pub plain_link : (q : Operator) (s : ℕ) (a : Expression) (st : Stack) → (is_relation q ≡ true → last a ≡ None) → cond (is_relation q) (linked q s a st (last a)) (want (in_binary q s a st)) ≡ want (in_binary q s a st)
 plain_link q s a st free = cond_pick (is_relation q) (linked q s a st (last a)) (want (in_binary q s a st)) (λ h. ap (linked q s a st) (free h))
@@ -42,15 +40,10 @@ joins_chain st l s m n a b c q t ms us is at also_at from shared_from le rel sha
     ∙ ap (λ e. run us (have st e)) (chain_lines l s m n q a b c (position_of t) at also_at from shared_from)
 
 pub row_6 : (q : Operator) → is_relation q ≡ true → row q ≡ 6
-row_6 o.Subscript h = cc
-row_6 _ h = cc
+row_6 q h1 = grind arith
 
 pub last_none : (a : Expression) (ts us : List Symbol) → Reads 5 a ts us → last a ≡ None
-last_none (binary l o.Both s x (binary m q n b c)) ts us (inl h) = absurd (omega arith)
-last_none (binary l o.Both s x (binary m q n b c)) ts us (inr h) = absurd (omega arith)
-last_none (binary l q s a b) ts us h = first_of (cc, grind arith)
-last_none (name l n) ts us h = refl
-last_none _ ts us h = refl
+last_none a ts us h1 = grind arith
 
 -- the left operand of a relation is none
 pub free_left : (q : Operator) (a : Expression) (ts us : List Symbol) → Reads (left q) a ts us → is_relation q ≡ true → last a ≡ None
@@ -148,13 +141,10 @@ pub item_starts : (b : ℕ) (ds : Declarations) (cs : Commands) (st : Stack) (ts
 item_starts b ds cs st ts h = at_first begins_command ts (due (in_block b true ds cs st)) (begin (in_block b true ds cs st)) h (λ l s t good. at_item t b ds cs st l s good)
 
 pub full_filled : (c : Command) (us : List Symbol) → Full c us → Filled c
-full_filled empty us h = h
-full_filled _ us h = tt
+full_filled c us h1 = grind arith
 
 pub full_fails : (c : Command) (us : List Symbol) → Full c us → Fails repeats us
-full_fails empty us h = absurd h
-full_fails (goto l x) us h = h
-full_fails _ us h = h
+full_fails c us h1 = grind arith
 
 -- a command behind a colon, or none
 pub perhaps : (c : Command) (ts us : List Symbol) (fr st : Stack) (make : Command → Command)
@@ -167,20 +157,16 @@ perhaps c ts us fr st make bare made runs h ends =
     ∙ runs tt ∙ repeats_alike us (did fr c) (did st (make c)) ends (λ l s t f. made c l s t f)
 
 pub guarded_when : (b : Bool) (l : ℕ) (e : Expression) (c : Command) → guarded (if_or_unless b) l e c ≡ when l b e c
-guarded_when true l e c = refl
-guarded_when false l e c = refl
+guarded_when b l e c = grind arith
 
 pub guarded_while : (b : Bool) (l : ℕ) (e : Expression) (c : Command) → guarded (while_or_until b) l e c ≡ while l b e c
-guarded_while true l e c = refl
-guarded_while false l e c = refl
+guarded_while b l e c = grind arith
 
 pub begins_if : (b : Bool) (st : Stack) → after_sign (if_or_unless b) st ≡ begin st
-begins_if true st = refl
-begins_if false st = refl
+begins_if b st = grind arith
 
 pub begins_while : (b : Bool) (st : Stack) → after_sign (while_or_until b) st ≡ begin st
-begins_while true st = refl
-begins_while false st = refl
+begins_while b st = grind arith
 
 pub call_ends : (st : Stack) (m s : ℕ) (f : Expression) (es : Expressions) (us : List Symbol) → Stops 12 us → Fails assigns us → run us (have (in_start st) (apply m s f es)) ≡ run us (did st (call m f es))
 call_ends st m s f es us stops fails = grind (arith, alike, failing_both, (did st (call m f es)), (goes 12), (takes us (did st (call m f es))))

@@ -1,8 +1,7 @@
 -- What the grammar allows is read.
-use Rattle.bk_grammar.proofs.Terms.{◌≡◌, ℕ, ◌+◌, ◌<◌, ◌≤◌, Bool, true, false, cond, List, [], ◌∷◌, ◌++◌, Option, Some, None, Ok, length, refl, sym, ap, subst, ◌∙◌, ◌⊎◌, inl, inr, append_assoc, arith, le-ltb, lt-ltb, Kind, Kind as k, Symbol, Operator as o, Sort, Guard as g, Mention, Expression, Expressions, Command, Commands, Declaration, Declarations, Items, Definition, Definitions, Starts, name, number, text, truth, query, parens, unary, binary, choice, apply, valof, table, none, more, empty, assign, call, goto, label, case_of, default, when, test, while, for_loop, switch, result, simple, block, repeat, repeat_while, no_commands, also, constants, definitions, no_declarations, declare, no_items, item, routine, function, variables, no_definitions, define, no_starts, value, vector, inner, left, following, infix_of, sort_of, begins_operand, repeats, is_and, is_comma, goes, Fails, SpellsName, Names, Formals, Semis, Filled, if_or_unless, while_or_until, repeats_while, Reads, Each, Does, Body, Parted, Heads, Declares, Listed, Defined, Defines, Started, Section, at_expression, at_expressions, at_names, at_command, size, start_count, Stack, in_section, in_block, in_let, at_name, at_formals, at_formal, at_formal_end, at_head, at_variable, at_variable_end, at_starts, at_opening, at_items, at_sign, at_goto, at_for, at_forward, at_default, in_parens, in_unary, in_binary, in_chain, in_then, in_else, in_args, in_table, in_start, in_dests, in_values, in_guard, in_test, in_result, in_while, in_from, in_to, in_by, in_item, in_function, in_value, in_vector, in_valof, in_label, in_guarded, in_default, in_do, in_or, in_for, in_routine, State, want, have, begin, maybe, did, due, limit, is_vec, named, guarded, after_sign, take_command, sorted, declared, declared_by, defined_by, again, finish, inside, in_names, take_item, take_due, step, run, each_then, commands_then, declarations_then, items_then, definitions_then, starts_then}
+use Rattle.bk_grammar.proofs.Terms.{◌≡◌, ℕ, ◌+◌, ◌<◌, ◌≤◌, Bool, true, false, cond, List, [], ◌∷◌, ◌++◌, Option, Some, None, Ok, length, refl, sym, ap, subst, ◌∙◌, ◌⊎◌, inl, inr, append_assoc, arith, le-ltb, lt-ltb, Kind, Kind as k, Symbol, Operator as o, Sort, Guard as g, Mention, Expression, Expressions, Command, Commands, Declaration, Declarations, Items, Definition, Definitions, Starts, name, number, text, truth, query, parens, unary, binary, choice, apply, valof, table, none, more, empty, assign, call, goto, label, case_of, default, when, test, while, for_loop, switch, result, simple, block, repeat, repeat_while, no_commands, also, constants, definitions, no_declarations, declare, no_items, item, routine, function, variables, no_definitions, define, no_starts, value, vector, inner, left, following, infix_of, sort_of, begins_operand, repeats, is_and, is_comma, goes, Fails, SpellsName, Names, Formals, Semis, Filled, if_or_unless, while_or_until, repeats_while, Reads, Each, Does, Body, Parted, Heads, Declares, Listed, Defined, Defines, Started, Section, at_expression, at_expressions, at_names, at_command, size, start_count, Stack, in_section, in_block, in_let, at_name, at_formals, at_formal, at_formal_end, at_head, at_variable, at_variable_end, at_starts, at_opening, at_items, at_sign, at_goto, at_for, at_forward, at_default, in_parens, in_unary, in_binary, in_chain, in_then, in_else, in_args, in_table, in_start, in_dests, in_values, in_guard, in_test, in_result, in_while, in_from, in_to, in_by, in_item, in_function, in_value, in_vector, in_valof, in_label, in_guarded, in_default, in_do, in_or, in_for, in_routine, State, want, have, begin, maybe, did, due, limit, is_vec, named, guarded, after_sign, sorted, declared, declared_by, defined_by, again, finish, inside, in_names, take_item, take_due, step, run, each_then, commands_then, declarations_then, items_then, definitions_then, starts_then, position_of}
 use Rattle.bk_grammar.proofs.Steps.{stepped, Takes, alike, failing, stops_alike, repeats_alike, pushes, repeated, left_le, leaf_step, prefix_step, simple_step, guard_step, sign_step, same_eq, less_eq, each_end, commands_end, declarations_end, declarations_all, items_end, definitions_end, value_end, vector_end, size_then, count_then}
 use Rattle.bk_grammar.proofs.Begin.{Free, Opens, joins, joins_chain, row_6, free_left, each_stops, at_infix, at_open, at_arrow, at_comma, table_ends, opens_read, opens_each, opens_does, at_first, opened, item_starts, full_filled, full_fails, perhaps, guarded_when, guarded_while, begins_if, begins_while, call_ends, value_ends, value_more}
-use Rattle.bk_grammar.specs.Placed.{position_of}
 
 semis_run : (b : ℕ) (ds : Declarations) (cs : Commands) (ts us : List Symbol) (st : Stack) → Semis ts us → run ts (due (in_block b true ds cs st)) ≡ run us (due (in_block b true ds cs st))
 semis_run b ds cs [] us st h = ap (λ z. run z (due (in_block b true ds cs st))) h
@@ -54,8 +53,7 @@ named_mention : (n : Symbol) (m : Mention) (f : Mention → State) → SpellsNam
 named_mention n m f h = named_step n m.at m.letters f h
 
 repeats_step : (b : Bool) (st : Stack) (c : Command) (l : ℕ) (x : List ℕ) (t : Kind) → t ≡ repeats_while b → finish st c l x t ≡ Some (want (in_while b c st))
-repeats_step true st c l x t h = repeated st c l x t (ap repeats h) ∙ ap (again st c) h
-repeats_step false st c l x t h = repeated st c l x t (ap repeats h) ∙ ap (again st c) h
+repeats_step b st c l x t h1 = grind (arith, repeated, again)
 
 -- ---- declarations
 
@@ -72,41 +70,25 @@ after (in_block l f ds cs st) d = in_block l false (declarations_then ds (declar
 after st d = st
 
 declared_is : (b : Bool) (fr : Stack) (d : Declaration) → Head b fr → declared fr d ≡ Some (due (after fr d))
-declared_is false (in_section ds) d h = refl
-declared_is true (in_block l f ds no_commands st) d h = refl
-declared_is b fr d h = absurd h
+declared_is b fr d h1 = grind arith
 
 declared_by_is : (b : Bool) (fr : Stack) (d : Declaration) (l : ℕ) (x : List ℕ) (t : Kind) → Head b fr → declared_by fr d l x t ≡ take_due (after fr d) l x t
-declared_by_is false (in_section ds) d l x t h = refl
-declared_by_is true (in_block m f ds no_commands st) d l x t h = refl
-declared_by_is b fr d l x t h = absurd h
+declared_by_is b fr d l x t h1 = grind arith
 
 sorted_is : (fr : Stack) (l : ℕ) (z : Option Sort) (s : Sort) (other : Option State) → z ≡ Some s → sorted fr l z other ≡ Some (due (at_opening l s fr))
 sorted_is fr l z s other h = rw h refl
 
 sort_step : (b : Bool) (fr : Stack) (l : ℕ) (x : List ℕ) (t : Kind) (s : Sort) → Head b fr → sort_of t ≡ Some s → take_due fr l x t ≡ Some (due (at_opening l s fr))
-sort_step false (in_section ds) l x k.Manifest s h j = sorted_is (in_section ds) l (sort_of k.Manifest) s None j
-sort_step false (in_section ds) l x k.Static s h j = sorted_is (in_section ds) l (sort_of k.Static) s None j
-sort_step false (in_section ds) l x k.Global s h j = sorted_is (in_section ds) l (sort_of k.Global) s None j
-sort_step false (in_section ds) l x t s h j = absurd cc
-sort_step true (in_block m f ds no_commands st) l x k.Manifest s h j = sorted_is (in_block m f ds no_commands st) l (sort_of k.Manifest) s (cond f (take_command (in_block m f ds no_commands st) l x k.Manifest) None) j
-sort_step true (in_block m f ds no_commands st) l x k.Static s h j = sorted_is (in_block m f ds no_commands st) l (sort_of k.Static) s (cond f (take_command (in_block m f ds no_commands st) l x k.Static) None) j
-sort_step true (in_block m f ds no_commands st) l x k.Global s h j = sorted_is (in_block m f ds no_commands st) l (sort_of k.Global) s (cond f (take_command (in_block m f ds no_commands st) l x k.Global) None) j
-sort_step true (in_block m f ds no_commands st) l x t s h j = absurd cc
-sort_step b fr l x t s h j = absurd h
+sort_step b fr l x t s h1 h2 = grind (arith, sorted_is, in_section)
 
 let_step : (b : Bool) (fr : Stack) (l : ℕ) (x : List ℕ) (t : Kind) → Head b fr → t ≡ k.Let → take_due fr l x t ≡ Some (due (in_let l no_definitions fr))
-let_step false (in_section ds) l x t h j = rw j refl
-let_step true (in_block m f ds no_commands st) l x t h j = rw j refl
-let_step b fr l x t h j = absurd h
+let_step b fr l x t h1 h2 = grind arith
 
 inside_is : (fr : Stack) (l : ℕ) (es : Definitions) → Head true fr → inside (in_let l es fr) ≡ true
-inside_is (in_block m f ds no_commands st) l es h = refl
-inside_is fr l es h = absurd h
+inside_is fr l es h1 = grind arith
 
 item_name : (m : ℕ) (s : Sort) (zs : Items) (fr : Stack) (n : Symbol) (l : ℕ) (x : List ℕ) → SpellsName l x n → take_item m s zs fr (position_of n) n.text n.kind ≡ Some (due (at_sign m s zs (record { at = l; letters = x }) fr))
-item_name m s no_items fr n l x h = named_step n l x (λ y. due (at_sign m s no_items y fr)) h
-item_name m s (item a b c zs) fr n l x h = rw (h.0, h.1, h.2) refl
+item_name m s zs fr n l x h1 = grind (arith, named_step, due, no_items)
 
 item_semis : (m : ℕ) (s : Sort) (a : ℕ) (b : List ℕ) (c : Expression) (zs : Items) (fr : Stack) (ts us : List Symbol) → Semis ts us → run ts (due (at_items m s (item a b c zs) fr)) ≡ run us (due (at_items m s (item a b c zs) fr))
 item_semis m s a b c zs fr [] us h = ap (λ z. run z (due (at_items m s (item a b c zs) fr))) h
@@ -125,12 +107,10 @@ then_some no_items l x e = tt
 then_some (item a b c zs) l x e = tt
 
 items_semis : (m : ℕ) (s : Sort) (zs : Items) (fr : Stack) (ts us : List Symbol) → Some_items zs → Semis ts us → run ts (due (at_items m s zs fr)) ≡ run us (due (at_items m s zs fr))
-items_semis m s no_items fr ts us some h = absurd some
-items_semis m s (item a b c zs) fr ts us some h = item_semis m s a b c zs fr ts us h
+items_semis m s zs fr ts us h1 h2 = grind (arith, item_semis)
 
 items_shut : (m : ℕ) (s : Sort) (zs : Items) (fr : Stack) (inside : Bool) (t : Symbol) → Some_items zs → Head inside fr → t.kind ≡ k.SectionClose → take_item m s zs fr (position_of t) t.text t.kind ≡ Some (due (after fr (constants m s zs)))
-items_shut m s no_items fr inside t some head h = absurd some
-items_shut m s (item a b c zs) fr inside t some head h = rw h (declared_is inside fr (constants m s (item a b c zs)) head)
+items_shut m s zs fr inside t h1 h2 h3 = grind (arith, declared_is)
 
 -- behind the last item
 items_close : (m : ℕ) (s : Sort) (zs : Items) (x : Mention) (e : Expression) (fr : Stack) (inside : Bool) (ns : List Symbol) (c : Symbol) (us : List Symbol) → Head inside fr → c.kind ≡ k.SectionClose → Semis ns (c ∷ us)
@@ -144,8 +124,7 @@ items_close m s zs x e fr inside (t ∷ ns) c us head is (inr h) =
     ∙ stepped (due (at_items m s ys fr)) _ c us (items_shut m s ys fr inside c (then_some zs x.at x.letters e) head is)
 
 sign_taken : (m : ℕ) (s : Sort) (zs : Items) (x : Mention) (fr : Stack) (q : Symbol) → (q.kind ≡ k.Equal) ⊎ (q.kind ≡ k.Colon) → step (due (at_sign m s zs x fr)) q ≡ Some (want (in_item m s zs x fr))
-sign_taken m s zs x fr q (inl h) = rw h refl
-sign_taken m s zs x fr q (inr h) = rw h refl
+sign_taken m s zs x fr q h1 = grind arith
 
 -- formals
 formals_more : (n : Mention) (fs zs : List Mention) (L : Stack) (ts : List Symbol) (c : Symbol) (us : List Symbol) → c.kind ≡ k.Close → Names fs ts (c ∷ us) → run ts (due (at_formal n zs L)) ≡ run us (due (at_head n (zs ++ fs) L))
@@ -201,8 +180,7 @@ names_run l es fr (x ∷ (y ∷ ys)) ts t ms head is h =
     ∙ variables_more (y ∷ ys) (x ∷ []) (in_let l es fr) h.2 t ms is h.6
 
 at_value : (t : Kind) (a b : Option State) → begins_operand t ≡ true → cond (is_vec t) a b ≡ b
-at_value k.Vec a b h = absurd cc
-at_value _ a b h = refl
+at_value t a b h1 = grind arith
 
 starts_value : (xs : List Mention) (zs : Starts) (L : Stack) (ts : List Symbol) → Opens begins_operand ts → run ts (due (at_starts xs zs L)) ≡ run ts (want (in_value xs zs L))
 starts_value xs zs L ts h = at_first begins_operand ts (due (at_starts xs zs L)) (want (in_value xs zs L)) h (λ l s t good. at_value t _ _ good)

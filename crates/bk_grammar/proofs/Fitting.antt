@@ -1,21 +1,17 @@
 -- Each step of the machine leads from a state that fits to one that fits.
-use Rattle.bk_grammar.proofs.Terms.{◌≡◌, ℕ, ◌+◌, ◌<◌, Bool, true, false, cond, List, [], ◌∷◌, ◌++◌, ◌==◌, length, length-append, Option, Some, None, refl, sym, subst, arith, nat_tests, Kind, Kind as k, Symbol, Operator, Sort, Guard, Guard as g, Mention, Expression, Expressions, Command, Commands, Declaration, Declarations, Items, Definition, name, parens, unary, binary, choice, apply, valof, table, none, more, empty, assign, label, default, test, for_loop, result, block, repeat_while, no_commands, also, constants, definitions, no_declarations, declare, no_items, item, routine, function, variables, no_definitions, define, no_starts, value, vector, inner, following, is_relation, infix_of, sort_of, sign_of, begins_command, repeats, assigns, is_and, is_comma, goes, last, at_expression, at_expressions, at_names, at_command, size, start_count, Stack, in_section, in_block, in_let, at_name, at_formals, at_formal, at_formal_end, at_head, at_variable, at_variable_end, at_starts, at_opening, at_items, at_sign, at_goto, at_for, at_forward, at_default, in_parens, in_unary, in_binary, in_chain, in_then, in_else, in_args, in_table, in_start, in_dests, in_values, in_guard, in_test, in_result, in_while, in_from, in_to, in_by, in_item, in_function, in_value, in_vector, in_valof, in_label, in_guarded, in_default, in_do, in_or, in_for, in_routine, State, want, have, begin, maybe, did, due, linked, infixed, push, is_close, is_colon, is_do, is_or, is_to, is_equal, is_semicolon, opens, closes, is_vec, is_let, is_open, is_sign_of, if_is, named, guarded, after_sign, no_args, bars, take_operand, take_command, sorted, take_declaration, take_in_section, in_head, take_in_block, declared, declared_by, defined_by, again, dests, labelled, is_call, call_of, in_constants, to_or_do, give, finish, without, inside, in_names, in_formals, headed, take_item, take_due, step, each_then, commands_then, declarations_then, items_then, definitions_then, starts_then}
+use Rattle.bk_grammar.proofs.Terms.{◌≡◌, ℕ, ◌+◌, ◌<◌, Bool, true, false, cond, List, [], ◌∷◌, ◌++◌, ◌==◌, length, length-append, Option, Some, None, sym, subst, arith, nat_tests, Kind, Kind as k, Symbol, Operator, Sort, Guard, Mention, Expression, Expressions, Command, Commands, Declaration, Declarations, Items, Definition, parens, unary, binary, choice, apply, valof, table, none, more, empty, assign, label, default, test, for_loop, result, block, repeat_while, no_commands, also, no_declarations, declare, no_items, item, routine, function, variables, no_definitions, no_starts, value, vector, inner, following, is_relation, infix_of, sort_of, sign_of, begins_command, repeats, assigns, is_comma, goes, last, at_expression, at_expressions, at_names, at_command, size, start_count, Stack, in_section, in_block, in_let, at_name, at_formals, at_formal, at_formal_end, at_head, at_variable, at_variable_end, at_starts, at_opening, at_items, at_sign, at_goto, at_for, at_forward, at_default, in_parens, in_unary, in_binary, in_chain, in_then, in_else, in_args, in_table, in_start, in_dests, in_values, in_guard, in_test, in_result, in_while, in_from, in_to, in_by, in_item, in_function, in_value, in_vector, in_valof, in_label, in_guarded, in_default, in_do, in_or, in_for, in_routine, State, want, have, begin, maybe, did, due, linked, infixed, push, is_close, is_colon, is_do, is_or, is_to, is_equal, is_semicolon, opens, closes, is_vec, is_let, is_sign_of, if_is, named, guarded, after_sign, no_args, take_operand, take_command, sorted, take_declaration, take_in_section, take_in_block, declared, declared_by, defined_by, again, dests, labelled, is_call, call_of, in_constants, to_or_do, give, finish, without, inside, in_names, in_formals, headed, take_item, take_due, step, each_then, commands_then, declarations_then, items_then, starts_then, position_of}
 use Rattle.bk_tree.specs.declared.tree.Operator.TheVariants.{Both}
 use Rattle.bk_grammar.proofs.Steps.{size_then, count_then}
 use Rattle.bk_grammar.proofs.Before.{is_close_kind, is_comma_kind, is_colon_kind, is_do_kind, is_or_kind, is_to_kind, is_and_kind, is_equal_kind, is_semicolon_kind, opens_kind, closes_kind, is_vec_kind, is_let_kind, is_open_kind}
 use Rattle.bk_grammar.proofs.Moves.{sign_is}
 use Rattle.bk_grammar.proofs.Fits.{Under, ForExpression, ForCommand, ForDefinition, ForDeclaration, ForSymbol, Fits, Fit, FitUnder, After}
-use Rattle.bk_grammar.specs.Placed.{position_of}
 
 -- no state
 stuck : (t : Kind) (os : List (List ℕ)) → After t None os
-stuck k.SectionOpen os = λ tag has. tt
-stuck k.SectionClose os = tt
-stuck _ os = tt
+stuck t os = grind arith
 
 either : (b : Bool) (t : Kind) (x y : Option State) (os : List (List ℕ)) → (b ≡ true → After t x os) → (b ≡ false → After t y os) → After t (cond b x y) os
-either true t x y os h j = h refl
-either false t x y os h j = j refl
+either b t x y os h1 h2 = grind arith
 
 as_kind : (y t : Kind) (r : Option State) (os : List (List ℕ)) → t ≡ y → After y r os → After t r os
 as_kind y t r os is h = let P : Kind → Type 0 = λ z. After z r os in subst P (sym is) h
@@ -30,12 +26,10 @@ sign b y t x os is h = sign_or b y t x None os is h (stuck t os)
 -- ---- expressions
 
 linked_fits : (z : Option Expression) (q : Operator) (s : ℕ) (e : Expression) (st : Stack) (os : List (List ℕ)) → ForExpression st os → Fits (linked q s e st z) os
-linked_fits None q s e st os h = h
-linked_fits (Some b) q s e st os h = h
+linked_fits z q s e st os h1 = grind arith
 
 relation_fits : (b : Bool) (x y : State) (os : List (List ℕ)) → Fits x os → Fits y os → Fits (cond b x y) os
-relation_fits true x y os h j = h
-relation_fits false x y os h j = j
+relation_fits b x y os h1 h2 = grind arith
 
 infixed_fits : (z : Option Operator) (st : Stack) (e : Expression) (s : ℕ) (os : List (List ℕ)) → ForExpression st os → Fit (infixed st e s z) os
 infixed_fits None st e s os h = tt
@@ -53,107 +47,45 @@ goes_or : (b : Bool) (t : Kind) (st : Stack) (e : Expression) (l : ℕ) (r : Opt
 goes_or b t st e l r os h j = either b t (push st e t l) r os (λ x. push_fits t st e l os h) (λ x. j)
 
 no_args_fits : (st : Stack) (os : List (List ℕ)) → ForExpression st os → Fit (no_args st) os
-no_args_fits (in_args s f none st) os h = h
-no_args_fits (in_args s f (more x xs) st) os h = tt
-no_args_fits _ os h = tt
+no_args_fits st os h1 = grind arith
 
 operand_fits : (t : Kind) (st : Stack) (l : ℕ) (x : List ℕ) (os : List (List ℕ)) → ForExpression st os → After t (take_operand st l x t) os
-operand_fits k.Open st l x os h = h
-operand_fits k.Close st l x os h = no_args_fits st os h
-operand_fits k.Valof st l x os h = h
-operand_fits k.Table st l x os h = either (bars st) k.Table None (Some (want (in_table l none st))) os (λ e. tt) (λ e. (e, h))
-operand_fits k.Name st l x os h = h
-operand_fits k.Number st l x os h = h
-operand_fits k.Text st l x os h = h
-operand_fits k.Character st l x os h = h
-operand_fits k.True st l x os h = h
-operand_fits k.False st l x os h = h
-operand_fits k.Query st l x os h = h
-operand_fits k.Bang st l x os h = h
-operand_fits k.At st l x os h = h
-operand_fits k.Plus st l x os h = h
-operand_fits k.Minus st l x os h = h
-operand_fits k.Not st l x os h = h
-operand_fits k.SectionOpen st l x os h = λ tag has. tt
-operand_fits k.SectionClose st l x os h = tt
-operand_fits _ st l x os h = tt
+operand_fits t st l x os h1 = grind (arith, no_args_fits, either, none)
 
 -- ---- commands
 
 command_fits : (t : Kind) (st : Stack) (l : ℕ) (x : List ℕ) (os : List (List ℕ)) → ForCommand st os → After t (take_command st l x t) os
-command_fits k.Goto st l x os h = h
-command_fits k.Test st l x os h = h
-command_fits k.For st l x os h = h
-command_fits k.ResultIs st l x os h = h
-command_fits k.Default st l x os h = h
-command_fits k.SectionOpen st l x os h = λ tag has. (has, h)
-command_fits k.Break st l x os h = h
-command_fits k.Loop st l x os h = h
-command_fits k.EndCase st l x os h = h
-command_fits k.Return st l x os h = h
-command_fits k.Finish st l x os h = h
-command_fits k.If st l x os h = h
-command_fits k.Unless st l x os h = h
-command_fits k.While st l x os h = h
-command_fits k.Until st l x os h = h
-command_fits k.SwitchOn st l x os h = h
-command_fits k.Case st l x os h = h
-command_fits t st l x os h = operand_fits t (in_start st) l x os h
+command_fits t st l x os h1 = grind (arith, operand_fits)
 
 again_fits : (t : Kind) (st : Stack) (c : Command) (os : List (List ℕ)) → ForCommand st os → After t (again st c t) os
-again_fits k.Repeat st c os h = h
-again_fits k.RepeatWhile st c os h = h
-again_fits k.RepeatUntil st c os h = h
-again_fits k.SectionOpen st c os h = λ tag has. tt
-again_fits k.SectionClose st c os h = tt
-again_fits _ st c os h = tt
+again_fits t st c os h1 = grind arith
 
 -- the command goes on, or not
 repeats_or : (b : Bool) (t : Kind) (st : Stack) (c : Command) (r : Option State) (os : List (List ℕ)) → ForCommand st os → After t r os → After t (cond b (again st c t) r) os
 repeats_or b t st c r os h j = either b t (again st c t) r os (λ x. again_fits t st c os h) (λ x. j)
 
 dests_fits : (t : Kind) (xs : Expressions) (st : Stack) (os : List (List ℕ)) → 0 < size xs → ForCommand st os → After t (dests xs st t) os
-dests_fits k.Comma xs st os some h = h
-dests_fits k.Assign xs st os some h = (some, h)
-dests_fits k.SectionOpen xs st os some h = λ tag has. tt
-dests_fits k.SectionClose xs st os some h = tt
-dests_fits _ xs st os some h = tt
+dests_fits t xs st os h1 h2 = grind arith
 
 labelled_fits : (e : Expression) (st : Stack) (os : List (List ℕ)) → ForCommand st os → Fit (labelled e st) os
-labelled_fits (name l x) st os h = (tt, h)
-labelled_fits _ st os h = tt
+labelled_fits e st os h1 = grind arith
 
 to_or_do_fits : (t : Kind) (l : ℕ) (n : Mention) (a b : Expression) (st : Stack) (os : List (List ℕ)) → ForCommand st os → After t (to_or_do l n a b st t) os
-to_or_do_fits k.By l n a b st os h = h
-to_or_do_fits k.Do l n a b st os h = h
-to_or_do_fits k.SectionOpen l n a b st os h = λ tag has. tt
-to_or_do_fits k.SectionClose l n a b st os h = tt
-to_or_do_fits _ l n a b st os h = tt
+to_or_do_fits t l n a b st os h1 = grind arith
 
 guard_fits : (gd : Guard) (m : ℕ) (e : Expression) (st : Stack) (os : List (List ℕ)) → ForCommand st os → After (sign_of gd) (Some (after_sign gd (in_guarded gd m e st))) os
-guard_fits g.Case m e st os h = (tt, h)
-guard_fits x m e st os h = h
+guard_fits gd m e st os h1 = grind arith
 
 -- ---- declarations
 
 declared_fits : (st : Stack) (d : Declaration) (os : List (List ℕ)) → Under (ForDeclaration st) os → FitUnder (declared st d) os
-declared_fits (in_section ds) d [] h = absurd h
-declared_fits (in_section ds) d (o ∷ os) h = h
-declared_fits (in_block l f ds cs st) d [] h = absurd h
-declared_fits (in_block l f ds cs st) d (o ∷ os) h = h
-declared_fits _ d os h = tt
+declared_fits st d os h1 = grind arith
 
 constants_fits : (t : Kind) (l : ℕ) (s : Sort) (is : Items) (st : Stack) (os : List (List ℕ)) → Under (ForDeclaration st) os → After t (in_constants l s is st t) os
-constants_fits k.Semicolon l s is st os h = h
-constants_fits k.SectionClose l s is st os h = declared_fits st (constants l s is) os h
-constants_fits k.SectionOpen l s is st os h = λ tag has. tt
-constants_fits _ l s is st os h = tt
+constants_fits t l s is st os h1 = grind (arith, declared_fits)
 
 sorted_fits : (t : Kind) (st : Stack) (l : ℕ) (other : Option State) (os : List (List ℕ)) → ForDeclaration st os → After t other os → After t (sorted st l (sort_of t) other) os
-sorted_fits k.Manifest st l other os h j = h
-sorted_fits k.Static st l other os h j = h
-sorted_fits k.Global st l other os h j = h
-sorted_fits _ st l other os h j = j
+sorted_fits t st l other os h1 h2 = grind arith
 
 declaration_fits : (t : Kind) (st : Stack) (l : ℕ) (other : Option State) (os : List (List ℕ)) → ForDeclaration st os → After t other os → After t (take_declaration st l t other) os
 declaration_fits t st l other os h j = sign_or (is_let t) k.Let t (due (in_let l no_definitions st)) (sorted st l (sort_of t) other) os (is_let_kind t) h (sorted_fits t st l other os h j)
@@ -239,31 +171,16 @@ without_fits t (in_default m st) l x os h = finish_fits t st (default m empty) l
 without_fits t _ l x os h = stuck t os
 
 named_fits : (t : Kind) (l : ℕ) (x : List ℕ) (f : Mention → State) (os : List (List ℕ)) → ((n : Mention) → Fits (f n) os) → After t (named t l x f) os
-named_fits k.Name l x f os h = h _
-named_fits k.SectionOpen l x f os h = λ tag has. tt
-named_fits k.SectionClose l x f os h = tt
-named_fits _ l x f os h = tt
+named_fits t l x f os h1 = grind arith
 
 names_fits : (t : Kind) (xs : List Mention) (st : Stack) (os : List (List ℕ)) → 0 < length xs → ForDefinition st os → After t (in_names xs st t) os
-names_fits k.Comma xs st os some h = h
-names_fits k.Equal xs st os some h = (some, h)
-names_fits k.SectionOpen xs st os some h = λ tag has. tt
-names_fits k.SectionClose xs st os some h = tt
-names_fits _ xs st os some h = tt
+names_fits t xs st os h1 h2 = grind arith
 
 formals_fits : (t : Kind) (n : Mention) (fs : List Mention) (st : Stack) (os : List (List ℕ)) → ForDefinition st os → After t (in_formals n fs st t) os
-formals_fits k.Comma n fs st os h = h
-formals_fits k.Close n fs st os h = h
-formals_fits k.SectionOpen n fs st os h = λ tag has. tt
-formals_fits k.SectionClose n fs st os h = tt
-formals_fits _ n fs st os h = tt
+formals_fits t n fs st os h1 = grind arith
 
 headed_fits : (t : Kind) (n : Mention) (fs : List Mention) (st : Stack) (os : List (List ℕ)) → ForDefinition st os → After t (headed n fs st t) os
-headed_fits k.Be n fs st os h = h
-headed_fits k.Equal n fs st os h = h
-headed_fits k.SectionOpen n fs st os h = λ tag has. tt
-headed_fits k.SectionClose n fs st os h = tt
-headed_fits _ n fs st os h = tt
+headed_fits t n fs st os h1 = grind arith
 
 item_fits : (t : Kind) (m : ℕ) (s : Sort) (is : Items) (st : Stack) (l : ℕ) (x : List ℕ) (os : List (List ℕ)) → Under (ForDeclaration st) os → After t (take_item m s is st l x t) os
 item_fits t m s no_items st l x os h = named_fits t l x (λ n. due (at_sign m s no_items n st)) os (λ n. h)

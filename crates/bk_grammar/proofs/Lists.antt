@@ -1,7 +1,6 @@
 -- What is read is in the grammar: lists, names and places.
-use Rattle.bk_grammar.proofs.Terms.{◌≡◌, ℕ, Bool, true, false, List, [], ◌∷◌, ◌++◌, refl, sym, ap, subst, ◌∙◌, ◌⊎◌, inl, inr, Kind as k, Symbol, Mention, Expression, Expressions, Command, Commands, Declaration, Declarations, Items, Definition, Definitions, Starts, none, more, block, no_commands, also, no_declarations, declare, no_items, item, no_definitions, define, no_starts, value, vector, is_and, goes, Fails, Stops, SpellsName, Names, Formals, Semis, Full, Reads, Each, Does, Body, Parted, Heads, Declares, Listed, Defined, Defines, Started, each_then, commands_then, declarations_then, items_then, definitions_then, starts_then}
+use Rattle.bk_grammar.proofs.Terms.{◌≡◌, ℕ, Bool, true, false, List, [], ◌∷◌, ◌++◌, refl, sym, ap, subst, ◌∙◌, ◌⊎◌, inl, inr, Kind as k, Symbol, Mention, Expression, Expressions, Command, Commands, Declaration, Declarations, Items, Definition, Definitions, Starts, none, more, block, no_commands, also, no_declarations, declare, no_items, item, no_definitions, define, no_starts, value, vector, is_and, goes, Fails, Stops, SpellsName, Names, Formals, Semis, Full, Reads, Each, Does, Body, Parted, Heads, Declares, Listed, Defined, Defines, Started, each_then, commands_then, declarations_then, items_then, definitions_then, starts_then, position_of}
 use Rattle.bk_grammar.proofs.Before.{Commas, NamesThen, StartsThen, ItemsThen, DefinitionsThen, PartedThen, BodyThen, Some_ds, Inside}
-use Rattle.bk_grammar.specs.Placed.{position_of}
 
 pub semis_refl : (a : List Symbol) → Semis a a
 semis_refl [] = refl

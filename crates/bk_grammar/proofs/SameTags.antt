@@ -16,8 +16,7 @@ all_lower [] = refl
 all_lower (x ∷ xs) = let a = lowercase-uppercase x in let b = all_lower xs in cc
 
 both_true : (b r : Bool) → cond b r false ≡ true → (b ≡ true) × (r ≡ true)
-both_true true r h = (refl, h)
-both_true false r h = absurd cc
+both_true b r h1 = grind arith
 
 tags_are : (xs ys : List ℕ) → same_tag xs ys ≡ true → xs ≡ ys
 tags_are [] [] h = refl
@@ -33,8 +32,7 @@ one_tag [] = refl
 one_tag (x ∷ xs) = ap (λ b. cond b (same_tag xs xs) false) (one_number x) ∙ one_tag xs
 
 not_true : (r : Bool) → (r ≡ true → ⊥) → false ≡ r
-not_true true h = absurd (h refl)
-not_true false h = refl
+not_true r h1 = grind arith
 
 pub same_case : (r : Bool) (a b : List ℕ) → (IsTrue r ↔ (map to_ascii_lowercase a ≡ map to_ascii_lowercase b)) → r ≡ same_tag (upper_name a) (upper_name b)
 same_case true a b h = sym (ap (same_tag (upper_name a)) (sym (sym (all_upper a) ∙ ap upper_name (h.0 refl) ∙ all_upper b)) ∙ one_tag (upper_name a))

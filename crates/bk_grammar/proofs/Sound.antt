@@ -1,17 +1,15 @@
 -- What is read is in the grammar.
-use Rattle.bk_grammar.proofs.Terms.{◌≡◌, ℕ, ◌+◌, ◌≤◌, true, false, List, ◌∷◌, Some, ◌==◌, length, refl, inl, inr, arith, Kind, Kind as k, Symbol, Operator, Operator as o, Expression, Expressions, Command, name, parens, unary, binary, choice, apply, valof, table, none, more, assign, label, default, test, for_loop, result, block, repeat_while, no_commands, also, constants, no_items, item, routine, function, variables, no_starts, value, vector, row, inner, left, following, infix_of, repeats, assigns, is_comma, goes, Fails, Stops, Filled, Reads, Each, Does, at_expression, at_expressions, at_names, at_command, size, start_count, Stack, in_block, at_starts, in_parens, in_unary, in_binary, in_chain, in_then, in_else, in_args, in_table, in_start, in_dests, in_values, in_guard, in_test, in_result, in_while, in_from, in_to, in_by, in_item, in_function, in_value, in_vector, in_valof, in_label, in_guarded, in_default, in_do, in_or, in_for, in_routine, State, want, have, begin, did, due, limit, is_close, is_colon, is_do, is_or, is_to, is_semicolon, closes, is_sign_of, guarded, after_sign, labelled, is_call, call_of, give, finish, each_then, commands_then, items_then, starts_then, eq_is, Option, cond, push, again}
+use Rattle.bk_grammar.proofs.Terms.{◌≡◌, ℕ, ◌+◌, ◌≤◌, true, false, List, ◌∷◌, Some, ◌==◌, length, refl, inl, inr, arith, Kind, Kind as k, Symbol, Operator, Operator as o, Expression, Expressions, Command, parens, unary, binary, choice, apply, valof, table, none, more, assign, label, default, test, for_loop, result, block, repeat_while, no_commands, also, constants, no_items, item, routine, function, variables, no_starts, value, vector, row, inner, left, following, infix_of, repeats, assigns, is_comma, goes, Fails, Stops, Filled, Reads, Each, Does, at_expression, at_expressions, at_names, at_command, size, start_count, Stack, in_block, at_starts, in_parens, in_unary, in_binary, in_chain, in_then, in_else, in_args, in_table, in_start, in_dests, in_values, in_guard, in_test, in_result, in_while, in_from, in_to, in_by, in_item, in_function, in_value, in_vector, in_valof, in_label, in_guarded, in_default, in_do, in_or, in_for, in_routine, State, want, have, begin, did, due, limit, is_close, is_colon, is_do, is_or, is_to, is_semicolon, closes, is_sign_of, guarded, after_sign, labelled, is_call, call_of, give, finish, each_then, commands_then, items_then, starts_then, eq_is, Option, cond, push, again, position_of}
 use Rattle.bk_grammar.proofs.Steps.{inner_is, size_then, count_then}
 use Rattle.bk_grammar.proofs.Before.{is_close_kind, is_comma_kind, is_colon_kind, is_do_kind, is_or_kind, is_to_kind, is_semicolon_kind, closes_kind, Ready, Before, Inv, mono, split, to, if_at, Reached, row_11, falls, limit_ok}
 use Rattle.bk_grammar.proofs.Lists.{inside_more, inside_then, commas_snoc, each_of, items_snoc, items_last, value_snoc, vector_snoc, value_last, vector_last}
 use Rattle.bk_grammar.proofs.Moves.{push_at, full_of, ends_of, again_at, sign_is, behind_inv, guarded_does, guarded_filled, dests_at, to_or_do_at, labelled_at, declared_at, inside_of, defined_at, constants_at}
-use Rattle.bk_grammar.specs.Placed.{position_of}
 
 pub low : (e : Expression) (ms us : List Symbol) (t : Symbol) → Reads 0 e ms (t ∷ us) → Reached 0 e ms us t
 low e ms us t r = record { reads = r; below = λ m lt. absurd (omega arith); top = inl (omega arith) }
 
 is_both : (t : Kind) → infix_of t ≡ Some o.Both → t ≡ k.Ampersand
-is_both k.Ampersand h = refl
-is_both _ h = absurd cc
+is_both t h1 = grind arith
 
 pub build_binary : (rows : ℕ) (q : Operator) (s : ℕ) (x e : Expression) (ts ms us : List Symbol) (t : Symbol) → row q ≤ rows → infix_of t.kind ≡ Some q → position_of t ≡ s → Reads (left q) x ts (t ∷ ms) → Reads (inner q) e ms us → Stops (inner q) us → Reads rows (binary (at_expression x) q s x e) ts us
 build_binary rows o.Both s x (binary l p i b c) ts ms us t le is at j r stops = inl (le, t, ms, is_both t.kind is, at, refl, j, r, stops)
@@ -22,8 +20,7 @@ build_apply s f none ts ms us t c i at j r e = absurd e
 build_apply s f (more x xs) ts ms us t c i at j r e = (t, ms, c, i, at, refl, j, r, e)
 
 pub call_filled : (e : Expression) → is_call e ≡ true → Filled (call_of e)
-call_filled (apply l s f es) h = tt
-call_filled _ h = absurd cc
+call_filled e h1 = grind arith
 
 pub call_does : (e : Expression) (ms z : List Symbol) → Reads 12 e ms z → Stops 12 z → Fails assigns z → is_call e ≡ true → Does (call_of e) ms z
 call_does (apply l s f none) ms z r stops fails h = (r.0, r.1, r.2, r.4, r.5, r.6, stops, fails)
@@ -31,8 +28,7 @@ call_does (apply l s f (more x xs)) ms z r stops fails h = (r.0, r.1, r.2, r.3, 
 call_does _ ms z r stops fails h = absurd cc
 
 label_start : (e : Expression) (st : Stack) (t : Symbol) (n : State) (a ms us : List Symbol) → Before st a ms × Ready st → Reads 12 e ms (t ∷ us) → t.kind ≡ k.Colon → labelled e st ≡ Some n → Inv n a us
-label_start (name l x) st t n a ms us b r is h = labelled_at (name l x) st t n a ms us b.0 b.1 r is h
-label_start _ st t n a ms us b r is h = absurd cc
+label_start e st t n a ms us h1 h2 h3 h4 = grind (arith, labelled_at)
 
 -- an expression goes on, or is complete with the symbol behind it
 give_or : (st : Stack) (e : Expression) (t : Symbol) (n : State) (a ms us : List Symbol) (j : ℕ) (rest : Option State) → Before st a ms → j ≤ limit st → Reached j e ms us t

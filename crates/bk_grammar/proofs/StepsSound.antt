@@ -1,14 +1,12 @@
 -- What is read is in the grammar, and what is in the grammar is read: all of it.
-use Rattle.bk_grammar.proofs.Terms.{◌≡◌, ℕ, Bool, true, false, cond, List, [], ◌∷◌, ◌++◌, Some, None, refl, inl, inr, arith, Kind, Kind as k, Symbol, Sort, Guard as g, Mention, Items, empty, goto, label, case_of, default, constants, no_items, item, no_starts, upper_name, begins_command, SpellsName, Stack, in_section, in_block, in_let, at_name, at_formals, at_formal, at_formal_end, at_head, at_variable, at_variable_end, at_starts, at_opening, at_items, at_sign, at_goto, at_for, at_forward, at_default, in_from, in_item, in_function, in_value, in_vector, in_label, in_guarded, in_default, in_routine, State, want, have, begin, maybe, did, due, is_close, is_colon, is_equal, is_semicolon, opens, closes, is_vec, is_open, named, without, inside, in_names, in_formals, headed, take_item, take_due, step}
+use Rattle.bk_grammar.proofs.Terms.{◌≡◌, ℕ, Bool, true, false, cond, List, [], ◌∷◌, ◌++◌, Some, None, refl, inl, inr, arith, Kind, Kind as k, Symbol, Sort, Guard as g, Mention, Items, empty, goto, label, case_of, default, constants, no_items, item, no_starts, upper_name, begins_command, SpellsName, Stack, in_section, in_block, in_let, at_name, at_formals, at_formal, at_formal_end, at_head, at_variable, at_variable_end, at_starts, at_opening, at_items, at_sign, at_goto, at_for, at_forward, at_default, in_from, in_function, in_value, in_vector, in_label, in_guarded, in_default, in_routine, State, want, have, begin, maybe, did, due, is_colon, is_equal, is_semicolon, opens, closes, is_vec, is_open, named, without, inside, in_names, in_formals, headed, take_item, take_due, step, position_of}
 use Rattle.bk_grammar.proofs.Before.{is_close_kind, is_colon_kind, is_equal_kind, is_semicolon_kind, opens_kind, closes_kind, is_vec_kind, is_open_kind, Ready, Before, May_miss, Inv, split, some_state, to, if_at}
 use Rattle.bk_grammar.proofs.Lists.{names_snoc, names_comma, formals_of, items_semi, items_shut}
 use Rattle.bk_grammar.proofs.Moves.{operand_at, command_at, section_at, block_at, declared_at}
 use Rattle.bk_grammar.proofs.Sound.{give_at, finish_at, low}
-use Rattle.bk_grammar.specs.Placed.{position_of}
 
 mention_at : (y : Kind) (l : ℕ) (x : List ℕ) (f : Mention → State) (n : State) → named y l x f ≡ Some n → (y ≡ k.Name) × (some_state (f (record { at = l; letters = upper_name x })) ≡ Some n)
-mention_at k.Name l x f n h = (refl, h)
-mention_at _ l x f n h = absurd cc
+mention_at y l x f n h1 = grind arith
 
 -- a symbol that is a name
 as_name : (t : Symbol) (f : Mention → State) (n : State) (a us : List Symbol) → named t.kind (position_of t) t.text f ≡ Some n
@@ -16,23 +14,16 @@ as_name : (t : Symbol) (f : Mention → State) (n : State) (a us : List Symbol) 
 as_name t f n a us h i = let m = mention_at t.kind (position_of t) t.text f n h in to (f (record { at = (position_of t); letters = upper_name t.text })) n a us m.1 (i (record { at = (position_of t); letters = upper_name t.text }) (m.0, refl, refl))
 
 names_at : (y : Kind) (xs : List Mention) (st : Stack) (n : State) (a us : List Symbol) → in_names xs st y ≡ Some n → (y ≡ k.Comma → Inv (due (at_variable xs st)) a us) → (y ≡ k.Equal → Inv (due (at_starts xs no_starts st)) a us) → Inv n a us
-names_at k.Comma xs st n a us h i j = to (due (at_variable xs st)) n a us h (i refl)
-names_at k.Equal xs st n a us h i j = to (due (at_starts xs no_starts st)) n a us h (j refl)
-names_at _ xs st n a us h i j = absurd cc
+names_at y xs st n a us h1 h2 h3 = grind (arith, to, due)
 
 formals_at : (y : Kind) (m : Mention) (fs : List Mention) (st : Stack) (n : State) (a us : List Symbol) → in_formals m fs st y ≡ Some n → (y ≡ k.Comma → Inv (due (at_formal m fs st)) a us) → (y ≡ k.Close → Inv (due (at_head m fs st)) a us) → Inv n a us
-formals_at k.Comma m fs st n a us h i j = to (due (at_formal m fs st)) n a us h (i refl)
-formals_at k.Close m fs st n a us h i j = to (due (at_head m fs st)) n a us h (j refl)
-formals_at _ m fs st n a us h i j = absurd cc
+formals_at y m fs st n a us h1 h2 h3 = grind (arith, to, due, at_head)
 
 head_at : (y : Kind) (m : Mention) (fs : List Mention) (st : Stack) (n : State) (a us : List Symbol) → headed m fs st y ≡ Some n → (y ≡ k.Be → Inv (begin (in_routine m fs st)) a us) → (y ≡ k.Equal → Inv (want (in_function m fs st)) a us) → Inv n a us
-head_at k.Be m fs st n a us h i j = to (begin (in_routine m fs st)) n a us h (i refl)
-head_at k.Equal m fs st n a us h i j = to (want (in_function m fs st)) n a us h (j refl)
-head_at _ m fs st n a us h i j = absurd cc
+head_at y m fs st n a us h1 h2 h3 = grind (arith, to)
 
 inside_at : (b : Bool) (y : Kind) (xs : List Mention) (st : Stack) (n : State) (a us : List Symbol) → cond b (in_names xs st y) None ≡ Some n → (b ≡ true → in_names xs st y ≡ Some n → Inv n a us) → Inv n a us
-inside_at true y xs st n a us h i = i refl h
-inside_at false y xs st n a us h i = absurd cc
+inside_at b y xs st n a us h1 h2 = grind arith
 
 item_at : (m : ℕ) (s : Sort) (is : Items) (st : Stack) (t : Symbol) (n : State) (a us : List Symbol) → Before (at_items m s is st) a (t ∷ us) → take_item m s is st (position_of t) t.text t.kind ≡ Some n → Inv n a us
 item_at m s no_items st t n a us b h = as_name t (λ y. due (at_sign m s no_items y st)) n a us h (λ y sp. (b.0, b.1, b.2, t, b.3, b.4, b.5, b.6, b.7, b.8, sp))
@@ -76,8 +67,7 @@ without_at (in_default l st) t n a us b miss f h = finish_at st (default l empty
 without_at _ t n a us b miss f h = absurd miss
 
 may_ready : (st : Stack) → May_miss st → Ready st
-may_ready (in_block l false ds cs st) h = absurd h
-may_ready _ h = tt
+may_ready st h1 = grind arith
 
 pub step_sound : (x : State) (t : Symbol) (n : State) (a us : List Symbol) → Inv x a (t ∷ us) → step x t ≡ Some n → Inv n a us
 step_sound (want st) t n a us i h = operand_at t.kind st t n a us refl i h

@@ -16,5 +16,6 @@ pub use Rattle.bk_tree.specs.declared.tree.Sort.{Sort}
 pub use Rattle.bk_grammar.specs.Grammar.{last, Full, EndsCommand, Filled, Reads, Does, Declares, Defines, SpellsName, Names, Formals, Semis, if_or_unless, while_or_until, repeats_while, Each, Body, Parted, Heads, Listed, Defined, Started, Section, Leaf}
 pub use Rattle.bk_grammar.specs.Machine.{Stack, in_section, in_block, in_let, at_opening, at_items, at_goto, at_for, at_default, in_parens, in_unary, in_binary, in_chain, in_then, in_args, in_table, in_start, in_dests, in_values, in_guard, in_test, in_result, in_while, in_by, in_valof, in_label, in_guarded, in_for, State, want, have, begin, maybe, did, due, limit, linked, infixed, push, is_semicolon, closes, is_let, is_sign_of, guarded, after_sign, prefixed, no_args, bars, leaved, take_operand, take_start, take_command, sorted, take_declaration, take_in_section, in_head, take_in_block, declared, declared_by, defined_by, again, dests, labelled, in_constants, to_or_do, inside, give, finish, stepped_by, step, whole, going, at_name, at_formals, at_formal, at_formal_end, at_head, at_variable, at_variable_end, at_starts, at_sign, at_forward, in_else, in_from, in_to, in_item, in_function, in_value, in_vector, in_default, in_do, in_or, in_routine, is_vec, named, in_names, take_item, take_due, is_close, is_colon, is_equal, opens, is_open, without, in_formals, headed, is_do, is_or, is_to, if_is, is_call, call_of}
 unfoldable pub use Rattle.bk_grammar.specs.Machine.{run}
+pub use Rattle.bk_grammar.specs.Placed.{position_of}
 pub use Rattle.bk_grammar.specs.Rows.{row, left, is_relation, infix_of, prefix_of, leaf, simple_of, sort_of, guard_of, sign_of, repeats, is_and, goes, Fails, inner, begins_operand, begins_command, assigns, is_comma, Stops, following}
 pub use Rattle.bk_grammar.specs.declared.symbols.Guard.{Guard}

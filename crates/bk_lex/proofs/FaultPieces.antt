@@ -1,5 +1,5 @@
 -- Where the machine tells a fault, whole pieces are before the place that it gives, and the fault is in what comes next.
-use Rattle.bk_lex.proofs.Terms.{◌≡◌, ℕ, ◌+◌, ◌≤◌, Bool, true, false, cond, ltb, List, [], ◌∷◌, ◌++◌, length, Option, Some, None, Result, Ok, Err, refl, sym, ap, subst, ◌∙◌, arith, inl, inr, ltb-true, ltb-false, length-append, append-nil, SourceKind, Fault, BadByte, SectionTooLong, HeaderTooLong, BadGet, Mode, Effect, State, Step, Ended, next, fresh, piece, end_fault, moved, within, past, opened_as, begun, named, ended, finished_as, no_get, stepped, ◌>>=◌, Reading, reported_kind, faulty_first, faulty_after, Piece, CutsTo, Putting, seen, weight, Begins, PassesNext, AllPast, no_tokens, FaultNext, SourceKind as source_kinds, Effect as nexts, Act as acts, line_following, ◌⊎◌}
+use Rattle.bk_lex.proofs.Terms.{◌≡◌, ℕ, ◌+◌, ◌≤◌, Bool, true, false, cond, ltb, List, [], ◌∷◌, ◌++◌, length, Option, Some, None, Result, Ok, Err, refl, sym, ap, subst, ◌∙◌, arith, inl, inr, ltb-true, ltb-false, length-append, append-nil, SourceKind, Fault, BadByte, SectionTooLong, BadGet, Mode, Effect, State, Step, Ended, next, fresh, piece, end_fault, moved, within, past, opened_as, begun, named, ended, finished_as, no_get, stepped, ◌>>=◌, Reading, reported_kind, faulty_first, faulty_after, Piece, CutsTo, Putting, seen, weight, Begins, PassesNext, AllPast, no_tokens, FaultNext, SourceKind as source_kinds, Effect as nexts, Act as acts, line_following, ◌⊎◌}
 use Rattle.bk_lex.proofs.SignLemmas.{picks}
 use Rattle.bk_lex.proofs.Modes.{piece_reads}
 use Rattle.bk_lex.proofs.Goings.{reads_piece}
@@ -20,10 +20,7 @@ abbrev pub Leaves : SourceKind → ℕ → List ℕ → List ℕ → Type 0
 Leaves kind from text rest = (ps : List Piece) × CutsTo text ps rest × FaultNext kind from (length text) ps rest
 
 leaves_begun : (f : Fault) (from : ℕ) (text rest : List ℕ) (ps : List Piece) → CutsTo text ps rest → Begins (reported_kind f) rest → Leaves (reported_kind f) from text rest
-leaves_begun SectionTooLong from text rest ps c h = absurd h
-leaves_begun HeaderTooLong from text rest ps c h = absurd h
-leaves_begun BadGet from text rest ps c h = absurd h
-leaves_begun f from text rest ps c h = (ps, c, h)
+leaves_begun f from text rest ps h1 h2 = grind arith
 
 leaves_as : (f g : Fault) (from : ℕ) (text rest : List ℕ) → g ≡ f → Leaves (reported_kind f) from text rest → Leaves (reported_kind g) from text rest
 leaves_as f g from text rest e h = subst (λ (x : Fault). Leaves (reported_kind x) from text rest) (sym e) h
@@ -40,10 +37,7 @@ leaves_ended g from q r text rest le w light (inr p) = leaves_stuck g from _ q t
 
 -- a fault that begins is the same past the bytes
 begun_past : (f : Fault) (text : List ℕ) → Begins (reported_kind f) text → past f ≡ f
-begun_past SectionTooLong text h = absurd h
-begun_past HeaderTooLong text h = absurd h
-begun_past BadGet text h = absurd h
-begun_past f text h = refl
+begun_past f text h1 = grind arith
 
 -- the fault of a step past the bytes
 abbrev FullErr : Result Step Fault → Fault → Type 0
@@ -51,8 +45,7 @@ FullErr (Ok u) g = g ≡ SectionTooLong
 FullErr (Err f) g = g ≡ past f
 
 step_err : (n : ℕ) (y : Result Step Fault) (g : Fault) → within n y ≡ Err g → ((ltb n 1 ≡ true) × FullErr y g) ⊎ ((ltb n 1 ≡ false) × (y ≡ Err g))
-step_err n (Ok u) g h = grind (arith, picks, fewer, err_is, no_err)
-step_err n (Err f) g h = grind (arith, picks, past, err_is)
+step_err n y g h1 = grind (arith, picks, fewer, err_is, no_err, past)
 
 -- a byte that begins a piece there shows that the bytes are too many
 full_opened : (s : State) (m : Mode) (c : ℕ) (g : Fault) → FullErr (opened_as s c (Some m)) g → g ≡ SectionTooLong
@@ -95,7 +88,7 @@ module _ (from : ℕ) (front : List ℕ) (c : ℕ) (q : Putting) (t : List ℕ) 
       look (inl d) = (way.pieces, subst (λ (y : List ℕ). CutsTo text way.pieces (y ++ c ∷ [])) d.0 way.cut)
       look (inr (inl d)) =
           let reads = piece_reads t r.state.mode d.1 in
-          let w = whole_at_end r.state.mode c t reads x in
+          let w = whole_at_end r.state.mode c x in
           let is = reads_piece r.state.mode w.0 t reads w.1 in
           let p : Piece = record { sort = w.0; text = t } in
           (way.pieces ++ p ∷ [], cuts_append way.pieces (p ∷ []) text (t ++ c ∷ []) (c ∷ []) way.cut (c ∷ [], record { parts = refl; is = is.0; longest = ends_longest r.state.mode t c [] d.1 x; bounded = is.1 }, refl))
@@ -128,7 +121,7 @@ module _ (from : ℕ) (front : List ℕ) (c : ℕ) (q : Putting) (t : List ℕ) 
   ended_leaves : (g : Fault) → next r.state.mode c ≡ nexts.Ends → ltb r.state.bytes 1 ≡ false → ended r.state ≡ Err g → Leaves (reported_kind g) from text (t ++ c ∷ [])
   ended_leaves g x b o =
       leaves_ended g from q r text (t ++ c ∷ []) (with_room b) way light
-      (ended_next (c ∷ []) q t r g here a (λ d bs w. ap (next r.state.mode) (sym (heads_are c d bs w)) ∙ x) (naming_stops t r.state.mode c x) line (λ w. (whole_at_end r.state.mode c t (piece_reads t r.state.mode w) x, ends_longest r.state.mode t c [] w x)) o)
+      (ended_next (c ∷ []) q t r g here a (λ d bs w. ap (next r.state.mode) (sym (heads_are c d bs w)) ∙ x) (naming_stops t r.state.mode c x) line (λ w. (whole_at_end r.state.mode c x, ends_longest r.state.mode t c [] w x)) o)
 
   -- where the byte's piece begins
   abbrev AtByte : Bool → Effect → Fault → Type 0

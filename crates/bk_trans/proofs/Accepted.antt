@@ -1,14 +1,13 @@
 -- The scheme's statements of a section without faults are an accepted section.
-use Rattle.bk_trans.proofs.Words.{arith, ◌≡◌, ℕ, suc, ◌+◌, ◌≤◌, List, [], ◌∷◌, ◌++◌, length, refl, ap, subst, OCODE_LABEL, OCODE_STATEMENTS, OCODE_WORDS, Declarations, Point, word, words_of, faults, reported_of, meanings, words, SoundSection, joined, Use, times_set}
+use Rattle.bk_trans.proofs.Words.{arith, ◌≡◌, ℕ, suc, ◌+◌, ◌≤◌, List, [], ◌∷◌, length, refl, ap, subst, OCODE_LABEL, OCODE_STATEMENTS, OCODE_WORDS, Declarations, Point, word, words_of, faults, reported_of, meanings, words, SoundSection, joined, Use, times_set, every_front, every_back}
 use Rattle.bk_trans.proofs.Terms.{section_clean, section_sound, IsSection, text_size, Target, program_of, labels_of_declarations, Part, parts_of_declarations, target_of, named_tree, scheme, AreWords, SchemeIsAccepted}
 use Rattle.bk_ocode.proofs.Lemmas.{typed_is_section}
 use Rattle.bk_trans.specs.Program as p
 use Rattle.bk_trans.proofs.Named.{filling_names}
-use Rattle.bk_trans.proofs.Few.{labels_are_few}
-use Rattle.bk_trans.proofs.Counted.{labels_are_set_once, statements_are_few, words_are_few}
-use Rattle.bk_trans.proofs.Marks.{Mark, AllRight, right_front, right_back}
+use Rattle.bk_trans.proofs.Counted.{labels_are_few, labels_are_set_once, statements_are_few, words_are_few}
+use Rattle.bk_trans.proofs.Marks.{Mark, AllRight, Right}
 use Rattle.bk_trans.proofs.Sections.{part_marks, look, look_right, look_set, section_marked, section_typed}
-use Rattle.bk_trans.proofs.Scopes.{AllFound, PartsRight}
+use Rattle.bk_trans.proofs.Scopes.{AllFound, PartsRight, Found}
 use Rattle.bk_trans.proofs.Nested.{AllQuiet, Quiet, section_good}
 use Rattle.bk_trans.proofs.Numbered.{section_found}
 
@@ -18,18 +17,10 @@ all_quiet [] h = tt
 all_quiet (word v ∷ xs) h = (h 0 v refl, all_quiet xs (λ k w at. h (suc k) w at))
 all_quiet (_ ∷ xs) h = (tt, all_quiet xs h)
 
-found_front : (ts xs ys : List Target) → AllFound ts (xs ++ ys) → AllFound ts xs
-found_front ts [] ys h = tt
-found_front ts (x ∷ xs) ys h = (h.0, found_front ts xs ys h.1)
-
-found_back : (ts xs ys : List Target) → AllFound ts (xs ++ ys) → AllFound ts ys
-found_back ts [] ys h = h
-found_back ts (x ∷ xs) ys h = found_back ts xs ys h.1
-
 parts_right : (plan : ℕ → Use) (ts : List Target) (xs : List Part) → AllFound ts (joined target_of xs) → AllRight plan (joined part_marks xs) → PartsRight plan ts xs
 parts_right plan ts [] h r = tt
 parts_right plan ts (x ∷ xs) h r =
-    ((found_front ts (target_of x) _ h, right_front plan (part_marks x) _ r), parts_right plan ts xs (found_back ts (target_of x) _ h) (right_back plan (part_marks x) _ r))
+    ((every_front (Found ts) (target_of x) _ h, every_front (Right plan) (part_marks x) _ r), parts_right plan ts xs (every_back (Found ts) (target_of x) _ h) (every_back (Right plan) (part_marks x) _ r))
 
 -- the named tree of a section
 accepted : (ds : Declarations) → SoundSection ds → Quiet (reported_of ds) → 1 + labels_of_declarations (named_tree ds) ≤ OCODE_LABEL → length (scheme (named_tree ds)) ≤ OCODE_STATEMENTS

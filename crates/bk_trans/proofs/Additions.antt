@@ -5,7 +5,7 @@ use Rattle.bk_trans.specs.declared.evaluation.Evaluation.TheVariants as evaluati
 use Rattle.bk_trans.specs.Filling as f
 use Rattle.bk_trans.specs.Labels as n
 use Rattle.bk_trans.specs.Writing.{Writing, after, place_of, word_of, push_of, goto_code, settled_word, settled, with_code, with_choices, no_choices, with_left, takes_labels, past_meaning, puts_label, puts_case, puts_default, puts_table, puts_item, puts_items, evaluation_of, puts_switch, before_body, steps_on, goes_on, outside_of, inside, puts_entry, begins_procedure, ends_procedure}
-use Rattle.bk_trans.proofs.Adds.{Near, near, near_after, near_is, Alike, alike, alike_is, is_alike, alike_both, label_in_words, first_none, At, Adds, nothing, then, put, labelled, renumbered, resumed, unchosen}
+use Rattle.bk_trans.proofs.Adds.{Near, near, near_after, near_is, Alike, alike, alike_is, is_alike, alike_both, label_in_words, first_none, At, Adds, nothing, then, put, labelled, renumbered, resumed, unchosen, elsewhere}
 
 -- places that are the same in words
 pub record NearGoal (x y : Goal) : Type 0 where
@@ -52,38 +52,15 @@ module _ (gs : List Goal) (ts : List Target) (placed : Placed gs ts) where
   push_near _ = refl
 
   pub goto_near : (x : Bound) {s t : ℕ} → Near s t → Alike stmt_in_words (map (settled gs) (goto_code s x)) (go (goal_in ts x) t)
-  goto_near (b.Constant v) {s} {t} h = go_near (goal 0 0) (goal 0 0) s t (near_goal _) h
   goto_near (b.Label k m) {s} {t} h = go_near (place_of gs m) (goal_of ts m) s t (placed.at_number m) h
   goto_near _ {s} {t} h = go_near (goal 0 0) (goal 0 0) s t (near_goal _) h
 
--- taking a meaning, and a word
-pub took_meaning : {gs : List Goal} {ts : List Target} {w : Writing} {g : Supply} {n : ℕ} → At w g n → Adds gs ts w [] [] [] None (meaning g).left n (past_meaning w)
-took_meaning {gs} {ts} {w} {g} at =
-    let a = nothing {gs = gs} {ts = ts} at in
-    record {
-      its_code = a.its_code;
-      its_procedures = a.its_procedures;
-      its_data = a.its_data;
-      its_entries = a.its_entries;
-      its_targets = a.its_targets;
-      its_cases = a.its_cases;
-      its_default = a.its_default;
-      at = record { left = ap (λ s. (meaning s).left) at.left; next = at.next };
-    }
-
+-- taking a meaning, or a word
 pub took : {gs : List Goal} {ts : List Target} {w : Writing} {g : Supply} {n : ℕ} (h : Supply → Supply) → At w g n → Adds gs ts w [] [] [] None (h g) n (with_left (h w.left) w)
-took {gs} {ts} {w} {g} h at =
-    let a = nothing {gs = gs} {ts = ts} at in
-    record {
-      its_code = a.its_code;
-      its_procedures = a.its_procedures;
-      its_data = a.its_data;
-      its_entries = a.its_entries;
-      its_targets = a.its_targets;
-      its_cases = a.its_cases;
-      its_default = a.its_default;
-      at = record { left = ap h at.left; next = at.next };
-    }
+took h at = elsewhere (ap h at.left) at.next
+
+pub took_meaning : {gs : List Goal} {ts : List Target} {w : Writing} {g : Supply} {n : ℕ} → At w g n → Adds gs ts w [] [] [] None (meaning g).left n (past_meaning w)
+took_meaning at = took (λ s. (meaning s).left) at
 
 -- in a VALOF, a loop, a SWITCHON
 pub in_valof : {j l : ℕ} → Near j l → NearAround (valued j) (valued l)
@@ -104,11 +81,8 @@ target_near (b.Static m) h = record { same = ap (λ i. record { number = m; labe
 target_near _ h = record { same = refl }
 
 pub label_near : (x : Bound) {j l s t : ℕ} → Near j l → Near s t → Alike target_in_words (target_of_label j s x) (target_of_label l t x)
-label_near (b.Constant v) h ns = record { same = refl }
-label_near (b.Global g) h ns = record { same = refl }
-label_near (b.Static m) h ns = record { same = refl }
-label_near (b.Variable k i) h ns = record { same = refl }
 label_near (b.Label k m) {j} {l} {s} {t} h ns = record { same = ap (λ i. record { number = m; label = i; depth = word s } ∷ []) h.same ∙ ap (λ i. record { number = m; label = word l; depth = i } ∷ []) ns.same }
+label_near _ h ns = record { same = refl }
 
 -- a label that a GOTO may go to
 pub put_label : {gs : List Goal} {ts : List Target} {w : Writing} {g : Supply} {k s t : ℕ} → At w g k → Near s t
@@ -117,13 +91,14 @@ put_label {gs} {ts} {w} {g} {k} {s} {t} at ns =
     let a = put (then (took_meaning {gs = gs} {ts = ts} at) (labelled 1 (took_meaning {gs = gs} {ts = ts} at).at)) (same {s = Label w.next} {r = Label k} (ap Label at.next.same)) in
     record {
       its_code = a.its_code;
-      its_procedures = a.its_procedures;
-      its_data = a.its_data;
-      its_entries = a.its_entries;
-      its_targets = alike_both (alike target_in_words w.apart.targets) (is_alike (ap (λ x. target_of_label w.next s (meaning x).part) at.left)
-          (alike_is (label_near (meaning g).part at.next ns) (sym (append-nil (target_of_label k t (meaning g).part)))));
-      its_cases = a.its_cases;
-      its_default = a.its_default;
+      its_apart = record {
+        its_procedures = a.its_apart.its_procedures;
+        its_data = a.its_apart.its_data;
+        its_entries = a.its_apart.its_entries;
+        its_targets = alike_both (alike target_in_words w.apart.targets) (is_alike (ap (λ x. target_of_label w.next s (meaning x).part) at.left)
+            (alike_is (label_near (meaning g).part at.next ns) (sym (append-nil (target_of_label k t (meaning g).part)))));
+      };
+      its_choices = a.its_choices;
       at = record { left = a.at.left; next = a.at.next };
     }
 
@@ -133,12 +108,8 @@ put_case {gs} {ts} {w} {g} {k} at =
     let a = put (then (took {gs = gs} {ts = ts} (λ x. (constant x).left) at) (labelled 1 (took {gs = gs} {ts = ts} (λ x. (constant x).left) at).at)) (same {s = Label w.next} {r = Label k} (ap Label at.next.same)) in
     record {
       its_code = a.its_code;
-      its_procedures = a.its_procedures;
-      its_data = a.its_data;
-      its_entries = a.its_entries;
-      its_targets = a.its_targets;
-      its_cases = alike_both (alike case_in_words w.choices.cases) (record { same = ap (λ x. record { value = signed (constant x).part; label = word w.next } ∷ []) at.left ∙ ap (λ x. record { value = signed (constant g).part; label = x } ∷ []) at.next.same });
-      its_default = a.its_default;
+      its_apart = a.its_apart;
+      its_choices = record { its_cases = alike_both (alike case_in_words w.choices.cases) (record { same = ap (λ x. record { value = signed (constant x).part; label = word w.next } ∷ []) at.left ∙ ap (λ x. record { value = signed (constant g).part; label = x } ∷ []) at.next.same }); its_default = a.its_choices.its_default };
       at = record { left = a.at.left; next = a.at.next };
     }
 
@@ -151,12 +122,8 @@ put_default {gs} {ts} {w} {g} {k} at =
     let a = put (labelled {gs = gs} {ts = ts} 1 at) (same {s = Label w.next} {r = Label k} (ap Label at.next.same)) in
     record {
       its_code = a.its_code;
-      its_procedures = a.its_procedures;
-      its_data = a.its_data;
-      its_entries = a.its_entries;
-      its_targets = a.its_targets;
-      its_cases = a.its_cases;
-      its_default = default_near w.choices.default_label at.next;
+      its_apart = a.its_apart;
+      its_choices = record { its_cases = a.its_choices.its_cases; its_default = default_near w.choices.default_label at.next };
       at = record { left = a.at.left; next = a.at.next };
     }
 
@@ -168,12 +135,13 @@ put_item {gs} {ts} {w} {g} {k} at =
     let a = then one_word (then (took_meaning {gs = gs} {ts = ts} one_word.at) (labelled 1 (took_meaning {gs = gs} {ts = ts} one_word.at).at)) in
     record {
       its_code = a.its_code;
-      its_procedures = a.its_procedures;
-      its_data = alike_both (alike stmt_in_words w.apart.data_words) (is_alike (ap (λ x. DataLabel w.next ∷ DataNumber (signed (constant x).part) ∷ []) at.left) (and (ap DataLabel at.next.same) (alike stmt_in_words _)));
-      its_entries = a.its_entries;
-      its_targets = alike_both (alike target_in_words w.apart.targets) (is_alike (ap (λ x. target_of_word w.next (meaning (constant x).left).part) at.left) (alike_is (target_near (meaning (constant g).left).part at.next) (sym (append-nil _))));
-      its_cases = a.its_cases;
-      its_default = a.its_default;
+      its_apart = record {
+        its_procedures = a.its_apart.its_procedures;
+        its_data = alike_both (alike stmt_in_words w.apart.data_words) (is_alike (ap (λ x. DataLabel w.next ∷ DataNumber (signed (constant x).part) ∷ []) at.left) (and (ap DataLabel at.next.same) (alike stmt_in_words _)));
+        its_entries = a.its_apart.its_entries;
+        its_targets = alike_both (alike target_in_words w.apart.targets) (is_alike (ap (λ x. target_of_word w.next (meaning (constant x).left).part) at.left) (alike_is (target_near (meaning (constant g).left).part at.next) (sym (append-nil _))));
+      };
+      its_choices = a.its_choices;
       at = record { left = a.at.left; next = a.at.next };
     }
 
@@ -193,13 +161,14 @@ put_table {gs} {ts} es {w} {g} {k} at =
     let a = put (then own (took (λ x. (constants_of es x).left) own.at)) (same {s = Address (Static w.next)} {r = Address (Static k)} (ap (λ x. Address (Static x)) at.next.same)) in
     record {
       its_code = a.its_code;
-      its_procedures = a.its_procedures;
-      its_data = alike_both (alike stmt_in_words w.apart.data_words) (is_alike (ap (λ x. DataLabel w.next ∷ map (λ v. DataNumber (signed v)) (constants_of es x).part) at.left)
-          (alike_is (and (ap DataLabel at.next.same) (alike stmt_in_words _)) (sym (append-nil _))));
-      its_entries = a.its_entries;
-      its_targets = a.its_targets;
-      its_cases = a.its_cases;
-      its_default = a.its_default;
+      its_apart = record {
+        its_procedures = a.its_apart.its_procedures;
+        its_data = alike_both (alike stmt_in_words w.apart.data_words) (is_alike (ap (λ x. DataLabel w.next ∷ map (λ v. DataNumber (signed v)) (constants_of es x).part) at.left)
+            (alike_is (and (ap DataLabel at.next.same) (alike stmt_in_words _)) (sym (append-nil _))));
+        its_entries = a.its_apart.its_entries;
+        its_targets = a.its_apart.its_targets;
+      };
+      its_choices = a.its_choices;
       at = record { left = a.at.left; next = a.at.next };
     }
 
@@ -214,19 +183,15 @@ pub switched : {gs : List Goal} {ts : List Target} {w v u : Writing} {c e : List
     → Adds gs ts w (c ++ Switch (label_or l x) ks ∷ e ++ Label l ∷ []) (ps ++ qs) [] None h i (puts_switch j v.code v.choices u)
 switched {gs} {ts} {w} {v} {u} {c} {e} {ps} {qs} {ks} {x} {g} {h} {k} {i} {j} {l} near_label a b =
     let inner = then a (unchosen no_choices (resumed b)) in
-    let choice : stmt_in_words (Switch (label_or j u.choices.default_label) u.choices.cases) ≡ stmt_in_words (Switch (label_or l x) ks) = ap (λ z. Switch z (map case_in_words u.choices.cases)) (label_or_near near_label _ _ b.its_default) ∙ ap (λ z. Switch (word (label_or l x)) z) b.its_cases.same in
+    let choice : stmt_in_words (Switch (label_or j u.choices.default_label) u.choices.cases) ≡ stmt_in_words (Switch (label_or l x) ks) = ap (λ z. Switch z (map case_in_words u.choices.cases)) (label_or_near near_label _ _ b.its_choices.its_default) ∙ ap (λ z. Switch (word (label_or l x)) z) b.its_choices.its_cases.same in
     let own : Stmt = Switch (label_or j u.choices.default_label) u.choices.cases in
     let before = map (settled gs) w.code in
     record {
       its_code = is_alike (map-append (settled gs) (v.code ++ Ready own ∷ u.code) (Ready (Label j) ∷ []) ∙ ap (λ z. z ++ Label j ∷ []) (map-append (settled gs) v.code (Ready own ∷ u.code)))
           (alike_is (alike_both (alike_both a.its_code (and choice b.its_code)) (one (Label j) (Label l) (ap Label near_label.same)))
           (ap (λ z. z ++ Label l ∷ []) (append_assoc before c (Switch (label_or l x) ks ∷ e)) ∙ append_assoc before (c ++ Switch (label_or l x) ks ∷ e) (Label l ∷ [])));
-      its_procedures = inner.its_procedures;
-      its_data = inner.its_data;
-      its_entries = inner.its_entries;
-      its_targets = inner.its_targets;
-      its_cases = inner.its_cases;
-      its_default = inner.its_default;
+      its_apart = inner.its_apart;
+      its_choices = inner.its_choices;
       at = record { left = b.at.left; next = b.at.next };
     }
 
@@ -241,11 +206,8 @@ word_written j (b.Static m) = DataLabel (after j 1) ∷ DataAddress j ∷ []
 word_written j _ = []
 
 pub words_near : (x : Bound) {j l : ℕ} → Near j l → Alike stmt_in_words (word_written j x) (word_code l x)
-words_near (b.Constant v) h = record { same = refl }
-words_near (b.Global g) h = record { same = refl }
 words_near (b.Static m) {j} {l} h = and {s = DataLabel (after j 1)} {r = DataLabel (l + 1)} (ap DataLabel (near_after 1 h).same) (one (DataAddress j) (DataAddress l) (ap DataAddress h.same))
-words_near (b.Variable k i) h = record { same = refl }
-words_near (b.Label k m) h = record { same = refl }
+words_near _ h = record { same = refl }
 
 -- a procedure is entered: what was added to w
 pub record Entered (x : Bound) (j : ℕ) (w v : Writing) : Type 0 where
@@ -286,28 +248,29 @@ procedure_done {gs} {ts} {w} {v} {body} {ps} {ks} {y} {g} {h} {k} {i} part x for
     and (ap (λ z. Entry z (first_bytes x)) at.next.same) (one (Save (after 2 formals)) (Save (formals + 2)) (ap Save (near_is (near_after formals (near 2)) (omega arith)).same)) in
     let code : Alike stmt_in_words (map (settled gs) v.code) (Entry k (first_bytes x) ∷ Save (formals + 2) ∷ body) =
     record { same = a.its_code.same ∙ ap (λ z. map stmt_in_words (map (settled gs) (z ++ Ready (Entry w.next (first_bytes x)) ∷ [] ++ Ready (Save (after 2 formals)) ∷ []) ++ body)) e.code ∙ (alike_both head (alike stmt_in_words body)).same } in
-    let inner : Alike stmt_in_words (map (settled gs) v.apart.procedures) (joined (procedure_code ts) ps) = record { same = a.its_procedures.same ∙ ap (λ z. map stmt_in_words (map (settled gs) z ++ joined (procedure_code ts) ps)) e.procedures } in
+    let inner : Alike stmt_in_words (map (settled gs) v.apart.procedures) (joined (procedure_code ts) ps) = record { same = a.its_apart.its_procedures.same ∙ ap (λ z. map stmt_in_words (map (settled gs) z ++ joined (procedure_code ts) ps)) e.procedures } in
     let whole : Alike stmt_in_words (map (settled gs) v.code ++ return ∷ EndProcedure ∷ [] ++ map (settled gs) v.apart.procedures) (procedure_code ts part ++ joined (procedure_code ts) ps) = alike_is (alike_both (alike_both code (alike stmt_in_words (return ∷ EndProcedure ∷ []))) inner) (ap (λ z. z ++ joined (procedure_code ts) ps) (sym is_code)) in
     let all_settled : map (settled gs) (w.apart.procedures ++ v.code ++ Ready return ∷ Ready EndProcedure ∷ [] ++ v.apart.procedures) ≡ map (settled gs) w.apart.procedures ++ map (settled gs) v.code ++ return ∷ EndProcedure ∷ [] ++ map (settled gs) v.apart.procedures =
     map-append (settled gs) (w.apart.procedures ++ v.code ++ Ready return ∷ Ready EndProcedure ∷ []) v.apart.procedures
     ∙ ap (λ z. z ++ map (settled gs) v.apart.procedures) (map-append (settled gs) (w.apart.procedures ++ v.code) (Ready return ∷ Ready EndProcedure ∷ []) ∙ ap (λ z. z ++ return ∷ EndProcedure ∷ []) (map-append (settled gs) w.apart.procedures v.code)) in
     record {
       its_code = none.its_code;
-      its_procedures = is_alike (all_settled ∙ ap (λ z. z ++ map (settled gs) v.apart.procedures) (append_assoc (map (settled gs) w.apart.procedures) (map (settled gs) v.code) (return ∷ EndProcedure ∷ [])) ∙ append_assoc (map (settled gs) w.apart.procedures) (map (settled gs) v.code ++ return ∷ EndProcedure ∷ []) (map (settled gs) v.apart.procedures)) (alike_both (alike stmt_in_words (map (settled gs) w.apart.procedures)) whole);
-      its_data = record {
-        same = a.its_data.same ∙ ap (λ z. map stmt_in_words (z ++ joined data_code ps)) e.data_words
-            ∙ (is_alike (append_assoc w.apart.data_words (word_written w.next (meaning w.left).part) (joined data_code ps)) (alike_both (alike stmt_in_words w.apart.data_words) (alike_both (is_alike (ap (λ z. word_written w.next (meaning z).part) at.left) (alike_is (words_near (meaning g).part at.next) (sym is_data))) (alike stmt_in_words (joined data_code ps))))).same;
+      its_apart = record {
+        its_procedures = is_alike (all_settled ∙ ap (λ z. z ++ map (settled gs) v.apart.procedures) (append_assoc (map (settled gs) w.apart.procedures) (map (settled gs) v.code) (return ∷ EndProcedure ∷ [])) ∙ append_assoc (map (settled gs) w.apart.procedures) (map (settled gs) v.code ++ return ∷ EndProcedure ∷ []) (map (settled gs) v.apart.procedures)) (alike_both (alike stmt_in_words (map (settled gs) w.apart.procedures)) whole);
+        its_data = record {
+          same = a.its_apart.its_data.same ∙ ap (λ z. map stmt_in_words (z ++ joined data_code ps)) e.data_words
+              ∙ (is_alike (append_assoc w.apart.data_words (word_written w.next (meaning w.left).part) (joined data_code ps)) (alike_both (alike stmt_in_words w.apart.data_words) (alike_both (is_alike (ap (λ z. word_written w.next (meaning z).part) at.left) (alike_is (words_near (meaning g).part at.next) (sym is_data))) (alike stmt_in_words (joined data_code ps))))).same;
+        };
+        its_entries = record {
+          same = a.its_apart.its_entries.same ∙ ap (λ z. map entry_in_words (z ++ joined entries_of ps)) e.entries
+              ∙ (is_alike (append_assoc w.apart.entries (entry_of w.next (meaning w.left).part) (joined entries_of ps)) (alike_both (alike entry_in_words w.apart.entries) (alike_both (is_alike (ap (λ z. entry_of w.next (meaning z).part) at.left) (alike_is (entry_near (meaning g).part at.next) (sym is_entries))) (alike entry_in_words (joined entries_of ps))))).same;
+        };
+        its_targets = record {
+          same = a.its_apart.its_targets.same ∙ ap (λ z. map target_in_words (z ++ joined target_of ps)) e.targets
+              ∙ (is_alike (append_assoc w.apart.targets (target_of_word (after w.next 1) (meaning w.left).part) (joined target_of ps)) (alike_both (alike target_in_words w.apart.targets) (alike_both (is_alike (ap (λ z. target_of_word (after w.next 1) (meaning z).part) at.left) (alike_is (target_near (meaning g).part (near_after 1 at.next)) (sym is_targets))) (alike target_in_words (joined target_of ps))))).same;
+        };
       };
-      its_entries = record {
-        same = a.its_entries.same ∙ ap (λ z. map entry_in_words (z ++ joined entries_of ps)) e.entries
-            ∙ (is_alike (append_assoc w.apart.entries (entry_of w.next (meaning w.left).part) (joined entries_of ps)) (alike_both (alike entry_in_words w.apart.entries) (alike_both (is_alike (ap (λ z. entry_of w.next (meaning z).part) at.left) (alike_is (entry_near (meaning g).part at.next) (sym is_entries))) (alike entry_in_words (joined entries_of ps))))).same;
-      };
-      its_targets = record {
-        same = a.its_targets.same ∙ ap (λ z. map target_in_words (z ++ joined target_of ps)) e.targets
-            ∙ (is_alike (append_assoc w.apart.targets (target_of_word (after w.next 1) (meaning w.left).part) (joined target_of ps)) (alike_both (alike target_in_words w.apart.targets) (alike_both (is_alike (ap (λ z. target_of_word (after w.next 1) (meaning z).part) at.left) (alike_is (target_near (meaning g).part (near_after 1 at.next)) (sym is_targets))) (alike target_in_words (joined target_of ps))))).same;
-      };
-      its_cases = none.its_cases;
-      its_default = none.its_default;
+      its_choices = none.its_choices;
       at = record { left = a.at.left; next = a.at.next };
     }
 

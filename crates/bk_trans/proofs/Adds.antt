@@ -2,7 +2,7 @@
 -- Numbers are near each other where they are the same word.
 use Rattle.bk_trans.proofs.Words.{◌≡◌, ℕ, ◌+◌, ◌%◌, ◌^◌, Option, Some, None, List, [], ◌∷◌, ◌++◌, map, refl, sym, ap, ◌∙◌, append_assoc, append-nil, map-append, Case, Stmt, joined}
 use Rattle.std.proofs.Math.Nat.{mod-add-mod, mod-mod}
-use Rattle.bk_trans.proofs.Terms.{Goal, Target, Unresolved, Ready, word, case_in_words, entry_in_words, target_in_words, stmt_in_words, Supply, Part, target_of, first_of, procedure_code, data_code, entries_of, Writing, after, settled, puts_drafts, puts_all, with_code, with_choices, takes_labels}
+use Rattle.bk_trans.proofs.Terms.{Goal, Target, Unresolved, Ready, word, case_in_words, entry_in_words, target_in_words, stmt_in_words, Supply, Part, target_of, first_of, procedure_code, data_code, entries_of, Writing, after, settled, puts_drafts, puts_all, with_code, with_choices, takes_labels, Apart, Choices}
 
 -- numbers that are the same word
 pub record Near (a b : ℕ) : Type 0 where
@@ -61,43 +61,64 @@ pub record At (w : Writing) (g : Supply) (n : ℕ) : Type 0 where
   pub left : w.left ≡ g
   pub next : Near w.next n
 
+-- what was added of what stands by itself, where it came from a to b
+pub record AddsApart (gs : List Goal) (ts : List Target) (a : Apart) (parts : List Part) (b : Apart) : Type 0 where
+  pub its_procedures : Alike stmt_in_words (map (settled gs) b.procedures) (map (settled gs) a.procedures ++ joined (procedure_code ts) parts)
+  pub its_data : Alike stmt_in_words b.data_words (a.data_words ++ joined data_code parts)
+  pub its_entries : Alike entry_in_words b.entries (a.entries ++ joined entries_of parts)
+  pub its_targets : Alike target_in_words b.targets (a.targets ++ joined target_of parts)
+
+-- and of choices
+pub record AddsChoices (a : Choices) (cases : List Case) (default : Option ℕ) (b : Choices) : Type 0 where
+  pub its_cases : Alike case_in_words b.cases (a.cases ++ cases)
+  pub its_default : label_in_words b.default_label ≡ label_in_words (first_of a.default_label default)
+
 -- what was added to w, where it came to v
 pub record Adds (gs : List Goal) (ts : List Target) (w : Writing) (code : List Stmt) (parts : List Part) (cases : List Case) (default : Option ℕ) (g : Supply) (n : ℕ) (v : Writing) : Type 0 where
   pub its_code : Alike stmt_in_words (map (settled gs) v.code) (map (settled gs) w.code ++ code)
-  pub its_procedures : Alike stmt_in_words (map (settled gs) v.apart.procedures) (map (settled gs) w.apart.procedures ++ joined (procedure_code ts) parts)
-  pub its_data : Alike stmt_in_words v.apart.data_words (w.apart.data_words ++ joined data_code parts)
-  pub its_entries : Alike entry_in_words v.apart.entries (w.apart.entries ++ joined entries_of parts)
-  pub its_targets : Alike target_in_words v.apart.targets (w.apart.targets ++ joined target_of parts)
-  pub its_cases : Alike case_in_words v.choices.cases (w.choices.cases ++ cases)
-  pub its_default : label_in_words v.choices.default_label ≡ label_in_words (first_of w.choices.default_label default)
+  pub its_apart : AddsApart gs ts w.apart parts v.apart
+  pub its_choices : AddsChoices w.choices cases default v.choices
   pub at : At v g n
 
 same_list : {A : Type 0} (f : A → A) (xs : List A) → Alike f xs (xs ++ [])
 same_list f xs = alike_is (alike f xs) (sym (append-nil xs))
 
-pub nothing : {gs : List Goal} {ts : List Target} {w : Writing} {g : Supply} {n : ℕ} → At w g n → Adds gs ts w [] [] [] None g n w
-nothing {gs} {ts} {w} at = record {
+pub no_choice : (a : Choices) → AddsChoices a [] None a
+no_choice a = record { its_cases = same_list case_in_words a.cases; its_default = sym (ap label_in_words (first_none a.default_label)) }
+
+-- another label is next, or others are left
+pub elsewhere : {gs : List Goal} {ts : List Target} {w : Writing} {left g : Supply} {next n : ℕ} → left ≡ g → Near next n
+    → Adds gs ts w [] [] [] None g n (record { code = w.code; apart = w.apart; choices = w.choices; left = left; next = next })
+elsewhere {gs} {ts} {w} e h = record {
   its_code = same_list stmt_in_words (map (settled gs) w.code);
-  its_procedures = same_list stmt_in_words (map (settled gs) w.apart.procedures);
-  its_data = same_list stmt_in_words w.apart.data_words;
-  its_entries = same_list entry_in_words w.apart.entries;
-  its_targets = same_list target_in_words w.apart.targets;
-  its_cases = same_list case_in_words w.choices.cases;
-  its_default = sym (ap label_in_words (first_none w.choices.default_label));
-  at = at;
+  its_apart = record {
+    its_procedures = same_list stmt_in_words (map (settled gs) w.apart.procedures);
+    its_data = same_list stmt_in_words w.apart.data_words;
+    its_entries = same_list entry_in_words w.apart.entries;
+    its_targets = same_list target_in_words w.apart.targets;
+  };
+  its_choices = no_choice w.choices;
+  at = record { left = e; next = h };
 }
+
+pub nothing : {gs : List Goal} {ts : List Target} {w : Writing} {g : Supply} {n : ℕ} → At w g n → Adds gs ts w [] [] [] None g n w
+nothing at = elsewhere at.left at.next
 
 -- one part behind another
 pub then : {gs : List Goal} {ts : List Target} {w v u : Writing} {c d : List Stmt} {ps qs : List Part} {ks js : List Case} {x y : Option ℕ} {g h : Supply} {n m : ℕ}
     → Adds gs ts w c ps ks x g n v → Adds gs ts v d qs js y h m u → Adds gs ts w (c ++ d) (ps ++ qs) (ks ++ js) (first_of x y) h m u
 then {gs} {ts} {w} {v} {u} {c} {d} {ps} {qs} {ks} {js} {x} {y} a b = record {
   its_code = alike_more _ _ _ a.its_code b.its_code;
-  its_procedures = alike_is (alike_more _ _ _ a.its_procedures b.its_procedures) (ap (λ l. map (settled gs) w.apart.procedures ++ l) (sym (joined_both (procedure_code ts) ps qs)));
-  its_data = alike_is (alike_more _ _ _ a.its_data b.its_data) (ap (λ l. w.apart.data_words ++ l) (sym (joined_both data_code ps qs)));
-  its_entries = alike_is (alike_more _ _ _ a.its_entries b.its_entries) (ap (λ l. w.apart.entries ++ l) (sym (joined_both entries_of ps qs)));
-  its_targets = alike_is (alike_more _ _ _ a.its_targets b.its_targets) (ap (λ l. w.apart.targets ++ l) (sym (joined_both target_of ps qs)));
-  its_cases = alike_more _ _ _ a.its_cases b.its_cases;
-  its_default = first_more w.choices.default_label x y v.choices.default_label u.choices.default_label a.its_default b.its_default;
+  its_apart = record {
+    its_procedures = alike_is (alike_more _ _ _ a.its_apart.its_procedures b.its_apart.its_procedures) (ap (λ l. map (settled gs) w.apart.procedures ++ l) (sym (joined_both (procedure_code ts) ps qs)));
+    its_data = alike_is (alike_more _ _ _ a.its_apart.its_data b.its_apart.its_data) (ap (λ l. w.apart.data_words ++ l) (sym (joined_both data_code ps qs)));
+    its_entries = alike_is (alike_more _ _ _ a.its_apart.its_entries b.its_apart.its_entries) (ap (λ l. w.apart.entries ++ l) (sym (joined_both entries_of ps qs)));
+    its_targets = alike_is (alike_more _ _ _ a.its_apart.its_targets b.its_apart.its_targets) (ap (λ l. w.apart.targets ++ l) (sym (joined_both target_of ps qs)));
+  };
+  its_choices = record {
+    its_cases = alike_more _ _ _ a.its_choices.its_cases b.its_choices.its_cases;
+    its_default = first_more w.choices.default_label x y v.choices.default_label u.choices.default_label a.its_choices.its_default b.its_choices.its_default;
+  };
   at = b.at;
 }
 
@@ -110,12 +131,8 @@ pub put_drafts : {gs : List Goal} {ts : List Target} {w v : Writing} {c : List S
     → Adds gs ts w c ps ks x g n v → Alike stmt_in_words (map (settled gs) ds) rs → Adds gs ts w (c ++ rs) ps ks x g n (puts_drafts ds v)
 put_drafts {gs} {ts} {w} {v} {c} {ps} {ks} {x} {g} {n} {rs} ds a h = record {
   its_code = is_alike (map-append (settled gs) v.code ds) (alike_is (alike_both a.its_code h) (append_assoc (map (settled gs) w.code) c rs));
-  its_procedures = a.its_procedures;
-  its_data = a.its_data;
-  its_entries = a.its_entries;
-  its_targets = a.its_targets;
-  its_cases = a.its_cases;
-  its_default = a.its_default;
+  its_apart = a.its_apart;
+  its_choices = a.its_choices;
   at = record { left = a.at.left; next = a.at.next };
 }
 
@@ -125,18 +142,7 @@ put {gs} {ts} {w} {v} {c} {ps} {ks} {x} {g} {n} {ss} a h = put_drafts (map Ready
 
 -- labels
 pub labelled : {gs : List Goal} {ts : List Target} {w : Writing} {g : Supply} {n : ℕ} (k : ℕ) → At w g n → Adds gs ts w [] [] [] None g (n + k) (takes_labels k w)
-labelled {gs} {ts} {w} k at =
-    let a = nothing {gs = gs} {ts = ts} at in
-    record {
-      its_code = a.its_code;
-      its_procedures = a.its_procedures;
-      its_data = a.its_data;
-      its_entries = a.its_entries;
-      its_targets = a.its_targets;
-      its_cases = a.its_cases;
-      its_default = a.its_default;
-      at = record { left = at.left; next = near_after k at.next };
-    }
+labelled k at = elsewhere at.left (near_after k at.next)
 
 -- so many labels were taken
 pub renumbered : {gs : List Goal} {ts : List Target} {w v : Writing} {c : List Stmt} {ps : List Part} {ks : List Case} {x : Option ℕ} {g : Supply} {n m : ℕ}
@@ -148,12 +154,8 @@ pub resumed : {gs : List Goal} {ts : List Target} {w v : Writing} {c : List Stmt
     → Adds gs ts (with_code [] w) c ps ks x g n v → Adds gs ts w [] ps ks x g n (with_code w.code v)
 resumed {gs} {ts} {w} a = record {
   its_code = same_list stmt_in_words (map (settled gs) w.code);
-  its_procedures = a.its_procedures;
-  its_data = a.its_data;
-  its_entries = a.its_entries;
-  its_targets = a.its_targets;
-  its_cases = a.its_cases;
-  its_default = a.its_default;
+  its_apart = a.its_apart;
+  its_choices = a.its_choices;
   at = record { left = a.at.left; next = a.at.next };
 }
 
@@ -162,12 +164,8 @@ pub unchosen : {gs : List Goal} {ts : List Target} {w v : Writing} {c : List Stm
     → Adds gs ts (with_choices none w) c ps ks x g n v → Adds gs ts w c ps [] None g n (with_choices w.choices v)
 unchosen {gs} {ts} {w} none a = record {
   its_code = a.its_code;
-  its_procedures = a.its_procedures;
-  its_data = a.its_data;
-  its_entries = a.its_entries;
-  its_targets = a.its_targets;
-  its_cases = same_list case_in_words w.choices.cases;
-  its_default = sym (ap label_in_words (first_none w.choices.default_label));
+  its_apart = a.its_apart;
+  its_choices = no_choice w.choices;
   at = record { left = a.at.left; next = a.at.next };
 }
 

@@ -1,13 +1,13 @@
 -- The body of a procedure of a section without faults is good: what each node asks for is there.
-use Rattle.bk_trans.proofs.Words.{arith, ◌≡◌, ℕ, ◌+◌, ◌<◌, ◌≤◌, ◌^◌, true, false, not, Option, Some, None, List, [], ◌∷◌, ◌++◌, length, refl, sym, ap, subst, ◌∙◌, ⊤, false≢true, le-ltb, FRAME_WORDS, GLOBAL_NUMBER, VEC_NUMBER, OCODE_LABEL, Mention, Expression, Expressions, Command, Commands, Declaration, Declarations, Items, Definition, Definitions, Starts, name, parens, unary, binary, choice, apply, valof, none, more, assign, call, goto, label, case_of, default, when, test, while, for_loop, switch, result, simple, block, repeat, repeat_while, no_commands, also, constants, definitions, no_declarations, declare, no_items, item, routine, function, variables, no_definitions, define, no_starts, value, vector, at_expression, size, Bound, Constant, Global, Static, Variable, Label, Enclosing, Role, Value, Truth, Address, Destination, not_assignable, no_result_or_return, vec_out_of_range, Binding, bound_in, bind, has_address, constant_word, AllDiffer, deeper, looping, switching, labelled, valued, labels_of, labels_of_each, parenthesised, within, words_of_vector, words_of_start, place_after, variables_of, Spot, procedures_in, onward, past, numbered, following, after_each, after_done, after_declared, after_one_declared, after_one_defined, after_constant, symbols_each, Point, at, labels_in_scope, procedures_in_scope, place_after_one_defined, place_after_defined, variables_in_scope, manifests_in_scope, globals_in_scope, scope_after_one, place_after_one, scope_after, place_after_all, unless, its_meaning, its_word, constant, each_constant, at_most, addressed, assigned, prefixed, pushed, chosen_at, defaulted_at, one_of, each_of, reported, reported_each, reported_destinations, reported_done, reported_done_each, reported_declared, reported_one_declared, reported_defined, reported_one_defined, reported_started, Usable, GoesTo, HasWord, HasWordUpTo, Sound, SoundEach, SoundDestinations, SoundDone, SoundDoneEach, SoundDeclared, SoundOneDeclared, SoundDefined, SoundOneDefined, SoundStarted, Use}
+use Rattle.bk_trans.proofs.Words.{arith, ◌≡◌, ℕ, ◌+◌, ◌<◌, ◌≤◌, ◌^◌, true, false, not, Option, Some, None, List, [], ◌∷◌, ◌++◌, length, refl, sym, ap, subst, ◌∙◌, ⊤, false≢true, le-ltb, FRAME_WORDS, GLOBAL_NUMBER, VEC_NUMBER, OCODE_LABEL, Mention, Expression, Expressions, Command, Commands, Declaration, Declarations, Items, Definition, Definitions, Starts, name, parens, unary, binary, choice, apply, valof, none, more, assign, call, goto, label, case_of, default, when, test, while, for_loop, switch, result, simple, block, repeat, repeat_while, no_commands, also, constants, definitions, no_declarations, declare, no_items, item, variables, no_definitions, define, no_starts, value, vector, at_expression, size, Bound, Constant, Global, Static, Variable, Label, Enclosing, Role, Value, Truth, Address, Destination, not_assignable, no_result_or_return, vec_out_of_range, Binding, bound_in, bind, has_address, constant_word, AllDiffer, deeper, looping, switching, labelled, valued, labels_of, labels_of_each, parenthesised, within, words_of_vector, words_of_start, place_after, variables_of, Spot, procedures_in, onward, past, numbered, following, after_each, after_done, after_declared, after_one_declared, after_one_defined, after_constant, symbols_each, Point, at, labels_in_scope, procedures_in_scope, place_after_one_defined, place_after_defined, variables_in_scope, manifests_in_scope, globals_in_scope, scope_after_one, place_after_one, scope_after, place_after_all, unless, its_meaning, its_word, constant, each_constant, at_most, addressed, assigned, prefixed, pushed, chosen_at, defaulted_at, one_of, each_of, reported, reported_each, reported_destinations, reported_done, reported_done_each, reported_declared, reported_one_declared, reported_defined, reported_one_defined, reported_started, Usable, GoesTo, HasWord, HasWordUpTo, Sound, SoundEach, SoundDestinations, SoundDone, SoundDoneEach, SoundDeclared, SoundOneDeclared, SoundDefined, SoundOneDefined, SoundStarted, Use, every_front, every_back, every_both}
 use Rattle.bk_trans.proofs.Terms.{Operator as o, Prefix as sign, Simple as w, Sort as sort, cases_differ, Target, meant, worth, term_named, terms_named, condition_named, lvalue_named, lvalues_named, command_named, commands_named, declarations_named, declaration_named, definitions_named, definition_named, starts_named, labels, labels_each, labels_if, labels_at, labels_onto, labels_in, labels_through, labels_of_declaration, labels_of_declarations, labels_of_definition, labels_of_definitions, labels_of_starts, count, after_starts, after_definition, after_definitions, after_declaration, after_declarations, Part, parts, parts_each, parts_if, parts_at, parts_onto, parts_from, parts_in, parts_through, parts_of_declarations, parts_of_declaration, parts_of_definitions, parts_of_definition, parts_of_starts, goal_of}
 use Rattle.bk_scope.specs.Cases as chosen
 use Rattle.bk_trans.specs.Program as t
-use Rattle.bk_trans.proofs.Marks.{Mark, connective_mark, marks, marks_each, marks_if, marks_at, marks_onto, marks_all_onto, marks_from, marks_by_turns, marks_in, marks_through, marks_of_declaration, marks_of_declarations, marks_of_definition, marks_of_definitions, marks_of_starts, AllRight, right_front, right_back}
+use Rattle.bk_trans.proofs.Marks.{Mark, connective_mark, marks, marks_each, marks_if, marks_at, marks_onto, marks_all_onto, marks_from, marks_by_turns, marks_in, marks_through, marks_of_declaration, marks_of_declarations, marks_of_definition, marks_of_definitions, marks_of_starts, AllRight, Right}
 use Rattle.bk_trans.proofs.Good.{Exits, IsGoal, IsWord, Pushed, Held, Goes, case_words, case_words_through, AllWords, Good, GoodEach, GoodIf, GoodAt, GoodOnto, GoodAllOnto, GoodFrom, GoodIn, GoodThrough, GoodDeclared, GoodOneDeclared, GoodDefined, GoodOneDefined, GoodStarted}
-use Rattle.bk_trans.proofs.Scopes.{Sees, sees_bind, sees_all, sees_labels, sees_procedures, AllMean, mean_both, PartsRight, parts_front, parts_back, label_found, label_found_through, procedure_found, statics_seen}
+use Rattle.bk_trans.proofs.Scopes.{Sees, sees_bind, sees_all, sees_labels, sees_procedures, AllMean, PartsRight, label_found, label_found_through, procedure_found, statics_seen, PartRight}
 use Rattle.bk_trans.proofs.Forms.{grown_starts, grown_defined}
-use Rattle.bk_trans.proofs.Reported.{AllFine, all_front, all_back, Fine, told_front, told_back, told_room}
+use Rattle.bk_trans.proofs.Reported.{AllFine, Fine, told_front, told_back, told_room, IsFine}
 use Rattle.bk_trans.proofs.Once.{no_more}
 use Rattle.bk_trans.proofs.Asked.{Asked, for_value, for_truth, role, asked, turn, negated}
 
@@ -77,17 +77,17 @@ within_it g from less f b r = let l = g.low in let h = g.high in record { low = 
 
 front : {plan : ℕ → Use} {ts : List Target} {n m i j : ℕ} {xs : List Point} {ps : List Part} {ks : List Mark} (ys : List Point) (qs : List Part) (ls : List Mark) → Placed plan ts n m (xs ++ ys) (ps ++ qs) (ks ++ ls)
     → n ≤ i → i + j ≤ n + m → Placed plan ts i j xs ps ks
-front {plan} {ts} {xs = xs} {ps = ps} {ks = ks} ys qs ls g from less = within_it g from less (told_front xs ys g.reported) (parts_front plan ts ps qs g.parts) (right_front plan ks ls g.marks)
+front {plan} {ts} {xs = xs} {ps = ps} {ks = ks} ys qs ls g from less = within_it g from less (told_front xs ys g.reported) (every_front (PartRight plan ts) ps qs g.parts) (every_front (Right plan) ks ls g.marks)
 
 back : {plan : ℕ → Use} {ts : List Target} {n m i j : ℕ} {ys : List Point} {qs : List Part} {ls : List Mark} (xs : List Point) (ps : List Part) (ks : List Mark) → Placed plan ts n m (xs ++ ys) (ps ++ qs) (ks ++ ls)
     → n ≤ i → i + j ≤ n + m → Placed plan ts i j ys qs ls
-back {plan} {ts} {ys = ys} {qs = qs} {ls = ls} xs ps ks g from less = within_it g from less (told_back xs ys g.reported) (parts_back plan ts ps qs g.parts) (right_back plan ks ls g.marks)
+back {plan} {ts} {ys = ys} {qs = qs} {ls = ls} xs ps ks g from less = within_it g from less (told_back xs ys g.reported) (every_back (PartRight plan ts) ps qs g.parts) (every_back (Right plan) ks ls g.marks)
 
 behind_told : {plan : ℕ → Use} {ts : List Target} {n m i j : ℕ} {ys : List Point} {ps : List Part} {ks : List Mark} (xs : List Point) → Placed plan ts n m (xs ++ ys) ps ks → n ≤ i → i + j ≤ n + m → Placed plan ts i j ys ps ks
 behind_told {ys = ys} xs g from less = within_it g from less (told_back xs ys g.reported) g.parts g.marks
 
 behind_marks : {plan : ℕ → Use} {ts : List Target} {n m : ℕ} {xs : List Point} {ps : List Part} {ls : List Mark} (ks : List Mark) → Placed plan ts n m xs ps (ks ++ ls) → Placed plan ts n m xs ps ls
-behind_marks {plan} {ls = ls} ks g = within_it g (omega arith) (omega arith) g.reported g.parts (right_back plan ks ls g.marks)
+behind_marks {plan} {ls = ls} ks g = within_it g (omega arith) (omega arith) g.reported g.parts (every_back (Right plan) ks ls g.marks)
 
 marked : {plan : ℕ → Use} {ts : List Target} {n m : ℕ} {xs : List Point} {ps : List Part} {k : Mark} {ks : List Mark} → Placed plan ts n m xs ps (k ∷ ks) → Placed plan ts n m xs ps ks
 marked g = within_it g (omega arith) (omega arith) g.reported g.parts g.marks.1
@@ -118,10 +118,6 @@ word_of_case : (y : Option ℕ) → HasWord y → AllFine (its_word y) → worth
 word_of_case None u h = absurd (let n : None ≡ Some u.0 = u.1 in cc)
 word_of_case (Some v) u h = h.0
 
-words_both : (vs ws : List ℕ) → AllWords vs → AllWords ws → AllWords (vs ++ ws)
-words_both [] ws h i = i
-words_both (v ∷ vs) ws h i = (h.0, words_both vs ws h.1 i)
-
 one_word : (y : Option ℕ) → HasWord y → chosen.word_if_any y ≡ worth y ∷ []
 one_word None u = absurd (let n : None ≡ Some u.0 = u.1 in cc)
 one_word (Some v) u = refl
@@ -148,28 +144,28 @@ mutual
 
 mutual
   are_words : (bs : List Binding) (p : Enclosing) (s : Spot) (c : Command) → SoundDone bs p s c → AllFine (reported_done bs p s c) → AllWords (case_words (command_named bs p s c))
-  are_words bs p s (label l x c) h f = are_words bs p (past 1 s) c h.1 (all_back (one_of p.labels s.place l x ++ its_meaning (bound_in bs x)) _ f)
+  are_words bs p s (label l x c) h f = are_words bs p (past 1 s) c h.1 (every_back IsFine (one_of p.labels s.place l x ++ its_meaning (bound_in bs x)) _ f)
   are_words bs p s (case_of l e c) h f =
       let xs : List Point = chosen_at p.switch s.place l (constant_word bs e) in
       let ys : List Point = constant bs p.procedure (past 1 s) e in
-      (word_of_case (constant_word bs e) h.1 (all_back _ (its_word (constant_word bs e)) (all_back xs ys (all_front (xs ++ ys) _ f))), are_words bs p (after_constant e (past 1 s)) c h.2 (all_back (xs ++ ys) _ f))
-  are_words bs p s (default l c) h f = are_words bs p (past 1 s) c h.1 (all_back (defaulted_at p.switch s.place l) _ f)
-  are_words bs p s (when l b e c) h f = are_words bs p (following e s) c h.1 (all_back (reported Truth bs p s e) _ f)
+      (word_of_case (constant_word bs e) h.1 (every_back IsFine _ (its_word (constant_word bs e)) (every_back IsFine xs ys (every_front IsFine (xs ++ ys) _ f))), are_words bs p (after_constant e (past 1 s)) c h.2 (every_back IsFine (xs ++ ys) _ f))
+  are_words bs p s (default l c) h f = are_words bs p (past 1 s) c h.1 (every_back IsFine (defaulted_at p.switch s.place l) _ f)
+  are_words bs p s (when l b e c) h f = are_words bs p (following e s) c h.1 (every_back IsFine (reported Truth bs p s e) _ f)
   are_words bs p s (test l e a b) h f =
       let xs : List Point = reported Truth bs p s e in
       let ys : List Point = reported_done bs p (following e s) a in
-      words_both (case_words (command_named bs p (following e s) a)) _ (are_words bs p (following e s) a h.1 (all_back xs ys (all_front (xs ++ ys) _ f)))
-      (are_words bs p (after_done a (following e s)) b h.2 (all_back (xs ++ ys) _ f))
-  are_words bs p s (while l b e c) h f = are_words bs (looping p) (following e s) c h.1 (all_back (reported Truth bs p s e) _ f)
+      every_both (λ (v : ℕ). v < 2 ^ 32) (case_words (command_named bs p (following e s) a)) _ (are_words bs p (following e s) a h.1 (every_back IsFine xs ys (every_front IsFine (xs ++ ys) _ f)))
+      (are_words bs p (after_done a (following e s)) b h.2 (every_back IsFine (xs ++ ys) _ f))
+  are_words bs p s (while l b e c) h f = are_words bs (looping p) (following e s) c h.1 (every_back IsFine (reported Truth bs p s e) _ f)
   are_words bs p s (block l no_declarations cs) h f = are_words_each bs p s cs h f
   are_words bs p s (repeat l c) h f = are_words bs (looping p) s c h f
-  are_words bs p s (repeat_while l b c e) h f = are_words bs (looping p) s c h.0 (all_front (reported_done bs (looping p) s c) (reported Truth bs p (after_done c s) e) f)
+  are_words bs p s (repeat_while l b c e) h f = are_words bs (looping p) s c h.0 (every_front IsFine (reported_done bs (looping p) s c) (reported Truth bs p (after_done c s) e) f)
   are_words bs p s _ h f = tt
 
   are_words_each : (bs : List Binding) (p : Enclosing) (s : Spot) (cs : Commands) → SoundDoneEach bs p s cs → AllFine (reported_done_each bs p s cs) → AllWords (case_words_through (commands_named bs p s cs))
   are_words_each bs p s no_commands h f = tt
   are_words_each bs p s (also c cs) h f =
-      words_both (case_words (command_named bs p s c)) _ (are_words bs p s c h.0 (all_front (reported_done bs p s c) _ f)) (are_words_each bs p (after_done c s) cs h.1 (all_back (reported_done bs p s c) _ f))
+      every_both (λ (v : ℕ). v < 2 ^ 32) (case_words (command_named bs p s c)) _ (are_words bs p s c h.0 (every_front IsFine (reported_done bs p s c) _ f)) (are_words_each bs p (after_done c s) cs h.1 (every_back IsFine (reported_done bs p s c) _ f))
 
 -- where declarations leave the frame
 abbrev pub Same : Enclosing → Enclosing → Type 0
@@ -212,7 +208,7 @@ vector_room : (bs : List Binding) (p : Enclosing) (s : Spot) (l : ℕ) (e : Expr
     → AllFine (reported_started bs p s (vector l e is)) → d + worth (constant_word bs e) + 2 ≤ FRAME_WORDS
 vector_room bs p s l e is d same u f =
     let xs : List Point = constant bs p.procedure s e ++ at_most VEC_NUMBER s.place (at_expression e) vec_out_of_range (constant_word bs e) in
-    let h = (all_back xs (pushed p (words_of_start bs e + 1)) (all_front (xs ++ pushed p (words_of_start bs e + 1)) _ f)).0 in
+    let h = (every_back IsFine xs (pushed p (words_of_start bs e + 1)) (every_front IsFine (xs ++ pushed p (words_of_start bs e + 1)) _ f)).0 in
     let v = vector_words (constant_word bs e) u in omega (arith, h, v, same)
 
 vector_rest : (bs : List Binding) (p : Enclosing) (s : Spot) (l : ℕ) (e : Expression) (is : Starts) → Fine (reported_started bs p s (vector l e is))
@@ -231,7 +227,7 @@ started_at : (plan : ℕ → Use) (ts : List Target) (q : ℕ) (bs : List Bindin
     → Fine (reported_started bs p s is) → At plan ts q bs (place_after bs p is) (after_starts d (starts_named bs p s is)) × (after_starts d (starts_named bs p s is) ≤ FRAME_WORDS)
 started_at plan ts q bs p s no_starts d a top h f = (a, top)
 started_at plan ts q bs p s (value e is) d a top h f =
-    let much = told_room Value bs p s e tt (all_front (reported Value bs p s e) _ f.all) in let same = a.at in
+    let much = told_room Value bs p s e tt (every_front IsFine (reported Value bs p s e) _ f.all) in let same = a.at in
     started_at plan ts q bs (deeper 1 p) (following e s) is (d + 1) (at_deeper plan ts q bs p d 1 (d + 1) a refl (omega (arith, top))) (omega (arith, much, same)) h.1 (told_back (reported Value bs p s e) _ f)
 started_at plan ts q bs p s (vector l e is) d a top h f =
     started_at plan ts q bs (deeper (words_of_start bs e + 1) p) (after_constant e s) is (d + worth (constant_word bs e) + 2) (at_vector plan ts q bs p s l e is d a h.0 f.all)
@@ -241,7 +237,7 @@ started_at plan ts q bs p s (vector l e is) d a top h f =
 variables_mean : (plan : ℕ → Use) (ts : List Target) (q k m : ℕ) (bs : List Binding) (p : Enclosing) (s : Spot) (xs : List Mention) (is : Starts) (d : ℕ) → At plan ts q bs p d → d ≤ FRAME_WORDS → SoundStarted bs p s is
     → Fine (reported_started bs p s is) → after_starts d (starts_named bs p s is) ≤ m → AllMean (Known plan ts q k m) (variables_of bs p xs is)
 variables_mean plan ts q k m bs p s (x ∷ xs) (value e is) d a top h f low =
-    let much = told_room Value bs p s e tt (all_front (reported Value bs p s e) _ f.all) in let same = a.at in let two = a.low in
+    let much = told_room Value bs p s e tt (every_front IsFine (reported Value bs p s e) _ f.all) in let same = a.at in let two = a.low in
     let grown = grown_starts (d + 1) (starts_named bs (deeper 1 p) (following e s) is) in (
       λ own. (omega (arith, same, two, top), omega (arith, same, top, grown, low)),
       variables_mean plan ts q k m bs (deeper 1 p) (following e s) xs is (d + 1) (at_deeper plan ts q bs p d 1 (d + 1) a refl (omega (arith, top))) (omega (arith, much, same)) h.1
@@ -271,19 +267,17 @@ defined_at plan ts q m bs p s (define x ds) d a top h f =
 all_variables : (plan : ℕ → Use) (ts : List Target) (q k j m : ℕ) (bs : List Binding) (p : Enclosing) (s : Spot) (ds : Definitions) (d : ℕ) → At plan ts q bs p d → d ≤ FRAME_WORDS → SoundDefined bs p s ds
     → Fine (reported_defined j bs p s ds) → after_definitions d (definitions_named bs p s ds) ≤ m → AllMean (Known plan ts q k m) (variables_in_scope bs p ds)
 all_variables plan ts q k j m bs p s no_definitions d a top h f low = tt
-all_variables plan ts q k j m bs p s (define (routine l x fs c) ds) d a top h f low =
-    all_variables plan ts q k j m bs p (after_one_defined (routine l x fs c) s) ds d a top h.1 (told_back (reported_one_defined j bs p s (routine l x fs c)) _ f) low
-all_variables plan ts q k j m bs p s (define (function l x fs e) ds) d a top h f low =
-    all_variables plan ts q k j m bs p (after_one_defined (function l x fs e) s) ds d a top h.1 (told_back (reported_one_defined j bs p s (function l x fs e)) _ f) low
 all_variables plan ts q k j m bs p s (define (variables l xs is) ds) d a top h f low =
     let x : Definition = variables l xs is in
     let v : Spot = past (length xs) s in
     let started = told_back (each_of j s.place xs) (reported_started bs p v is) (told_front (reported_one_defined j bs p s x) _ f) in
     let one = started_at plan ts q bs p v is d a top h.0 started in
     let grown = grown_defined (after_starts d (starts_named bs p v is)) (definitions_named bs (place_after bs p is) (after_one_defined x s) ds) in
-    mean_both (Known plan ts q k m) (variables_of bs p xs is) (variables_in_scope bs (place_after bs p is) ds)
+    every_both (λ (x : Binding). Known plan ts q k m x.bound) (variables_of bs p xs is) (variables_in_scope bs (place_after bs p is) ds)
     (variables_mean plan ts q k m bs p v xs is d a top h.0 started (omega (arith, grown, low)))
     (all_variables plan ts q k j m bs (place_after bs p is) (after_one_defined x s) ds (after_starts d (starts_named bs p v is)) one.0 one.1 h.1 (told_back (reported_one_defined j bs p s x) _ f) low)
+all_variables plan ts q k j m bs p s (define x ds) d a top h f low =
+    all_variables plan ts q k j m bs p (after_one_defined x s) ds d a top h.1 (told_back (reported_one_defined j bs p s x) _ f) low
 
 -- behind declarations
 pub at_manifests : (P : Bound → Type 0) (bs : List Binding) (is : Items) → ((v : Option ℕ) → P (Constant v)) → Sees P bs → Sees P (manifests_in_scope bs is)
@@ -358,7 +352,7 @@ values_good : (plan : ℕ → Use) (ts : List Target) (q d n j : ℕ) (xs : t.Lv
 values_good plan ts q d n j t.no_lvalues y ys one others r = tt
 values_good plan ts q d n j (t.onto x xs) y ys one others r =
     let front = marks q d j y ++ marks_onto q (d + 1) n x in
-    (one (right_front plan (marks q d j y) _ (right_front plan front _ r)), others (n + labels_at x) xs (right_back plan front _ r))
+    (one (every_front (Right plan) (marks q d j y) _ (every_front (Right plan) front _ r)), others (n + labels_at x) xs (every_back (Right plan) front _ r))
 
 -- EACH NODE of a procedure
 module _ (plan : ℕ → Use) (ts : List Target) (q : ℕ) where
@@ -398,17 +392,17 @@ module _ (plan : ℕ → Use) (ts : List Target) (q : ℕ) where
         let same = count_named 1 bs (deeper 2 p) u es in
         let at = a.at in
         let jumps = marks_each q (d + 2) (n + labels v) vs in
-        let much = told_room Value bs z s e tt (all_front (reported Value bs z s e) _ g.reported.all) in (
+        let much = told_room Value bs z s e tt (every_front IsFine (reported Value bs z s e) _ g.reported.all) in (
           good_each bs (deeper 2 p) u es (d + 2) (n + labels v) (at_deeper plan ts q bs p d 2 (d + 2) a refl (omega (arith, much, at))) h.1
-              (within_it g (omega arith) (omega arith) (told_back _ _ g.reported) (parts_back plan ts (parts k n v) _ g.parts) (right_front plan jumps _ g.marks)),
+              (within_it g (omega arith) (omega arith) (told_back _ _ g.reported) (every_back (PartRight plan ts) (parts k n v) _ g.parts) (every_front (Right plan) jumps _ g.marks)),
           good for_value bs z s e k n (at_deeper plan ts q bs p d (size es + 2) k a (omega (arith, same)) (omega (arith, same, much, at))) h.0
-              (within_it g (omega arith) (omega arith) (told_front _ _ g.reported) (parts_front plan ts (parts k n v) _ g.parts) (right_back plan jumps _ g.marks)),
+              (within_it g (omega arith) (omega arith) (told_front _ _ g.reported) (every_front (PartRight plan ts) (parts k n v) _ g.parts) (every_back (Right plan) jumps _ g.marks)),
         )
     good ask bs p s (valof l c) d n a h g =
         let cs = labels_in_scope p.procedure (s.number + 1) (labels_of c) bs in
         let z : Enclosing = labelled s.number (valued p) in
         let u : Spot = onward 1 (1 + length (labels_of c)) s in
-        let much = room_at plan ts q bs p d a (all_back (reported_done cs z u c) (pushed p 1) g.reported.all).0 in
+        let much = room_at plan ts q bs p d a (every_back IsFine (reported_done cs z u c) (pushed p 1) g.reported.all).0 in
         let inner : At plan ts q bs z d = record { sees = a.sees; at = a.at; low = a.low } in
         let body : Placed plan ts (n + 1) (labels_in (command_named cs z u c)) (reported_done cs z u c) _ _ = within_it g (omega arith) (omega arith) (told_front _ (pushed p 1) g.reported) g.parts g.marks.1 in
         (good_in cs z u c d (n + 1) (enter_labels plan ts q p.procedure bs z z u c d (n + 1) (s.number + 1) inner (omega (arith, much)) body) (omega (arith, much)) h body, much)
@@ -427,7 +421,7 @@ module _ (plan : ℕ → Use) (ts : List Target) (q : ℕ) where
         → Placed plan ts n (labels_each (terms_named 1 bs p s es)) (reported_each 1 bs p s es) (parts_each d n (terms_named 1 bs p s es)) (marks_each q d n (terms_named 1 bs p s es)) → GoodEach plan ts q d (terms_named 1 bs p s es)
     good_each bs p s none d n a h g = tt
     good_each bs p s (more e es) d n a h g =
-        let much = room_at plan ts q bs p d a (told_room Value bs p s e tt (all_front (reported Value bs p s e) _ g.reported.all)) in (
+        let much = room_at plan ts q bs p d a (told_room Value bs p s e tt (every_front IsFine (reported Value bs p s e) _ g.reported.all)) in (
           good for_value bs p s e d n a h.0 (front _ _ _ g (omega arith) (omega arith)),
           good_each bs (deeper 1 p) (following e s) es (d + 1) (n + labels (term_named bs p s e)) (at_deeper plan ts q bs p d 1 (d + 1) a refl (omega (arith, much))) h.1 (back _ _ _ g (omega arith) (omega arith)),
         )
@@ -471,9 +465,9 @@ module _ (plan : ℕ → Use) (ts : List Target) (q : ℕ) where
         → GoodFrom plan ts q d (terms_named 0 bs p s es) xs
     good_from bs p s (more e es) d n m (t.onto x xs) a h g =
         let v = term_named bs p s e in
-        let much = room_at plan ts q bs p d a (told_room Value bs p s e tt (all_front (reported Value bs p s e) _ g.reported.all)) in
+        let much = room_at plan ts q bs p d a (told_room Value bs p s e tt (every_front IsFine (reported Value bs p s e) _ g.reported.all)) in
         let fore : Placed plan ts n (labels v) (reported Value bs p s e) (parts d n v) (marks q d n v ++ marks_onto q (d + 1) m x) = front _ _ _ g (omega arith) (omega arith) in (
-          good for_value bs p s e d n a h.0 (within_it fore (omega arith) (omega arith) fore.reported fore.parts (right_front plan (marks q d n v) _ fore.marks)),
+          good for_value bs p s e d n a h.0 (within_it fore (omega arith) (omega arith) fore.reported fore.parts (every_front (Right plan) (marks q d n v) _ fore.marks)),
           good_from bs (deeper 0 p) (following e s) es d (n + labels v) (m + labels_at x) xs (at_deeper plan ts q bs p d 0 d a (omega arith) (omega (arith, much))) h.1 (back _ _ (marks q d n v ++ marks_onto q (d + 1) m x) g (omega arith) (omega arith)),
         )
     good_from bs p s _ d n m _ a h g = tt
@@ -504,13 +498,13 @@ module _ (plan : ℕ → Use) (ts : List Target) (q : ℕ) where
         let us : List Point = reported_destinations bs (deeper 1 p) s xs in
         let vs : List Point = reported Value bs p u e in
         let values = told_back us _ g.reported in
-        let much = room_at plan ts q bs p d a (told_room Value bs p u e tt (all_front vs _ values.all)) in
-        let owns = parts_back plan ts (parts_onto (d + 1) n v) _ g.parts in (
-          good_all_onto bs p s xs d n j (terms_named 0 bs p u (more e es)) a much h.0 (within_it g (omega arith) (omega arith) (told_front us _ g.reported) (parts_front plan ts (parts_onto (d + 1) n v) _ g.parts) g.marks),
+        let much = room_at plan ts q bs p d a (told_room Value bs p u e tt (every_front IsFine vs _ values.all)) in
+        let owns = every_back (PartRight plan ts) (parts_onto (d + 1) n v) _ g.parts in (
+          good_all_onto bs p s xs d n j (terms_named 0 bs p u (more e es)) a much h.0 (within_it g (omega arith) (omega arith) (told_front us _ g.reported) (every_front (PartRight plan ts) (parts_onto (d + 1) n v) _ g.parts) g.marks),
           values_good plan ts q d n j v y (terms_named 0 bs (deeper 0 p) (following e u) es)
-              (λ k. good for_value bs p u e d j a h.1.0 (within_it g (omega arith) (omega arith) (told_front vs _ values) (parts_front plan ts (parts d j y) _ owns) k))
+              (λ k. good for_value bs p u e d j a h.1.0 (within_it g (omega arith) (omega arith) (told_front vs _ values) (every_front (PartRight plan ts) (parts d j y) _ owns) k))
               (λ m ks k. good_from bs (deeper 0 p) (following e u) es d (j + labels y) m ks (at_deeper plan ts q bs p d 0 d a (omega arith) (omega (arith, much))) h.1.1
-              (within_it g (omega arith) (omega arith) (told_back vs _ values) (parts_back plan ts (parts d j y) _ owns) k)) g.marks,
+              (within_it g (omega arith) (omega arith) (told_back vs _ values) (every_back (PartRight plan ts) (parts d j y) _ owns) k)) g.marks,
         )
     good_in bs p s (call l e es) d n a top h g =
         let u : Spot = following e s in
@@ -521,11 +515,11 @@ module _ (plan : ℕ → Use) (ts : List Target) (q : ℕ) where
         let same = count_named 1 bs (deeper 2 p) u es in
         let at = a.at in
         let jumps = marks_each q (d + 2) (n + labels v) vs in
-        let much = told_room Value bs z s e tt (all_front (reported Value bs z s e) _ g.reported.all) in (
+        let much = told_room Value bs z s e tt (every_front IsFine (reported Value bs z s e) _ g.reported.all) in (
           good_each bs (deeper 2 p) u es (d + 2) (n + labels v) (at_deeper plan ts q bs p d 2 (d + 2) a refl (omega (arith, much, at))) h.1
-              (within_it g (omega arith) (omega arith) (told_back _ _ g.reported) (parts_back plan ts (parts k n v) _ g.parts) (right_front plan jumps _ g.marks)),
+              (within_it g (omega arith) (omega arith) (told_back _ _ g.reported) (every_back (PartRight plan ts) (parts k n v) _ g.parts) (every_front (Right plan) jumps _ g.marks)),
           good for_value bs z s e k n (at_deeper plan ts q bs p d (size es + 2) k a (omega (arith, same)) (omega (arith, same, much, at))) h.0
-              (within_it g (omega arith) (omega arith) (told_front _ _ g.reported) (parts_front plan ts (parts k n v) _ g.parts) (right_back plan jumps _ g.marks)),
+              (within_it g (omega arith) (omega arith) (told_front _ _ g.reported) (every_front (PartRight plan ts) (parts k n v) _ g.parts) (every_back (Right plan) jumps _ g.marks)),
         )
     good_in bs p s (goto l x) d n a top h g = name_gone plan ts q p.procedure d (bound_in bs x.letters) h (a.sees x.letters)
     good_in bs p s (label l x c) d n a top h g =
@@ -550,8 +544,8 @@ module _ (plan : ℕ → Use) (ts : List Target) (q : ℕ) where
         let j = n + 3 + labels_if v in
         let jumps = marks_in q d j (command_named bs (looping p) (following e s) c) in
         let inner : At plan ts q bs (looping p) d = record { sees = a.sees; at = a.at; low = a.low } in (
-          good (for_truth z) bs p s e d (n + 3) a h.0 (within_it g (omega arith) (omega arith) (told_front _ _ g.reported) (parts_front plan ts (parts_if d (n + 3) v) _ g.parts) (right_back plan jumps _ g.marks.1.1.1)),
-          good_in bs (looping p) (following e s) c d j inner top h.1 (within_it g (omega arith) (omega arith) (told_back _ _ g.reported) (parts_back plan ts (parts_if d (n + 3) v) _ g.parts) (right_front plan jumps _ g.marks.1.1.1)),
+          good (for_truth z) bs p s e d (n + 3) a h.0 (within_it g (omega arith) (omega arith) (told_front _ _ g.reported) (every_front (PartRight plan ts) (parts_if d (n + 3) v) _ g.parts) (every_back (Right plan) jumps _ g.marks.1.1.1)),
+          good_in bs (looping p) (following e s) c d j inner top h.1 (within_it g (omega arith) (omega arith) (told_back _ _ g.reported) (every_back (PartRight plan ts) (parts_if d (n + 3) v) _ g.parts) (every_front (Right plan) jumps _ g.marks.1.1.1)),
         )
     good_in bs p s (for_loop l x e y k c) d n a top h g =
         let u : Spot = onward (symbols_each k) 0 (following y (following e s)) in
@@ -563,7 +557,7 @@ module _ (plan : ℕ → Use) (ts : List Target) (q : ℕ) where
         let limit = reported Value bs (deeper 1 p) (following e s) y in
         let steps = each_constant bs p.procedure (following y (following e s)) k in
         let f = told_front (start ++ limit ++ steps ++ pushed p 4) (reported_done ds z i c) g.reported in
-        let much = (all_back (start ++ limit ++ steps) (pushed p 4) f.all).0 in
+        let much = (every_back IsFine (start ++ limit ++ steps) (pushed p 4) f.all).0 in
         let at = a.at in
         let two = a.low in
         let v = term_named bs p s e in
@@ -577,9 +571,9 @@ module _ (plan : ℕ → Use) (ts : List Target) (q : ℕ) where
           low = deep.low;
         } in
         let fore : Placed plan ts (n + 4) (labels v + labels w) (start ++ limit) ps ms =
-        within_it g (omega arith) (omega arith) (told_front (start ++ limit) steps (told_front (start ++ limit ++ steps) (pushed p 4) f)) (parts_front plan ts ps _ g.parts) (right_front plan ms _ g.marks.1.1.1.1) in
+        within_it g (omega arith) (omega arith) (told_front (start ++ limit) steps (told_front (start ++ limit ++ steps) (pushed p 4) f)) (every_front (PartRight plan ts) ps _ g.parts) (every_front (Right plan) ms _ g.marks.1.1.1.1) in
         let body : Placed plan ts (n + 4 + labels v + labels w) (labels_in (command_named ds z i c)) (reported_done ds z i c) _ _ =
-        within_it g (omega arith) (omega arith) (told_back (start ++ limit ++ steps ++ pushed p 4) (reported_done ds z i c) g.reported) (parts_back plan ts ps _ g.parts) (right_back plan ms _ g.marks.1.1.1.1) in (
+        within_it g (omega arith) (omega arith) (told_back (start ++ limit ++ steps ++ pushed p 4) (reported_done ds z i c) g.reported) (every_back (PartRight plan ts) ps _ g.parts) (every_back (Right plan) ms _ g.marks.1.1.1.1) in (
           good for_value bs p s e d (n + 4) a h.0 (front _ _ _ fore (omega arith) (omega arith)),
           good for_value bs (deeper 1 p) (following e s) y (d + 1) (n + 4 + labels v) (at_deeper plan ts q bs p d 1 (d + 1) a refl (omega (arith, much, at))) h.1 (back _ _ _ fore (omega arith) (omega arith)),
           omega (arith, much, at),
@@ -683,7 +677,7 @@ module _ (plan : ℕ → Use) (ts : List Target) (q : ℕ) where
         → GoodStarted plan ts q d (starts_named bs p s is)
     good_started bs p s no_starts d n a top h g = tt
     good_started bs p s (value e is) d n a top h g =
-        let much = room_at plan ts q bs p d a (told_room Value bs p s e tt (all_front (reported Value bs p s e) _ g.reported.all)) in (
+        let much = room_at plan ts q bs p d a (told_room Value bs p s e tt (every_front IsFine (reported Value bs p s e) _ g.reported.all)) in (
           good for_value bs p s e d n a h.0 (front _ _ _ g (omega arith) (omega arith)),
           good_started bs (deeper 1 p) (following e s) is (d + 1) (n + labels (term_named bs p s e)) (at_deeper plan ts q bs p d 1 (d + 1) a refl (omega (arith, much))) much h.1 (back _ _ _ g (omega arith) (omega arith)),
         )

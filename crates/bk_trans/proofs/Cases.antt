@@ -1,22 +1,20 @@
 -- The CASEs and the DEFAULT of a SWITCHON: their labels are jumped to at its depth, and their values differ.
-use Rattle.bk_trans.proofs.Words.{arith, ◌≡◌, ℕ, zero, suc, ◌+◌, ◌<◌, ◌≤◌, ◌^◌, false, not, Option, Some, None, List, [], ◌∷◌, ◌++◌, length, map, slice_get, refl, sym, ap, subst, ◌∙◌, length-append, ⊤, signed, OCODE_LABEL, NoneOf, AllDiffer, Case, IsLabel, AreCases, Use, jumps, AllJump}
+use Rattle.bk_trans.proofs.Words.{arith, ◌≡◌, ℕ, zero, suc, ◌+◌, ◌<◌, ◌≤◌, ◌^◌, false, not, Option, Some, None, List, [], ◌∷◌, ◌++◌, length, map, slice_get, refl, sym, ap, ◌∙◌, length-append, ⊤, signed, OCODE_LABEL, NoneOf, AllDiffer, Case, IsLabel, AreCases, Use, jumps, AllJump, Every, every_front, every_back, every_both, every_at}
 use Rattle.bk_trans.proofs.Terms.{w32, cast_unsigned, NamedCommand, NamedCommands, label, case_of, default, when, test, while, block, repeat, repeat_while, no_named_commands, also, no_declarations, labels_if, labels_in, labels_through, cases, cases_through, first_of, default_in, default_through, label_or}
 use Rattle.std.proofs.lemmas.Int.{of_z-to_z}
-use Rattle.bk_trans.proofs.Marks.{marks_if, marks_in, marks_through, AllRight, right_front, right_back}
+use Rattle.bk_trans.proofs.Marks.{marks_if, marks_in, marks_through, AllRight, Right}
 use Rattle.bk_trans.proofs.Good.{case_words, case_words_through, AllWords}
 
-abbrev pub AllCases : (ℕ → Use) → ℕ → ℕ → List Case → Type 0
-AllCases plan p s [] = ⊤
-AllCases plan p s (c ∷ cs) = (plan c.label ≡ jumps p s) × IsLabel c.label × AllCases plan p s cs
+abbrev IsPlace : (ℕ → Use) → ℕ → ℕ → ℕ → Type 0
+IsPlace plan p s l = (plan l ≡ jumps p s) × IsLabel l
 
-both_cases : (plan : ℕ → Use) (p s : ℕ) (cs ds : List Case) → AllCases plan p s cs → AllCases plan p s ds → AllCases plan p s (cs ++ ds)
-both_cases plan p s [] ds h i = i
-both_cases plan p s (c ∷ cs) ds h i = (h.0, h.1, both_cases plan p s cs ds h.2 i)
+abbrev pub AllCases : (ℕ → Use) → ℕ → ℕ → List Case → Type 0
+AllCases plan p s cs = Every (λ c. IsPlace plan p s c.label) cs
 
 -- the DEFAULT
 abbrev pub OnDefault : (ℕ → Use) → ℕ → ℕ → Option ℕ → Type 0
 OnDefault plan p s None = ⊤
-OnDefault plan p s (Some l) = (plan l ≡ jumps p s) × IsLabel l
+OnDefault plan p s (Some l) = IsPlace plan p s l
 
 first_default : (plan : ℕ → Use) (p s : ℕ) (x y : Option ℕ) → OnDefault plan p s x → OnDefault plan p s y → OnDefault plan p s (first_of x y)
 first_default plan p s None y h i = i
@@ -46,7 +44,7 @@ at_most h low = let f = h.few in record { at_cases = h.at_cases; at_default = h.
 both_chosen : {plan : ℕ → Use} {p s m j k : ℕ} {cs ds : List Case} {x y : Option ℕ} {vs ws : List ℕ} → Chosen plan p s m cs x vs → Chosen plan p s j ds y ws → m + j ≤ k
     → Chosen plan p s k (cs ++ ds) (first_of x y) (vs ++ ws)
 both_chosen {plan} {p} {s} {cs = cs} {ds = ds} {x = x} {y = y} {vs = vs} {ws = ws} h i low = record {
-  at_cases = both_cases plan p s cs ds h.at_cases i.at_cases;
+  at_cases = every_both (λ (c : Case). IsPlace plan p s c.label) cs ds h.at_cases i.at_cases;
   at_default = first_default plan p s x y h.at_default i.at_default;
   few = let f = h.few in let g = i.few in let e = length-append cs ds in omega (arith, f, g, e, low);
   values = both_values cs ds vs ws h.values i.values;
@@ -58,30 +56,30 @@ module _ (plan : ℕ → Use) (p s : ℕ) where
     chosen n (label b c) low high r = at_most (chosen (n + 1) c (omega (arith, low)) (omega (arith, high)) r.1) (omega arith)
     chosen n (case_of w c) low high r =
         let h = chosen (n + 1) c (omega (arith, low)) (omega (arith, high)) r.1 in let f = h.few in
-        record { at_cases = (r.0, (low, omega (arith, high)), h.at_cases); at_default = h.at_default; few = omega (arith, f); values = (refl, h.values) }
+        record { at_cases = ((r.0, (low, omega (arith, high))), h.at_cases); at_default = h.at_default; few = omega (arith, f); values = (refl, h.values) }
     chosen n (default c) low high r =
         let h = chosen (n + 1) c (omega (arith, low)) (omega (arith, high)) r.1 in let f = h.few in
         record { at_cases = h.at_cases; at_default = (r.0, (low, omega (arith, high))); few = omega (arith, f); values = h.values }
     chosen n (when b e c) low high r =
-        at_most (chosen (n + 1 + labels_if e) c (omega (arith, low)) (omega (arith, high)) (right_back plan (marks_if p s (n + 1) e (not b)) _ r.1)) (omega arith)
+        at_most (chosen (n + 1 + labels_if e) c (omega (arith, low)) (omega (arith, high)) (every_back (Right plan) (marks_if p s (n + 1) e (not b)) _ r.1)) (omega arith)
     chosen n (test e a b) low high r =
         let m = marks_if p s (n + 2) e false ++ marks_in p s (n + 2 + labels_if e) a in
-        both_chosen (chosen (n + 2 + labels_if e) a (omega (arith, low)) (omega (arith, high)) (right_back plan (marks_if p s (n + 2) e false) _ (right_front plan m _ r.1.1)))
-        (chosen (n + 2 + labels_if e + labels_in a) b (omega (arith, low)) (omega (arith, high)) (right_back plan m _ r.1.1)) (omega arith)
+        both_chosen (chosen (n + 2 + labels_if e) a (omega (arith, low)) (omega (arith, high)) (every_back (Right plan) (marks_if p s (n + 2) e false) _ (every_front (Right plan) m _ r.1.1)))
+        (chosen (n + 2 + labels_if e + labels_in a) b (omega (arith, low)) (omega (arith, high)) (every_back (Right plan) m _ r.1.1)) (omega arith)
     chosen n (while b e c) low high r =
-        at_most (chosen (n + 3 + labels_if e) c (omega (arith, low)) (omega (arith, high)) (right_front plan (marks_in p s (n + 3 + labels_if e) c) _ r.1.1.1)) (omega arith)
+        at_most (chosen (n + 3 + labels_if e) c (omega (arith, low)) (omega (arith, high)) (every_front (Right plan) (marks_in p s (n + 3 + labels_if e) c) _ r.1.1.1)) (omega arith)
     chosen n (block no_declarations cs) low high r = at_most (chosen_through n cs low (omega (arith, high)) r) (omega arith)
     chosen n (repeat c) low high r = at_most (chosen (n + 2) c (omega (arith, low)) (omega (arith, high)) r.1.1) (omega arith)
     chosen n (repeat_while b c e) low high r =
-        at_most (chosen (n + 3) c (omega (arith, low)) (omega (arith, high)) (right_front plan (marks_in p s (n + 3) c) _ r.1.1.1)) (omega arith)
+        at_most (chosen (n + 3) c (omega (arith, low)) (omega (arith, high)) (every_front (Right plan) (marks_in p s (n + 3) c) _ r.1.1.1)) (omega arith)
     chosen n _ low high r = record { at_cases = tt; at_default = tt; few = omega arith; values = tt }
 
     chosen_through : (n : ℕ) (cs : NamedCommands) → 1 ≤ n → n + labels_through cs ≤ OCODE_LABEL + 1 → AllRight plan (marks_through p s n cs)
         → Chosen plan p s (labels_through cs) (cases_through n cs) (default_through n cs) (case_words_through cs)
     chosen_through n no_named_commands low high r = record { at_cases = tt; at_default = tt; few = omega arith; values = tt }
     chosen_through n (also c cs) low high r =
-        both_chosen (chosen n c low (omega (arith, high)) (right_front plan (marks_in p s n c) _ r))
-        (chosen_through (n + labels_in c) cs (omega (arith, low)) (omega (arith, high)) (right_back plan (marks_in p s n c) _ r)) (omega arith)
+        both_chosen (chosen n c low (omega (arith, high)) (every_front (Right plan) (marks_in p s n c) _ r))
+        (chosen_through (n + labels_in c) cs (omega (arith, low)) (omega (arith, high)) (every_back (Right plan) (marks_in p s n c) _ r)) (omega arith)
 
 signed_differ : (v w : ℕ) → v < 2 ^ 32 → w < 2 ^ 32 → signed v ≡ signed w → v ≡ w
 signed_differ v w low high e = sym (of_z-to_z w32 v low) ∙ ap (λ z. cast_unsigned w32 z) e ∙ of_z-to_z w32 w high
@@ -107,19 +105,14 @@ once_each (x ∷ cs) (w ∷ ws) s a n (suc j) zero c d at_j at_k e =
     absurd (none_there cs ws w j c s.1 a.1 a.0 n.0 at_j (e ∙ sym (ap (λ (y : Case). y.value) same) ∙ s.0))
 once_each (x ∷ cs) (w ∷ ws) s a n (suc j) (suc k) c d at_j at_k e = ap (λ y. suc y) (once_each cs ws s.1 a.1 n.1 j k c d at_j at_k e)
 
-label_at : (plan : ℕ → Use) (p s : ℕ) (cs : List Case) → AllCases plan p s cs → (k : ℕ) (c : Case) → slice_get cs k ≡ Some c → IsLabel c.label
-label_at plan p s [] h k c at = absurd (let n : None ≡ Some c = at in cc)
-label_at plan p s (d ∷ cs) h zero c at = let same : d ≡ c = (let n : Some d ≡ Some c = at in cc) in subst (λ (x : Case). IsLabel x.label) same h.1
-label_at plan p s (d ∷ cs) h (suc k) c at = label_at plan p s cs h.2 k c at
-
 pub cases_are : (plan : ℕ → Use) (p s n : ℕ) (c : NamedCommand) → 1 ≤ n → n + labels_in c ≤ OCODE_LABEL + 1 → AllRight plan (marks_in p s n c) → AllDiffer (case_words c) → AllWords (case_words c) → AreCases (cases n c)
 cases_are plan p s n c low high r differ small =
     let h = chosen plan p s n c low high r in let few = h.few in
-    record { once = once_each (cases n c) (case_words c) h.values small differ; labels = label_at plan p s (cases n c) h.at_cases; counted = omega (arith, few, high) }
+    record { once = once_each (cases n c) (case_words c) h.values small differ; labels = λ k d at. (every_at (λ (x : Case). IsPlace plan p s x.label) (cases n c) h.at_cases k d at).1; counted = omega (arith, few, high) }
 
 pub cases_jump : (plan : ℕ → Use) (p s : ℕ) (cs : List Case) → AllCases plan p s cs → AllJump plan p s (map (λ c. c.label) cs)
 cases_jump plan p s [] h = tt
-cases_jump plan p s (c ∷ cs) h = (h.0, cases_jump plan p s cs h.2)
+cases_jump plan p s (c ∷ cs) h = (h.0.0, cases_jump plan p s cs h.1)
 
 pub default_is : (plan : ℕ → Use) (p s n : ℕ) (y : Option ℕ) → plan n ≡ jumps p s → IsLabel n → OnDefault plan p s y → (plan (label_or n y) ≡ jumps p s) × IsLabel (label_or n y)
 default_is plan p s n None e range h = (e, range)

@@ -1,12 +1,12 @@
--- A section has few statements, and few words of text, and sets each label at most once. A statement costs 30, each byte of its string or name 1, and each of its cases and
+-- A section has few statements, few labels and few words of text, and sets each label at most once. A statement costs 30, each byte of its string or name 1, and each of its cases and
 -- globals 2; a node costs 450 at most, in its own code, in what is by itself after it, and in the list of the SWITCHON that a CASE belongs to.
-use Rattle.bk_trans.proofs.Words.{arith, ◌≡◌, ◌≤◌, ℕ, ◌+◌, ◌*◌, Bool, true, false, not, cond, List, [], ◌∷◌, ◌++◌, length, map, int_lt, pos, Some, refl, ap, length-append, signed, Operator, Prefix, Bound, joined, Case, GlobalEntry, Stmt, times_set}
+use Rattle.bk_trans.proofs.Words.{arith, ◌≡◌, ◌≤◌, ℕ, ◌+◌, ◌*◌, Bool, true, false, not, cond, List, [], ◌∷◌, ◌++◌, length, map, int_lt, pos, Some, refl, ap, length-append, signed, Operator, Prefix, Bound, joined, Case, GlobalEntry, Stmt, times_set, total, total_both}
 use Rattle.bk_tree.specs.Tree as tree
-use Rattle.bk_trans.proofs.Terms.{Operator as o, Prefix as q, Simple as w, Bound as b, text_size, Stmt as t, Dyadic as two, Around, Target, Term, Terms, Condition, Lvalue, Lvalues, NamedCommand, NamedCommands, Declaration, Declarations, Definition, Definitions, Starts, StaticItem, program_of, labels, labels_each, labels_if, labels_at, labels_onto, labels_in, labels_through, labels_of_procedure, labels_of_declaration, labels_of_declarations, labels_of_definition, labels_of_definitions, labels_of_starts, count, after_declaration, after_declarations, after_definition, has_variables, Part, parts_of_items, parts, parts_each, parts_if, parts_at, parts_onto, parts_from, parts_in, parts_through, target_of, parts_of_declarations, parts_of_declaration, parts_of_definitions, parts_of_definition, parts_of_starts, prefix_code, infix_code, by_turns, value_code, each_code, jump_code, address_code, store_code, value_codes, store_codes, command_code, through_code, declarations_code, declaration_code, definitions_code, definition_code, starts_code, procedure_code, word_code, data_code, scheme, outermost, valued, looping, switching, push, truth_value, cases, cases_through, entry_of, entries_of, test_of_step, nodes_of_declarations, StatementsAreFew, WordsAreFew, LabelsAreSetOnce}
+use Rattle.bk_trans.proofs.Terms.{Operator as o, Prefix as q, Simple as w, Bound as b, text_size, Stmt as t, Dyadic as two, Around, Target, Term, Terms, Condition, Lvalue, Lvalues, NamedCommand, NamedCommands, Declaration, Declarations, Definition, Definitions, Starts, StaticItem, program_of, labels, labels_each, labels_if, labels_at, labels_onto, labels_in, labels_through, labels_of_procedure, labels_of_declaration, labels_of_declarations, labels_of_definition, labels_of_definitions, labels_of_starts, count, after_declaration, after_declarations, after_definition, has_variables, Part, parts_of_items, parts, parts_each, parts_if, parts_at, parts_onto, parts_from, parts_in, parts_through, target_of, parts_of_declarations, parts_of_declaration, parts_of_definitions, parts_of_definition, parts_of_starts, prefix_code, infix_code, by_turns, value_code, each_code, jump_code, address_code, store_code, value_codes, store_codes, command_code, through_code, declarations_code, declaration_code, definitions_code, definition_code, starts_code, procedure_code, word_code, data_code, scheme, outermost, valued, looping, switching, push, truth_value, cases, cases_through, entry_of, entries_of, test_of_step, nodes_of_declarations, StatementsAreFew, LabelsAreFew, WordsAreFew, LabelsAreSetOnce}
 use Rattle.bk_ocode.specs.StmtText.{stmt_words, byte_words, case_words, global_words}
 use Rattle.bk_trans.specs.Program as p
 use Rattle.bk_trans.proofs.Steps.{short_bytes}
-use Rattle.bk_trans.proofs.Once.{past, own, no_more, parts_set, sum_set, set_both, parts_both, turns_set, push_none, truth_none, chosen_none, store_none, prefix_none, infix_none, words_none, statics_own, word_own}
+use Rattle.bk_trans.proofs.Once.{past, own, no_more, parts_set, set_both, push_none, truth_none, chosen_none, store_none, prefix_none, infix_none, words_none, statics_own, word_own}
 use Rattle.bk_trans.proofs.TreeNodes.{nodes, nodes_of_each, nodes_if, nodes_at, nodes_onto, nodes_in, nodes_through, nodes_declared, nodes_of_one, nodes_defined}
 use Rattle.bk_trans.proofs.TreeNodes.{nodes_of_definition, nodes_started, kept_declared}
 
@@ -18,17 +18,11 @@ cost (t.Globals es) = 30 + 2 * length es
 cost _ = 30
 
 abbrev costs : List Stmt → ℕ
-costs [] = 0
-costs (x ∷ xs) = cost x + costs xs
+costs xs = total cost xs
 
 -- what is by itself
 abbrev apart : List Target → List Part → ℕ
-apart ts [] = 0
-apart ts (x ∷ ps) = costs (procedure_code ts x) + costs (data_code x) + 2 * length (entries_of x) + apart ts ps
-
-abbrev all_costs : List (List Stmt) → ℕ
-all_costs [] = 0
-all_costs (x ∷ xs) = costs x + all_costs xs
+apart ts ps = total (λ x. costs (procedure_code ts x) + costs (data_code x) + 2 * length (entries_of x)) ps
 
 -- ---- the cost of statements is above their number and their words
 
@@ -59,18 +53,9 @@ all_cost (x ∷ xs) =
 
 -- ---- the cost of pieces of code
 
-both : (xs ys : List Stmt) → costs (xs ++ ys) ≡ costs xs + costs ys
-both [] ys = omega arith
-both (x ∷ xs) ys = let rest = both xs ys in omega (arith, rest)
-
-apart_both : (ts : List Target) (ps qs : List Part) → apart ts (ps ++ qs) ≡ apart ts ps + apart ts qs
-apart_both ts [] qs = omega arith
-apart_both ts (x ∷ ps) qs = let rest = apart_both ts ps qs in omega (arith, rest)
-
-turns_cost : (xs ys : List (List Stmt)) → costs (by_turns xs ys) ≤ all_costs xs + all_costs ys
-turns_cost [] ys = omega arith
-turns_cost (x ∷ xs) [] = omega arith
-turns_cost (x ∷ xs) (y ∷ ys) = let h = turns_cost xs ys in simp (both) (omega (arith, h))
+turns_least : (f : List Stmt → ℕ) → ((xs ys : List Stmt) → f (xs ++ ys) ≡ f xs + f ys) → f [] ≡ 0 → (xs ys : List (List Stmt)) → f (by_turns xs ys) ≤ total f xs + total f ys
+turns_least f both none (x ∷ xs) (y ∷ ys) = omega (arith, turns_least f both none xs ys, both x y, both (x ++ y) (by_turns xs ys))
+turns_least f both none _ _ = omega (arith, none)
 
 prefix_cost : (f : Prefix) → costs (prefix_code f) ≤ 30
 prefix_cost q.Plus = omega arith
@@ -115,7 +100,7 @@ labels_two : (x : Bound) → labels_of_procedure x ≤ 2
 labels_two (b.Static n) = omega arith
 labels_two _ = omega arith
 
-entry_few : (n : ℕ) (x : Bound) → length (entry_of n x) ≤ 1
+pub entry_few : (n : ℕ) (x : Bound) → length (entry_of n x) ≤ 1
 entry_few n (b.Global (Some g)) = omega arith
 entry_few n _ = omega arith
 
@@ -139,9 +124,9 @@ weigh setting l xs = times_set l xs
 weigh numbering l xs = 0 * costs xs
 
 abbrev weigh_all : Measure → ℕ → List (List Stmt) → ℕ
-weigh_all costing l xs = all_costs xs
-weigh_all setting l xs = sum_set l xs
-weigh_all numbering l xs = 0 * all_costs xs
+weigh_all costing l xs = total costs xs
+weigh_all setting l xs = total (times_set l) xs
+weigh_all numbering l xs = 0 * total costs xs
 
 abbrev weigh_apart : Measure → ℕ → List Target → List Part → ℕ
 weigh_apart costing l ts ps = apart ts ps
@@ -171,7 +156,7 @@ most costing k = 450 * k
 most setting k = 0
 most numbering k = 4 * k
 
-ruleset sums = (both, set_both, apart_both, parts_both, length-append)
+ruleset sums = (set_both, total_both, length-append)
 
 module _ (l : ℕ) (ts : List Target) where
   mutual
@@ -245,8 +230,8 @@ module _ (l : ℕ) (ts : List Target) where
     command costing a s n (p.simple w.Break) = omega arith
     command m a s n (p.assign xs es) =
         let h = stores m (s + 1) n xs in let i = values m s (n + labels_onto xs) es in
-        let j = turns_cost (value_codes ts s (n + labels_onto xs) es) (store_codes ts (s + 1) n xs) in
-        let k = turns_set l (value_codes ts s (n + labels_onto xs) es) (store_codes ts (s + 1) n xs) in simp sums (omega (arith, h, i, j, k))
+        let j = turns_least costs (total_both cost) refl (value_codes ts s (n + labels_onto xs) es) (store_codes ts (s + 1) n xs) in
+        let k = turns_least (times_set l) (set_both l) refl (value_codes ts s (n + labels_onto xs) es) (store_codes ts (s + 1) n xs) in simp sums (omega (arith, h, i, j, k))
     command m a s n (p.call e es) = simp sums (omega (arith, value m (s + 2 + count es) n e, each m (s + 2) (n + labels e) es))
     command m a s n (p.label x c) = omega (arith, command m a s (n + 1) c, own l n)
     command m a s n (p.case_of v c) = omega (arith, command m a s (n + 1) c, own l n)
@@ -330,10 +315,10 @@ module _ (l : ℕ) (ts : List Target) where
 
 split : (ts : List Target) (ps : List Part) → costs (joined (procedure_code ts) ps) + costs (joined data_code ps) + 2 * length (joined entries_of ps) ≡ apart ts ps
 split ts [] = refl
-split ts (x ∷ ps) = let h = split ts ps in simp (both, length-append) (omega (arith, h))
+split ts (x ∷ ps) = let h = split ts ps in simp (total_both, length-append) (omega (arith, h))
 
 section_cost : (ps : List Part) (xs : Declarations) → parts_of_declarations 2 1 xs ≡ ps → costs (scheme xs) ≡ apart (joined target_of ps) ps + 30
-section_cost ps xs e = let h = split (joined target_of ps) ps in rw e (simp (both) (omega (arith, h)))
+section_cost ps xs e = let h = split (joined target_of ps) ps in rw e (simp (total_both) (omega (arith, h)))
 
 -- a node costs 450
 few : (ds : tree.Declarations) (meanings : List Bound) (words : List ℕ) → costs (scheme (program_of ds meanings words)) ≤ 450 * nodes_of_declarations ds + 30
@@ -344,10 +329,10 @@ few ds meanings words =
     let low = declarations 0 (joined target_of ps) costing 2 1 xs in
     let kept = kept_declared ds (record { meanings = meanings; words = words }) in omega (arith, all, low, kept)
 
-pub labels_low : (ds : tree.Declarations) (meanings : List Bound) (words : List ℕ) → labels_of_declarations (program_of ds meanings words) ≤ 4 * nodes_of_declarations ds
-labels_low ds meanings words =
+pub labels_are_few : LabelsAreFew
+labels_are_few ds meanings words h =
     let xs : Declarations = program_of ds meanings words in
-    omega (arith, declarations 0 [] numbering 2 0 xs, kept_declared ds (record { meanings = meanings; words = words }))
+    omega (arith, declarations 0 [] numbering 2 0 xs, kept_declared ds (record { meanings = meanings; words = words }), h.1)
 
 pub statements_are_few : StatementsAreFew
 statements_are_few ds meanings words h = omega (arith, (all_cost (scheme (program_of ds meanings words))).0, few ds meanings words, h.1)

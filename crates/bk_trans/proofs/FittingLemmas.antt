@@ -1,7 +1,8 @@
 -- What lists of statements whose numbers fit come to.
-use Rattle.bk_trans.proofs.Words.{◌≡◌, ℕ, zero, suc, ◌<◌, ◌^◌, Some, List, [], ◌∷◌, map, slice_get, refl, ap, ◌∙◌, arith, Case, GlobalEntry, Stmt, AreTyped}
+use Rattle.bk_trans.proofs.Words.{◌≡◌, ℕ, zero, suc, ◌<◌, ◌^◌, Some, List, [], ◌∷◌, map, slice_get, refl, ap, ◌∙◌, arith, Case, GlobalEntry, Stmt}
 use Rattle.std.specs.Prelude.{FitsSigned}
-use Rattle.bk_trans.proofs.Terms.{w32, word, case_in_words, entry_in_words, in_words, CasesFit, EntriesFit, AllFit}
+use Rattle.bk_trans.specs.Fitting.{Fits}
+use Rattle.bk_trans.proofs.Terms.{w32, word, case_in_words, entry_in_words, CasesFit, EntriesFit, AllFit}
 
 pub word_is : (n : ℕ) → n < 2 ^ 32 → word n ≡ n
 word_is n h = omega arith
@@ -19,11 +20,7 @@ pub entries_are : (es : List GlobalEntry) → EntriesFit es → map entry_in_wor
 entries_are [] h = refl
 entries_are (e ∷ es) h = ap (λ x. x ∷ map entry_in_words es) h.0 ∙ ap (λ xs. e ∷ xs) (entries_are es h.1)
 
-pub all_are : (ss : List Stmt) → AllFit ss → in_words ss ≡ ss
-all_are [] h = refl
-all_are (s ∷ ss) h = ap (λ x. x ∷ in_words ss) h.0.0 ∙ ap (λ xs. s ∷ xs) (all_are ss h.1)
-
-pub all_are_typed : (ss : List Stmt) → AllFit ss → AreTyped ss
-all_are_typed [] h k s e = absurd cc
-all_are_typed (r ∷ rs) h zero s e = let same : r ≡ s = cc in rw (← same) h.0.1
-all_are_typed (r ∷ rs) h (suc k) s e = all_are_typed rs h.1 k s e
+pub all_at : (ss : List Stmt) → AllFit ss → (k : ℕ) (s : Stmt) → slice_get ss k ≡ Some s → Fits s
+all_at [] h k s e = absurd cc
+all_at (r ∷ rs) h zero s e = let same : r ≡ s = cc in rw (← same) h.0
+all_at (r ∷ rs) h (suc k) s e = all_at rs h.1 k s e

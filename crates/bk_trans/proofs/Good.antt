@@ -1,6 +1,6 @@
 -- What the code of a part of the named tree asks for, in procedure p with depth s: each name's word is there, a jump finds its
 -- label, each command stands where it may, CASEs differ, and the frame has room.
-use Rattle.bk_trans.proofs.Words.{◌≡◌, ℕ, ◌+◌, ◌<◌, ◌≤◌, ◌^◌, Bool, true, false, Some, List, [], ◌∷◌, ◌++◌, ⊤, FRAME_WORDS, GLOBAL_NUMBER, Bound, AllDiffer, IsLabel, IsDepth, Use}
+use Rattle.bk_trans.proofs.Words.{◌≡◌, ℕ, ◌+◌, ◌<◌, ◌≤◌, ◌^◌, Bool, true, false, Some, List, [], ◌∷◌, ◌++◌, ⊤, FRAME_WORDS, GLOBAL_NUMBER, Bound, AllDiffer, IsLabel, IsDepth, Use, Every}
 use Rattle.bk_trans.proofs.Terms.{Simple as w, Bound as b, Goal, Target, count, after_definition, after_declaration, after_declarations, goal_of}
 use Rattle.bk_ocode.specs.Typing as typing
 use Rattle.bk_trans.specs.Program.{Term, Terms, Condition, Lvalue, Lvalues, NamedCommand, NamedCommands, Declaration, Declarations, Definition, Definitions, Starts, named, parens, unary, address, binary, choice, apply, valof, none, more, holds, within, fails, both, either, word, contents, subscript, byte, inside, nowhere, onto, assign, call, goto, label, case_of, default, when, test, while, for_loop, switch, result, simple, block, repeat, repeat_while, no_named_commands, also, statics, lets, no_declarations, declare, variables, no_definitions, define, no_starts, value, vector}
@@ -67,8 +67,7 @@ abbrev mutual
   case_words_through (also c cs) = case_words c ++ case_words_through cs
 
 abbrev pub AllWords : List ℕ → Type 0
-AllWords [] = ⊤
-AllWords (v ∷ vs) = (v < 2 ^ 32) × AllWords vs
+AllWords vs = Every (λ v. v < 2 ^ 32) vs
 
 abbrev pub Room : ℕ → Type 0
 Room d = d ≤ FRAME_WORDS

@@ -1,4 +1,5 @@
 mod Terms
+mod Lists
 mod Words
 mod Blocks
 mod Adds
@@ -13,7 +14,6 @@ mod TreeNodes
 mod Once
 mod Named
 mod Counted
-mod Few
 mod Marks
 mod Good
 mod Steps

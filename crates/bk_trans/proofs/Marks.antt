@@ -1,6 +1,6 @@
 -- What the labels are for that a part of the program sets in its own code, in procedure p with depth s: nested procedures, static
 -- words and tables are apart.
-use Rattle.bk_trans.proofs.Words.{◌≡◌, ℕ, ◌+◌, Bool, true, false, not, List, [], ◌∷◌, ◌++◌, ⊤, Use}
+use Rattle.bk_trans.proofs.Words.{◌≡◌, ℕ, ◌+◌, Bool, true, false, not, List, [], ◌∷◌, ◌++◌, Use, Every}
 use Rattle.bk_ocode.specs.Typing as typing
 use Rattle.bk_trans.proofs.Terms.{Term, Terms, Condition, Lvalue, Lvalues, NamedCommand, NamedCommands, Declaration, Declarations, Definition, Definitions, Starts, parens, unary, address, binary, choice, apply, valof, none, more, holds, within, fails, both, either, contents, subscript, byte, inside, no_lvalues, onto, assign, call, label, case_of, default, when, test, while, for_loop, switch, result, block, repeat, repeat_while, no_named_commands, also, statics, lets, no_declarations, declare, variables, no_definitions, define, no_starts, value, vector, labels, labels_if, labels_at, labels_onto, labels_in, labels_of_declarations, labels_of_declaration, labels_of_definition, count, after_definition, after_declaration, after_declarations}
 
@@ -119,14 +119,8 @@ abbrev mutual
   marks_of_starts p t n (vector k is) = marks_of_starts p (t + k + 2) n is
 
 -- a plan has them
+abbrev pub Right : (ℕ → Use) → Mark → Type 0
+Right plan m = plan m.spot ≡ m.purpose
+
 abbrev pub AllRight : (ℕ → Use) → List Mark → Type 0
-AllRight plan [] = ⊤
-AllRight plan (m ∷ ms) = (plan m.spot ≡ m.purpose) × AllRight plan ms
-
-pub right_front : (plan : ℕ → Use) (xs ys : List Mark) → AllRight plan (xs ++ ys) → AllRight plan xs
-right_front plan [] ys h = tt
-right_front plan (x ∷ xs) ys h = (h.0, right_front plan xs ys h.1)
-
-pub right_back : (plan : ℕ → Use) (xs ys : List Mark) → AllRight plan (xs ++ ys) → AllRight plan ys
-right_back plan [] ys h = h
-right_back plan (x ∷ xs) ys h = right_back plan xs ys h.1
+AllRight plan ms = Every (Right plan) ms

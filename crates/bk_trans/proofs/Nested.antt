@@ -1,20 +1,20 @@
 -- Each part of a section without faults that stands by itself is good: its procedures, wherever they are nested, its items of STATIC and
 -- its tables.
-use Rattle.bk_trans.proofs.Words.{arith, ◌≡◌, ℕ, ◌+◌, ◌<◌, ◌≤◌, ◌^◌, max, true, false, cond, Option, Some, List, [], ◌∷◌, ◌++◌, length, refl, sym, ap, subst, ◌∙◌, ⊤, false≢true, FRAME_WORDS, VEC_NUMBER, OCODE_LABEL, Mention, Expression, Expressions, Command, Commands, Declaration, Declarations, Definition, Definitions, Starts, name, parens, unary, binary, choice, apply, valof, table, none, more, assign, call, label, case_of, default, when, test, while, for_loop, switch, result, block, repeat, repeat_while, no_commands, also, constants, definitions, no_declarations, declare, routine, function, variables, no_definitions, define, no_starts, value, vector, at_expression, size, Bound, Constant, Global, Static, Variable, Label, Enclosing, Role, Value, Truth, Address, Destination, not_assignable, no_result_or_return, vec_out_of_range, Binding, bound_in, bind, constant_word, kept, deeper, looping, switching, labelled, valued, called, outermost, labels_of, labels_of_each, with_formals, parenthesised, words_of_start, place_after, variables_of, Spot, procedures_in, onward, past, numbered, following, after_each, after_done, after_declared, after_one_declared, after_one_defined, after_constant, symbols_each, beginning, Claim, is_claimed, Point, meaning, word, depth, wrong, claim, claimed, judged, deepest, without_depths, at, labels_in_scope, procedures_in_scope, place_after_one_defined, variables_in_scope, scope_after_one, place_after_one, scope_after, place_after_all, unless, its_meaning, its_global, its_frame, inside_procedure, constant, each_constant, at_most, assigned, prefixed, pushed, chosen_at, defaulted_at, one_of, each_of, reported, reported_each, reported_destinations, reported_done, reported_done_each, reported_declared, reported_one_declared, reported_defined, reported_one_defined, reported_started, Callable, FrameSound, Sound, SoundEach, SoundDestinations, SoundDone, SoundDoneEach, SoundDeclared, SoundOneDeclared, SoundDefined, SoundOneDefined, SoundStarted, Use}
+use Rattle.bk_trans.proofs.Words.{arith, ◌≡◌, ℕ, ◌+◌, ◌<◌, ◌≤◌, ◌^◌, max, true, false, cond, Option, Some, List, [], ◌∷◌, ◌++◌, length, refl, sym, ap, subst, ◌∙◌, ⊤, false≢true, FRAME_WORDS, VEC_NUMBER, OCODE_LABEL, Mention, Expression, Expressions, Command, Commands, Declaration, Declarations, Definition, Definitions, Starts, name, parens, unary, binary, choice, apply, valof, table, none, more, assign, call, label, case_of, default, when, test, while, for_loop, switch, result, block, repeat, repeat_while, no_commands, also, constants, definitions, no_declarations, declare, routine, function, variables, no_definitions, define, no_starts, value, vector, at_expression, size, Bound, Constant, Global, Static, Variable, Label, Enclosing, Role, Value, Truth, Address, Destination, not_assignable, no_result_or_return, vec_out_of_range, Binding, bound_in, bind, constant_word, kept, deeper, looping, switching, labelled, valued, called, outermost, labels_of, labels_of_each, with_formals, parenthesised, words_of_start, place_after, variables_of, Spot, procedures_in, onward, past, numbered, following, after_each, after_done, after_declared, after_one_declared, after_one_defined, after_constant, symbols_each, beginning, Claim, is_claimed, Point, meaning, word, depth, wrong, claim, claimed, judged, deepest, without_depths, at, labels_in_scope, procedures_in_scope, place_after_one_defined, variables_in_scope, scope_after_one, place_after_one, scope_after, place_after_all, unless, its_meaning, its_global, its_frame, inside_procedure, constant, each_constant, at_most, assigned, prefixed, pushed, chosen_at, defaulted_at, one_of, each_of, reported, reported_each, reported_destinations, reported_done, reported_done_each, reported_declared, reported_one_declared, reported_defined, reported_one_defined, reported_started, Callable, FrameSound, Sound, SoundEach, SoundDestinations, SoundDone, SoundDoneEach, SoundDeclared, SoundOneDeclared, SoundDefined, SoundOneDefined, SoundStarted, Use, Every, every_front, every_back, every_both}
 use Rattle.bk_trans.proofs.Terms.{Operator as o, Prefix as sign, Sort as sort, Target, meant, worth, statics_named, term_named, terms_named, condition_named, lvalue_named, lvalues_named, command_named, commands_named, declarations_named, declaration_named, definitions_named, definition_named, starts_named, labels, labels_each, labels_if, labels_at, labels_onto, labels_in, labels_through, labels_of_declaration, labels_of_declarations, labels_of_definition, labels_of_definitions, labels_of_starts, count, after_definition, after_declaration, after_declarations, Part, procedure, static_table, parts, parts_each, parts_if, parts_at, parts_onto, parts_from, parts_in, parts_through, parts_of_items, parts_of_declarations, parts_of_declaration, parts_of_definitions, parts_of_definition, parts_of_starts, goal_of, labels_of_procedure}
 use Rattle.bk_trans.specs.Program as t
-use Rattle.bk_trans.proofs.Marks.{right_back}
 use Rattle.bk_trans.proofs.Good.{IsWord}
-use Rattle.bk_trans.proofs.Scopes.{Sees, sees_bind, sees_all, sees_labels, sees_procedures, AllMean, mean_both, PartsRight, parts_front, parts_back, sees_none, procedure_found, statics_seen}
-use Rattle.bk_trans.proofs.Reported.{AllPoints, AllFine, Reported, told_front, told_back, Fine}
+use Rattle.bk_trans.proofs.Scopes.{Sees, sees_bind, sees_all, sees_labels, sees_procedures, AllMean, PartsRight, sees_none, procedure_found, statics_seen, PartRight}
+use Rattle.bk_trans.proofs.Reported.{AllFine, Reported, told_front, told_back, Fine}
 use Rattle.bk_trans.proofs.Bodies.{Known, At, Placed, same_one_defined, same_defined, enter_labels, at_manifests, at_globals, good, good_in}
 use Rattle.bk_trans.proofs.Asked.{Asked, for_value, for_truth, role, asked}
 use Rattle.bk_trans.proofs.Named.{addressed_assigned}
-use Rattle.bk_trans.proofs.Sections.{GoodName, GoodPart, AllGood, good_both}
+use Rattle.bk_trans.proofs.Sections.{GoodName, GoodPart, AllGood}
 use Rattle.bk_trans.proofs.Forms.{AllTables}
 use Rattle.bk_scope.specs.Faults as faults
 use Rattle.bk_trans.proofs.Sections.{name_marks}
 use Rattle.bk_trans.proofs.Once.{no_more}
+use Rattle.bk_trans.proofs.Marks.{Right}
 
 -- what is told, frames apart: each word is one, and no claim was made before
 abbrev pub IsQuiet : Point → Type 0
@@ -22,7 +22,7 @@ IsQuiet (word v) = v < 2 ^ 32
 IsQuiet _ = ⊤
 
 abbrev pub AllQuiet : List Point → Type 0
-AllQuiet xs = AllPoints IsQuiet xs
+AllQuiet xs = Every IsQuiet xs
 
 abbrev pub Quiet : List Point → Type 0
 Quiet xs = Reported IsQuiet xs
@@ -115,11 +115,11 @@ within g from less f b = let l = g.low in let h = g.high in record { low = omega
 
 front : {plan : ℕ → Use} {ts : List Target} {n m i j : ℕ} {xs : List Point} {ps : List Part} (ys : List Point) (qs : List Part) → Given plan ts n m (xs ++ ys) (ps ++ qs) → n ≤ i → i + j ≤ n + m
     → Given plan ts i j xs ps
-front {plan} {ts} {xs = xs} {ps = ps} ys qs g from less = within g from less (told_front xs ys g.reported) (parts_front plan ts ps qs g.parts)
+front {plan} {ts} {xs = xs} {ps = ps} ys qs g from less = within g from less (told_front xs ys g.reported) (every_front (PartRight plan ts) ps qs g.parts)
 
 back : {plan : ℕ → Use} {ts : List Target} {n m i j : ℕ} {ys : List Point} {qs : List Part} (xs : List Point) (ps : List Part) → Given plan ts n m (xs ++ ys) (ps ++ qs) → n ≤ i → i + j ≤ n + m
     → Given plan ts i j ys qs
-back {plan} {ts} {ys = ys} {qs = qs} xs ps g from less = within g from less (told_back xs ys g.reported) (parts_back plan ts ps qs g.parts)
+back {plan} {ts} {ys = ys} {qs = qs} xs ps g from less = within g from less (told_back xs ys g.reported) (every_back (PartRight plan ts) ps qs g.parts)
 
 behind_told : {plan : ℕ → Use} {ts : List Target} {n m i j : ℕ} {ys : List Point} {ps : List Part} (xs : List Point) → Given plan ts n m (xs ++ ys) ps → n ≤ i → i + j ≤ n + m → Given plan ts i j ys ps
 behind_told {ys = ys} xs g from less = within g from less (told_back xs ys g.reported) g.parts
@@ -134,7 +134,7 @@ all_variables_out : (plan : ℕ → Use) (ts : List Target) (n : ℕ) (bs : List
 all_variables_out plan ts n bs p no_definitions low = tt
 all_variables_out plan ts n bs p (define (variables l xs is) ds) low =
     let same = (same_one_defined bs p (variables l xs is)).0 in
-    mean_both (Outside plan ts n) (variables_of bs p xs is) _ (variables_out plan ts n bs p xs is low) (all_variables_out plan ts n bs (place_after bs p is) ds (omega (arith, same, low)))
+    every_both (λ (x : Binding). Outside plan ts n x.bound) (variables_of bs p xs is) _ (variables_out plan ts n bs p xs is low) (all_variables_out plan ts n bs (place_after bs p is) ds (omega (arith, same, low)))
 all_variables_out plan ts n bs p (define _ ds) low = all_variables_out plan ts n bs p ds low
 
 procedures_out : (plan : ℕ → Use) (ts : List Target) (bs : List Binding) (p : Enclosing) (k : ℕ) (s v : Spot) (ds : Definitions) (d n m : ℕ) (xs : List Point) → Out plan ts bs k m
@@ -217,7 +217,7 @@ routine_good plan ts m bs p s l x fs c d n a h g =
     let much = frame_low (length fs) body h.1 in
     let inner = inside plan ts n bs p z p.procedure (length fs) s.number fs a refl refl refl much in
     let owns = g.parts.1 in
-    let jumps = right_back plan (name_marks n v) _ g.parts.0.1.1 in
+    let jumps = every_back (Right plan) (name_marks n v) _ g.parts.0.1.1 in
     let fine = body_fine (length fs) body (body_quiet m s.number s l x fs (bound_in bs x) body g.reported) h.1 in
     let placed : Placed plan ts j (labels_in (command_named cs z u c)) body _ _ = record { low = omega (arith, low); high = omega (arith, high); reported = fine; parts = owns; marks = jumps } in (
       low,
@@ -243,7 +243,7 @@ function_good plan ts m bs p s l x fs e d n a h g =
     let much = frame_low (length fs) body h.1 in
     let inner = inside plan ts n bs p z p.procedure (length fs) s.number fs a refl refl refl much in
     let owns = g.parts.1 in
-    let jumps = right_back plan (name_marks n v) _ g.parts.0.1.1 in
+    let jumps = every_back (Right plan) (name_marks n v) _ g.parts.0.1.1 in
     let fine = body_fine (length fs) body (body_quiet m s.number s l x fs (bound_in bs x) body g.reported) h.1 in (
       low,
       high,
@@ -259,10 +259,10 @@ module _ (plan : ℕ → Use) (ts : List Target) where
     nest : (ask : Asked) (bs : List Binding) (p : Enclosing) (s : Spot) (e : Expression) (d n : ℕ) → Out plan ts bs p.procedure s.number → Sound (role ask) bs p s e
         → Given plan ts n (labels_if (asked ask bs p s e)) (reported (role ask) bs p s e) (parts_if d n (asked ask bs p s e)) → AllGood plan ts (parts_if d n (asked ask bs p s e))
     nest (for_truth z) bs p s (binary l o.Both m x y) d n a h g =
-        good_both plan ts _ _ (nest (for_truth z) bs p s x d (n + 1) a h.0 (front _ _ g (omega arith) (omega arith)))
+        every_both (GoodPart plan ts) _ _ (nest (for_truth z) bs p s x d (n + 1) a h.0 (front _ _ g (omega arith) (omega arith)))
         (nest (for_truth z) bs p (past 1 (following x s)) y d _ (onto _ a (omega arith)) h.1 (back _ _ g (omega arith) (omega arith)))
     nest (for_truth z) bs p s (binary l o.Either m x y) d n a h g =
-        good_both plan ts _ _ (nest (for_truth z) bs p s x d (n + 1) a h.0 (front _ _ g (omega arith) (omega arith)))
+        every_both (GoodPart plan ts) _ _ (nest (for_truth z) bs p s x d (n + 1) a h.0 (front _ _ g (omega arith) (omega arith)))
         (nest (for_truth z) bs p (past 1 (following x s)) y d _ (onto _ a (omega arith)) h.1 (back _ _ g (omega arith) (omega arith)))
     nest ask bs p s (unary l sign.Address e) d n a h g =
         nest_onto bs p (past 1 s) (Address false (at_expression e)) e d n (onto _ a (omega arith)) (addressed_assigned bs e h.0) h.1 (behind_told (prefixed sign.Address bs (past 1 s) e) g (omega arith) (omega arith))
@@ -270,11 +270,11 @@ module _ (plan : ℕ → Use) (ts : List Target) where
     nest ask bs p s (unary l y e) d n a h g = nest for_value bs p (past 1 s) e d n (onto _ a (omega arith)) h.1 g
     nest ask bs p s (choice l m c x y) d n a h g =
         let fore : Given plan ts n (2 + labels_if (condition_named bs p s c) + labels (term_named bs p (past 1 (following c s)) x)) _ _ = front _ _ g (omega arith) (omega arith) in
-        good_both plan ts _ _ (good_both plan ts _ _ (nest (for_truth true) bs p s c d (n + 2) a h.0 (front _ _ fore (omega arith) (omega arith)))
+        every_both (GoodPart plan ts) _ _ (every_both (GoodPart plan ts) _ _ (nest (for_truth true) bs p s c d (n + 2) a h.0 (front _ _ fore (omega arith) (omega arith)))
         (nest for_value bs p (past 1 (following c s)) x d _ (onto _ a (omega arith)) h.1 (back _ _ fore (omega arith) (omega arith))))
         (nest for_value bs p (following x (past 1 (following c s))) y d _ (onto _ a (omega arith)) h.2 (back _ _ g (omega arith) (omega arith)))
     nest ask bs p s (apply l m e es) d n a h g =
-        good_both plan ts _ _ (nest for_value bs (deeper (size es + 2) p) s e _ n a h.0 (front _ _ g (omega arith) (omega arith)))
+        every_both (GoodPart plan ts) _ _ (nest for_value bs (deeper (size es + 2) p) s e _ n a h.0 (front _ _ g (omega arith) (omega arith)))
         (nest_each bs (deeper 2 p) (past 1 (following e s)) es (d + 2) _ (onto _ a (omega arith)) h.1 (back _ _ g (omega arith) (omega arith)))
     nest ask bs p s (valof l c) d n a h g =
         let u : Spot = onward 1 (1 + length (labels_of c)) s in
@@ -284,10 +284,10 @@ module _ (plan : ℕ → Use) (ts : List Target) where
     nest ask bs p s (table l es) d n a h g = let low = g.low in let high = g.high in ((low, omega (arith, high)), tt)
     nest ask bs p s (parens l e) d n a h g = nest ask bs p (past 1 s) e d n (onto _ a (omega arith)) h g
     nest for_value bs p s (binary l o.Both m x y) d n a h g =
-        good_both plan ts _ _ (nest for_value bs p s x d n a h.0 (front _ _ g (omega arith) (omega arith)))
+        every_both (GoodPart plan ts) _ _ (nest for_value bs p s x d n a h.0 (front _ _ g (omega arith) (omega arith)))
         (nest for_value bs (deeper 1 p) (past 1 (following x s)) y (d + 1) _ (onto _ a (omega arith)) h.1 (back _ _ g (omega arith) (omega arith)))
     nest ask bs p s (binary l z m x y) d n a h g =
-        good_both plan ts _ _ (nest for_value bs p s x d n a h.0 (front _ _ g (omega arith) (omega arith)))
+        every_both (GoodPart plan ts) _ _ (nest for_value bs p s x d n a h.0 (front _ _ g (omega arith) (omega arith)))
         (nest for_value bs (deeper 1 p) (past 1 (following x s)) y (d + 1) _ (onto _ a (omega arith)) h.1 (back _ _ g (omega arith) (omega arith)))
     nest ask bs p s _ d n a h g = tt
 
@@ -295,14 +295,14 @@ module _ (plan : ℕ → Use) (ts : List Target) where
         → Given plan ts n (labels_each (terms_named 1 bs p s es)) (reported_each 1 bs p s es) (parts_each d n (terms_named 1 bs p s es)) → AllGood plan ts (parts_each d n (terms_named 1 bs p s es))
     nest_each bs p s none d n a h g = tt
     nest_each bs p s (more e es) d n a h g =
-        good_both plan ts _ _ (nest for_value bs p s e d n a h.0 (front _ _ g (omega arith) (omega arith)))
+        every_both (GoodPart plan ts) _ _ (nest for_value bs p s e d n a h.0 (front _ _ g (omega arith) (omega arith)))
         (nest_each bs (deeper 1 p) (following e s) es (d + 1) _ (onto _ a (omega arith)) h.1 (back _ _ g (omega arith) (omega arith)))
 
     nest_from : (bs : List Binding) (p : Enclosing) (s : Spot) (es : Expressions) (d n : ℕ) → Out plan ts bs p.procedure s.number → SoundEach 0 bs p s es
         → Given plan ts n (labels_each (terms_named 0 bs p s es)) (reported_each 0 bs p s es) (parts_from d n (terms_named 0 bs p s es)) → AllGood plan ts (parts_from d n (terms_named 0 bs p s es))
     nest_from bs p s none d n a h g = tt
     nest_from bs p s (more e es) d n a h g =
-        good_both plan ts _ _ (nest for_value bs p s e d n a h.0 (front _ _ g (omega arith) (omega arith)))
+        every_both (GoodPart plan ts) _ _ (nest for_value bs p s e d n a h.0 (front _ _ g (omega arith) (omega arith)))
         (nest_from bs (deeper 0 p) (following e s) es d _ (onto _ a (omega arith)) h.1 (back _ _ g (omega arith) (omega arith)))
 
     -- what has an address, or may be stored into
@@ -312,10 +312,10 @@ module _ (plan : ℕ → Use) (ts : List Target) where
     nest_onto bs p s r (parens l e) d n a i h g = nest_onto bs p (past 1 s) (parenthesised r) e d n (onto _ a (omega arith)) i h g
     nest_onto bs p s r (unary l sign.Contents e) d n a i h g = nest for_value bs p (past 1 s) e d n (onto _ a (omega arith)) h.1 g
     nest_onto bs p s r (binary l o.Subscript m x y) d n a i h g =
-        good_both plan ts _ _ (nest for_value bs p s x d n a h.0 (front _ _ g (omega arith) (omega arith)))
+        every_both (GoodPart plan ts) _ _ (nest for_value bs p s x d n a h.0 (front _ _ g (omega arith) (omega arith)))
         (nest for_value bs (deeper 1 p) (past 1 (following x s)) y (d + 1) _ (onto _ a (omega arith)) h.1 (back _ _ g (omega arith) (omega arith)))
     nest_onto bs p s r (binary l o.Byte m x y) d n a i h g =
-        good_both plan ts _ _ (nest for_value bs p s x d n a h.0 (front _ _ g (omega arith) (omega arith)))
+        every_both (GoodPart plan ts) _ _ (nest for_value bs p s x d n a h.0 (front _ _ g (omega arith) (omega arith)))
         (nest for_value bs (deeper 1 p) (past 1 (following x s)) y (d + 1) _ (onto _ a (omega arith)) h.1 (back _ _ g (omega arith) (omega arith)))
     nest_onto bs p s r e d n a i h g = absurd (false≢true i)
 
@@ -325,16 +325,16 @@ module _ (plan : ℕ → Use) (ts : List Target) where
     nest_all_onto bs p s (more x xs) d n a h g =
         let us : List Point = unless (assigned bs x) (at s.place (at_expression x) not_assignable) in
         let fore : Given plan ts n (labels_at (lvalue_named bs p s x)) (us ++ reported (Destination false (at_expression x)) bs p s x) _ = front _ _ g (omega arith) (omega arith) in
-        good_both plan ts _ _ (nest_onto bs p s (Destination false (at_expression x)) x d n a h.0 h.1 (behind_told us fore (omega arith) (omega arith)))
+        every_both (GoodPart plan ts) _ _ (nest_onto bs p s (Destination false (at_expression x)) x d n a h.0 h.1 (behind_told us fore (omega arith) (omega arith)))
         (nest_all_onto bs p (following x s) xs d _ (onto _ a (omega arith)) h.2 (back _ _ g (omega arith) (omega arith)))
 
     nest_in : (bs : List Binding) (p : Enclosing) (s : Spot) (c : Command) (d n : ℕ) → Out plan ts bs p.procedure s.number → SoundDone bs p s c
         → Given plan ts n (labels_in (command_named bs p s c)) (reported_done bs p s c) (parts_in d n (command_named bs p s c)) → AllGood plan ts (parts_in d n (command_named bs p s c))
     nest_in bs p s (assign l xs es) d n a h g =
-        good_both plan ts _ _ (nest_all_onto bs (deeper 1 p) s xs (d + 1) n a h.0 (front _ _ g (omega arith) (omega arith)))
+        every_both (GoodPart plan ts) _ _ (nest_all_onto bs (deeper 1 p) s xs (d + 1) n a h.0 (front _ _ g (omega arith) (omega arith)))
         (nest_from bs p (after_each xs s) es d _ (onto _ a (omega arith)) h.1 (back _ _ g (omega arith) (omega arith)))
     nest_in bs p s (call l e es) d n a h g =
-        good_both plan ts _ _ (nest for_value bs (deeper (size es + 2) p) s e _ n a h.0 (front _ _ g (omega arith) (omega arith)))
+        every_both (GoodPart plan ts) _ _ (nest for_value bs (deeper (size es + 2) p) s e _ n a h.0 (front _ _ g (omega arith) (omega arith)))
         (nest_each bs (deeper 2 p) (following e s) es (d + 2) _ (onto _ a (omega arith)) h.1 (back _ _ g (omega arith) (omega arith)))
     nest_in bs p s (label l x c) d n a h g =
         (tt, nest_in bs p (past 1 s) c d (n + 1) (onto _ a (omega arith)) h.1 (within g (omega arith) (omega arith) (told_back (one_of p.labels s.place l x ++ its_meaning (bound_in bs x)) _ g.reported) g.parts.1))
@@ -343,15 +343,15 @@ module _ (plan : ℕ → Use) (ts : List Target) where
         (behind_told (chosen_at p.switch s.place l (constant_word bs e) ++ constant bs p.procedure (past 1 s) e) g (omega arith) (omega arith))
     nest_in bs p s (default l c) d n a h g = nest_in bs p (past 1 s) c d (n + 1) (onto _ a (omega arith)) h.1 (behind_told (defaulted_at p.switch s.place l) g (omega arith) (omega arith))
     nest_in bs p s (when l z e c) d n a h g =
-        good_both plan ts _ _ (nest (for_truth true) bs p s e d (n + 1) a h.0 (front _ _ g (omega arith) (omega arith)))
+        every_both (GoodPart plan ts) _ _ (nest (for_truth true) bs p s e d (n + 1) a h.0 (front _ _ g (omega arith) (omega arith)))
         (nest_in bs p (following e s) c d _ (onto _ a (omega arith)) h.1 (back _ _ g (omega arith) (omega arith)))
     nest_in bs p s (test l e x y) d n a h g =
         let fore : Given plan ts n (2 + labels_if (condition_named bs p s e) + labels_in (command_named bs p (following e s) x)) _ _ = front _ _ g (omega arith) (omega arith) in
-        good_both plan ts _ _ (good_both plan ts _ _ (nest (for_truth true) bs p s e d (n + 2) a h.0 (front _ _ fore (omega arith) (omega arith)))
+        every_both (GoodPart plan ts) _ _ (every_both (GoodPart plan ts) _ _ (nest (for_truth true) bs p s e d (n + 2) a h.0 (front _ _ fore (omega arith) (omega arith)))
         (nest_in bs p (following e s) x d _ (onto _ a (omega arith)) h.1 (back _ _ fore (omega arith) (omega arith))))
         (nest_in bs p (after_done x (following e s)) y d _ (onto _ a (omega arith)) h.2 (back _ _ g (omega arith) (omega arith)))
     nest_in bs p s (while l z e c) d n a h g =
-        good_both plan ts _ _ (nest (for_truth true) bs p s e d (n + 3) a h.0 (front _ _ g (omega arith) (omega arith)))
+        every_both (GoodPart plan ts) _ _ (nest (for_truth true) bs p s e d (n + 3) a h.0 (front _ _ g (omega arith) (omega arith)))
         (nest_in bs (looping p) (following e s) c d _ (onto _ a (omega arith)) h.1 (back _ _ g (omega arith) (omega arith)))
     nest_in bs p s (for_loop l x e y k c) d n a h g =
         let u : Spot = onward (symbols_each k) 0 (following y (following e s)) in
@@ -370,12 +370,12 @@ module _ (plan : ℕ → Use) (ts : List Target) where
         let own : p.procedure < i.number = omega (arith, old) in
         let inner : Out plan ts cs p.procedure i.number = record { sees = sees_bind (Outside plan ts i.number) x.letters (Variable p.procedure p.depth) bs own further.sees; older = own } in
         let heads = told_front (start ++ limit) steps (told_front (start ++ limit ++ steps) (pushed p 4) (told_front (start ++ limit ++ steps ++ pushed p 4) (reported_done ds z i c) g.reported)) in
-        let fore : Given plan ts (n + 4) (labels v + labels w) (start ++ limit) ps = within g (omega arith) (omega arith) heads (parts_front plan ts ps _ g.parts) in
-        good_both plan ts ps _ (good_both plan ts _ _ (nest for_value bs p s e d (n + 4) a h.0 (front _ _ fore (omega arith) (omega arith)))
+        let fore : Given plan ts (n + 4) (labels v + labels w) (start ++ limit) ps = within g (omega arith) (omega arith) heads (every_front (PartRight plan ts) ps _ g.parts) in
+        every_both (GoodPart plan ts) ps _ (every_both (GoodPart plan ts) _ _ (nest for_value bs p s e d (n + 4) a h.0 (front _ _ fore (omega arith) (omega arith)))
         (nest for_value bs (deeper 1 p) (following e s) y (d + 1) _ (onto _ a (omega arith)) h.1 (back _ _ fore (omega arith) (omega arith))))
         (nest_in ds z i c (d + 2) _ (labels_out plan ts p.procedure p.procedure (u.number + 1) (labels_of c) cs i.number own inner) h.3 (back (start ++ limit ++ steps ++ pushed p 4) ps g (omega arith) (omega arith)))
     nest_in bs p s (switch l e c) d n a h g =
-        good_both plan ts _ _ (nest for_value bs p s e d (n + 1) a h.0 (front _ _ g (omega arith) (omega arith)))
+        every_both (GoodPart plan ts) _ _ (nest for_value bs p s e d (n + 1) a h.0 (front _ _ g (omega arith) (omega arith)))
         (nest_in bs (switching (following e s).number p) (numbered 1 (following e s)) c d _ (onto _ a (omega arith)) h.1 (back _ _ g (omega arith) (omega arith)))
     nest_in bs p s (result l e) d n a h g =
         nest for_value bs p (past 1 s) e d n (onto _ a (omega arith)) h.1 (behind_told (unless p.in_valof (at s.place l no_result_or_return)) g (omega arith) (omega arith))
@@ -392,14 +392,14 @@ module _ (plan : ℕ → Use) (ts : List Target) where
         let fore : Given plan ts n (labels_of_declarations y) (reported_declared bs p s (declare x xs)) (parts_of_declarations d n y) = front _ _ g (omega arith) (omega arith) in
         let first : Given plan ts n (labels_of_declaration v) (reported_one_declared bs p s x) (parts_of_declaration d n v) = front _ _ fore (omega arith) (omega arith) in
         let old = a.older in
-        good_both plan ts (parts_of_declarations d n y) _ (good_both plan ts (parts_of_declaration d n v) _ (nest_one_declared bs p s x d n a h.0.0 first)
+        every_both (GoodPart plan ts) (parts_of_declarations d n y) _ (every_both (GoodPart plan ts) (parts_of_declaration d n v) _ (nest_one_declared bs p s x d n a h.0.0 first)
         (nest_declared _ _ (after_one_declared x s) xs (after_declaration d v) _ (one_declared_out plan ts bs p s x d n a first) h.0.1 (back _ _ fore (omega arith) (omega arith))))
         (nest_through (labels_in_scope p.procedure (u.number + 1) (labels_of_each cs) es) (labelled u.number z) i cs (after_declarations d y) _
         (labels_out plan ts z.procedure p.procedure (u.number + 1) (labels_of_each cs) es i.number (omega (arith, old)) (onto i.number (declared_out plan ts bs p s (declare x xs) d n a fore) (omega arith))) h.1
         (back _ _ g (omega arith) (omega arith)))
     nest_in bs p s (repeat l c) d n a h g = nest_in bs (looping p) s c d (n + 2) a h (within g (omega arith) (omega arith) g.reported g.parts)
     nest_in bs p s (repeat_while l z c e) d n a h g =
-        good_both plan ts _ _ (nest_in bs (looping p) s c d (n + 3) a h.0 (front _ _ g (omega arith) (omega arith)))
+        every_both (GoodPart plan ts) _ _ (nest_in bs (looping p) s c d (n + 3) a h.0 (front _ _ g (omega arith) (omega arith)))
         (nest (for_truth true) bs p (after_done c s) e d _ (onto _ a (omega arith)) h.1 (back _ _ g (omega arith) (omega arith)))
     nest_in bs p s _ d n a h g = tt
 
@@ -407,7 +407,7 @@ module _ (plan : ℕ → Use) (ts : List Target) where
         → Given plan ts n (labels_through (commands_named bs p s cs)) (reported_done_each bs p s cs) (parts_through d n (commands_named bs p s cs)) → AllGood plan ts (parts_through d n (commands_named bs p s cs))
     nest_through bs p s no_commands d n a h g = tt
     nest_through bs p s (also c cs) d n a h g =
-        good_both plan ts _ _ (nest_in bs p s c d n a h.0 (front _ _ g (omega arith) (omega arith)))
+        every_both (GoodPart plan ts) _ _ (nest_in bs p s c d n a h.0 (front _ _ g (omega arith) (omega arith)))
         (nest_through bs p (after_done c s) cs d _ (onto _ a (omega arith)) h.1 (back _ _ g (omega arith) (omega arith)))
 
     nest_declared : (bs : List Binding) (p : Enclosing) (s : Spot) (xs : Declarations) (d n : ℕ) → Out plan ts bs p.procedure s.number → SoundDeclared bs p s xs
@@ -416,7 +416,7 @@ module _ (plan : ℕ → Use) (ts : List Target) where
     nest_declared bs p s (declare x xs) d n a h g =
         let v = declaration_named bs p s x in
         let first : Given plan ts n (labels_of_declaration v) (reported_one_declared bs p s x) (parts_of_declaration d n v) = front _ _ g (omega arith) (omega arith) in
-        good_both plan ts (parts_of_declaration d n v) _ (nest_one_declared bs p s x d n a h.0 first)
+        every_both (GoodPart plan ts) (parts_of_declaration d n v) _ (nest_one_declared bs p s x d n a h.0 first)
         (nest_declared _ _ (after_one_declared x s) xs (after_declaration d v) _ (one_declared_out plan ts bs p s x d n a first) h.1 (back _ _ g (omega arith) (omega arith)))
 
     nest_one_declared : (bs : List Binding) (p : Enclosing) (s : Spot) (x : Declaration) (d n : ℕ) → Out plan ts bs p.procedure s.number → SoundOneDeclared bs p s x
@@ -433,7 +433,7 @@ module _ (plan : ℕ → Use) (ts : List Target) where
     nest_defined m bs p s (define x ds) d n a h g =
         let further = onto (after_one_defined x s).number a (omega arith) in
         let moved = subst (λ (k : ℕ). Out plan ts bs k (after_one_defined x s).number) (sym (same_one_defined bs p x).0) further in
-        good_both plan ts _ _ (nest_one_defined m bs p s x d n a h.0 (front _ _ g (omega arith) (omega arith)))
+        every_both (GoodPart plan ts) _ _ (nest_one_defined m bs p s x d n a h.0 (front _ _ g (omega arith) (omega arith)))
         (nest_defined m bs (place_after_one_defined bs p x) (after_one_defined x s) ds (after_definition d (definition_named bs p s x)) _ moved h.1 (back _ _ g (omega arith) (omega arith)))
 
     nest_one_defined : (m : ℕ) (bs : List Binding) (p : Enclosing) (s : Spot) (x : Definition) (d n : ℕ) → Out plan ts bs p.procedure s.number → SoundOneDefined bs p s x
@@ -466,7 +466,7 @@ module _ (plan : ℕ → Use) (ts : List Target) where
         → Given plan ts n (labels_of_starts (starts_named bs p s is)) (reported_started bs p s is) (parts_of_starts d n (starts_named bs p s is)) → AllGood plan ts (parts_of_starts d n (starts_named bs p s is))
     nest_started bs p s no_starts d n a h g = tt
     nest_started bs p s (value e is) d n a h g =
-        good_both plan ts _ _ (nest for_value bs p s e d n a h.0 (front _ _ g (omega arith) (omega arith)))
+        every_both (GoodPart plan ts) _ _ (nest for_value bs p s e d n a h.0 (front _ _ g (omega arith) (omega arith)))
         (nest_started bs (deeper 1 p) (following e s) is (d + 1) _ (onto _ a (omega arith)) h.1 (back _ _ g (omega arith) (omega arith)))
     nest_started bs p s (vector l e is) d n a h g =
         nest_started bs (deeper (words_of_start bs e + 1) p) (after_constant e s) is (d + worth (constant_word bs e) + 2) n (onto _ a (omega arith)) h.1

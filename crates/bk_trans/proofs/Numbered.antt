@@ -1,7 +1,7 @@
 -- Each number has one target at most: labels have numbers of their own where they come into scope, and so have the procedures of a LET
 -- and the items of STATIC; in one list no name stands twice.
-use Rattle.bk_trans.proofs.Words.{arith, ◌≡◌, inl, inr, ℕ, ◌+◌, ◌≤◌, Bool, true, false, cond, Option, Some, List, [], ◌∷◌, ◌++◌, length, refl, sym, ap, subst, ◌∙◌, ⊤, VEC_NUMBER, Expression, Expressions, Command, Commands, Declaration, Declarations, Items, Definition, Definitions, Starts, parens, unary, binary, choice, apply, valof, none, more, assign, call, label, case_of, default, when, test, while, for_loop, switch, result, block, repeat, repeat_while, no_commands, also, constants, definitions, no_declarations, declare, no_items, item, routine, function, variables, no_definitions, define, no_starts, value, vector, at_expression, size, Bound, Static, Variable, Label, Enclosing, Role, Value, Truth, Address, Destination, not_assignable, no_result_or_return, vec_out_of_range, Binding, bound_in, bind, constant_word, deeper, looping, switching, labelled, valued, called, outermost, labels_of, labels_of_each, with_formals, parenthesised, words_of_start, Spot, procedures_in, onward, past, following, after_each, after_done, after_declared, after_one_declared, after_one_defined, after_constant, symbols_each, beginning, Claim, is_claimed, Point, meaning, word, depth, wrong, claim, claimed, judged, at, labels_in_scope, procedures_in_scope, place_after_one_defined, scope_after_one, place_after_one, scope_after, place_after_all, unless, its_meaning, constant, each_constant, at_most, assigned, prefixed, pushed, chosen_at, defaulted_at, one_of, each_of, reported, reported_each, reported_destinations, reported_done, reported_done_each, reported_declared, reported_one_declared, reported_defined, reported_one_defined, reported_started, naming, same_claim, Fault, is_global, numbers, numbers_each, numbers_done, numbers_done_each, numbers_declared, numbers_one_declared, numbers_items, numbers_defined, numbers_one_defined, numbers_started, procedure_in_scope, eqb-true, eq-eqb, ◌==◌, joined, sets}
-use Rattle.bk_trans.proofs.Terms.{Operator as o, Prefix as sign, Sort as sort, Clean, Target, meant, worth, statics_named, term_named, terms_named, condition_named, lvalue_named, lvalues_named, command_named, commands_named, declarations_named, declaration_named, definitions_named, definition_named, starts_named, labels, labels_if, labels_at, labels_onto, labels_in, labels_of_declaration, labels_of_declarations, labels_of_definition, count, after_definition, after_declaration, after_declarations, Part, parts_each, parts_if, parts_at, parts_onto, parts_from, parts_in, parts_through, parts_of_items, parts_of_declarations, parts_of_declaration, parts_of_definitions, parts_of_definition, parts_of_starts, goal_of, labels_of_procedure, Goal, bytes_eq, bytes_eq-Decides, target_of, target_of_word, target_of_label, goal}
+use Rattle.bk_trans.proofs.Words.{arith, ◌≡◌, inl, inr, ℕ, ◌+◌, ◌≤◌, Bool, true, false, cond, Option, Some, List, [], ◌∷◌, ◌++◌, length, refl, sym, ap, subst, ◌∙◌, ⊤, VEC_NUMBER, Expression, Expressions, Command, Commands, Declaration, Declarations, Items, Definition, Definitions, Starts, parens, unary, binary, choice, apply, valof, none, more, assign, call, label, case_of, default, when, test, while, for_loop, switch, result, block, repeat, repeat_while, no_commands, also, constants, definitions, no_declarations, declare, no_items, item, routine, function, variables, no_definitions, define, no_starts, value, vector, at_expression, size, Bound, Static, Variable, Label, Enclosing, Role, Value, Truth, Address, Destination, not_assignable, no_result_or_return, vec_out_of_range, Binding, bound_in, bind, constant_word, deeper, looping, switching, labelled, valued, called, outermost, labels_of, labels_of_each, with_formals, parenthesised, words_of_start, Spot, procedures_in, onward, past, following, after_each, after_done, after_declared, after_one_declared, after_one_defined, after_constant, symbols_each, beginning, Claim, is_claimed, Point, meaning, word, depth, wrong, claim, claimed, judged, at, labels_in_scope, procedures_in_scope, place_after_one_defined, scope_after_one, place_after_one, scope_after, place_after_all, unless, its_meaning, constant, each_constant, at_most, assigned, prefixed, pushed, chosen_at, defaulted_at, one_of, each_of, reported, reported_each, reported_destinations, reported_done, reported_done_each, reported_declared, reported_one_declared, reported_defined, reported_one_defined, reported_started, naming, same_claim, Fault, is_global, numbers, numbers_each, numbers_done, numbers_done_each, numbers_declared, numbers_one_declared, numbers_items, numbers_defined, numbers_one_defined, numbers_started, procedure_in_scope, eqb-true, eq-eqb, ◌==◌, joined, sets, total, total_both, all_found}
+use Rattle.bk_trans.proofs.Terms.{Operator as o, Prefix as sign, Sort as sort, Clean, Target, meant, worth, statics_named, term_named, terms_named, condition_named, lvalue_named, lvalues_named, command_named, commands_named, declarations_named, declaration_named, definitions_named, definition_named, starts_named, labels, labels_if, labels_at, labels_onto, labels_in, labels_of_declaration, labels_of_declarations, labels_of_definition, count, after_definition, after_declaration, after_declarations, Part, parts_each, parts_if, parts_at, parts_onto, parts_from, parts_in, parts_through, parts_of_items, parts_of_declarations, parts_of_declaration, parts_of_definitions, parts_of_definition, parts_of_starts, goal_of, labels_of_procedure, bytes_eq, bytes_eq-Decides, target_of, target_of_word, target_of_label, goal}
 use Rattle.bk_scope.specs.Spots as spots
 use Rattle.bk_trans.proofs.Once.{past as beyond, own, no_more}
 use Rattle.bk_trans.proofs.Scopes.{Among, procedure_names, look_label, look_procedure, AllFound}
@@ -11,16 +11,10 @@ use Rattle.bk_trans.proofs.Asked.{Asked, for_value, for_truth, role, asked}
 
 -- how often a target has a number
 abbrev pub numbered : ℕ → List Target → ℕ
-numbered m [] = 0
-numbered m (x ∷ xs) = sets m (Some x.number) + numbered m xs
+numbered m xs = total (λ x. sets m (Some x.number)) xs
 
 abbrev pub parts_numbered : ℕ → List Part → ℕ
-parts_numbered m [] = 0
-parts_numbered m (x ∷ xs) = numbered m (target_of x) + parts_numbered m xs
-
-numbered_both : (m : ℕ) (xs ys : List Part) → parts_numbered m (xs ++ ys) ≡ parts_numbered m xs + parts_numbered m ys
-numbered_both m [] ys = omega arith
-numbered_both m (x ∷ xs) ys = let h = numbered_both m xs ys in omega (arith, h)
+parts_numbered m xs = total (λ x. numbered m (target_of x)) xs
 
 abbrev bit : Bool → ℕ
 bit true = 1
@@ -32,12 +26,7 @@ claimed_once k x (claim c f) = bit (same_claim (naming k x) c)
 claimed_once k x _ = 0
 
 abbrev times_claimed : ℕ → List ℕ → List Point → ℕ
-times_claimed k x [] = 0
-times_claimed k x (z ∷ zs) = claimed_once k x z + times_claimed k x zs
-
-claimed_both : (k : ℕ) (x : List ℕ) (xs ys : List Point) → times_claimed k x (xs ++ ys) ≡ times_claimed k x xs + times_claimed k x ys
-claimed_both k x [] ys = omega arith
-claimed_both k x (z ∷ zs) ys = let h = claimed_both k x zs ys in omega (arith, h)
+times_claimed k x zs = total (claimed_once k x) zs
 
 if_both : (a b : Bool) → cond a b false ≡ true → (a ≡ true) × (b ≡ true)
 if_both true b e = (refl, e)
@@ -101,12 +90,7 @@ claimed_at_most_once k x (_ ∷ xs) cs h = let g = claimed_at_most_once k x xs c
 
 -- names, each claimed in list k
 abbrev name_times : ℕ → List ℕ → List (List ℕ) → ℕ
-name_times k y [] = 0
-name_times k y (x ∷ xs) = bit (same_claim (naming k y) (naming k x)) + name_times k y xs
-
-names_both : (k : ℕ) (y : List ℕ) (xs ys : List (List ℕ)) → name_times k y (xs ++ ys) ≡ name_times k y xs + name_times k y ys
-names_both k y [] ys = omega arith
-names_both k y (x ∷ xs) ys = let h = names_both k y xs ys in omega (arith, h)
+name_times k y xs = total (λ x. bit (same_claim (naming k y) (naming k x))) xs
 
 abbrev Distinct : List (List ℕ) → Type 0
 Distinct [] = ⊤
@@ -125,46 +109,36 @@ distinct_names k (x ∷ xs) h =
     let low = h x in
     (λ among. let many = among_times k x xs among in absurd (omega (arith, one, low, many)), distinct_names k xs (λ y. let g = h y in omega (arith, g)))
 
+distinct_if_claimed : (k : ℕ) (xs : List (List ℕ)) (zs : List Point) → ((y : List ℕ) → name_times k y xs ≤ times_claimed k y zs) → Quiet zs → Distinct xs
+distinct_if_claimed k xs zs claimed f = distinct_names k xs (λ y. let h = claimed y in let i = claimed_at_most_once k y zs f.claims f.clean in omega (arith, h, i))
+
 -- the labels of some commands are claimed by them
 mutual
   labels_claimed : (y : List ℕ) (bs : List Binding) (p : Enclosing) (s : Spot) (c : Command) → name_times p.labels y (labels_of c) ≤ times_claimed p.labels y (reported_done bs p s c)
-  labels_claimed y bs p s (label l x c) = let h = labels_claimed y bs p (past 1 s) c in simp (claimed_both) (omega (arith, h))
-  labels_claimed y bs p s (case_of l e c) = let h = labels_claimed y bs p (after_constant e (past 1 s)) c in simp (claimed_both) (omega (arith, h))
-  labels_claimed y bs p s (default l c) = let h = labels_claimed y bs p (past 1 s) c in simp (claimed_both) (omega (arith, h))
-  labels_claimed y bs p s (when l b e c) = let h = labels_claimed y bs p (following e s) c in simp (claimed_both) (omega (arith, h))
+  labels_claimed y bs p s (label l x c) = let h = labels_claimed y bs p (past 1 s) c in simp total_both (omega (arith, h))
+  labels_claimed y bs p s (case_of l e c) = let h = labels_claimed y bs p (after_constant e (past 1 s)) c in simp total_both (omega (arith, h))
+  labels_claimed y bs p s (default l c) = let h = labels_claimed y bs p (past 1 s) c in simp total_both (omega (arith, h))
+  labels_claimed y bs p s (when l b e c) = let h = labels_claimed y bs p (following e s) c in simp total_both (omega (arith, h))
   labels_claimed y bs p s (test l e a b) =
-      let h = labels_claimed y bs p (following e s) a in let i = labels_claimed y bs p (after_done a (following e s)) b in simp (claimed_both, names_both) (omega (arith, h, i))
-  labels_claimed y bs p s (while l b e c) = let h = labels_claimed y bs (looping p) (following e s) c in simp (claimed_both) (omega (arith, h))
-  labels_claimed y bs p s (switch l e c) = let h = labels_claimed y bs (switching (following e s).number p) (spots.numbered 1 (following e s)) c in simp (claimed_both) (omega (arith, h))
+      let h = labels_claimed y bs p (following e s) a in let i = labels_claimed y bs p (after_done a (following e s)) b in simp total_both (omega (arith, h, i))
+  labels_claimed y bs p s (while l b e c) = let h = labels_claimed y bs (looping p) (following e s) c in simp total_both (omega (arith, h))
+  labels_claimed y bs p s (switch l e c) = let h = labels_claimed y bs (switching (following e s).number p) (spots.numbered 1 (following e s)) c in simp total_both (omega (arith, h))
   labels_claimed y bs p s (block l no_declarations cs) = labels_claimed_each y bs p s cs
   labels_claimed y bs p s (repeat l c) = labels_claimed y bs (looping p) s c
-  labels_claimed y bs p s (repeat_while l b c e) = let h = labels_claimed y bs (looping p) s c in simp (claimed_both) (omega (arith, h))
+  labels_claimed y bs p s (repeat_while l b c e) = let h = labels_claimed y bs (looping p) s c in simp total_both (omega (arith, h))
   labels_claimed y bs p s _ = omega arith
 
   labels_claimed_each : (y : List ℕ) (bs : List Binding) (p : Enclosing) (s : Spot) (cs : Commands) → name_times p.labels y (labels_of_each cs) ≤ times_claimed p.labels y (reported_done_each bs p s cs)
   labels_claimed_each y bs p s no_commands = omega arith
   labels_claimed_each y bs p s (also c cs) =
-      let h = labels_claimed y bs p s c in let i = labels_claimed_each y bs p (after_done c s) cs in simp (claimed_both, names_both) (omega (arith, h, i))
-
-labels_distinct : (bs : List Binding) (p : Enclosing) (s : Spot) (c : Command) → Quiet (reported_done bs p s c) → Distinct (labels_of c)
-labels_distinct bs p s c f =
-    distinct_names p.labels (labels_of c) (λ y. let h = labels_claimed y bs p s c in let i = claimed_at_most_once p.labels y (reported_done bs p s c) f.claims f.clean in omega (arith, h, i))
-
-labels_distinct_each : (bs : List Binding) (p : Enclosing) (s : Spot) (cs : Commands) → Quiet (reported_done_each bs p s cs) → Distinct (labels_of_each cs)
-labels_distinct_each bs p s cs f =
-    distinct_names p.labels (labels_of_each cs) (λ y. let h = labels_claimed_each y bs p s cs in let i = claimed_at_most_once p.labels y (reported_done_each bs p s cs) f.claims f.clean in omega (arith, h, i))
+      let h = labels_claimed y bs p s c in let i = labels_claimed_each y bs p (after_done c s) cs in simp total_both (omega (arith, h, i))
 
 -- the procedures of a LET
 procedures_claimed : (m : ℕ) (y : List ℕ) (bs : List Binding) (p : Enclosing) (s : Spot) (ds : Definitions) → name_times m y (procedure_names ds) ≤ times_claimed m y (reported_defined m bs p s ds)
 procedures_claimed m y bs p s no_definitions = omega arith
-procedures_claimed m y bs p s (define (routine l x fs c) ds) = let h = procedures_claimed m y bs p (after_one_defined (routine l x fs c) s) ds in simp (claimed_both) (omega (arith, h))
-procedures_claimed m y bs p s (define (function l x fs e) ds) = let h = procedures_claimed m y bs p (after_one_defined (function l x fs e) s) ds in simp (claimed_both) (omega (arith, h))
 procedures_claimed m y bs p s (define (variables l xs is) ds) =
-    let h = procedures_claimed m y bs (place_after_one_defined bs p (variables l xs is)) (after_one_defined (variables l xs is) s) ds in simp (claimed_both) (omega (arith, h))
-
-procedures_distinct : (m : ℕ) (bs : List Binding) (p : Enclosing) (s : Spot) (ds : Definitions) → Quiet (reported_defined m bs p s ds) → Distinct (procedure_names ds)
-procedures_distinct m bs p s ds f =
-    distinct_names m (procedure_names ds) (λ y. let h = procedures_claimed m y bs p s ds in let i = claimed_at_most_once m y (reported_defined m bs p s ds) f.claims f.clean in omega (arith, h, i))
+    let h = procedures_claimed m y bs (place_after_one_defined bs p (variables l xs is)) (after_one_defined (variables l xs is) s) ds in simp total_both (omega (arith, h))
+procedures_claimed m y bs p s (define d ds) = let h = procedures_claimed m y bs p (after_one_defined d s) ds in simp total_both (omega (arith, h))
 
 -- the numbers of names in scope
 abbrev label_number : ℕ → Option Bound → ℕ
@@ -172,12 +146,7 @@ label_number m (Some (Label j i)) = sets m (Some i)
 label_number m _ = 0
 
 abbrev own_labels : ℕ → List Binding → List (List ℕ) → ℕ
-own_labels m bs [] = 0
-own_labels m bs (x ∷ xs) = label_number m (bound_in bs x) + own_labels m bs xs
-
-own_both : (m : ℕ) (bs : List Binding) (xs ys : List (List ℕ)) → own_labels m bs (xs ++ ys) ≡ own_labels m bs xs + own_labels m bs ys
-own_both m bs [] ys = omega arith
-own_both m bs (x ∷ xs) ys = let h = own_both m bs xs ys in omega (arith, h)
+own_labels m bs xs = total (λ x. label_number m (bound_in bs x)) xs
 
 bound_first : (x : List ℕ) (b : Bound) (bs : List Binding) → bound_in (bind x b bs) x ≡ Some b
 bound_first x b bs = ap (λ (q : Bool). cond q (Some b) (bound_in bs x)) ((bytes_eq-Decides x x).1 refl)
@@ -198,10 +167,7 @@ static_number m (Some (Static i)) = sets m (Some i)
 static_number m _ = 0
 
 abbrev own_procedures : ℕ → List Binding → Definitions → ℕ
-own_procedures m bs no_definitions = 0
-own_procedures m bs (define (routine l x fs c) ds) = static_number m (bound_in bs x) + own_procedures m bs ds
-own_procedures m bs (define (function l x fs e) ds) = static_number m (bound_in bs x) + own_procedures m bs ds
-own_procedures m bs (define (variables l xs is) ds) = own_procedures m bs ds
+own_procedures m bs ds = total (λ x. static_number m (bound_in bs x)) (procedure_names ds)
 
 own_first : (m : ℕ) (bs : List Binding) (d : Definition) (ds : Definitions) → own_procedures m bs (define d ds) ≡ own_procedures m bs (define d no_definitions) + own_procedures m bs ds
 own_first m bs (variables l xs is) ds = omega arith
@@ -261,11 +227,11 @@ module _ (m : ℕ) where
     counts (for_truth z) bs p s (binary l o.Both k x y) d n f =
         let u : Spot = past 1 (following x s) in
         let h = counts (for_truth z) bs p s x d (n + 1) (told_front (reported Truth bs p s x) _ f) in
-        let i = counts (for_truth z) bs p u y d (n + 1 + labels_if (condition_named bs p s x)) (told_back (reported Truth bs p s x) _ f) in simp (numbered_both) (omega (arith, h, i))
+        let i = counts (for_truth z) bs p u y d (n + 1 + labels_if (condition_named bs p s x)) (told_back (reported Truth bs p s x) _ f) in simp total_both (omega (arith, h, i))
     counts (for_truth z) bs p s (binary l o.Either k x y) d n f =
         let u : Spot = past 1 (following x s) in
         let h = counts (for_truth z) bs p s x d (n + 1) (told_front (reported Truth bs p s x) _ f) in
-        let i = counts (for_truth z) bs p u y d (n + 1 + labels_if (condition_named bs p s x)) (told_back (reported Truth bs p s x) _ f) in simp (numbered_both) (omega (arith, h, i))
+        let i = counts (for_truth z) bs p u y d (n + 1 + labels_if (condition_named bs p s x)) (told_back (reported Truth bs p s x) _ f) in simp total_both (omega (arith, h, i))
     counts ask bs p s (unary l sign.Address e) d n f = let h = count_at bs p (past 1 s) (Address false (at_expression e)) e d n (told_back (prefixed sign.Address bs (past 1 s) e) _ f) in omega (arith, h)
     counts ask bs p s (unary l sign.Not e) d n f = let h = counts ask bs p (past 1 s) e d n f in omega (arith, h)
     counts ask bs p s (unary l y e) d n f = let h = counts for_value bs p (past 1 s) e d n f in omega (arith, h)
@@ -277,42 +243,42 @@ module _ (m : ℕ) where
         let h = counts (for_truth true) bs p s c d (n + 2) (told_front xs ys (told_front (xs ++ ys) _ f)) in
         let i = counts for_value bs p u x d j (told_back xs ys (told_front (xs ++ ys) _ f)) in
         let q = counts for_value bs p (following x u) y d (j + labels (term_named bs p u x)) (told_back (xs ++ ys) _ f) in
-        simp (numbered_both) (omega (arith, h, i, q))
+        simp total_both (omega (arith, h, i, q))
     counts ask bs p s (apply l k e es) d n f =
         let u : Spot = (past 1 (following e s)) in
         let z : Enclosing = deeper (size es + 2) p in
         let v = term_named bs z s e in
         let h = counts for_value bs z s e (d + 2 + count (terms_named 1 bs (deeper 2 p) u es)) n (told_front (reported Value bs z s e) _ f) in
-        let i = count_each bs (deeper 2 p) u es (d + 2) (n + labels v) (told_back (reported Value bs z s e) _ f) in simp (numbered_both) (omega (arith, h, i))
+        let i = count_each bs (deeper 2 p) u es (d + 2) (n + labels v) (told_back (reported Value bs z s e) _ f) in simp total_both (omega (arith, h, i))
     counts ask bs p s (valof l c) d n f =
         let cs = labels_in_scope p.procedure (s.number + 1) (labels_of c) bs in
         let g : Enclosing = labelled s.number (valued p) in
         let u : Spot = onward 1 (1 + length (labels_of c)) s in
         let body = told_front (reported_done cs g u c) (pushed p 1) f in
         let h = count_in cs g u c d (n + 1) body in
-        let i = labels_numbered m p.procedure (s.number + 1) (labels_of c) bs (labels_distinct cs g u c body) in omega (arith, h, i)
+        let i = labels_numbered m p.procedure (s.number + 1) (labels_of c) bs (distinct_if_claimed _ _ _ (λ y. labels_claimed y cs g u c) body) in omega (arith, h, i)
     counts ask bs p s (parens l e) d n f = let h = counts ask bs p (past 1 s) e d n f in omega (arith, h)
     counts for_value bs p s (binary l o.Both k x y) d n f =
         let u : Spot = past 1 (following x s) in
         let h = counts for_value bs p s x d n (told_front (reported Value bs p s x) _ f) in
-        let i = counts for_value bs (deeper 1 p) u y (d + 1) (n + labels (term_named bs p s x)) (told_back (reported Value bs p s x) _ f) in simp (numbered_both) (omega (arith, h, i))
+        let i = counts for_value bs (deeper 1 p) u y (d + 1) (n + labels (term_named bs p s x)) (told_back (reported Value bs p s x) _ f) in simp total_both (omega (arith, h, i))
     counts ask bs p s (binary l z k x y) d n f =
         let u : Spot = past 1 (following x s) in
         let h = counts for_value bs p s x d n (told_front (reported Value bs p s x) _ f) in
-        let i = counts for_value bs (deeper 1 p) u y (d + 1) (n + labels (term_named bs p s x)) (told_back (reported Value bs p s x) _ f) in simp (numbered_both) (omega (arith, h, i))
+        let i = counts for_value bs (deeper 1 p) u y (d + 1) (n + labels (term_named bs p s x)) (told_back (reported Value bs p s x) _ f) in simp total_both (omega (arith, h, i))
     counts ask bs p s _ d n f = omega arith
 
     count_each : (bs : List Binding) (p : Enclosing) (s : Spot) (es : Expressions) (d n : ℕ) → Quiet (reported_each 1 bs p s es) → parts_numbered m (parts_each d n (terms_named 1 bs p s es)) + beyond m (s.number + numbers_each es) ≤ beyond m s.number
     count_each bs p s none d n f = omega arith
     count_each bs p s (more e es) d n f =
         let h = counts for_value bs p s e d n (told_front (reported Value bs p s e) _ f) in
-        let i = count_each bs (deeper 1 p) (following e s) es (d + 1) (n + labels (term_named bs p s e)) (told_back (reported Value bs p s e) _ f) in simp (numbered_both) (omega (arith, h, i))
+        let i = count_each bs (deeper 1 p) (following e s) es (d + 1) (n + labels (term_named bs p s e)) (told_back (reported Value bs p s e) _ f) in simp total_both (omega (arith, h, i))
 
     count_from : (bs : List Binding) (p : Enclosing) (s : Spot) (es : Expressions) (d n : ℕ) → Quiet (reported_each 0 bs p s es) → parts_numbered m (parts_from d n (terms_named 0 bs p s es)) + beyond m (s.number + numbers_each es) ≤ beyond m s.number
     count_from bs p s none d n f = omega arith
     count_from bs p s (more e es) d n f =
         let h = counts for_value bs p s e d n (told_front (reported Value bs p s e) _ f) in
-        let i = count_from bs (deeper 0 p) (following e s) es d (n + labels (term_named bs p s e)) (told_back (reported Value bs p s e) _ f) in simp (numbered_both) (omega (arith, h, i))
+        let i = count_from bs (deeper 0 p) (following e s) es d (n + labels (term_named bs p s e)) (told_back (reported Value bs p s e) _ f) in simp total_both (omega (arith, h, i))
 
     count_at : (bs : List Binding) (p : Enclosing) (s : Spot) (g : Role) (e : Expression) (d n : ℕ) → Quiet (reported g bs p s e) → parts_numbered m (parts_at d n (lvalue_named bs p s e)) + beyond m (s.number + numbers e) ≤ beyond m s.number
     count_at bs p s g (parens l e) d n f = let h = count_at bs p (past 1 s) (parenthesised g) e d n f in omega (arith, h)
@@ -320,11 +286,11 @@ module _ (m : ℕ) where
     count_at bs p s g (binary l o.Subscript k x y) d n f =
         let u : Spot = past 1 (following x s) in
         let h = counts for_value bs p s x d n (told_front (reported Value bs p s x) _ f) in
-        let i = counts for_value bs (deeper 1 p) u y (d + 1) (n + labels (term_named bs p s x)) (told_back (reported Value bs p s x) _ f) in simp (numbered_both) (omega (arith, h, i))
+        let i = counts for_value bs (deeper 1 p) u y (d + 1) (n + labels (term_named bs p s x)) (told_back (reported Value bs p s x) _ f) in simp total_both (omega (arith, h, i))
     count_at bs p s g (binary l o.Byte k x y) d n f =
         let u : Spot = past 1 (following x s) in
         let h = counts for_value bs p s x d n (told_front (reported Value bs p s x) _ f) in
-        let i = counts for_value bs (deeper 1 p) u y (d + 1) (n + labels (term_named bs p s x)) (told_back (reported Value bs p s x) _ f) in simp (numbered_both) (omega (arith, h, i))
+        let i = counts for_value bs (deeper 1 p) u y (d + 1) (n + labels (term_named bs p s x)) (told_back (reported Value bs p s x) _ f) in simp total_both (omega (arith, h, i))
     count_at bs p s g _ d n f = omega arith
 
     count_onto : (bs : List Binding) (p : Enclosing) (s : Spot) (xs : Expressions) (d n : ℕ) → Quiet (reported_destinations bs p s xs) → parts_numbered m (parts_onto d n (lvalues_named bs p s xs)) + beyond m (s.number + numbers_each xs) ≤ beyond m s.number
@@ -333,19 +299,19 @@ module _ (m : ℕ) where
         let us : List Point = unless (assigned bs x) (at s.place (at_expression x) not_assignable) in
         let vs = reported (Destination false (at_expression x)) bs p s x in
         let h = count_at bs p s (Destination false (at_expression x)) x d n (told_back us vs (told_front (us ++ vs) _ f)) in
-        let i = count_onto bs p (following x s) xs d (n + labels_at (lvalue_named bs p s x)) (told_back (us ++ vs) _ f) in simp (numbered_both) (omega (arith, h, i))
+        let i = count_onto bs p (following x s) xs d (n + labels_at (lvalue_named bs p s x)) (told_back (us ++ vs) _ f) in simp total_both (omega (arith, h, i))
 
     count_in : (bs : List Binding) (p : Enclosing) (s : Spot) (c : Command) (d n : ℕ) → Quiet (reported_done bs p s c) → parts_numbered m (parts_in d n (command_named bs p s c)) + beyond m (s.number + numbers_done c) ≤ beyond m s.number + own_labels m bs (labels_of c)
     count_in bs p s (assign l xs es) d n f =
         let v = lvalues_named bs (deeper 1 p) s xs in
         let h = count_onto bs (deeper 1 p) s xs (d + 1) n (told_front (reported_destinations bs (deeper 1 p) s xs) _ f) in
-        let i = count_from bs p (after_each xs s) es d (n + labels_onto v) (told_back (reported_destinations bs (deeper 1 p) s xs) _ f) in simp (numbered_both) (omega (arith, h, i))
+        let i = count_from bs p (after_each xs s) es d (n + labels_onto v) (told_back (reported_destinations bs (deeper 1 p) s xs) _ f) in simp total_both (omega (arith, h, i))
     count_in bs p s (call l e es) d n f =
         let u : Spot = following e s in
         let z : Enclosing = deeper (size es + 2) p in
         let v = term_named bs z s e in
         let h = counts for_value bs z s e (d + 2 + count (terms_named 1 bs (deeper 2 p) u es)) n (told_front (reported Value bs z s e) _ f) in
-        let i = count_each bs (deeper 2 p) u es (d + 2) (n + labels v) (told_back (reported Value bs z s e) _ f) in simp (numbered_both) (omega (arith, h, i))
+        let i = count_each bs (deeper 2 p) u es (d + 2) (n + labels v) (told_back (reported Value bs z s e) _ f) in simp total_both (omega (arith, h, i))
     count_in bs p s (label l x c) d n f =
         let h = count_in bs p (past 1 s) c d (n + 1) (told_back (one_of p.labels s.place l x ++ its_meaning (bound_in bs x)) _ f) in let i = label_target m n d (bound_in bs x) in omega (arith, h, i)
     count_in bs p s (case_of l e c) d n f =
@@ -353,7 +319,7 @@ module _ (m : ℕ) where
     count_in bs p s (default l c) d n f = let h = count_in bs p (past 1 s) c d (n + 1) (told_back (defaulted_at p.switch s.place l) _ f) in omega (arith, h)
     count_in bs p s (when l z e c) d n f =
         let h = counts (for_truth true) bs p s e d (n + 1) (told_front (reported Truth bs p s e) _ f) in
-        let i = count_in bs p (following e s) c d (n + 1 + labels_if (condition_named bs p s e)) (told_back (reported Truth bs p s e) _ f) in simp (numbered_both) (omega (arith, h, i))
+        let i = count_in bs p (following e s) c d (n + 1 + labels_if (condition_named bs p s e)) (told_back (reported Truth bs p s e) _ f) in simp total_both (omega (arith, h, i))
     count_in bs p s (test l e x y) d n f =
         let xs = reported Truth bs p s e in
         let ys = reported_done bs p (following e s) x in
@@ -361,10 +327,10 @@ module _ (m : ℕ) where
         let h = counts (for_truth true) bs p s e d (n + 2) (told_front xs ys (told_front (xs ++ ys) _ f)) in
         let i = count_in bs p (following e s) x d j (told_back xs ys (told_front (xs ++ ys) _ f)) in
         let q = count_in bs p (after_done x (following e s)) y d (j + labels_in (command_named bs p (following e s) x)) (told_back (xs ++ ys) _ f) in
-        simp (numbered_both, own_both) (omega (arith, h, i, q))
+        simp total_both (omega (arith, h, i, q))
     count_in bs p s (while l z e c) d n f =
         let h = counts (for_truth true) bs p s e d (n + 3) (told_front (reported Truth bs p s e) _ f) in
-        let i = count_in bs (looping p) (following e s) c d (n + 3 + labels_if (condition_named bs p s e)) (told_back (reported Truth bs p s e) _ f) in simp (numbered_both) (omega (arith, h, i))
+        let i = count_in bs (looping p) (following e s) c d (n + 3 + labels_if (condition_named bs p s e)) (told_back (reported Truth bs p s e) _ f) in simp total_both (omega (arith, h, i))
     count_in bs p s (for_loop l x e y k c) d n f =
         let u : Spot = onward (symbols_each k) 0 (following y (following e s)) in
         let g : Enclosing = labelled u.number (looping (deeper 2 p)) in
@@ -380,10 +346,10 @@ module _ (m : ℕ) where
         let a = counts for_value bs p s e d (n + 4) (told_front start limit heads) in
         let b = counts for_value bs (deeper 1 p) (following e s) y (d + 1) j (told_back start limit heads) in
         let h = count_in ds g i c (d + 2) (j + labels (term_named bs (deeper 1 p) (following e s) y)) body in
-        let q = labels_numbered m p.procedure (u.number + 1) (labels_of c) cs (labels_distinct ds g i c body) in simp (numbered_both) (omega (arith, a, b, h, q))
+        let q = labels_numbered m p.procedure (u.number + 1) (labels_of c) cs (distinct_if_claimed _ _ _ (λ y. labels_claimed y ds g i c) body) in simp total_both (omega (arith, a, b, h, q))
     count_in bs p s (switch l e c) d n f =
         let h = counts for_value bs p s e d (n + 1) (told_front (reported Value bs p s e) _ f) in
-        let i = count_in bs (switching (following e s).number p) (spots.numbered 1 (following e s)) c d (n + 1 + labels (term_named bs p s e)) (told_back (reported Value bs p s e) _ f) in simp (numbered_both) (omega (arith, h, i))
+        let i = count_in bs (switching (following e s).number p) (spots.numbered 1 (following e s)) c d (n + 1 + labels (term_named bs p s e)) (told_back (reported Value bs p s e) _ f) in simp total_both (omega (arith, h, i))
     count_in bs p s (result l e) d n f = let h = counts for_value bs p (past 1 s) e d n (told_back (unless p.in_valof (at s.place l no_result_or_return)) _ f) in omega (arith, h)
     count_in bs p s (block l no_declarations cs) d n f =
         let h = count_through bs p s cs d n f in let e = ap (λ (k : ℕ). parts_numbered m (parts_through d k (commands_named bs p s cs))) (no_more n) in omega (arith, h, e)
@@ -400,18 +366,18 @@ module _ (m : ℕ) where
         let v = declaration_named bs p s x in
         let j = count_declared (scope_after_one bs p s x) (place_after_one bs p s x) (after_one_declared x s) xs (after_declaration d v) (n + labels_of_declaration v) (told_back (reported_one_declared bs p s x) _ first) in
         let k = count_through ds g i cs (after_declarations d y) (n + labels_of_declarations y) body in
-        let q = labels_numbered m p.procedure (u.number + 1) (labels_of_each cs) es (labels_distinct_each ds g i cs body) in simp (numbered_both) (omega (arith, h, j, k, q))
+        let q = labels_numbered m p.procedure (u.number + 1) (labels_of_each cs) es (distinct_if_claimed _ _ _ (λ y. labels_claimed_each y ds g i cs) body) in simp total_both (omega (arith, h, j, k, q))
     count_in bs p s (repeat l c) d n f = let h = count_in bs (looping p) s c d (n + 2) f in omega (arith, h)
     count_in bs p s (repeat_while l z c e) d n f =
         let h = count_in bs (looping p) s c d (n + 3) (told_front (reported_done bs (looping p) s c) _ f) in
-        let i = counts (for_truth true) bs p (after_done c s) e d (n + 3 + labels_in (command_named bs (looping p) s c)) (told_back (reported_done bs (looping p) s c) _ f) in simp (numbered_both) (omega (arith, h, i))
+        let i = counts (for_truth true) bs p (after_done c s) e d (n + 3 + labels_in (command_named bs (looping p) s c)) (told_back (reported_done bs (looping p) s c) _ f) in simp total_both (omega (arith, h, i))
     count_in bs p s _ d n f = omega arith
 
     count_through : (bs : List Binding) (p : Enclosing) (s : Spot) (cs : Commands) (d n : ℕ) → Quiet (reported_done_each bs p s cs) → parts_numbered m (parts_through d n (commands_named bs p s cs)) + beyond m (s.number + numbers_done_each cs) ≤ beyond m s.number + own_labels m bs (labels_of_each cs)
     count_through bs p s no_commands d n f = omega arith
     count_through bs p s (also c cs) d n f =
         let h = count_in bs p s c d n (told_front (reported_done bs p s c) _ f) in
-        let i = count_through bs p (after_done c s) cs d (n + labels_in (command_named bs p s c)) (told_back (reported_done bs p s c) _ f) in simp (numbered_both, own_both) (omega (arith, h, i))
+        let i = count_through bs p (after_done c s) cs d (n + labels_in (command_named bs p s c)) (told_back (reported_done bs p s c) _ f) in simp total_both (omega (arith, h, i))
 
     count_declared : (bs : List Binding) (p : Enclosing) (s : Spot) (xs : Declarations) (d n : ℕ) → Quiet (reported_declared bs p s xs) → parts_numbered m (parts_of_declarations d n (declarations_named bs p s xs)) + beyond m (s.number + numbers_declared xs) ≤ beyond m s.number
     count_declared bs p s no_declarations d n f = omega arith
@@ -419,7 +385,7 @@ module _ (m : ℕ) where
         let v = declaration_named bs p s x in
         let h = count_one_declared bs p s x d n (told_front (reported_one_declared bs p s x) _ f) in
         let i = count_declared (scope_after_one bs p s x) (place_after_one bs p s x) (after_one_declared x s) xs (after_declaration d v) (n + labels_of_declaration v) (told_back (reported_one_declared bs p s x) _ f) in
-        simp (numbered_both) (omega (arith, h, i))
+        simp total_both (omega (arith, h, i))
 
     count_one_declared : (bs : List Binding) (p : Enclosing) (s : Spot) (x : Declaration) (d n : ℕ) → Quiet (reported_one_declared bs p s x) → parts_numbered m (parts_of_declaration d n (declaration_named bs p s x)) + beyond m (s.number + numbers_one_declared x) ≤ beyond m s.number
     count_one_declared bs p s (constants l sort.Static (item i x e is)) d n f = let h = items_numbered m bs (spots.numbered 1 s) (item i x e is) n in omega (arith, h)
@@ -427,7 +393,7 @@ module _ (m : ℕ) where
         let cs = procedures_in_scope (s.number + 1) ds bs in
         let v : Spot = spots.numbered (1 + procedures_in ds) s in
         let h = count_defined s.number cs p v ds d n f in
-        let i = procedures_numbered m (s.number + 1) ds bs (procedures_distinct s.number cs p v ds f) in count_let m bs p s l ds d n (omega (arith, h, i))
+        let i = procedures_numbered m (s.number + 1) ds bs (distinct_if_claimed _ _ _ (λ y. procedures_claimed s.number y cs p v ds) f) in count_let m bs p s l ds d n (omega (arith, h, i))
     count_one_declared bs p s _ d n f = omega arith
 
     count_defined : (k : ℕ) (bs : List Binding) (p : Enclosing) (s : Spot) (ds : Definitions) (d n : ℕ) → Quiet (reported_defined k bs p s ds) → parts_numbered m (parts_of_definitions d n (definitions_named bs p s ds)) + beyond m (s.number + numbers_defined ds) ≤ beyond m s.number + own_procedures m bs ds
@@ -437,7 +403,7 @@ module _ (m : ℕ) where
         let h = count_one_defined k bs p s z d n (told_front (reported_one_defined k bs p s z) _ f) in
         let j = own_first m bs z ds in
         let i = count_defined k bs (place_after_one_defined bs p z) (after_one_defined z s) ds (after_definition d y) (n + labels_of_definition y) (told_back (reported_one_defined k bs p s z) _ f) in
-        simp (numbered_both) (omega (arith, h, i, j))
+        simp total_both (omega (arith, h, i, j))
 
     count_one_defined : (k : ℕ) (bs : List Binding) (p : Enclosing) (s : Spot) (x : Definition) (d n : ℕ) → Quiet (reported_one_defined k bs p s x) → parts_numbered m (parts_of_definition d n (definition_named bs p s x)) + beyond m (s.number + numbers_one_defined x) ≤ beyond m s.number + own_procedures m bs (define x no_definitions)
     count_one_defined k bs p s (variables l xs is) d n f = let h = count_started bs p (past (length xs) s) is d n (told_back (each_of k s.place xs) _ f) in omega (arith, h)
@@ -448,7 +414,7 @@ module _ (m : ℕ) where
         let cs = labels_in_scope s.number (s.number + 2) (labels_of c) es in
         let body = body_quiet k s.number s l x fs (bound_in bs x) (reported_done cs z u c) f in
         let h = count_in cs z u c (length fs + 2) (n + labels_of_procedure (meant (bound_in bs x))) body in
-        let i = labels_numbered m s.number (s.number + 2) (labels_of c) es (labels_distinct cs z u c body) in
+        let i = labels_numbered m s.number (s.number + 2) (labels_of c) es (distinct_if_claimed _ _ _ (λ y. labels_claimed y cs z u c) body) in
         let j = word_target m (n + 1) (bound_in bs x) in omega (arith, h, i, j)
     count_one_defined k bs p s (function l x fs e) d n f =
         let z : Enclosing = called false s.number (length fs) in
@@ -462,49 +428,20 @@ module _ (m : ℕ) where
     count_started bs p s no_starts d n f = omega arith
     count_started bs p s (value e is) d n f =
         let h = counts for_value bs p s e d n (told_front (reported Value bs p s e) _ f) in
-        let i = count_started bs (deeper 1 p) (following e s) is (d + 1) (n + labels (term_named bs p s e)) (told_back (reported Value bs p s e) _ f) in simp (numbered_both) (omega (arith, h, i))
+        let i = count_started bs (deeper 1 p) (following e s) is (d + 1) (n + labels (term_named bs p s e)) (told_back (reported Value bs p s e) _ f) in simp total_both (omega (arith, h, i))
     count_started bs p s (vector l e is) d n f =
         let h = count_started bs (deeper (words_of_start bs e + 1) p) (after_constant e s) is (d + worth (constant_word bs e) + 2) n
         (told_back (constant bs p.procedure s e ++ at_most VEC_NUMBER s.place (at_expression e) vec_out_of_range (constant_word bs e) ++ pushed p (words_of_start bs e + 1)) _ f) in
         omega (arith, h)
 
 -- so each target is found by its number
-numbered_joined : (m : ℕ) (xs : List Target) (ys : List Target) → numbered m (xs ++ ys) ≡ numbered m xs + numbered m ys
-numbered_joined m [] ys = omega arith
-numbered_joined m (x ∷ xs) ys = let h = numbered_joined m xs ys in omega (arith, h)
-
 numbered_parts : (m : ℕ) (xs : List Part) → numbered m (joined target_of xs) ≡ parts_numbered m xs
 numbered_parts m [] = refl
-numbered_parts m (x ∷ xs) = let h = numbered_parts m xs in let i = numbered_joined m (target_of x) (joined target_of xs) in omega (arith, h, i)
-
-chosen_first : (q : Bool) (a b : Goal) → q ≡ true → cond q a b ≡ a
-chosen_first true a b e = refl
-chosen_first false a b e = absurd (let n : false ≡ true = e in cc)
-
-chosen_later : (q : Bool) (a b : Goal) → q ≡ false → cond q a b ≡ b
-chosen_later true a b e = absurd (let n : true ≡ false = e in cc)
-chosen_later false a b e = refl
-
-found_past : (x : Target) (ts xs : List Target) → numbered x.number xs ≡ 0 → AllFound ts xs → AllFound (x ∷ ts) xs
-found_past x ts [] gone h = tt
-found_past x ts (y ∷ xs) gone h = (pick (x.number == y.number) refl, found_past x ts xs (omega (arith, gone)) h.1)
-  where
-    pick : (q : Bool) → (x.number == y.number) ≡ q → cond (x.number == y.number) (goal x.label x.depth) (goal_of ts y.number) ≡ goal y.label y.depth
-    pick true e = let one : sets x.number (Some y.number) ≡ 1 = ap (λ (b : Bool). cond b 1 0) e in absurd (omega (arith, gone, one))
-    pick false e = chosen_later (x.number == y.number) (goal x.label x.depth) (goal_of ts y.number) e ∙ h.0
-
-all_found : (ts : List Target) → ((m : ℕ) → numbered m ts ≤ 1) → AllFound ts ts
-all_found [] h = tt
-all_found (x ∷ ts) h =
-    let one : sets x.number (Some x.number) ≡ 1 = ap (λ (b : Bool). cond b 1 0) (eq-eqb x.number x.number refl) in
-    let low = h x.number in (
-      chosen_first (x.number == x.number) (goal x.label x.depth) (goal_of ts x.number) (eq-eqb x.number x.number refl),
-      found_past x ts ts (omega (arith, one, low)) (all_found ts (λ m. let g = h m in omega (arith, g))),
-    )
+numbered_parts m (x ∷ xs) = simp total_both (omega (arith, numbered_parts m xs))
 
 -- THE TARGETS OF A SECTION are found by their numbers
 pub section_found : (xs : Declarations) → Quiet (reported_declared [] outermost beginning xs)
     → AllFound (joined target_of (parts_of_declarations 2 1 (declarations_named [] outermost beginning xs))) (joined target_of (parts_of_declarations 2 1 (declarations_named [] outermost beginning xs)))
 section_found xs f =
     let ps = parts_of_declarations 2 1 (declarations_named [] outermost beginning xs) in
-    all_found (joined target_of ps) (λ m. let h = count_declared m [] outermost beginning xs 2 1 f in let i = numbered_parts m ps in omega (arith, h, i))
+    all_found (λ x. x.number) (λ x. goal x.label x.depth) goal_of (λ x xs k. refl) (joined target_of ps) (λ m. let h = count_declared m [] outermost beginning xs 2 1 f in let i = numbered_parts m ps in omega (arith, h, i))

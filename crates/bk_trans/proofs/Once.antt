@@ -1,17 +1,12 @@
 -- Labels are set once: those that a part sets, in its own code and in what stands by itself behind it, lie among its own, and
 -- each is set at most once. How often a label is set is counted.
-use Rattle.bk_trans.proofs.Words.{arith, ◌≡◌, ◌⊎◌, inl, inr, ◌<◌, ◌≤◌, ℕ, ◌+◌, ◌-◌, ◌==◌, min, Bool, true, false, cond, Some, List, [], ◌∷◌, ◌++◌, length, map, refl, ap, cases_lt, ne_eqb, signed, Operator, Prefix, Bound, Stmt, sets, times_set}
-use Rattle.bk_trans.proofs.Terms.{Operator as o, Prefix as q, Bound as b, Stmt as t, Target, StaticItem, labels_of_procedure, Part, parts_of_items, push, prefix_code, infix_code, truth_value, by_turns, procedure_code, word_code, data_code}
+use Rattle.bk_trans.proofs.Words.{arith, ◌≡◌, ◌⊎◌, inl, inr, ◌<◌, ◌≤◌, ℕ, ◌+◌, ◌-◌, ◌==◌, min, Bool, true, false, cond, Some, List, [], ◌∷◌, ◌++◌, length, map, refl, ap, cases_lt, ne_eqb, signed, Operator, Prefix, Bound, Stmt, sets, times_set, total}
+use Rattle.bk_trans.proofs.Terms.{Operator as o, Prefix as q, Bound as b, Stmt as t, Target, StaticItem, labels_of_procedure, Part, parts_of_items, push, prefix_code, infix_code, truth_value, procedure_code, word_code, data_code}
 use Rattle.bk_ocode.specs.Labels.{label_set}
 
 -- what stands by itself
 abbrev pub parts_set : ℕ → List Target → List Part → ℕ
-parts_set l ts [] = 0
-parts_set l ts (p ∷ ps) = times_set l (procedure_code ts p) + times_set l (data_code p) + parts_set l ts ps
-
-abbrev pub sum_set : ℕ → List (List Stmt) → ℕ
-sum_set l [] = 0
-sum_set l (x ∷ xs) = times_set l x + sum_set l xs
+parts_set l ts ps = total (λ p. times_set l (procedure_code ts p) + times_set l (data_code p)) ps
 
 -- 1 where l is n or more, else 0
 abbrev pub past : ℕ → ℕ → ℕ
@@ -20,15 +15,6 @@ past l n = min (l + 1 - n) 1
 pub set_both : (l : ℕ) (xs ys : List Stmt) → times_set l (xs ++ ys) ≡ times_set l xs + times_set l ys
 set_both l [] ys = omega arith
 set_both l (s ∷ xs) ys = let rest = set_both l xs ys in omega (arith, rest)
-
-pub parts_both : (l : ℕ) (ts : List Target) (ps qs : List Part) → parts_set l ts (ps ++ qs) ≡ parts_set l ts ps + parts_set l ts qs
-parts_both l ts [] qs = omega arith
-parts_both l ts (p ∷ ps) qs = let rest = parts_both l ts ps qs in omega (arith, rest)
-
-pub turns_set : (l : ℕ) (xs ys : List (List Stmt)) → times_set l (by_turns xs ys) ≤ sum_set l xs + sum_set l ys
-turns_set l [] ys = omega arith
-turns_set l (x ∷ xs) [] = omega arith
-turns_set l (x ∷ xs) (y ∷ ys) = omega (arith, turns_set l xs ys, set_both l x y, set_both l (x ++ y) (by_turns xs ys))
 
 -- a label that is set is one
 at_most_one : (x : Bool) → cond x 1 0 ≤ 1

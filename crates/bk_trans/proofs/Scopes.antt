@@ -1,9 +1,9 @@
 -- What names in scope mean at a place of a section without faults, and that a label and a static word that are in scope have a
 -- target in their plan.
-use Rattle.bk_trans.proofs.Words.{arith, ◌≡◌, ◌⊎◌, inl, inr, ℕ, ◌+◌, ◌≤◌, Bool, true, false, cond, Option, Some, None, List, [], ◌∷◌, ◌++◌, length, refl, sym, ap, subst, ◌∙◌, ⊤, OCODE_LABEL, Command, Commands, Items, Definitions, label, case_of, default, when, test, while, switch, block, repeat, repeat_while, no_commands, also, no_declarations, no_items, item, routine, function, variables, no_definitions, define, Bound, Static, Label, Enclosing, Binding, bound_in, bind, bind_all, is_global, looping, switching, labels_of, labels_of_each, Spot, past, numbered, following, after_done, after_constant, after_one_defined, labels_in_scope, procedure_in_scope, procedures_in_scope, statics_in_scope, place_after_one_defined, IsLabel, IsDepth, Use}
+use Rattle.bk_trans.proofs.Words.{arith, ◌≡◌, ◌⊎◌, inl, inr, ℕ, ◌+◌, ◌≤◌, Bool, true, false, cond, Option, Some, None, List, [], ◌∷◌, ◌++◌, length, refl, sym, ap, subst, ◌∙◌, OCODE_LABEL, Command, Commands, Items, Definitions, label, case_of, default, when, test, while, switch, block, repeat, repeat_while, no_commands, also, no_declarations, no_items, item, routine, function, variables, no_definitions, define, Bound, Static, Label, Enclosing, Binding, bound_in, bind, bind_all, is_global, looping, switching, labels_of, labels_of_each, Spot, past, numbered, following, after_done, after_constant, after_one_defined, labels_in_scope, procedure_in_scope, procedures_in_scope, statics_in_scope, place_after_one_defined, IsLabel, IsDepth, Use, Every, every_front, every_back}
 use Rattle.bk_trans.proofs.Terms.{bytes_eq, bytes_eq-Decides, Goal, Target, meant, statics_named, term_named, condition_named, command_named, commands_named, definition_named, definitions_named, labels, labels_if, labels_in, labels_through, labels_of_procedure, labels_of_definition, labels_of_definitions, after_definition, Part, label_place, target_of, target_of_word, parts_of_items, parts, parts_if, parts_in, parts_through, parts_of_definition, parts_of_definitions, goal, goal_of}
 use Rattle.bk_ocode.specs.Typing as typing
-use Rattle.bk_trans.proofs.Marks.{Mark, marks, marks_if, marks_in, marks_through, AllRight, right_front, right_back}
+use Rattle.bk_trans.proofs.Marks.{Mark, marks, marks_if, marks_in, marks_through, AllRight, Right}
 use Rattle.bk_trans.proofs.Good.{IsGoal, IsWord}
 use Rattle.bk_trans.proofs.Sections.{part_marks, name_marks}
 use Rattle.bk_trans.proofs.Once.{no_more}
@@ -26,12 +26,7 @@ pub sees_bind : (P : Bound → Type 0) (x : List ℕ) (b : Bound) (bs : List Bin
 sees_bind P x b bs h all y z e = chosen P (bytes_eq x y) (bound_in bs y) b z h (all y z) e
 
 abbrev pub AllMean : (Bound → Type 0) → List Binding → Type 0
-AllMean P [] = ⊤
-AllMean P (x ∷ xs) = P x.bound × AllMean P xs
-
-pub mean_both : (P : Bound → Type 0) (xs ys : List Binding) → AllMean P xs → AllMean P ys → AllMean P (xs ++ ys)
-mean_both P [] ys h i = i
-mean_both P (x ∷ xs) ys h i = (h.0, mean_both P xs ys h.1 i)
+AllMean P xs = Every (λ x. P x.bound) xs
 
 pub sees_all : (P : Bound → Type 0) (xs bs : List Binding) → AllMean P xs → Sees P bs → Sees P (bind_all xs bs)
 sees_all P [] bs h all = all
@@ -123,23 +118,13 @@ abbrev pub Found : List Target → Target → Type 0
 Found ts x = goal_of ts x.number ≡ goal x.label x.depth
 
 abbrev pub AllFound : List Target → List Target → Type 0
-AllFound ts [] = ⊤
-AllFound ts (x ∷ xs) = Found ts x × AllFound ts xs
+AllFound ts xs = Every (Found ts) xs
 
 abbrev pub PartRight : (ℕ → Use) → List Target → Part → Type 0
 PartRight plan ts x = AllFound ts (target_of x) × AllRight plan (part_marks x)
 
 abbrev pub PartsRight : (ℕ → Use) → List Target → List Part → Type 0
-PartsRight plan ts [] = ⊤
-PartsRight plan ts (x ∷ xs) = PartRight plan ts x × PartsRight plan ts xs
-
-pub parts_front : (plan : ℕ → Use) (ts : List Target) (xs ys : List Part) → PartsRight plan ts (xs ++ ys) → PartsRight plan ts xs
-parts_front plan ts [] ys h = tt
-parts_front plan ts (x ∷ xs) ys h = (h.0, parts_front plan ts xs ys h.1)
-
-pub parts_back : (plan : ℕ → Use) (ts : List Target) (xs ys : List Part) → PartsRight plan ts (xs ++ ys) → PartsRight plan ts ys
-parts_back plan ts [] ys h = h
-parts_back plan ts (x ∷ xs) ys h = parts_back plan ts xs ys h.1
+PartsRight plan ts xs = Every (PartRight plan ts) xs
 
 -- a label of these commands is found
 meant_is : (y : Option Bound) (b : Bound) → y ≡ Some b → meant y ≡ b
@@ -165,8 +150,8 @@ mutual
       label_found plan ts q k i y bs p (past 1 s) c d (n + 1) e deep (omega (arith, low)) (omega (arith, high)) among a r.1
   label_found plan ts q k i y bs p s (when l b f c) d n e deep low high among a r =
       let h = condition_named bs p s f in
-      label_found plan ts q k i y bs p (following f s) c d (n + 1 + labels_if h) e deep (omega (arith, low)) (omega (arith, high)) among (parts_back plan ts (parts_if d (n + 1) h) _ a)
-      (right_back plan (marks_if q d (n + 1) h _) _ r.1)
+      label_found plan ts q k i y bs p (following f s) c d (n + 1 + labels_if h) e deep (omega (arith, low)) (omega (arith, high)) among (every_back (PartRight plan ts) (parts_if d (n + 1) h) _ a)
+      (every_back (Right plan) (marks_if q d (n + 1) h _) _ r.1)
   label_found plan ts q k i y bs p s (test l f c x) d n e deep low high among a r =
       let h = condition_named bs p s f in
       let first = command_named bs p (following f s) c in
@@ -174,28 +159,28 @@ mutual
       let qs = parts_if d (n + 2) h ++ parts_in d (n + 2 + labels_if h) first in
       elim (among_first y (labels_of c) (labels_of x) among) [
         | inl one ↦
-            label_found plan ts q k i y bs p (following f s) c d (n + 2 + labels_if h) e deep (omega (arith, low)) (omega (arith, high)) one (parts_back plan ts (parts_if d (n + 2) h) _ (parts_front plan ts qs _ a))
-            (right_back plan (marks_if q d (n + 2) h false) _ (right_front plan ms _ r.1.1))
+            label_found plan ts q k i y bs p (following f s) c d (n + 2 + labels_if h) e deep (omega (arith, low)) (omega (arith, high)) one (every_back (PartRight plan ts) (parts_if d (n + 2) h) _ (every_front (PartRight plan ts) qs _ a))
+            (every_back (Right plan) (marks_if q d (n + 2) h false) _ (every_front (Right plan) ms _ r.1.1))
         | inr two ↦
-            label_found plan ts q k i y bs p (after_done c (following f s)) x d (n + 2 + labels_if h + labels_in first) e deep (omega (arith, low)) (omega (arith, high)) two (parts_back plan ts qs _ a)
-            (right_back plan ms _ r.1.1)
+            label_found plan ts q k i y bs p (after_done c (following f s)) x d (n + 2 + labels_if h + labels_in first) e deep (omega (arith, low)) (omega (arith, high)) two (every_back (PartRight plan ts) qs _ a)
+            (every_back (Right plan) ms _ r.1.1)
       ]
   label_found plan ts q k i y bs p s (while l b f c) d n e deep low high among a r =
       let h = condition_named bs p s f in
-      label_found plan ts q k i y bs (looping p) (following f s) c d (n + 3 + labels_if h) e deep (omega (arith, low)) (omega (arith, high)) among (parts_back plan ts (parts_if d (n + 3) h) _ a)
-      (right_front plan (marks_in q d (n + 3 + labels_if h) (command_named bs (looping p) (following f s) c)) _ r.1.1.1)
+      label_found plan ts q k i y bs (looping p) (following f s) c d (n + 3 + labels_if h) e deep (omega (arith, low)) (omega (arith, high)) among (every_back (PartRight plan ts) (parts_if d (n + 3) h) _ a)
+      (every_front (Right plan) (marks_in q d (n + 3 + labels_if h) (command_named bs (looping p) (following f s) c)) _ r.1.1.1)
   label_found plan ts q k i y bs p s (switch l f c) d n e deep low high among a r =
       let h = term_named bs p s f in
       label_found plan ts q k i y bs (switching (following f s).number p) (numbered 1 (following f s)) c d (n + 1 + labels h) e deep (omega (arith, low)) (omega (arith, high)) among
-      (parts_back plan ts (parts d (n + 1) h) _ a) (right_back plan (marks q d (n + 1) h) _ r.1)
+      (every_back (PartRight plan ts) (parts d (n + 1) h) _ a) (every_back (Right plan) (marks q d (n + 1) h) _ r.1)
   label_found plan ts q k i y bs p s (block l no_declarations cs) d n e deep low high among a r =
       label_found_through plan ts q k i y bs p s cs d n e deep low (omega (arith, high)) among (subst (λ (m : ℕ). PartsRight plan ts (parts_through d m (commands_named bs p s cs))) (no_more n) a) r
   label_found plan ts q k i y bs p s (repeat l c) d n e deep low high among a r =
       label_found plan ts q k i y bs (looping p) s c d (n + 2) e deep (omega (arith, low)) (omega (arith, high)) among a r.1.1
   label_found plan ts q k i y bs p s (repeat_while l b c f) d n e deep low high among a r =
       let body = command_named bs (looping p) s c in
-      label_found plan ts q k i y bs (looping p) s c d (n + 3) e deep (omega (arith, low)) (omega (arith, high)) among (parts_front plan ts (parts_in d (n + 3) body) _ a)
-      (right_front plan (marks_in q d (n + 3) body) _ r.1.1.1)
+      label_found plan ts q k i y bs (looping p) s c d (n + 3) e deep (omega (arith, low)) (omega (arith, high)) among (every_front (PartRight plan ts) (parts_in d (n + 3) body) _ a)
+      (every_front (Right plan) (marks_in q d (n + 3) body) _ r.1.1.1)
   label_found plan ts q k i y bs p s _ d n e deep low high among a r = elim among [ ]
 
   pub label_found_through : (plan : ℕ → Use) (ts : List Target) (q k i : ℕ) (y : List ℕ) (bs : List Binding) (p : Enclosing) (s : Spot) (cs : Commands) (d n : ℕ) → bound_in bs y ≡ Some (Label k i) → IsDepth d
@@ -205,10 +190,10 @@ mutual
   label_found_through plan ts q k i y bs p s (also c cs) d n e deep low high among a r =
       let first = command_named bs p s c in
       elim (among_first y (labels_of c) (labels_of_each cs) among) [
-        | inl one ↦ label_found plan ts q k i y bs p s c d n e deep low (omega (arith, high)) one (parts_front plan ts (parts_in d n first) _ a) (right_front plan (marks_in q d n first) _ r)
+        | inl one ↦ label_found plan ts q k i y bs p s c d n e deep low (omega (arith, high)) one (every_front (PartRight plan ts) (parts_in d n first) _ a) (every_front (Right plan) (marks_in q d n first) _ r)
         | inr two ↦
-            label_found_through plan ts q k i y bs p (after_done c s) cs d (n + labels_in first) e deep (omega (arith, low)) (omega (arith, high)) two (parts_back plan ts (parts_in d n first) _ a)
-            (right_back plan (marks_in q d n first) _ r)
+            label_found_through plan ts q k i y bs p (after_done c s) cs d (n + labels_in first) e deep (omega (arith, low)) (omega (arith, high)) two (every_back (PartRight plan ts) (parts_in d n first) _ a)
+            (every_back (Right plan) (marks_in q d n first) _ r)
       ]
 
 -- a static word is found
@@ -224,20 +209,17 @@ pub procedure_found : (plan : ℕ → Use) (ts : List Target) (i : ℕ) (y : Lis
     → n + labels_of_definitions (definitions_named bs p s ds) ≤ OCODE_LABEL + 1 → AmongProcedures y ds → PartsRight plan ts (parts_of_definitions d n (definitions_named bs p s ds))
     → IsWord plan ((goal_of ts i).label)
 procedure_found plan ts i y bs p s no_definitions d n e high among a = elim among [ ]
-procedure_found plan ts i y bs p s (define (routine l x fs c) ds) d n e high (inl same) a =
-    word_found plan ts n i (meant (bound_in bs x)) _ (meant_is (bound_in bs x) (Static i) (ap (bound_in bs) same ∙ e)) a.0.0 a.0.1.1 (omega (arith, high))
-procedure_found plan ts i y bs p s (define (routine l x fs c) ds) d n e high (inr among) a =
-    let first = definition_named bs p s (routine l x fs c) in
-    procedure_found plan ts i y bs p (after_one_defined (routine l x fs c) s) ds d (n + labels_of_definition first) e (omega (arith, high)) among (parts_back plan ts (parts_of_definition d n first) _ a)
-procedure_found plan ts i y bs p s (define (function l x fs f) ds) d n e high (inl same) a =
-    word_found plan ts n i (meant (bound_in bs x)) _ (meant_is (bound_in bs x) (Static i) (ap (bound_in bs) same ∙ e)) a.0.0 a.0.1.1 (omega (arith, high))
-procedure_found plan ts i y bs p s (define (function l x fs f) ds) d n e high (inr among) a =
-    let first = definition_named bs p s (function l x fs f) in
-    procedure_found plan ts i y bs p (after_one_defined (function l x fs f) s) ds d (n + labels_of_definition first) e (omega (arith, high)) among (parts_back plan ts (parts_of_definition d n first) _ a)
 procedure_found plan ts i y bs p s (define (variables l xs is) ds) d n e high among a =
     let first = definition_named bs p s (variables l xs is) in
     procedure_found plan ts i y bs (place_after_one_defined bs p (variables l xs is)) (after_one_defined (variables l xs is) s) ds (after_definition d first) (n + labels_of_definition first) e
-    (omega (arith, high)) among (parts_back plan ts (parts_of_definition d n first) _ a)
+    (omega (arith, high)) among (every_back (PartRight plan ts) (parts_of_definition d n first) _ a)
+procedure_found plan ts i y bs p s (define (routine l x fs c) ds) d n e high (inl same) a =
+    word_found plan ts n i (meant (bound_in bs x)) _ (meant_is (bound_in bs x) (Static i) (ap (bound_in bs) same ∙ e)) a.0.0 a.0.1.1 (omega (arith, high))
+procedure_found plan ts i y bs p s (define (function l x fs f) ds) d n e high (inl same) a =
+    word_found plan ts n i (meant (bound_in bs x)) _ (meant_is (bound_in bs x) (Static i) (ap (bound_in bs) same ∙ e)) a.0.0 a.0.1.1 (omega (arith, high))
+procedure_found plan ts i y bs p s (define x ds) d n e high (inr among) a =
+    let first = definition_named bs p s x in
+    procedure_found plan ts i y bs p (after_one_defined x s) ds d (n + labels_of_definition first) e (omega (arith, high)) among (every_back (PartRight plan ts) (parts_of_definition d n first) _ a)
 
 -- the items of STATIC
 pub statics_seen : (plan : ℕ → Use) (ts : List Target) (P : Bound → Type 0) (bs : List Binding) (s : Spot) (is : Items) (n : ℕ) (cs : List Binding) → 1 ≤ n

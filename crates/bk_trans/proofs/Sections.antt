@@ -1,10 +1,11 @@
 -- A whole section: its procedures, data and GLOBAL agree with a plan, where each part is good and has its marks.
-use Rattle.bk_trans.proofs.Words.{arith, ◌≡◌, inr, ℕ, zero, suc, ◌+◌, ◌-◌, ◌≤◌, ◌==◌, Bool, true, false, cond, Some, None, List, [], ◌∷◌, ◌++◌, length, map, slice_get, refl, sym, ap, subst, ◌∙◌, eqb-true, eq-eqb, length-append, ⊤, signed, GLOBAL_NUMBER, OCODE_LABEL, OCODE_STATEMENTS, Bound, GlobalEntry, Stmt, joined, IsLabel, IsGlobal, AreEntries, Use, outside, ended, AllEntries, Typed, done, enters, returns, gives, begins, points, ends, sets, times_set}
+use Rattle.bk_trans.proofs.Words.{arith, ◌≡◌, inr, ℕ, ◌+◌, ◌-◌, ◌≤◌, ◌==◌, Bool, true, false, cond, Some, List, [], ◌∷◌, ◌++◌, length, map, refl, sym, ap, ◌∙◌, eqb-true, eq-eqb, length-append, ⊤, signed, GLOBAL_NUMBER, OCODE_LABEL, OCODE_STATEMENTS, Bound, GlobalEntry, Stmt, joined, IsLabel, IsGlobal, AreEntries, Use, outside, ended, AllEntries, Typed, done, enters, returns, gives, begins, points, ends, sets, times_set, Every, every_front, every_back, every_both, total_both, all_found, every_at}
 use Rattle.bk_trans.proofs.Terms.{Bound as b, Stmt as t, Target, routine, function, labels, labels_in, labels_of_procedure, labels_of_definition, Part, procedure, static_item, static_table, parts, parts_in, target_of, outermost, procedure_code, word_code, data_code, entry_of, entries_of, section_code}
 use Rattle.bk_ocode.specs.Typing as typing
 use Rattle.bk_trans.proofs.Once.{set_both, words_none}
-use Rattle.bk_trans.proofs.Marks.{Mark, marks, marks_in, AllRight, right_front, right_back}
-use Rattle.bk_trans.proofs.Marked.{times_marked, marked_both, value_marked, command_marked}
+use Rattle.bk_trans.proofs.Counted.{entry_few}
+use Rattle.bk_trans.proofs.Marks.{Mark, marks, marks_in, AllRight, Right}
+use Rattle.bk_trans.proofs.Marked.{times_marked, value_marked, command_marked}
 use Rattle.bk_trans.proofs.Good.{no_exits, Room, Good, GoodIn}
 use Rattle.bk_trans.proofs.Steps.{typed_then, short_bytes}
 use Rattle.bk_trans.proofs.Forms.{AllTables, Surrounds, value_typed, command_typed}
@@ -45,12 +46,7 @@ GoodPart plan ts (static_table n ws) = IsLabel n
 GoodPart plan ts _ = ⊤
 
 abbrev pub AllGood : (ℕ → Use) → List Target → List Part → Type 0
-AllGood plan ts [] = ⊤
-AllGood plan ts (x ∷ xs) = GoodPart plan ts x × AllGood plan ts xs
-
-pub good_both : (plan : ℕ → Use) (ts : List Target) (xs ys : List Part) → AllGood plan ts xs → AllGood plan ts ys → AllGood plan ts (xs ++ ys)
-good_both plan ts [] ys h i = i
-good_both plan ts (x ∷ xs) ys h i = (h.0, good_both plan ts xs ys h.1 i)
+AllGood plan ts xs = Every (GoodPart plan ts) xs
 
 -- nothing around a procedure's body
 bare : (plan : ℕ → Use) (p s : ℕ) → Surrounds plan p no_exits s outermost
@@ -77,7 +73,7 @@ procedure_typed plan ts y d (procedure n (routine x name k c)) g r =
     let high : n + (labels_of_procedure x + labels_in c) ≤ OCODE_LABEL + 1 = g.1 in
     let much = g.3 in
     let inner = command_typed plan ts n no_exits outermost (k + 2) (n + labels_of_procedure x) c (omega arith) much (omega (arith, low)) (omega (arith, high)) (bare plan n (k + 2)) g.4 g.5
-    (right_back plan (name_marks n x) _ r.1) in
+    (every_back (Right plan) (name_marks n x) _ r.1) in
     record {
       mode = false;
       depth = k + 2;
@@ -88,7 +84,7 @@ procedure_typed plan ts y d (procedure n (function x name k e)) g r =
     let low = g.0 in
     let high : n + (labels_of_procedure x + labels e) ≤ OCODE_LABEL + 1 = g.1 in
     let much = g.3 in
-    let inner = value_typed plan ts n (k + 2) (n + labels_of_procedure x) e (omega arith) (omega (arith, low)) (omega (arith, high)) g.4 g.5 (right_back plan (name_marks n x) _ r.1) in
+    let inner = value_typed plan ts n (k + 2) (n + labels_of_procedure x) e (omega arith) (omega (arith, low)) (omega (arith, high)) g.4 g.5 (every_back (Right plan) (name_marks n x) _ r.1) in
     record {
       mode = false;
       depth = k + 2 + 1 - 1;
@@ -100,8 +96,8 @@ procedures_typed : (plan : ℕ → Use) (ts : List Target) (y : Bool) (d : ℕ) 
     → Outer plan y d (joined (procedure_code ts) xs)
 procedures_typed plan ts y d [] g r = record { mode = y; depth = d; typed = done }
 procedures_typed plan ts y d (x ∷ xs) g r =
-    let first = procedure_typed plan ts y d x g.0 (right_front plan (part_marks x) _ r) in
-    let rest = procedures_typed plan ts first.mode first.depth xs g.1 (right_back plan (part_marks x) _ r) in
+    let first = procedure_typed plan ts y d x g.0 (every_front (Right plan) (part_marks x) _ r) in
+    let rest = procedures_typed plan ts first.mode first.depth xs g.1 (every_back (Right plan) (part_marks x) _ r) in
     record { mode = rest.mode; depth = rest.depth; typed = typed_then first.typed rest.typed }
 
 -- data
@@ -118,10 +114,10 @@ words_typed plan d (w ∷ ws) = typing.holds (words_typed plan d ws)
 datum_typed : (plan : ℕ → Use) (ts : List Target) (y : Bool) (d : ℕ) (x : Part) → GoodPart plan ts x → AllRight plan (part_marks x) → Outer plan y d (data_code x)
 datum_typed plan ts y d (procedure n (routine x name k c)) g r =
     let low = g.0 in let high : n + (labels_of_procedure x + labels_in c) ≤ OCODE_LABEL + 1 = g.1 in let one = one_label x in
-    name_typed plan y d n x r.0 (low, omega (arith, high, one)) (omega (arith, high)) (right_front plan (name_marks n x) _ r.1)
+    name_typed plan y d n x r.0 (low, omega (arith, high, one)) (omega (arith, high)) (every_front (Right plan) (name_marks n x) _ r.1)
 datum_typed plan ts y d (procedure n (function x name k e)) g r =
     let low = g.0 in let high : n + (labels_of_procedure x + labels e) ≤ OCODE_LABEL + 1 = g.1 in let one = one_label x in
-    name_typed plan y d n x r.0 (low, omega (arith, high, one)) (omega (arith, high)) (right_front plan (name_marks n x) _ r.1)
+    name_typed plan y d n x r.0 (low, omega (arith, high, one)) (omega (arith, high)) (every_front (Right plan) (name_marks n x) _ r.1)
 datum_typed plan ts y d (static_item n k) g r = record { mode = true; depth = d; typed = begins r.0 g (typing.holds done) }
 datum_typed plan ts y d (static_table n ws) g r = record { mode = true; depth = d; typed = begins r.0 g (words_typed plan d ws) }
 datum_typed plan ts y d _ g r = record { mode = y; depth = d; typed = done }
@@ -129,21 +125,19 @@ datum_typed plan ts y d _ g r = record { mode = y; depth = d; typed = done }
 data_typed : (plan : ℕ → Use) (ts : List Target) (y : Bool) (d : ℕ) (xs : List Part) → AllGood plan ts xs → AllRight plan (joined part_marks xs) → Outer plan y d (joined data_code xs)
 data_typed plan ts y d [] g r = record { mode = y; depth = d; typed = done }
 data_typed plan ts y d (x ∷ xs) g r =
-    let first = datum_typed plan ts y d x g.0 (right_front plan (part_marks x) _ r) in
-    let rest = data_typed plan ts first.mode first.depth xs g.1 (right_back plan (part_marks x) _ r) in
+    let first = datum_typed plan ts y d x g.0 (every_front (Right plan) (part_marks x) _ r) in
+    let rest = data_typed plan ts first.mode first.depth xs g.1 (every_back (Right plan) (part_marks x) _ r) in
     record { mode = rest.mode; depth = rest.depth; typed = typed_then first.typed rest.typed }
 
 -- GLOBAL
-abbrev EntriesGood : (ℕ → Use) → List GlobalEntry → Type 0
-EntriesGood plan [] = ⊤
-EntriesGood plan (e ∷ es) = (plan e.label ≡ typing.entry) × IsGlobal e.number × IsLabel e.label × EntriesGood plan es
+abbrev EntryGood : (ℕ → Use) → GlobalEntry → Type 0
+EntryGood plan e = (plan e.label ≡ typing.entry) × IsGlobal e.number × IsLabel e.label
 
-entries_both : (plan : ℕ → Use) (xs ys : List GlobalEntry) → EntriesGood plan xs → EntriesGood plan ys → EntriesGood plan (xs ++ ys)
-entries_both plan [] ys h i = i
-entries_both plan (x ∷ xs) ys h i = (h.0, h.1, h.2, entries_both plan xs ys h.3 i)
+abbrev EntriesGood : (ℕ → Use) → List GlobalEntry → Type 0
+EntriesGood plan es = Every (EntryGood plan) es
 
 entry_good : (plan : ℕ → Use) (n : ℕ) (x : Bound) → plan n ≡ typing.entry → IsLabel n → GoodName x → EntriesGood plan (entry_of n x)
-entry_good plan n (b.Global (Some g)) e range h = (e, h, range, tt)
+entry_good plan n (b.Global (Some g)) e range h = ((e, h, range), tt)
 entry_good plan n _ e range h = tt
 
 part_entries : (plan : ℕ → Use) (ts : List Target) (x : Part) → GoodPart plan ts x → AllRight plan (part_marks x) → EntriesGood plan (entries_of x)
@@ -158,22 +152,13 @@ part_entries plan ts _ g r = tt
 all_entries : (plan : ℕ → Use) (ts : List Target) (xs : List Part) → AllGood plan ts xs → AllRight plan (joined part_marks xs) → EntriesGood plan (joined entries_of xs)
 all_entries plan ts [] g r = tt
 all_entries plan ts (x ∷ xs) g r =
-    entries_both plan (entries_of x) _ (part_entries plan ts x g.0 (right_front plan (part_marks x) _ r)) (all_entries plan ts xs g.1 (right_back plan (part_marks x) _ r))
+    every_both (EntryGood plan) (entries_of x) _ (part_entries plan ts x g.0 (every_front (Right plan) (part_marks x) _ r)) (all_entries plan ts xs g.1 (every_back (Right plan) (part_marks x) _ r))
 
 entries_named : (plan : ℕ → Use) (es : List GlobalEntry) → EntriesGood plan es → AllEntries plan (map (λ e. e.label) es)
 entries_named plan [] h = tt
-entries_named plan (e ∷ es) h = (h.0, entries_named plan es h.3)
-
-entries_ranged : (plan : ℕ → Use) (es : List GlobalEntry) → EntriesGood plan es → (k : ℕ) (e : GlobalEntry) → slice_get es k ≡ Some e → IsGlobal e.number × IsLabel e.label
-entries_ranged plan [] h k e at = absurd (let n : None ≡ Some e = at in cc)
-entries_ranged plan (x ∷ es) h zero e at = let same : x ≡ e = (let n : Some x ≡ Some e = at in cc) in subst (λ (y : GlobalEntry). IsGlobal y.number × IsLabel y.label) same (h.1, h.2)
-entries_ranged plan (x ∷ es) h (suc k) e at = entries_ranged plan es h.3 k e at
+entries_named plan (e ∷ es) h = (h.0.0, entries_named plan es h.1)
 
 -- each entry has a procedure's statements
-entry_few : (n : ℕ) (x : Bound) → length (entry_of n x) ≤ 1
-entry_few n (b.Global (Some g)) = omega arith
-entry_few n _ = omega arith
-
 part_few : (ts : List Target) (x : Part) → length (entries_of x) ≤ length (procedure_code ts x)
 part_few ts (procedure n (routine x name k c)) = let h = entry_few n x in omega (arith, h)
 part_few ts (procedure n (function x name k e)) = let h = entry_few n x in omega (arith, h)
@@ -197,7 +182,7 @@ section_typed plan xs g r short =
     let i = length-append (joined (procedure_code ts) xs ++ joined data_code xs) (t.Globals (joined entries_of xs) ∷ []) in
     let j = length-append (joined (procedure_code ts) xs) (joined data_code xs) in
     let are : AreEntries (joined entries_of xs) = record {
-      in_range = entries_ranged plan (joined entries_of xs) entries;
+      in_range = λ k e at. let g = every_at (EntryGood plan) (joined entries_of xs) entries k e at in (g.1, g.2);
       counted = omega (arith, h, i, j, short);
     } in
     typed_then (typed_then first.typed second.typed) (ends are (entries_named plan (joined entries_of xs) entries) done)
@@ -205,42 +190,18 @@ section_typed plan xs g r short =
 -- The plan that has these marks.
 abbrev pub look : List Mark → ℕ → Use
 look [] l = typing.unused
-look (m ∷ ms) l = cond (l == m.spot) m.purpose (look ms l)
-
-found_first : (x : Bool) (u v : Use) → x ≡ true → cond x u v ≡ u
-found_first true u v e = refl
-found_first false u v e = absurd (let h : false ≡ true = e in cc)
-
-found_later : (x : Bool) (u v : Use) → x ≡ false → cond x u v ≡ v
-found_later true u v e = absurd (let h : true ≡ false = e in cc)
-found_later false u v e = refl
-
-look_past : (m : Mark) (ms ns : List Mark) → times_marked m.spot ns ≡ 0 → AllRight (look ms) ns → AllRight (look (m ∷ ms)) ns
-look_past m ms [] none h = tt
-look_past m ms (n ∷ ns) none h = (pick (n.spot == m.spot) refl, look_past m ms ns (omega (arith, none)) h.1)
-  where
-    pick : (x : Bool) → (n.spot == m.spot) ≡ x → cond (n.spot == m.spot) m.purpose (look ms n.spot) ≡ n.purpose
-    pick true e =
-        let one : sets m.spot (Some n.spot) ≡ 1 = ap (λ (x : Bool). cond x 1 0) (eq-eqb m.spot n.spot (sym (eqb-true n.spot m.spot e))) in
-        absurd (omega (arith, none, one))
-    pick false e = found_later (n.spot == m.spot) m.purpose (look ms n.spot) e ∙ h.0
+look (m ∷ ms) l = cond (m.spot == l) m.purpose (look ms l)
 
 pub look_right : (ms : List Mark) → ((l : ℕ) → times_marked l ms ≤ 1) → AllRight (look ms) ms
-look_right [] once = tt
-look_right (m ∷ ms) once =
-    let own : sets m.spot (Some m.spot) ≡ 1 = ap (λ (x : Bool). cond x 1 0) (eq-eqb m.spot m.spot refl) in
-    let low = once m.spot in (
-      found_first (m.spot == m.spot) m.purpose (look ms m.spot) (eq-eqb m.spot m.spot refl),
-      look_past m ms ms (omega (arith, own, low)) (look_right ms (λ l. let h = once l in omega (arith, h))),
-    )
+look_right = all_found (λ m. m.spot) (λ m. m.purpose) look (λ m ms l. refl)
 
 pub look_set : (ms : List Mark) (l : ℕ) → (look ms l ≡ typing.unused → ⊥) → 1 ≤ times_marked l ms
 look_set [] l used = absurd (used refl)
-look_set (m ∷ ms) l used = pick (l == m.spot) refl (λ h. look_set ms l h)
+look_set (m ∷ ms) l used = pick (m.spot == l) refl (λ h. look_set ms l h)
   where
-    pick : (x : Bool) → (l == m.spot) ≡ x → ((look ms l ≡ typing.unused → ⊥) → 1 ≤ times_marked l ms) → 1 ≤ sets l (Some m.spot) + times_marked l ms
-    pick true e later = let one : sets l (Some m.spot) ≡ 1 = ap (λ (x : Bool). cond x 1 0) e in omega (arith, one)
-    pick false e later = let h = later (λ i. used (found_later (l == m.spot) m.purpose (look ms l) e ∙ i)) in omega (arith, h)
+    pick : (x : Bool) → (m.spot == l) ≡ x → ((look ms l ≡ typing.unused → ⊥) → 1 ≤ times_marked l ms) → 1 ≤ sets l (Some m.spot) + times_marked l ms
+    pick true e later = let one : sets l (Some m.spot) ≡ 1 = ap (λ (x : Bool). cond x 1 0) (eq-eqb l m.spot (sym (eqb-true m.spot l e))) in omega (arith, one)
+    pick false e later = let h = later (λ i. used (ap (λ (x : Bool). cond x m.purpose (look ms l)) e ∙ i)) in omega (arith, h)
 
 -- a part sets what its marks have
 name_marked : (l n : ℕ) (x : Bound) → times_set l (word_code n x) ≡ times_marked l (name_marks n x)
@@ -249,16 +210,16 @@ name_marked l n _ = refl
 
 part_marked : (l : ℕ) (ts : List Target) (x : Part) → times_set l (procedure_code ts x) + times_set l (data_code x) ≡ times_marked l (part_marks x)
 part_marked l ts (procedure n (routine x name k c)) =
-    let h = name_marked l n x in let i = command_marked l ts outermost n (k + 2) (n + labels_of_procedure x) c in simp (set_both, marked_both) (omega (arith, h, i))
+    let h = name_marked l n x in let i = command_marked l ts outermost n (k + 2) (n + labels_of_procedure x) c in simp (set_both, total_both) (omega (arith, h, i))
 part_marked l ts (procedure n (function x name k e)) =
-    let h = name_marked l n x in let i = value_marked l ts n (k + 2) (n + labels_of_procedure x) e in simp (set_both, marked_both) (omega (arith, h, i))
+    let h = name_marked l n x in let i = value_marked l ts n (k + 2) (n + labels_of_procedure x) e in simp (set_both, total_both) (omega (arith, h, i))
 part_marked l ts (static_item n k) = omega arith
 part_marked l ts (static_table n ws) = let h = words_none l ws in omega (arith, h)
 part_marked l ts _ = refl
 
 parts_marked : (l : ℕ) (ts : List Target) (xs : List Part) → times_set l (joined (procedure_code ts) xs) + times_set l (joined data_code xs) ≡ times_marked l (joined part_marks xs)
 parts_marked l ts [] = refl
-parts_marked l ts (x ∷ xs) = simp (set_both, marked_both) (omega (arith, part_marked l ts x, parts_marked l ts xs))
+parts_marked l ts (x ∷ xs) = simp (set_both, total_both) (omega (arith, part_marked l ts x, parts_marked l ts xs))
 
 pub section_marked : (l : ℕ) (xs : List Part) → times_set l (section_code xs) ≡ times_marked l (joined part_marks xs)
 section_marked l xs =

@@ -43,14 +43,8 @@ pub next_truth : (k : ℕ) (x : Bool) → next_depth k (truth_value x) ≡ k + 1
 next_truth k true = refl
 next_truth k false = refl
 
-pub fits_query : (plan : ℕ → Use) (p k : ℕ) → k + 1 ≤ FRAME_WORDS → Fits plan p k t.Query
-fits_query plan p k high = record { placed = refl; ranged = tt; deep = omega arith; shallow = high; agrees = tt }
-
 pub short_bytes : (xs : List ℕ) → length (first_bytes xs) ≤ NAME_BYTES
 short_bytes xs = let h = length-take NAME_BYTES xs in omega (arith, h)
-
-pub fits_text : (plan : ℕ → Use) (p k : ℕ) (xs : List ℕ) → k + 1 ≤ FRAME_WORDS → Fits plan p k (t.Text (first_bytes xs))
-fits_text plan p k xs high = record { placed = refl; ranged = short_bytes xs; deep = omega arith; shallow = high; agrees = tt }
 
 -- words of the frame
 pub fits_local : (plan : ℕ → Use) (p k i : ℕ) → 2 ≤ i → i + 1 ≤ k → k + 1 ≤ FRAME_WORDS → Fits plan p k (t.Load (v.Local i))
@@ -81,21 +75,12 @@ fits_assign plan ts p k (b.Static m) h low high = record { placed = refl; ranged
 fits_assign plan ts p k (b.Variable j i) h low high = record { placed = refl; ranged = (h.0, omega (arith, h, high)); deep = omega (arith, h); shallow = omega (arith, high); agrees = tt }
 fits_assign plan ts p k _ h low high = elim h [ ]
 
-pub fits_assign_local : (plan : ℕ → Use) (p k i : ℕ) → 2 ≤ i → i + 2 ≤ k → k ≤ FRAME_WORDS → Fits plan p k (t.Assign (v.Local i))
-fits_assign_local plan p k i low below high = record { placed = refl; ranged = (low, omega (arith, below, high)); deep = below; shallow = omega (arith, high); agrees = tt }
-
-pub fits_address_local : (plan : ℕ → Use) (p k i : ℕ) → 2 ≤ i → i + 1 ≤ k → k + 1 ≤ FRAME_WORDS → Fits plan p k (t.Address (v.Local i))
-fits_address_local plan p k i low below high = record { placed = refl; ranged = (low, omega (arith, below, high)); deep = below; shallow = high; agrees = tt }
-
 -- on items
 pub fits_monadic : (plan : ℕ → Use) (p k : ℕ) (f : MonadicOperator) → 3 ≤ k → k ≤ FRAME_WORDS → Fits plan p k (t.Monadic f)
 fits_monadic plan p k f low high = record { placed = refl; ranged = tt; deep = low; shallow = high; agrees = tt }
 
 pub fits_dyadic : (plan : ℕ → Use) (p k : ℕ) (f : DyadicOperator) → 4 ≤ k → k ≤ FRAME_WORDS → Fits plan p k (t.Dyadic f)
 fits_dyadic plan p k f low high = record { placed = refl; ranged = tt; deep = low; shallow = omega (arith, high); agrees = tt }
-
-pub fits_load_byte : (plan : ℕ → Use) (p k : ℕ) → 4 ≤ k → k ≤ FRAME_WORDS → Fits plan p k t.LoadByte
-fits_load_byte plan p k low high = record { placed = refl; ranged = tt; deep = low; shallow = omega (arith, high); agrees = tt }
 
 pub fits_assign_at : (plan : ℕ → Use) (p k : ℕ) → 4 ≤ k → k ≤ FRAME_WORDS → Fits plan p k t.AssignAt
 fits_assign_at plan p k low high = record { placed = refl; ranged = tt; deep = low; shallow = omega (arith, high); agrees = tt }
@@ -120,21 +105,6 @@ fits_give plan p s d l e below range low high =
 
 pub fits_stack : (plan : ℕ → Use) (p k d : ℕ) → IsDepth d → Fits plan p k (t.Stack d)
 fits_stack plan p k d range = record { placed = refl; ranged = range; deep = omega arith; shallow = range.1; agrees = tt }
-
-pub fits_store : (plan : ℕ → Use) (p k : ℕ) → k ≤ FRAME_WORDS → Fits plan p k t.Store
-fits_store plan p k high = record { placed = refl; ranged = tt; deep = omega arith; shallow = high; agrees = tt }
-
-pub fits_function : (plan : ℕ → Use) (p k s : ℕ) → 2 ≤ s → s + 3 ≤ k → k ≤ FRAME_WORDS → Fits plan p k (t.CallFunction s)
-fits_function plan p k s low deep high = record { placed = refl; ranged = (low, omega (arith, deep, high)); deep = deep; shallow = omega (arith, deep, high); agrees = tt }
-
-pub fits_routine : (plan : ℕ → Use) (p k s : ℕ) → 2 ≤ s → s + 3 ≤ k → k ≤ FRAME_WORDS → Fits plan p k (t.CallRoutine s)
-fits_routine plan p k s low deep high = record { placed = refl; ranged = (low, omega (arith, deep, high)); deep = deep; shallow = omega (arith, deep, high); agrees = tt }
-
-pub fits_return : (plan : ℕ → Use) (p k : ℕ) → k ≤ FRAME_WORDS → Fits plan p k t.Return
-fits_return plan p k high = record { placed = refl; ranged = tt; deep = omega arith; shallow = high; agrees = tt }
-
-pub fits_finish : (plan : ℕ → Use) (p k : ℕ) → k ≤ FRAME_WORDS → Fits plan p k t.Finish
-fits_finish plan p k high = record { placed = refl; ranged = tt; deep = omega arith; shallow = high; agrees = tt }
 
 -- the test of a FOR
 pub fits_test : (plan : ℕ → Use) (p k : ℕ) (j : ℕ) → 4 ≤ k → k ≤ FRAME_WORDS → Fits plan p k (test_of_step j)
@@ -165,24 +135,8 @@ pub infix_steps : (plan : ℕ → Use) (p s : ℕ) → 2 ≤ s → s + 1 + 1 ≤
 infix_steps plan p s low high o.Subscript =
     step (s + 1) (t.Dyadic two.Add) (fits_dyadic plan p (s + 1 + 1) two.Add (omega (arith, low)) high) (omega arith)
     (last (s + 1) _ (fits_monadic plan p (s + 1) _ (omega (arith, low)) (omega (arith, high))) refl)
-infix_steps plan p s low high o.Byte = last (s + 1) t.LoadByte (fits_load_byte plan p (s + 1 + 1) (omega (arith, low)) high) (omega arith)
-infix_steps plan p s low high o.Times = dyadic_steps plan p s low high two.Multiply
-infix_steps plan p s low high o.Over = dyadic_steps plan p s low high two.Divide
-infix_steps plan p s low high o.Rem = dyadic_steps plan p s low high two.Remainder
-infix_steps plan p s low high o.Add = dyadic_steps plan p s low high two.Add
-infix_steps plan p s low high o.Subtract = dyadic_steps plan p s low high two.Subtract
-infix_steps plan p s low high o.Equal = dyadic_steps plan p s low high two.Equal
-infix_steps plan p s low high o.Unequal = dyadic_steps plan p s low high two.Unequal
-infix_steps plan p s low high o.Less = dyadic_steps plan p s low high two.Less
-infix_steps plan p s low high o.Greater = dyadic_steps plan p s low high two.Greater
-infix_steps plan p s low high o.AtMost = dyadic_steps plan p s low high two.AtMost
-infix_steps plan p s low high o.AtLeast = dyadic_steps plan p s low high two.AtLeast
-infix_steps plan p s low high o.ShiftLeft = dyadic_steps plan p s low high two.ShiftLeft
-infix_steps plan p s low high o.ShiftRight = dyadic_steps plan p s low high two.ShiftRight
-infix_steps plan p s low high o.Both = dyadic_steps plan p s low high two.And
-infix_steps plan p s low high o.Either = dyadic_steps plan p s low high two.Or
-infix_steps plan p s low high o.Same = dyadic_steps plan p s low high two.Eqv
-infix_steps plan p s low high o.Differ = dyadic_steps plan p s low high two.Neqv
+infix_steps plan p s low high o.Byte = last (s + 1) t.LoadByte (record { placed = refl; ranged = tt; deep = omega (arith, low); shallow = omega (arith, high); agrees = tt }) (omega arith)
+infix_steps plan p s low high _ = dyadic_steps plan p s low high _
 
 -- to a label, and back to the depth of the text
 pub go_steps : (plan : ℕ → Use) (p s : ℕ) (g : Goal) → IsGoal plan p g → 2 ≤ s → s ≤ FRAME_WORDS → Steps plan p s (go g s) s

@@ -69,17 +69,11 @@ module _ (gs : List Goal) (ts : List Target) (placed : Placed gs ts) where
       renumbered (put all (same {s = Label w.next} {r = Label k} (ap Label at.next.same))) (omega arith)
 
   -- what is tied of destinations, lists, commands and declarations
-  abbrev Addressed : Expression → Type 0
-  Addressed e = (s t : ℕ) (w : Writing) (g : Supply) (k : ℕ) → Near s t → At w g k
-      → Adds gs ts w (address_code ts t k (f.lvalue e g).part) (parts_at t k (f.lvalue e g).part) [] None (f.lvalue e g).left (k + n.labels_at (f.lvalue e g).part) (address_written s e w)
-
-  abbrev Set_tie : Expression → Type 0
-  Set_tie e = (s t : ℕ) (w : Writing) (g : Supply) (k : ℕ) → Near s t → At w g k
-      → Adds gs ts w (store_code ts t k (f.lvalue e g).part) (parts_at t k (f.lvalue e g).part) [] None (f.lvalue e g).left (k + n.labels_at (f.lvalue e g).part) (store_written s e w)
-
   record Reaching (e : Expression) : Type 0 where
-    pub address : Addressed e
-    pub store : Set_tie e
+    pub address : (s t : ℕ) (w : Writing) (g : Supply) (k : ℕ) → Near s t → At w g k
+        → Adds gs ts w (address_code ts t k (f.lvalue e g).part) (parts_at t k (f.lvalue e g).part) [] None (f.lvalue e g).left (k + n.labels_at (f.lvalue e g).part) (address_written s e w)
+    pub store : (s t : ℕ) (w : Writing) (g : Supply) (k : ℕ) → Near s t → At w g k
+        → Adds gs ts w (store_code ts t k (f.lvalue e g).part) (parts_at t k (f.lvalue e g).part) [] None (f.lvalue e g).left (k + n.labels_at (f.lvalue e g).part) (store_written s e w)
 
   leaf : (x y : Stmt) {w : Writing} {g : Supply} {k : ℕ} → stmt_in_words x ≡ stmt_in_words y → At w g k → Adds gs ts w (y ∷ []) [] [] None g (k + 0) (puts x w)
   leaf x y e at = renumbered (put (nothing at) (one x y e)) (omega arith)
@@ -136,11 +130,6 @@ module _ (gs : List Goal) (ts : List Target) (placed : Placed gs ts) where
       → Adds gs ts w (command_code ts y t k (f.command c g).part) (parts_in t k (f.command c g).part) (cases k (f.command c g).part) (default_in k (f.command c g).part) (f.command c g).left
       (k + n.labels_in (f.command c g).part) (act_written x s c w)
 
-  abbrev Acted_each : Commands → Type 0
-  Acted_each cs = (x y : Around) (s t : ℕ) (w : Writing) (g : Supply) (k : ℕ) → NearAround x y → Near s t → At w g k
-      → Adds gs ts w (through_code ts y t k (f.commands cs g).part) (parts_through t k (f.commands cs g).part) (cases_through k (f.commands cs g).part) (default_through k (f.commands cs g).part) (f.commands cs g).left
-      (k + n.labels_through (f.commands cs g).part) (each_act_written x s cs w)
-
   at_choices : {w : Writing} {g : Supply} {k : ℕ} → At w g k → At (with_choices no_choices w) g k
   at_choices at = record { left = at.left; next = at.next }
 
@@ -151,22 +140,6 @@ module _ (gs : List Goal) (ts : List Target) (placed : Placed gs ts) where
       let ends = put (put (then own body) (same {s = Label w.next} {r = Label k} (ap Label at.next.same))) (same {s = TakeResult s} {r = TakeResult t} (ap TakeResult ns.same)) in
       renumbered (recoded ends (append_assoc _ (Label k ∷ []) (TakeResult t ∷ []))) (omega arith)
 
-  -- with choices of its own
-  acted_alone : (c : Command) → Acted c → (x y : Around) (s t : ℕ) (v : Writing) (g : Supply) (k : ℕ) → NearAround x y → Near s t → At v g k
-      → Adds gs ts v (command_code ts y t k (f.command c g).part) (parts_in t k (f.command c g).part) [] None (f.command c g).left (k + n.labels_in (f.command c g).part)
-      (with_choices v.choices (act_written x s c (with_choices no_choices v)))
-  acted_alone c tc x y s t v g k na ns at = unchosen no_choices (tc x y s t (with_choices no_choices v) g k na ns (at_choices at))
-
-  acted_each_alone : (cs : Commands) → Acted_each cs → (x y : Around) (s t : ℕ) (v : Writing) (g : Supply) (k : ℕ) → NearAround x y → Near s t → At v g k
-      → Adds gs ts v (through_code ts y t k (f.commands cs g).part) (parts_through t k (f.commands cs g).part) [] None (f.commands cs g).left (k + n.labels_through (f.commands cs g).part)
-      (with_choices v.choices (each_act_written x s cs (with_choices no_choices v)))
-  acted_each_alone cs tc x y s t v g k na ns at = unchosen no_choices (tc x y s t (with_choices no_choices v) g k na ns (at_choices at))
-
-  acted_aside : (c : Command) → Acted c → (x y : Around) (s t : ℕ) (v : Writing) (g : Supply) (k : ℕ) → NearAround x y → Near s t → At v g k
-      → Adds gs ts (with_choices no_choices (with_code [] v)) (command_code ts y t k (f.command c g).part) (parts_in t k (f.command c g).part) (cases k (f.command c g).part) (default_in k (f.command c g).part)
-      (f.command c g).left (k + n.labels_in (f.command c g).part) (act_written x s c (with_choices no_choices (with_code [] v)))
-  acted_aside c tc x y s t v g k na ns at = tc x y s t (with_choices no_choices (with_code [] v)) g k na ns (record { left = at.left; next = at.next })
-
   -- destinations, written aside
   abbrev Same_codes : List (List Unresolved) → List (List Stmt) → Type 0
   Same_codes ds ss = map (map stmt_in_words) (map (map (settled gs)) ds) ≡ map (map stmt_in_words) ss
@@ -175,50 +148,11 @@ module _ (gs : List Goal) (ts : List Target) (placed : Placed gs ts) where
     pub codes_are : Same_codes r.codes (before ++ codes)
     pub writing_is : Adds gs ts w [] ps [] None g k r.writing
 
-  abbrev Stores_each : Expressions → Type 0
-  Stores_each es = (s t : ℕ) (r : Stored) (before : List (List Stmt)) (g : Supply) (k : ℕ) → Near s t → At r.writing g k → Same_codes r.codes before
-      → Stores r.writing before (store_codes ts t k (f.lvalues es g).part) (parts_onto t k (f.lvalues es g).part) (f.lvalues es g).left (k + n.labels_onto (f.lvalues es g).part) (stores_written s es r)
-
   -- values, with destinations behind them
-  abbrev Sets_each : Expressions → Type 0
-  Sets_each es = (s t : ℕ) (w : Writing) (xs : List (List Unresolved)) (ys : List (List Stmt)) (g : Supply) (k : ℕ) → Near s t → At w g k → Same_codes xs ys
-      → Adds gs ts w (by_turns (value_codes ts t k (f.terms es g).part) ys) (parts_from t k (f.terms es g).part) [] None (f.terms es g).left (k + n.labels_each (f.terms es g).part) (values_written s es xs w)
-
   -- declarations, and the depth behind them
   pub record Declares (w : Writing) (code : List Stmt) (ps : List Part) (t : ℕ) (g : Supply) (k : ℕ) (r : Reached) : Type 0 where
     pub writing_is : Adds gs ts w code ps [] None g k r.writing
     pub depth_is : Near r.depth t
-
-  abbrev pub Declared : Declarations → Type 0
-  Declared ds = (r : Reached) (t : ℕ) (g : Supply) (k : ℕ) → Near r.depth t → At r.writing g k
-      → Declares r.writing (declarations_code ts t k (f.all_declared ds g).part) (parts_of_declarations t k (f.all_declared ds g).part) (depths.after_declarations t (f.all_declared ds g).part) (f.all_declared ds g).left
-      (k + n.labels_of_declarations (f.all_declared ds g).part) (declared ds r)
-
-  abbrev Declared_one : Declaration → Type 0
-  Declared_one ds = (r : Reached) (t : ℕ) (g : Supply) (k : ℕ) → Near r.depth t → At r.writing g k
-      → Declares r.writing (declaration_code ts t k (f.declared ds g).part) (parts_of_declaration t k (f.declared ds g).part) (depths.after_declaration t (f.declared ds g).part) (f.declared ds g).left
-      (k + n.labels_of_declaration (f.declared ds g).part) (one_declared ds r)
-
-  abbrev Defined : Definitions → Type 0
-  Defined ds = (r : Reached) (t : ℕ) (g : Supply) (k : ℕ) → Near r.depth t → At r.writing g k
-      → Declares r.writing (definitions_code ts t k (f.all_defined ds g).part) (parts_of_definitions t k (f.all_defined ds g).part) (depths.after_definitions t (f.all_defined ds g).part) (f.all_defined ds g).left
-      (k + n.labels_of_definitions (f.all_defined ds g).part) (defined ds r)
-
-  abbrev Defined_one : Definition → Type 0
-  Defined_one ds = (r : Reached) (t : ℕ) (g : Supply) (k : ℕ) → Near r.depth t → At r.writing g k
-      → Declares r.writing (definition_code ts t k (f.defined ds g).part) (parts_of_definition t k (f.defined ds g).part) (depths.after_definition t (f.defined ds g).part) (f.defined ds g).left
-      (k + n.labels_of_definition (f.defined ds g).part) (one_defined ds r)
-
-  abbrev Started : Starts → Type 0
-  Started is = (r : Reached) (t : ℕ) (g : Supply) (k : ℕ) → Near r.depth t → At r.writing g k
-      → Declares r.writing (starts_code ts t k (f.starts is g).part) (parts_of_starts t k (f.starts is g).part) (depths.after_starts t (f.starts is g).part) (f.starts is g).left
-      (k + n.labels_of_starts (f.starts is g).part) (started is r)
-
-  heads_are : (x : List Unresolved) (y : List Stmt) (xs : List (List Unresolved)) (ys : List (List Stmt)) → Same_codes (x ∷ xs) (y ∷ ys) → map stmt_in_words (map (settled gs) x) ≡ map stmt_in_words y
-  heads_are x y xs ys h = cc
-
-  tails_are : (x : List Unresolved) (y : List Stmt) (xs : List (List Unresolved)) (ys : List (List Stmt)) → Same_codes (x ∷ xs) (y ∷ ys) → Same_codes xs ys
-  tails_are x y xs ys h = cc
 
   no_turns : (xs : List (List Stmt)) → by_turns xs [] ≡ []
   no_turns [] = refl
@@ -283,7 +217,8 @@ module _ (gs : List Goal) (ts : List Target) (placed : Placed gs ts) where
     }
     reaching e = nowhere e (λ g. refl) (λ s w. refl) (λ s w. refl)
 
-    stored : (es : Expressions) → Stores_each es
+    stored : (es : Expressions) → (s t : ℕ) (r : Stored) (before : List (List Stmt)) (g : Supply) (k : ℕ) → Near s t → At r.writing g k → Same_codes r.codes before
+        → Stores r.writing before (store_codes ts t k (f.lvalues es g).part) (parts_onto t k (f.lvalues es g).part) (f.lvalues es g).left (k + n.labels_onto (f.lvalues es g).part) (stores_written s es r)
     stored none s t r before g k ns at h = record { codes_are = h ∙ ap (map (map stmt_in_words)) (sym (append-nil before)); writing_is = renumbered (nothing at) (omega arith) }
     stored (more e es) s t r before g k ns at h =
         let one_store = (reaching e).store s t (with_code [] r.writing) g k ns (record { left = at.left; next = at.next }) in
@@ -301,14 +236,15 @@ module _ (gs : List Goal) (ts : List Target) (placed : Placed gs ts) where
           writing_is = renumbered (then first rest.writing_is) (omega arith);
         }
 
-    set : (es : Expressions) → Sets_each es
+    set : (es : Expressions) → (s t : ℕ) (w : Writing) (xs : List (List Unresolved)) (ys : List (List Stmt)) (g : Supply) (k : ℕ) → Near s t → At w g k → Same_codes xs ys
+        → Adds gs ts w (by_turns (value_codes ts t k (f.terms es g).part) ys) (parts_from t k (f.terms es g).part) [] None (f.terms es g).left (k + n.labels_each (f.terms es g).part) (values_written s es xs w)
     set none s t w xs ys g k ns at h = renumbered (nothing at) (omega arith)
     set (more e es) s t w [] [] g k ns at h =
         let first = resumed ((tied e).value s t (with_code [] w) g k ns (record { left = at.left; next = at.next })) in
         renumbered (recoded (then first (set es s t _ [] [] _ _ ns first.at refl)) (no_turns _)) (omega arith)
     set (more e es) s t w (x ∷ xs) (y ∷ ys) g k ns at h =
-        let first = put_drafts _ ((tied e).value s t w g k ns at) (record { same = heads_are x y xs ys h }) in
-        renumbered (then first (set es s t _ xs ys _ _ ns first.at (tails_are x y xs ys h))) (omega arith)
+        let first = put_drafts _ ((tied e).value s t w g k ns at) (record { same = cc }) in
+        renumbered (then first (set es s t _ xs ys _ _ ns first.at (cc))) (omega arith)
     set (more e es) s t w _ _ g k ns at h = absurd cc
 
     acted : (c : Command) → Acted c
@@ -353,7 +289,7 @@ module _ (gs : List Goal) (ts : List Target) (placed : Placed gs ts) where
         let limit = then start ((tied e).value (after s 1) (t + 1) _ _ _ (near_after 1 ns) start.at) in
         let step = took {gs = gs} {ts = ts} (λ v. (step_of h v).left) limit.at in
         let begins = put step (before_near at.next) in
-        let body = acted_alone c (acted c) _ _ (after s 2) (t + 2) _ _ _ (in_loop (near_after 2 at.next) (near_after 3 at.next) (near_after 2 ns) na) (near_after 2 ns) begins.at in
+        let body = unchosen no_choices (acted c _ _ (after s 2) (t + 2) _ _ _ (in_loop (near_after 2 at.next) (near_after 3 at.next) (near_after 2 ns) na) (near_after 2 ns) (at_choices begins.at)) in
         let by : ℕ = (step_of h (f.term e (f.term a g).left).left).part in
         let steps = is_alike (ap (λ v. steps_on w.next s (step_of h v).part) limit.at.left) (steps_near by at.next ns) in
         let goes = is_alike (ap (λ v. goes_on w.next s (step_of h v).part) limit.at.left) (goes_near by at.next ns) in
@@ -361,7 +297,7 @@ module _ (gs : List Goal) (ts : List Target) (placed : Placed gs ts) where
     acted (switch l e c) y z s t w g k na ns at =
         let own = labelled {gs = gs} {ts = ts} 1 at in
         let first = then own ((tied e).value s t (takes_labels 1 w) g (k + 1) ns own.at) in
-        renumbered (switched at.next first (acted_aside c (acted c) _ _ s t _ _ _ (in_switch at.next ns na) ns first.at)) (omega arith)
+        renumbered (switched at.next first (acted c _ _ s t _ _ _ (in_switch at.next ns na) ns (record { left = first.at.left; next = first.at.next }))) (omega arith)
     acted (result l e) y z s t w g k na ns at = put ((tied e).value s t w g k ns at) (same {s = GiveResult y.valof} {r = GiveResult z.valof} (ap GiveResult na.valof.same))
     acted (simple l w.Break) y z s t w g k na ns at = renumbered (put (nothing at) (go_near _ _ s t na.leaves ns)) (omega arith)
     acted (simple l w.Loop) y z s t w g k na ns at = renumbered (put (nothing at) (go_near _ _ s t na.goes_on ns)) (omega arith)
@@ -373,7 +309,7 @@ module _ (gs : List Goal) (ts : List Target) (placed : Placed gs ts) where
         rw none (renumbered (acted_each cs y z s t w g k na ns at) (omega arith))
     acted (block l (declare e es) cs) y z s t w g k na ns at =
         let heads = all_declared (declare e es) (reached s w) t g k ns at in
-        let body = acted_each_alone cs (acted_each cs) y z _ _ _ _ _ na heads.depth_is heads.writing_is.at in
+        let body = unchosen no_choices (acted_each cs y z _ _ _ _ _ na heads.depth_is (at_choices heads.writing_is.at)) in
         renumbered (put (then heads.writing_is body) (same {s = Stack s} {r = Stack t} (ap Stack ns.same))) (omega arith)
     acted (repeat l c) y z s t w g k na ns at =
         let own = put (labelled {gs = gs} {ts = ts} 2 at) (same {s = Label w.next} {r = Label k} (ap Label at.next.same)) in
@@ -387,34 +323,44 @@ module _ (gs : List Goal) (ts : List Target) (placed : Placed gs ts) where
         let test = then between ((tied e).jump s t _ _ _ ns between.at v w.next k at.next) in
         renumbered (put (tail_cases (then body test)) (same {s = Label (after w.next 2)} {r = Label (k + 2)} (ap Label (near_after 2 at.next).same))) (omega arith)
 
-    acted_each : (cs : Commands) → Acted_each cs
+    acted_each : (cs : Commands) → (x y : Around) (s t : ℕ) (w : Writing) (g : Supply) (k : ℕ) → NearAround x y → Near s t → At w g k
+        → Adds gs ts w (through_code ts y t k (f.commands cs g).part) (parts_through t k (f.commands cs g).part) (cases_through k (f.commands cs g).part) (default_through k (f.commands cs g).part) (f.commands cs g).left
+        (k + n.labels_through (f.commands cs g).part) (each_act_written x s cs w)
     acted_each no_commands y z s t w g k na ns at = renumbered (nothing at) (omega arith)
     acted_each (also c cs) y z s t w g k na ns at =
         let first = acted c y z s t w g k na ns at in
         renumbered (then first (acted_each cs y z s t _ _ _ na ns first.at)) (omega arith)
 
-    pub all_declared : (ds : Declarations) → Declared ds
+    pub all_declared : (ds : Declarations) → (r : Reached) (t : ℕ) (g : Supply) (k : ℕ) → Near r.depth t → At r.writing g k
+        → Declares r.writing (declarations_code ts t k (f.all_declared ds g).part) (parts_of_declarations t k (f.all_declared ds g).part) (depths.after_declarations t (f.all_declared ds g).part) (f.all_declared ds g).left
+        (k + n.labels_of_declarations (f.all_declared ds g).part) (declared ds r)
     all_declared no_declarations r t g k ns at = record { writing_is = renumbered (nothing at) (omega arith); depth_is = ns }
     all_declared (declare e es) r t g k ns at =
         let first = declared_one e r t g k ns at in
         let rest = all_declared es _ _ _ _ first.depth_is first.writing_is.at in
         record { writing_is = renumbered (then first.writing_is rest.writing_is) (omega arith); depth_is = rest.depth_is }
 
-    declared_one : (e : Declaration) → Declared_one e
+    declared_one : (ds : Declaration) → (r : Reached) (t : ℕ) (g : Supply) (k : ℕ) → Near r.depth t → At r.writing g k
+        → Declares r.writing (declaration_code ts t k (f.declared ds g).part) (parts_of_declaration t k (f.declared ds g).part) (depths.after_declaration t (f.declared ds g).part) (f.declared ds g).left
+        (k + n.labels_of_declaration (f.declared ds g).part) (one_declared ds r)
     declared_one (constants l sort.Static is) r t g k ns at = record { writing_is = put_items is at; depth_is = ns }
     declared_one (constants l _ is) r t g k ns at = rw (no_parts is g) (record { writing_is = renumbered (took (λ v. (dropped is v).left) at) (omega arith); depth_is = ns })
     declared_one (definitions l es) r t g k ns at =
         let all = all_defined es r t g k ns at in
         rw (← same_variables es g) (record { writing_is = put_store (any_variables es) all.writing_is; depth_is = all.depth_is })
 
-    all_defined : (es : Definitions) → Defined es
+    all_defined : (ds : Definitions) → (r : Reached) (t : ℕ) (g : Supply) (k : ℕ) → Near r.depth t → At r.writing g k
+        → Declares r.writing (definitions_code ts t k (f.all_defined ds g).part) (parts_of_definitions t k (f.all_defined ds g).part) (depths.after_definitions t (f.all_defined ds g).part) (f.all_defined ds g).left
+        (k + n.labels_of_definitions (f.all_defined ds g).part) (defined ds r)
     all_defined no_definitions r t g k ns at = record { writing_is = renumbered (nothing at) (omega arith); depth_is = ns }
     all_defined (define e es) r t g k ns at =
         let first = defined_one e r t g k ns at in
         let rest = all_defined es _ _ _ _ first.depth_is first.writing_is.at in
         record { writing_is = renumbered (then first.writing_is rest.writing_is) (omega arith); depth_is = rest.depth_is }
 
-    defined_one : (e : Definition) → Defined_one e
+    defined_one : (ds : Definition) → (r : Reached) (t : ℕ) (g : Supply) (k : ℕ) → Near r.depth t → At r.writing g k
+        → Declares r.writing (definition_code ts t k (f.defined ds g).part) (parts_of_definition t k (f.defined ds g).part) (depths.after_definition t (f.defined ds g).part) (f.defined ds g).left
+        (k + n.labels_of_definition (f.defined ds g).part) (one_defined ds r)
     defined_one (routine l x fs c) r t g k ns at =
         let body = acted c outermost outermost (after 2 (length fs)) (length fs + 2) (begins_procedure x (length fs) r.writing) _ _ in_procedure (near_is (near_after (length fs) (near 2)) (omega arith)) (begun_at x (length fs) at) in
         record { writing_is = renumbered (procedure_done (procedure k (f.defined (routine l x fs c) g).part) x (length fs) Return at body refl refl refl refl) (omega arith); depth_is = ns }
@@ -423,7 +369,9 @@ module _ (gs : List Goal) (ts : List Target) (placed : Placed gs ts) where
         record { writing_is = renumbered (procedure_done (procedure k (f.defined (function l x fs e) g).part) x (length fs) ReturnItem at body refl refl refl refl) (omega arith); depth_is = ns }
     defined_one (variables l xs is) r t g k ns at = begun is r t g k ns at
 
-    begun : (is : Starts) → Started is
+    begun : (is : Starts) → (r : Reached) (t : ℕ) (g : Supply) (k : ℕ) → Near r.depth t → At r.writing g k
+        → Declares r.writing (starts_code ts t k (f.starts is g).part) (parts_of_starts t k (f.starts is g).part) (depths.after_starts t (f.starts is g).part) (f.starts is g).left
+        (k + n.labels_of_starts (f.starts is g).part) (started is r)
     begun no_starts r t g k ns at = record { writing_is = renumbered (nothing at) (omega arith); depth_is = ns }
     begun (value e is) r t g k ns at =
         let first = (tied e).value r.depth t r.writing g k ns at in

@@ -1,10 +1,10 @@
 -- The statements that are written of a section are the scheme's, in words.
-use Rattle.bk_trans.proofs.Words.{◌≡◌, ℕ, ◌==◌, Bool, true, false, cond, List, [], ◌∷◌, map, refl, sym, ap, ◌∙◌, Declarations, Bound, meanings, words, Stmt, Globals, joined}
+use Rattle.bk_trans.proofs.Words.{◌≡◌, ℕ, ◌==◌, Bool, true, false, cond, List, [], ◌∷◌, map, refl, sym, ap, ◌∙◌, Declarations, Bound, meanings, words, Stmt, Globals, joined, map_same}
 use Rattle.bk_scope.specs.Known.{Known}
 use Rattle.bk_trans.proofs.Terms.{Within, IsSection, Goal, Target, word, target_in_words, stmt_in_words, in_words, Supply, program_of, AllFit, AreWords, named_tree, Part, target_of, parts_of_declarations, goal, goal_of, entries_of, scheme, reached, starting, section_written, AreWritten}
 use Rattle.bk_trans.specs.Filling as f
 use Rattle.bk_trans.proofs.Adds.{near, Alike, alike_both}
-use Rattle.bk_trans.proofs.FittingLemmas.{all_are}
+use Rattle.bk_trans.proofs.FittingLemmas.{all_at}
 use Rattle.bk_trans.proofs.Accepted.{scheme_is_accepted}
 use Rattle.bk_trans.proofs.Ranges.{in_range_is}
 use Rattle.bk_trans.proofs.Named.{filling_names}
@@ -36,7 +36,7 @@ module _ (ds : Declarations) (g : Supply) where
 
   -- where its declarations went is found by writing it once
   found : map target_in_words (section_written ds g).apart.targets ≡ map target_in_words (joined target_of its_parts)
-  found = (all_declared [] [] nowhere ds (reached 2 (starting g)) 2 g 1 (near 2) (record { left = refl; next = near 1 })).writing_is.its_targets.same
+  found = (all_declared [] [] nowhere ds (reached 2 (starting g)) 2 g 1 (near 2) (record { left = refl; next = near 1 })).writing_is.its_apart.its_targets.same
 
   -- and so the statements are those of the scheme
   pub section_alike : (stmts : List Stmt) → AreWritten ds g stmts → in_words stmts ≡ in_words (scheme (f.all_declared ds g).part)
@@ -44,9 +44,9 @@ module _ (ds : Declarations) (g : Supply) where
       let ts : List Target = joined target_of its_parts in
       let placed : Placed w.goals ts = record { at_number = λ m. rw (w.places m) (goals_near (section_written ds g).apart.targets ts found m) } in
       let all = (all_declared w.goals ts placed ds (reached 2 (starting g)) 2 g 1 (near 2) (record { left = refl; next = near 1 })).writing_is in
-      let globals : stmt_in_words (Globals (section_written ds g).apart.entries) ≡ stmt_in_words (Globals (joined entries_of its_parts)) = ap Globals all.its_entries.same in
+      let globals : stmt_in_words (Globals (section_written ds g).apart.entries) ≡ stmt_in_words (Globals (joined entries_of its_parts)) = ap Globals all.its_apart.its_entries.same in
       let last : Alike stmt_in_words (Globals (section_written ds g).apart.entries ∷ []) (Globals (joined entries_of its_parts) ∷ []) = record { same = ap (λ x. x ∷ []) globals } in
-      ap (map stmt_in_words) w.are ∙ (alike_both (alike_both (record { same = all.its_procedures.same }) (record { same = all.its_data.same })) last).same
+      ap (map stmt_in_words) w.are ∙ (alike_both (alike_both (record { same = all.its_apart.its_procedures.same }) (record { same = all.its_apart.its_data.same })) last).same
 
 -- of a section without faults, with its meanings and words
 pub written_is_alike : (ds : Declarations) (ms : List Bound) (ws : List ℕ) (stmts : List Stmt) → Known ds ms ws → AreWritten ds (record { meanings = ms; words = ws }) stmts
@@ -69,5 +69,5 @@ translated {ds} {es} {ms} {us} {ws} {vs} {stmts} {fitting} tree meant worded sam
     let limited : Within ds = rw (← tree) within in
     let in_range : AreWords (words ds) = rw (← known.words_are) (rw (← worded) are_words) in
     let section : IsSection (scheme (named_tree ds)) = scheme_is_accepted ds known.faultless limited in_range in
-    let are : stmts ≡ scheme (named_tree ds) = sym (all_are stmts fits) ∙ written_is_alike ds ms ws stmts known of_them ∙ in_range_is (scheme (named_tree ds)) section.are_faultless.in_range in
+    let are : stmts ≡ scheme (named_tree ds) = sym (map_same stmt_in_words stmts (λ k s e. (all_at stmts fits k s e).0)) ∙ written_is_alike ds ms ws stmts known of_them ∙ in_range_is (scheme (named_tree ds)) section.are_faultless.in_range in
     record { are = are; section = rw are section }

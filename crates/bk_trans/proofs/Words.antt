@@ -1,4 +1,5 @@
 -- What the proofs cite of the crates below: numbers and lists, the tree, scopes, and OCODE.
+pub use Rattle.bk_trans.proofs.Lists.{Every, all_found, every_at, every_back, every_both, every_front, map_same, total, total_both}
 pub use Rattle.bk_trans.proofs.Terms.{Bool, List, None, Option, Some, [], ap, append_assoc, arith, cond, eq-eqb, eqb-true, false, inl, inr, int_lt, length, length-append, map, max, min, negsuc, not, pos, refl, slice_get, subst, suc, sym, true, zero, ℕ, ℤ, ◌%◌, ◌*◌, ◌++◌, ◌+◌, ◌-◌, ◌<◌, ◌==◌, ◌^◌, ◌∙◌, ◌∷◌, ◌≡◌, ◌≤◌, ◌⊎◌, cases_lt, false≢true, le-ltb, ne_eqb, signed, at_expression, size, Operator, Prefix, Bound, Stmt, Local}
 pub use Rattle.std.proofs.lemmas.List.{append-nil, length-take, map-append}
 pub use Rattle.std.specs.Bool.{⊤}
