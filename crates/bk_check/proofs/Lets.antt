@@ -1,6 +1,6 @@
 -- A LET, done in steps.
 use Rattle.std.specs.Global.{Global}
-use Rattle.bk_check.proofs.Terms.{◌≡◌, ℕ, zero, suc, Vec, List, [], ◌∷◌, ◌++◌, map, refl, ap, sym, ◌∙◌, Mention, Expression, Definition, Definitions, Starts, definitions_in, declarations_in, commands_in, Value, World, Outcome, gives, with, Done, turn, turn_of, Environment, past, past_definition, constant_in, letters, Program, Start, starts, make_vec, paired, let_values, bind_variables, full, env_in, Let, start_in, declared_then, started_then, starting_then}
+use Rattle.bk_check.proofs.Terms.{◌≡◌, ℕ, zero, suc, Vec, List, [], ◌∷◌, ◌++◌, map, refl, ap, sym, ◌∙◌, Mention, Expression, Definition, Definitions, Starts, definitions_in, declarations_in, commands_in, Value, World, Outcome, gives, with, Done, turn, turn_of, Environment, acts_at, past, past_definition, constant_in, letters, Program, Start, starts, make_vec, paired, let_values, bind_variables, full, env_in, Let, start_in, declared_then, started_then, starting_then}
 use Rattle.bk_tree.specs.Tree as t
 use Rattle.bk_check.specs.declared.frame.Start as f
 use Rattle.bk_check.proofs.Outcomes.{with_with, with_each, with_turn}
@@ -37,10 +37,10 @@ pub value_then : (p : Program) (e : Expression) (is : Starts) (here : Environmen
 value_then p e is here go w = sym (with_with ((full p).value e here w) (λ v w. with (starts (full p) is (past e here) w) (λ vs w. gives (v ∷ vs) w)) go)
 
 pub vector_is : (p : Program) (l : ℕ) (e : Expression) (is : Starts) (here : Environment) (go : List Value → World → Outcome Done) (w : World) →
-    turn w (λ w. with (make_vec (constant_in here e) w) (λ v w. with (with (starts (full p) is here w) (λ vs w. gives (v ∷ vs) w)) go)) ≡ with (starts (full p) (t.vector l e is) here w) go
+    turn w (λ w. with (make_vec (acts_at e) (constant_in here e) w) (λ v w. with (with (starts (full p) is here w) (λ vs w. gives (v ∷ vs) w)) go)) ≡ with (starts (full p) (t.vector l e is) here w) go
 vector_is p l e is here go w = sym (
-    with_with (turn w (λ w. make_vec (constant_in here e) w)) (λ v w. with (starts (full p) is here w) (λ vs w. gives (v ∷ vs) w)) go
-    ∙ with_turn w (λ w. make_vec (constant_in here e) w) (λ v w. with (with (starts (full p) is here w) (λ vs w. gives (v ∷ vs) w)) go))
+    with_with (turn w (λ w. make_vec (acts_at e) (constant_in here e) w)) (λ v w. with (starts (full p) is here w) (λ vs w. gives (v ∷ vs) w)) go
+    ∙ with_turn w (λ w. make_vec (acts_at e) (constant_in here e) w) (λ v w. with (with (starts (full p) is here w) (λ vs w. gives (v ∷ vs) w)) go))
 
 -- a variable more has its value
 one_more : (xs : List f.Start) (x : f.Start) (ys : List f.Start) (ss : List Start) → ys ≡ xs ++ x ∷ [] → map start_in ys ++ ss ≡ map start_in xs ++ start_in x ∷ ss

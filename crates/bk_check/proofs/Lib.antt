@@ -4,6 +4,7 @@ mod Arguments
 mod Entering
 mod Formals
 mod ForLoops
+mod Judging
 mod Lets
 mod Outcomes
 mod Resuming

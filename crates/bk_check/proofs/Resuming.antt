@@ -42,11 +42,11 @@ by_done p y z = refl
 pub pushed_done : (p : Program) (fs gs : List Continuation) (g : OnDone) (u : Outcome Done) → gs ≡ fs ++ f.Done g ∷ [] → resumed p gs (tag done_tag u) ≡ resumed p fs (done_goes p g u)
 pushed_done p fs gs g u is = pushed p fs gs (f.Done g) _ _ is (by_done p g u)
 
-by_return : (p : Program) (c : Call) (u : Outcome Value) → resume p (f.Returned c) (tag a_value u) ≡ tag a_value (returned c.calls u)
+by_return : (p : Program) (c : Call) (u : Outcome Value) → resume p (f.Returned c) (tag a_value u) ≡ tag a_value (returned c.at c.calls u)
 by_return p c (gives v w) = refl
 by_return p c _ = refl
 
-pub pushed_return : (p : Program) (fs gs : List Continuation) (c : Call) (u : Outcome Value) → gs ≡ fs ++ f.Returned c ∷ [] → resumed p gs (tag a_value u) ≡ resumed p fs (tag a_value (returned c.calls u))
+pub pushed_return : (p : Program) (fs gs : List Continuation) (c : Call) (u : Outcome Value) → gs ≡ fs ++ f.Returned c ∷ [] → resumed p gs (tag a_value u) ≡ resumed p fs (tag a_value (returned c.at c.calls u))
 pushed_return p fs gs c u is = pushed p fs gs (f.Returned c) _ _ is (by_return p c u)
 
 value_closes : (p : Program) (n : ℕ) (u : Outcome Value) → resume p (f.Closing n) (tag a_value u) ≡ tag a_value (closing n u)
@@ -95,3 +95,8 @@ meets_for p (Err x) fs there u v e h = h
 pub meets_at : {E : Type 0} (r : Result Next E) (fs : List Continuation) (there : Bytes → World) (u : Program → Bytes → ℕ → Outcome Given) (v : Program → Bytes → Outcome Given) (l : ℕ) → ((p : Program) (b : Bytes) → u p b l ≡ v p b) → IfOk r (λ next. (p : Program) (b : Bytes) (l : ℕ) → Comes p fs next (there b) (u p b l)) → IfOk r (λ next. (p : Program) (b : Bytes) → Comes p fs next (there b) (v p b))
 meets_at (Ok next) fs there u v l e h = λ p b. h p b l ∙ e p b
 meets_at (Err x) fs there u v l e h = h
+
+-- and of one that comes to this wherever it is
+pub meets_each : {E : Type 0} (r : Result Next E) (fs : List Continuation) (there : Bytes → World) (u : Program → Bytes → Outcome Given) (v : Program → Bytes → ℕ → Outcome Given) → ((p : Program) (b : Bytes) (l : ℕ) → u p b ≡ v p b l) → IfOk r (λ next. (p : Program) (b : Bytes) → Comes p fs next (there b) (u p b)) → IfOk r (λ next. (p : Program) (b : Bytes) (l : ℕ) → Comes p fs next (there b) (v p b l))
+meets_each (Ok next) fs there u v e h = λ p b l. h p b ∙ e p b l
+meets_each (Err x) fs there u v e h = h

@@ -4,7 +4,7 @@ pub use Rattle.std.specs.Prelude.{slice_get, unwrap_or}
 pub use Rattle.bk_lasting.specs.Views.{env_in, procedure_in, body_in}
 pub use Rattle.bk_meaning.proofs.Lemmas.{full_rounds, turn_left, turn_none, full_value, full_target, full_scope, full_act, full_truth, full_for_rounds}
 pub use Rattle.bk_meaning.specs.Blocks.{starts, vec_cells, Start, make_vec, paired, let_values, bind_variables}
-pub use Rattle.bk_meaning.specs.Calls.{formal_cells, bind_formals, run_body, called, call, values, applied}
+pub use Rattle.bk_meaning.specs.Calls.{formal_cells, bind_formals, run_body, called, returned, call, values, applied}
 pub use Rattle.bk_meaning.specs.Commands.{act_of}
 pub use Rattle.bk_meaning.specs.Environment.{Environment, constant_in, cell, bind, past, past_definition, letters, objects, following, labelled, objects_of_definition}
 pub use Rattle.bk_meaning.specs.Expressions.{combined, value_of, target_of, truth_of}
@@ -12,7 +12,7 @@ pub use Rattle.bk_meaning.specs.Full.{full}
 pub use Rattle.bk_meaning.specs.Lasting.{Procedure, Program}
 pub use Rattle.bk_meaning.specs.Loops.{for_test, for_rounds_of, for_loop, again}
 pub use Rattle.bk_meaning.specs.Memory.{made, Memory}
-pub use Rattle.bk_meaning.specs.Parts.{Target}
+pub use Rattle.bk_meaning.specs.Parts.{Target, acts_at}
 pub use Rattle.bk_meaning.specs.Scopes.{scope_of, alone, in_order}
 pub use Rattle.bk_meaning.specs.Seeking.{Sought, has_place, one_has_place, forwards, the_label, Mode, seeking}
 pub use Rattle.bk_meaning.specs.Values.{Value, address, holds}
@@ -29,7 +29,7 @@ pub use Rattle.bk_tree.specs.declared.tree.Decl.{Decl}
 pub use Rattle.bk_tree.specs.declared.tree.Init.{Init}
 pub use Rattle.bk_tree.specs.declared.tree.Name.{Name}
 pub use Rattle.bk_check.specs.Fors.{tested, stepped}
-pub use Rattle.bk_check.specs.Resume.{tag, a_value, list_value, done_tag, declared_then, vector_then, returned, thing_in, started_then, starting_then, a_target, exit_in, Comes, value_goes, further_for, lands, next_for, bound_then, Given, a_truth, applied_after, truth_goes, target_goes, done_goes, resume, variables_then}
+pub use Rattle.bk_check.specs.Resume.{tag, a_value, list_value, done_tag, declared_then, vector_then, thing_in, started_then, starting_then, a_target, exit_in, Comes, value_goes, further_for, lands, next_for, bound_then, Given, a_truth, applied_after, truth_goes, target_goes, done_goes, resume, variables_then}
 unfoldable pub use Rattle.bk_check.specs.Resume.{resumed}
 pub use Rattle.bk_check.specs.Views.{letters_in, sought_in, mode_in, program_in, start_in}
 pub use Rattle.bk_check.specs.Worlds.{world, Bytes}

@@ -7,9 +7,9 @@ pub meets_there : {E : Type 0} (r : Result Next E) (fs : List Continuation) (the
 meets_there (Ok next) fs there u v e h = λ p b. h p fs (there b) ∙ e p b
 meets_there (Err x) fs there u v e h = h
 
-pub vector_made : (p : Program) (size : Option ℕ) (last o : ℕ) (m : Memory) (is : Starts) (here : Environment) (names : List (List ℕ)) (l : Let) (w : World) → size ≡ Some last → o ≡ length w.memory → m ≡ made (vec_cells last) w.memory →
-    with (with (starts (full p) is here (remembering m w)) (λ vs w. gives (address o 0 ∷ vs) w)) (λ vs w. started_then p l names vs w) ≡ vector_then p size is here names l w
-vector_made p size last o m is here names l w s e h =
+pub vector_made : (p : Program) (spot : ℕ) (size : Option ℕ) (last o : ℕ) (m : Memory) (is : Starts) (here : Environment) (names : List (List ℕ)) (l : Let) (w : World) → size ≡ Some last → o ≡ length w.memory → m ≡ made (vec_cells last) w.memory →
+    with (with (starts (full p) is here (remembering m w)) (λ vs w. gives (address o 0 ∷ vs) w)) (λ vs w. started_then p l names vs w) ≡ vector_then p spot size is here names l w
+vector_made p spot size last o m is here names l w s e h =
     ap (λ (k : ℕ). with (with (starts (full p) is here (remembering m w)) (λ vs w. gives (address k 0 ∷ vs) w)) (λ vs w. started_then p l names vs w)) e
     ∙ ap (λ (x : Memory). with (with (starts (full p) is here (remembering x w)) (λ vs there. gives (address (length w.memory) 0 ∷ vs) there)) (λ vs w. started_then p l names vs w)) h
-    ∙ sym (ap (λ (x : Option ℕ). vector_then p x is here names l w) s)
+    ∙ sym (ap (λ (x : Option ℕ). vector_then p spot x is here names l w) s)

@@ -1,21 +1,21 @@
 -- What is still to be done: of what the parts inside give, an outcome of the whole.
 use Rattle.std.specs.Prelude.{◌≡◌, ℕ, Bool, true, false, not, map, Option, List, [], ◌∷◌, ◌++◌}
 use Rattle.bk_tree.specs.Tree as t
-use Rattle.bk_tree.specs.Tree.{Expression, Expressions, Command, Commands, Declarations, Starts, expression, expressions_in, command_in, commands_in, declarations_in, definitions_in, starts_in}
+use Rattle.bk_tree.specs.Tree.{Expression, Expressions, Command, Commands, Declarations, Starts, mention, expression, expressions_in, command_in, commands_in, declarations_in, definitions_in, starts_in}
 use Rattle.bk_meaning.specs.Values.{Value, unset}
-use Rattle.bk_meaning.specs.World.{World, Exit, break, loop, endcase, goto, result, return, status, divide_by_zero, Outcome, gives, leaves, ends, undefined, going, each_way, with, either, given, Done, done, closing, calls_back, forgetting, turn}
+use Rattle.bk_meaning.specs.World.{World, Exit, break, loop, endcase, goto, result, return, status, divide_by_zero, Outcome, gives, leaves, ends, undefined, going, each_way, with, either, given, Done, done, closing, forgetting, turn}
 use Rattle.bk_meaning.specs.Operators.{sum, operate_prefix}
 use Rattle.bk_meaning.specs.Seeking.{the_label, Mode, forwards, seeking}
 use Rattle.bk_meaning.specs.Environment.{Environment, past, past_command}
 use Rattle.bk_meaning.specs.Library.{library}
 use Rattle.bk_meaning.specs.Scopes.{in_order, landing, scope_of, alone}
-use Rattle.bk_meaning.specs.Calls.{values, call, return_exit}
+use Rattle.bk_meaning.specs.Calls.{values, returned, call, return_exit}
 use Rattle.bk_meaning.specs.Loops.{same_truth, where_truth, rounds_of, round_exit, again, for_loop, for_test, for_step}
 use Rattle.bk_meaning.specs.Blocks as b
 use Rattle.bk_meaning.specs.Blocks.{paired, let_values, bind_variables, declare_all, make_vec}
 use Rattle.bk_meaning.specs.Commands.{assigned, case_exit, ended_case, choose_case}
 use Rattle.bk_meaning.specs.Lasting.{Program}
-use Rattle.bk_meaning.specs.Parts.{Target, at, byte_at, Meanings, fetch, store}
+use Rattle.bk_meaning.specs.Parts.{Target, at, byte_at, acts_at, nowhere, Meanings, fetch, store}
 use Rattle.bk_meaning.specs.Expressions.{combined, address_in, judged, result_of, result_exit}
 use Rattle.bk_check.specs.declared.frame.Thing.{Thing}
 use Rattle.bk_check.specs.declared.frame.Thing.TheVariants as g
@@ -33,6 +33,8 @@ use Rattle.bk_check.specs.declared.frame.Continuation.{Continuation}
 use Rattle.bk_check.specs.declared.frame.Continuation.TheVariants as f
 use Rattle.bk_check.specs.declared.frame.For.{For}
 use Rattle.bk_check.specs.declared.frame.Let.{Let}
+use Rattle.bk_check.specs.declared.frame.Subject.{Subject}
+use Rattle.bk_check.specs.declared.frame.Subject.TheVariants as s
 use Rattle.bk_check.specs.declared.frame.Next.{Next}
 use Rattle.bk_check.specs.declared.frame.Next.TheVariants as n
 use Rattle.bk_objects.specs.declared.worth.Worth.{Worth}
@@ -70,12 +72,12 @@ exit_in (x.Result v) = result (value_in v)
 exit_in x.Return = return
 
 -- the arguments that are left after these, then the procedure
-abbrev pub applied_after : Program → List Value → Expressions → Environment → Expression → Environment → World → Outcome Value
-applied_after p before es here f env w = with (values (full p) es here w) (λ vs w. with ((full p).value f env w) (λ g w. call p (full p) g (before ++ vs) w))
+abbrev pub applied_after : Program → ℕ → List Value → Expressions → Environment → Expression → Environment → World → Outcome Value
+applied_after p l before es here f env w = with (values (full p) es here w) (λ vs w. with ((full p).value f env w) (λ g w. call p (full p) l g (before ++ vs) w))
 
 -- a value, at the first of these destinations; and the assignments after it
 abbrev pub assigned_to : Meanings → Value → Expressions → Environment → Expressions → Environment → World → Outcome Done
-assigned_to m v (t.more x xs) there es env w = with (m.target x there w) (λ a w. with (store a v w) (λ _ w. assigned m xs (past x there) es env w))
+assigned_to m v (t.more x xs) there es env w = with (m.target x there w) (λ a w. with (store (acts_at x) a v w) (λ _ w. assigned m xs (past x there) es env w))
 assigned_to m v t.none there es env w = done w
 
 -- the rounds of a loop after one
@@ -92,10 +94,11 @@ begun_loop p b e c (seeking s) env w = rounds_of (full p) c (seeking s) env w
 
 -- and those of a FOR
 abbrev pub further_for : Program → For → World → Outcome Done
-further_for p f w = turn w (λ w. (full p).for_rounds (command_in f.body.now) f.object (value_in f.limit) f.step (env_in f.env) w)
+further_for p f w = turn w (λ w. (full p).for_rounds f.name.now.at (command_in f.body.now) f.object (value_in f.limit) f.step (env_in f.env) w)
 
 abbrev pub next_for : Program → For → World → Outcome Done
-next_for p f w = with (for_step f.object f.step w) (λ _ w. for_test f.object (value_in f.limit) f.step (further_for p f) w)
+next_for p f w =
+    with (for_step f.name.now.at f.object f.step w) (λ _ w. for_test f.name.now.at f.object (value_in f.limit) f.step (further_for p f) w)
 
 -- The declarations of a block, and its commands.
 abbrev pub declared_then : Program → Declarations → Commands → Environment → World → Outcome Done
@@ -118,31 +121,32 @@ starting_then p is here names l w = with (b.starts (full p) is here w) (λ vs w.
 abbrev pub variables_then : Program → Starts → List (List ℕ) → Environment → Let → World → Outcome Done
 variables_then p is names there l w = with (b.starts (full p) is (env_in l.here) w) (λ vs w. with (let_values (full p) (definitions_in l.defs.now) there w) (λ more w. bound_then p l (paired names vs ++ more) w))
 
-abbrev pub vector_then : Program → Option ℕ → Starts → Environment → List (List ℕ) → Let → World → Outcome Done
-vector_then p size is here names l w = with (make_vec size w) (λ v w. with (with (b.starts (full p) is here w) (λ vs w. gives (v ∷ vs) w)) (λ vs w. started_then p l names vs w))
+abbrev pub vector_then : Program → ℕ → Option ℕ → Starts → Environment → List (List ℕ) → Let → World → Outcome Done
+vector_then p spot size is here names l w = with (make_vec spot size w) (λ v w. with (with (b.starts (full p) is here w) (λ vs w. gives (v ∷ vs) w)) (λ vs w. started_then p l names vs w))
 
 -- What goes on with a value, a truth, a place, and after a command.
 abbrev pub value_goes : Program → OnValue → Outcome Value → Outcome Given
-value_goes p (v.Contents e) u = tag a_value (with u fetch)
-value_goes p (v.Prefix e q) u = tag a_value (with u (operate_prefix q))
-value_goes p (v.Left e q b env) u = tag a_value (with u (λ x w. with ((full p).value (expression b.now) (env_in env) w) (combined q x)))
-value_goes p (v.Right e q x) u = tag a_value (with u (combined q (value_in x)))
-value_goes p (v.Judge e) u = tag a_truth (with u judged)
+value_goes p (v.Contents e) u = tag a_value (with u (fetch (acts_at (expression e.now))))
+value_goes p (v.Prefix e q) u = tag a_value (with u (operate_prefix (acts_at (expression e.now)) q))
+value_goes p (v.Left e q b env) u = tag a_value (with u (λ x w. with ((full p).value (expression b.now) (env_in env) w) (combined (acts_at (expression e.now)) q x)))
+value_goes p (v.Right e q x) u = tag a_value (with u (combined (acts_at (expression e.now)) q (value_in x)))
+value_goes p (v.Judge e) u = tag a_truth (with u (judged (acts_at (expression e.now))))
 value_goes p v.At u = tag a_target (with u (λ a w. gives (at a) w))
-value_goes p (v.Vector e b env) u = tag a_target (with u (λ x w. with ((full p).value (expression b.now) (env_in env) w) (λ y w. with (given (sum w.memory x y) w) (λ a w. gives (at a) w))))
-value_goes p (v.Offset e x) u = tag a_target (with u (λ y w. with (given (sum w.memory (value_in x) y) w) (λ a w. gives (at a) w)))
+value_goes p (v.Vector e b env) u = tag a_target (with u (λ x w. with ((full p).value (expression b.now) (env_in env) w) (λ y w.
+    with (given (acts_at (expression e.now)) (sum w.memory x y) w) (λ a w. gives (at a) w))))
+value_goes p (v.Offset e x) u = tag a_target (with u (λ y w. with (given (acts_at (expression e.now)) (sum w.memory (value_in x) y) w) (λ a w. gives (at a) w)))
 value_goes p (v.String b env) u = tag a_target (with u (λ x w. with ((full p).value (expression b.now) (env_in env) w) (λ y w. gives (byte_at x y) w)))
 value_goes p (v.Byte x) u = tag a_target (with u (λ y w. gives (byte_at (value_in x) y) w))
 value_goes p (v.Argument spot es here before callee env) u = tag a_value (with u (λ v w. with (values (full p) (expressions_in es.now) (env_in here) w) (λ vs w.
-    with ((full p).value (expression callee.now) (env_in env) w) (λ g w. call p (full p) g (map value_in before.items ++ v ∷ vs) w))))
-value_goes p (v.Callee spot e before) u = tag a_value (with u (λ g w. call p (full p) g (map value_in before.items) w))
+    with ((full p).value (expression callee.now) (env_in env) w) (λ g w. call p (full p) spot g (map value_in before.items ++ v ∷ vs) w))))
+value_goes p (v.Callee spot e before) u = tag a_value (with u (λ g w. call p (full p) spot g (map value_in before.items) w))
 value_goes p v.Dropped u = tag done_tag (with u (λ _ w. done w))
 value_goes p v.Result u = tag done_tag (with u (λ v w. leaves (result v) w))
 value_goes p (v.Assigned xs there es env) u = tag done_tag (with u (λ v w. assigned_to (full p) v (expressions_in xs.now) (env_in there) (expressions_in es.now) (env_in env) w))
-value_goes p (v.Switch e c env) u = tag done_tag (with u (λ v w. choose_case (full p) v (command_in c.now) (env_in env) w))
-value_goes p (v.ForStart x e env c step) u = tag done_tag (with u (λ v w. with ((full p).value (expression e.now) (env_in env) w) (λ h w. with (given step w) (λ n w.
-    for_loop (full p) x.now.letters.items (command_in c.now) v h n (past (expression e.now) (env_in env)) w))))
-value_goes p (v.ForLimit x env start c step) u = tag done_tag (with u (λ h w. with (given step w) (λ n w. for_loop (full p) x.now.letters.items (command_in c.now) (value_in start) h n (env_in env) w)))
+value_goes p (v.Switch e c env) u = tag done_tag (with u (λ v w. choose_case (full p) (acts_at (expression e.now)) v (command_in c.now) (env_in env) w))
+value_goes p (v.ForStart x e env c step) u = tag done_tag (with u (λ v w. with ((full p).value (expression e.now) (env_in env) w) (λ h w. with (given x.now.at step w) (λ n w.
+    for_loop (full p) (mention x.now) (command_in c.now) v h n (past (expression e.now) (env_in env)) w))))
+value_goes p (v.ForLimit x env start c step) u = tag done_tag (with u (λ h w. with (given x.now.at step w) (λ n w. for_loop (full p) (mention x.now) (command_in c.now) (value_in start) h n (env_in env) w)))
 value_goes p (v.Starts is here names l) u = tag done_tag (with u (λ v w. with (with (b.starts (full p) (starts_in is.now) (env_in here) w) (λ vs w. gives (v ∷ vs) w)) (λ vs w. started_then p l.value (letters_in names.now) vs w)))
 
 abbrev pub truth_goes : Program → OnTruth → Outcome Bool → Outcome Given
@@ -156,8 +160,8 @@ truth_goes p (o.First b c env) u = tag done_tag (with u (λ x w. either (same_tr
 truth_goes p (o.Further b c env) u = tag done_tag (with u (λ x w. either (same_truth b x) (λ w. turn w (λ w. (full p).rounds (command_in c.now) forwards (env_in env) w)) done w))
 
 abbrev pub target_goes : Program → OnTarget → Outcome Target → Outcome Given
-target_goes p (a.Address e) u = tag a_value (with u address_in)
-target_goes p (a.Put e v xs there es env) u = tag done_tag (with u (λ a w. with (store a (value_in v) w) (λ _ w. assigned (full p) (expressions_in xs.now) (env_in there) (expressions_in es.now) (env_in env) w)))
+target_goes p (a.Address e) u = tag a_value (with u (address_in (acts_at (expression e.now))))
+target_goes p (a.Put e v xs there es env) u = tag done_tag (with u (λ a w. with (store (acts_at (expression e.now)) a (value_in v) w) (λ _ w. assigned (full p) (expressions_in xs.now) (env_in there) (expressions_in es.now) (env_in env) w)))
 
 abbrev pub lands : Program → Commands → Environment → Exit → World → Outcome Done
 lands p cs env x w = landing cs env (λ x w. (full p).scope cs (seeking (the_label x)) env w) x w
@@ -185,32 +189,29 @@ done_left p (d.ForRound f) x w = tag done_tag (round_exit (next_for p f) x w)
 
 abbrev pub resume_left : Program → Continuation → Exit → World → Outcome Given
 resume_left p (f.Done g) x w = done_left p g x w
-resume_left p (f.Returned c) x w = undefined
+resume_left p (f.Returned c) x w = undefined c.at w
 resume_left p (f.Closing n) x w = leaves x (forgetting n w)
 resume_left p f x w = leaves x w
 
--- the calls, and the objects, of a part that is left with a value or done
-abbrev pub returned : ℕ → Outcome Value → Outcome Value
-returned n u = each_way (λ v after. gives v (calls_back n after)) (λ x w. undefined) u
-
+-- The calls, and the objects, of a part that is left with a value or done. No frame goes on with what is not of its kind.
 abbrev pub resume_value : Program → Continuation → Outcome Value → Outcome Given
 resume_value p (f.Value g) u = value_goes p g u
-resume_value p (f.Returned c) u = tag a_value (returned c.calls u)
+resume_value p (f.Returned c) u = tag a_value (returned c.at c.calls u)
 resume_value p (f.Closing n) u = tag a_value (closing n u)
-resume_value p f u = each_way (λ _ w. undefined) (resume_left p f) u
+resume_value p f u = each_way (λ _ w. undefined nowhere w) (resume_left p f) u
 
 abbrev pub resume_truth : Program → Continuation → Outcome Bool → Outcome Given
 resume_truth p (f.Truth g) u = truth_goes p g u
-resume_truth p f u = each_way (λ _ w. undefined) (resume_left p f) u
+resume_truth p f u = each_way (λ _ w. undefined nowhere w) (resume_left p f) u
 
 abbrev pub resume_target : Program → Continuation → Outcome Target → Outcome Given
 resume_target p (f.Target g) u = target_goes p g u
-resume_target p f u = each_way (λ _ w. undefined) (resume_left p f) u
+resume_target p f u = each_way (λ _ w. undefined nowhere w) (resume_left p f) u
 
 abbrev pub resume_done : Program → Continuation → Outcome Done → Outcome Given
 resume_done p (f.Done g) u = done_goes p g u
 resume_done p (f.Closing n) u = tag done_tag (closing n u)
-resume_done p f u = each_way (λ _ w. undefined) (resume_left p f) u
+resume_done p f u = each_way (λ _ w. undefined nowhere w) (resume_left p f) u
 
 abbrev pub resume_given : Program → Continuation → Given → World → Outcome Given
 resume_given p f (a_value v) w = resume_value p f (gives v w)
@@ -226,6 +227,18 @@ unfoldable pub resumed : Program → List Continuation → Outcome Given → Out
 resumed p [] u = u
 resumed p (f ∷ fs) u = resume p f (resumed p fs u)
 
+-- where the subject of an act is
+abbrev pub acts_in : Subject → ℕ
+acts_in (s.Expr e) = acts_at (expression e.now)
+acts_in (s.Prefixed e x) = acts_at (expression e.now)
+acts_in (s.Operation e x y) = acts_at (expression e.now)
+acts_in (s.Condition e) = acts_at (expression e.now)
+acts_in (s.Switch e) = acts_at (expression e.now)
+acts_in (s.Variable x object limit) = x.now.at
+acts_in (s.Call spot e) = spot
+acts_in (s.Library spot r n part) = spot
+acts_in (s.Nothing spot) = spot
+
 -- what comes next
 abbrev pub outcome_next : Program → Next → World → Outcome Given
 outcome_next p (n.Value e env) w = tag a_value ((full p).value (expression e.now) (env_in env) w)
@@ -238,10 +251,10 @@ outcome_next p (n.Define l) w = tag done_tag (defined_then p l.value w)
 outcome_next p (n.Starts is here names l) w = tag done_tag (starting_then p (starts_in is.now) (env_in here) (letters_in names.now) l.value w)
 outcome_next p (n.Gives t) w = gives (thing_in t) w
 outcome_next p (n.Leaves x) w = leaves (exit_in x) w
-outcome_next p (n.Library spot r vs) w = tag a_value (library (routine_in r) (map value_in vs.items) w)
+outcome_next p (n.Library spot r vs) w = tag a_value (library spot (routine_in r) (map value_in vs.items) w)
 outcome_next p (n.Status k) w = ends (status k) w
 outcome_next p (n.DivideByZero s) w = ends divide_by_zero w
-outcome_next p (n.Undefined s why) w = undefined
+outcome_next p (n.Undefined s why) w = undefined (acts_in s) w
 outcome_next p (n.Going spot) w = going w
 
 abbrev pub list_value : List Worth → List Value

@@ -6,6 +6,7 @@ ghost use Rattle.bk_meaning.specs.World.{World, gives, with, turn, remembering};
 ghost use Rattle.bk_meaning.specs.Environment.{constant_in};
 ghost use Rattle.bk_meaning.specs.Lasting.{Program};
 ghost use Rattle.bk_meaning.specs.Blocks as k;
+ghost use Rattle.bk_meaning.specs.Parts.{acts_at};
 ghost use Rattle.bk_meaning.specs.Full.{full};
 ghost use Rattle.bk_check.specs.Views.{letters_in, start_in};
 ghost use Rattle.bk_objects.specs.Views.{value_in};
@@ -309,7 +310,7 @@ fn vector<'a>(
     ensures { IfOk result (λ next. (p : Program) (b : Bytes) →
         Comes p m.new.frames.items next (world m.new b)
         (resumed p m.old.frames.items (tag done_tag (turn (world m.old b)
-        (vector_then p (constant_in (env_in here.entry) (expression size.now)) (starts_in others.now) (env_in here.entry)
+        (vector_then p (acts_at (expression size.now)) (constant_in (env_in here.entry) (expression size.now)) (starts_in others.now) (env_in here.entry)
         (letters_in names.now) rest.entry.value))))) }
 {
     if m.turns == 0 {
@@ -332,7 +333,7 @@ fn make_vector<'a>(
 ) -> Result<Next<'a>, AllocError>
     ensures { IfOk result (λ next. (p : Program) (b : Bytes) →
         Comes p m.new.frames.items next (world m.new b)
-        (resumed p m.old.frames.items (tag done_tag (vector_then p last (starts_in others.now) (env_in here.entry)
+        (resumed p m.old.frames.items (tag done_tag (vector_then p (acts_at (expression size.now)) last (starts_in others.now) (env_in here.entry)
         (letters_in names.now) rest.entry.value (world m.old b))))) }
 {
     match last {

@@ -1,5 +1,5 @@
 //! Calls, of a procedure of the program and of a library routine.
-ghost use Rattle.std.specs.Prelude.{◌≡◌, IfOk, Some, map, slice_get, unwrap_or};
+ghost use Rattle.std.specs.Prelude.{◌≡◌, ℕ, IfOk, Some, map, slice_get, unwrap_or};
 ghost use Rattle.bk_objects.specs.declared.worth.Origin.TheVariants.{Argument};
 ghost use Rattle.bk_objects.specs.declared.worth.Worth.TheVariants.{Unset};
 ghost use Rattle.std.specs.Option.{option_map};
@@ -103,9 +103,9 @@ fn enter<'a>(
     procedure: &Procedure<'a>,
     values: Vec<Worth>,
 ) -> Result<Next<'a>, AllocError>
-    ensures { IfOk result (λ next. (p : Program) (b : Bytes) →
+    ensures { IfOk result (λ next. (p : Program) (b : Bytes) (l : ℕ) →
         Comes p m.new.frames.items next (world m.new b)
-        (resumed p m.old.frames.items (tag a_value (c.enter (full p) (Some (procedure_in procedure.now)) (list_value values.items) (world m.old b))))) }
+        (resumed p m.old.frames.items (tag a_value (c.enter (full p) l (Some (procedure_in procedure.now)) (list_value values.items) (world m.old b))))) }
 {
     let object = m.store.made();
     m.frames.push(Continuation::Closing(object))?;
@@ -117,11 +117,11 @@ fn enter<'a>(
 
 /// A call of what is no procedure.
 fn no_procedure<'a>(at: Position, expr: Option<&'a Expr>, callee: Worth) -> Next<'a>
-    ensures { (p : Program) (w : World) → outcome_next p result w ≡ undefined }
+    ensures { (p : Program) (w : World) → outcome_next p result w ≡ undefined at w }
 {
     let subject = match expr {
         Some(expr) => Subject::Call(at, expr),
-        None => Subject::Nothing,
+        None => Subject::Nothing(at),
     };
     Next::Undefined(subject, Reason::NoProcedure(callee))
 }
@@ -139,7 +139,7 @@ fn called<'a>(
     ensures { IfOk result (λ next. (b : Bytes) →
         Comes (program_in program.now) m.new.frames.items next (world m.new b)
         (resumed (program_in program.now) m.old.frames.items
-        (tag a_value (c.called (program_in program.now) (full (program_in program.now)) (value_in callee)
+        (tag a_value (c.called (program_in program.now) (full (program_in program.now)) at (value_in callee)
         (list_value values.items) (world m.old b))))) }
 {
     match callee {
@@ -167,7 +167,7 @@ pub fn call<'a>(
     ensures { IfOk result (λ next. (b : Bytes) →
         Comes (program_in program.now) m.new.frames.items next (world m.new b)
         (resumed (program_in program.now) m.old.frames.items
-        (tag a_value (c.call (program_in program.now) (full (program_in program.now)) (value_in callee)
+        (tag a_value (c.call (program_in program.now) (full (program_in program.now)) at (value_in callee)
         (list_value values.items) (world m.old b))))) }
 {
     let calls = m.calls;

@@ -9,6 +9,7 @@ ghost use Rattle.bk_meaning.specs.Seeking.{Mode};
 ghost use Rattle.bk_meaning.specs.Loops.{step_of as step_of_for};
 ghost use Rattle.bk_meaning.specs.Scopes as s;
 ghost use Rattle.bk_meaning.specs.Calls.{applied};
+ghost use Rattle.bk_meaning.specs.Parts.{acts_at};
 ghost use Rattle.bk_meaning.specs.Commands as c;
 ghost use Rattle.bk_meaning.specs.Full.{full};
 ghost use Rattle.bk_check.specs.Plain.{takes_no_turn};
@@ -174,7 +175,7 @@ fn call_command<'a>(
 ) -> Result<Next<'a>, AllocError>
     ensures { IfOk result (λ next. (p : Program) (b : Bytes) →
         Comes p m.new.frames.items next (world m.new b)
-        (resumed p m.old.frames.items (tag done_tag (with (applied p (full p) (expression callee.now) (expressions_in items.now)
+        (resumed p m.old.frames.items (tag done_tag (with (applied p (full p) at (expression callee.now) (expressions_in items.now)
         (env_in env.entry) (world m.old b)) (λ _ w. done w))))) }
 {
     m.frames.push(Continuation::Value(OnValue::Dropped))?;
@@ -426,7 +427,8 @@ pub fn choose_case<'a>(
 ) -> Result<Next<'a>, AllocError>
     ensures { IfOk result (λ next. (p : Program) (b : Bytes) →
         Comes p m.new.frames.items next (world m.new b)
-        (resumed p m.old.frames.items (tag done_tag (c.choose_case (full p) (value_in value) (command_in command.now) (env_in env.entry) (world m.old b))))) }
+        (resumed p m.old.frames.items (tag done_tag (c.choose_case (full p) (acts_at (expression expr.now)) (value_in value)
+        (command_in command.now) (env_in env.entry) (world m.old b))))) }
 {
     match value {
         Worth::Number(n) => {

@@ -1,7 +1,7 @@
 //! FOR: the variable, which is an object, is compared with the limit, and the step is added to it.
-ghost use Rattle.std.specs.Prelude.{◌≡◌, IfOk, OnOk, ◌∷◌, []};
+ghost use Rattle.std.specs.Prelude.{◌≡◌, ℕ, IfOk, OnOk, ◌∷◌, []};
 ghost use Rattle.bk_meaning.specs.Memory.{made};
-ghost use Rattle.bk_tree.specs.Tree.{command_in};
+ghost use Rattle.bk_tree.specs.Tree.{command_in, mention};
 ghost use Rattle.bk_meaning.specs.World.{World, Outcome, Done, with, given};
 ghost use Rattle.bk_meaning.specs.Lasting.{Program};
 ghost use Rattle.bk_meaning.specs.Values.{address, holds};
@@ -51,7 +51,8 @@ fn relation(step: u32) -> Operator
 
 /// The truth of what was compared.
 fn judged(store: &Store, came: Computed) -> Tested
-    ensures { (w : World) (go : World → Outcome Done) → w.memory ≡ store.now → tested_by go result w ≡ with (outcome_of came w) (truth_then go) }
+    ensures { (l : ℕ) (w : World) (go : World → Outcome Done) → w.memory ≡ store.now
+        → tested_by l go result w ≡ with (outcome_of l came w) (truth_then l go) }
 {
     match came {
         Computed::Value(x) => match truth_of(store, x) {
@@ -65,8 +66,8 @@ fn judged(store: &Store, came: Computed) -> Tested
 
 /// The variable against the limit.
 fn compared(store: &Store, step: u32, came: Computed, limit: Worth) -> Tested
-    ensures { (w : World) (go : World → Outcome Done) → w.memory ≡ store.now
-        → tested_by go result w ≡ with (outcome_of came w) (limit_then go step (value_in limit)) }
+    ensures { (l : ℕ) (w : World) (go : World → Outcome Done) → w.memory ≡ store.now
+        → tested_by l go result w ≡ with (outcome_of l came w) (limit_then l go step (value_in limit)) }
 {
     match came {
         Computed::Value(x) => judged(store, combine(store, relation(step), x, limit)),
@@ -77,14 +78,16 @@ fn compared(store: &Store, step: u32, came: Computed, limit: Worth) -> Tested
 
 /// The test of a FOR.
 fn try_limit(store: &Store, object: u64, limit: Worth, step: u32) -> Tested
-    ensures { (w : World) (go : World → Outcome Done) → w.memory ≡ store.now → tested_by go result w ≡ test_of object (value_in limit) step go w }
+    ensures { (l : ℕ) (w : World) (go : World → Outcome Done) → w.memory ≡ store.now
+        → tested_by l go result w ≡ test_of l object (value_in limit) step go w }
 {
     compared(store, step, read(store, Worth::Address(object, 0)), limit)
 }
 
 /// A value goes to the variable.
 fn put_sum(store: &mut Store, object: u64, came: Computed) -> Stepped
-    ensures { (w : World) → w.memory ≡ store.old → stepped_by result store.new w ≡ with (outcome_of came w) (Parts.store (Parts.at (address object 0))) }
+    ensures { (l : ℕ) (w : World) → w.memory ≡ store.old
+        → stepped_by l result store.new w ≡ with (outcome_of l came w) (Parts.store l (Parts.at (address object 0))) }
 {
     match came {
         Computed::Value(x) => match put(store, Location::Cell(Worth::Address(object, 0)), x) {
@@ -98,7 +101,7 @@ fn put_sum(store: &mut Store, object: u64, came: Computed) -> Stepped
 
 /// The step is added to the variable.
 fn add_step(store: &mut Store, object: u64, step: u32) -> Stepped
-    ensures { (w : World) → w.memory ≡ store.old → stepped_by result store.new w ≡ step_of object step w }
+    ensures { (l : ℕ) (w : World) → w.memory ≡ store.old → stepped_by l result store.new w ≡ step_of l object step w }
 {
     match read(store, Worth::Address(object, 0)) {
         Computed::Value(x) => {
@@ -123,8 +126,8 @@ pub fn begin_for<'a>(
 ) -> Result<Next<'a>, AllocError>
     ensures { IfOk result (λ next. (p : Program) (b : Bytes) →
         Comes p m.new.frames.items next (world m.new b)
-        (resumed p m.old.frames.items (tag done_tag (with (given step (world m.old b))
-        (λ n w. for_loop (full p) name.now.letters.items (command_in body.now) (value_in start) (value_in limit) n
+        (resumed p m.old.frames.items (tag done_tag (with (given name.now.at step (world m.old b))
+        (λ n w. for_loop (full p) (mention name.now) (command_in body.now) (value_in start) (value_in limit) n
         (env_in env.entry) w))))) }
 {
     match step {
@@ -145,7 +148,7 @@ fn begin_by<'a>(
 ) -> Result<Next<'a>, AllocError>
     ensures { IfOk result (λ next. (p : Program) (b : Bytes) →
         Comes p m.new.frames.items next (world m.new b)
-        (resumed p m.old.frames.items (tag done_tag (for_loop (full p) name.now.letters.items (command_in body.now) (value_in start)
+        (resumed p m.old.frames.items (tag done_tag (for_loop (full p) (mention name.now) (command_in body.now) (value_in start)
         (value_in limit) step (env_in env.entry) (world m.old b))))) }
 {
     let object = m.store.made();
@@ -176,8 +179,8 @@ fn make_one(store: &mut Store, value: Worth, at: Position) -> Result<(), AllocEr
 fn first_round<'a>(m: &mut Evaluator<'a>, run: For<'a>) -> Result<Next<'a>, AllocError>
     ensures { IfOk result (λ next. (p : Program) (b : Bytes) →
         Comes p m.new.frames.items next (world m.new b)
-        (resumed p m.old.frames.items (tag done_tag (test_of run.entry.object (value_in run.entry.limit) run.entry.step
-        (λ w. for_rounds_of (full p) (command_in run.entry.body.now) run.entry.object (value_in run.entry.limit) run.entry.step
+        (resumed p m.old.frames.items (tag done_tag (test_of run.entry.name.now.at run.entry.object (value_in run.entry.limit) run.entry.step
+        (λ w. for_rounds_of (full p) run.entry.name.now.at (command_in run.entry.body.now) run.entry.object (value_in run.entry.limit) run.entry.step
         (env_in run.entry.env) w) (world m.old b))))) }
 {
     match try_limit(&m.store, run.object, run.limit, run.step) {
@@ -201,7 +204,7 @@ fn first_round<'a>(m: &mut Evaluator<'a>, run: For<'a>) -> Result<Next<'a>, Allo
 fn for_round<'a>(m: &mut Evaluator<'a>, run: For<'a>) -> Result<Next<'a>, AllocError>
     ensures { IfOk result (λ next. (p : Program) (b : Bytes) →
         Comes p m.new.frames.items next (world m.new b)
-        (resumed p m.old.frames.items (tag done_tag (for_rounds_of (full p) (command_in run.entry.body.now) run.entry.object
+        (resumed p m.old.frames.items (tag done_tag (for_rounds_of (full p) run.entry.name.now.at (command_in run.entry.body.now) run.entry.object
         (value_in run.entry.limit) run.entry.step (env_in run.entry.env) (world m.old b))))) }
 {
     let body = run.body;
@@ -227,7 +230,7 @@ fn further_round<'a>(m: &mut Evaluator<'a>, run: For<'a>) -> Result<Next<'a>, Al
 fn test_again<'a>(m: &mut Evaluator<'a>, run: For<'a>) -> Result<Next<'a>, AllocError>
     ensures { IfOk result (λ next. (p : Program) (b : Bytes) →
         Comes p m.new.frames.items next (world m.new b)
-        (resumed p m.old.frames.items (tag done_tag (test_of run.entry.object (value_in run.entry.limit) run.entry.step
+        (resumed p m.old.frames.items (tag done_tag (test_of run.entry.name.now.at run.entry.object (value_in run.entry.limit) run.entry.step
         (further_for p run.entry) (world m.old b))))) }
 {
     match try_limit(&m.store, run.object, run.limit, run.step) {

@@ -1,4 +1,8 @@
 //! What is still to be done.
+ghost use Rattle.std.specs.Prelude.{◌≡◌};
+ghost use Rattle.bk_tree.specs.Tree.{expression};
+ghost use Rattle.bk_meaning.specs.Parts.{acts_at};
+ghost use Rattle.bk_check.specs.Resume.{acts_in};
 
 use bk_lasting::Env;
 use bk_objects::{FormatPart, Location, Reason, Routine, Worth};
@@ -53,8 +57,8 @@ pub enum Subject<'a> {
     Call(Position, &'a Expr),
     /// A routine of the library, called at this position; the number of its argument, from 1; the directive that takes it, if one does.
     Library(Position, Routine, usize, Option<FormatPart>),
-    /// No part of the source.
-    Nothing,
+    /// What no accepted source does, at this position.
+    Nothing(Position),
 }
 
 /// The values of the operands of an expression, as far as it has them.
@@ -66,7 +70,9 @@ pub enum Operands {
 }
 
 /// An expression with its operands.
-pub fn subject_of<'a>(expr: &'a Expr, operands: Operands) -> Subject<'a> {
+pub fn subject_of<'a>(expr: &'a Expr, operands: Operands) -> Subject<'a>
+    ensures { acts_in result ≡ acts_at (expression expr.now) }
+{
     match operands {
         Operands::None => Subject::Expr(expr),
         Operands::One(x) => Subject::Prefixed(expr, x),

@@ -3,6 +3,7 @@ ghost use Rattle.std.specs.Prelude.{◌≡◌, IfOk, List};
 ghost use Rattle.bk_tree.specs.Tree.{command_in, commands_in, expressions_in};
 ghost use Rattle.bk_meaning.specs.World.{World, goto, gives, leaves, undefined, done};
 ghost use Rattle.bk_meaning.specs.Scopes.{alone};
+ghost use Rattle.bk_meaning.specs.Parts.{nowhere};
 ghost use Rattle.bk_meaning.specs.Lasting.{Program};
 ghost use Rattle.bk_meaning.specs.Full.{full};
 ghost use Rattle.bk_check.specs.Views.{program_in};
@@ -24,7 +25,7 @@ use crate::machine::{Evaluator, came};
 use crate::seeking::{has_place, one_has_place};
 use bk_lasting::{Env, Lasting, count, count_command};
 use bk_objects::{Location, Origin, Reason, Worth, prefixed, put};
-use bk_tree::{Command, Expr};
+use bk_tree::{Command, Expr, Position};
 use std::alloc::AllocError;
 
 /// What goes on with a value.
@@ -339,9 +340,9 @@ fn lands_alone<'a>(
 /// What a frame does not go on with.
 #[inline(never)]
 fn wrong<'a>() -> Result<Next<'a>, AllocError>
-    ensures { IfOk result (λ next. (p : Program) (fs : List Continuation) (w : World) → Comes p fs next w (resumed p fs undefined)) }
+    ensures { IfOk result (λ next. (p : Program) (fs : List Continuation) (w : World) → Comes p fs next w (resumed p fs (undefined nowhere w))) }
 {
-    Ok(Next::Undefined(Subject::Nothing, Reason::NoPlace))
+    Ok(Next::Undefined(Subject::Nothing(Position::first()), Reason::NoPlace))
 }
 
 /// A frame goes on with a value.
@@ -465,7 +466,10 @@ fn frame_left<'a>(
 {
     match frame {
         Continuation::Done(inside) => with_exit(m, inside, exit),
-        Continuation::Returned(_) => Ok(Next::Undefined(Subject::Nothing, Reason::NoPlace)),
+        Continuation::Returned(call) => Ok(Next::Undefined(
+            Subject::Nothing(call.at),
+            Reason::NoPlace,
+        )),
         Continuation::Closing(object) => {
             m.store.forget(object);
             Ok(Next::Leaves(exit))

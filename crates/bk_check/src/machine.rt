@@ -1,10 +1,11 @@
 //! Expressions: what a machine does for a value, a truth or a place.
-ghost use Rattle.std.specs.Prelude.{◌≡◌, IfOk, IfSome, ◌<◌, ◌-◌, List};
+ghost use Rattle.std.specs.Prelude.{◌≡◌, ℕ, IfOk, IfSome, ◌<◌, ◌-◌, List};
 ghost use Rattle.std.specs.Option.{option_map};
 ghost use Rattle.bk_tree.specs.Tree.{expression, expressions_in, command_in};
 ghost use Rattle.bk_meaning.specs.World.{World, gives, given, with};
 ghost use Rattle.bk_meaning.specs.Lasting.{Program};
 ghost use Rattle.bk_meaning.specs.Parts;
+ghost use Rattle.bk_meaning.specs.Parts.{acts_at as acting};
 ghost use Rattle.bk_meaning.specs.Seeking.{forwards};
 ghost use Rattle.bk_meaning.specs.Scopes.{in_order, scope_of, alone};
 ghost use Rattle.bk_meaning.specs.Calls.{applied};
@@ -45,7 +46,7 @@ pub struct Evaluator<'a> {
 /// What an operation gave, as what comes next.
 pub fn came<'a>(expr: &'a Expr, operands: Operands, came: Computed) -> Next<'a>
     ensures { (p : Program) (m : Evaluator) (b : Bytes) → Comes p m.frames.items result (world m b)
-        (resumed p m.frames.items (tag a_value (outcome_of came (world m b)))) }
+        (resumed p m.frames.items (tag a_value (outcome_of (acting (expression expr.now)) came (world m b)))) }
 {
     match came {
         Computed::Value(worth) => Next::Gives(Thing::Value(worth)),
@@ -56,7 +57,8 @@ pub fn came<'a>(expr: &'a Expr, operands: Operands, came: Computed) -> Next<'a>
 
 /// The value of a name that means this, if it has one.
 fn known_name(store: &Store, sense: Option<Sense>) -> Option<Worth>
-    ensures { IfSome result (λ x. (w : World) → w.memory ≡ store.now → Parts.named (option_map sense_in sense) w ≡ gives (value_in x) w) }
+    ensures { IfSome result (λ x. (l : ℕ) (w : World) → w.memory ≡ store.now
+        → Parts.named l (option_map sense_in sense) w ≡ gives (value_in x) w) }
 {
     match sense {
         Some(Sense::Constant(word)) => Some(Worth::Number(word)),
@@ -109,7 +111,8 @@ impl<'a> Evaluator<'a> {
         ensures { IfOk result (λ next. (p : Program) (bytes : Bytes) →
             Comes p self.new.frames.items next (world self.new bytes)
             (resumed p self.old.frames.items (tag a_value (with ((full p).value (expression a.now) (env_in env.entry) (world self.old bytes))
-            (λ x w. with ((full p).value (expression b.now) (past (expression a.now) (env_in env.entry)) w) (combination operator x)))))) }
+            (λ x w. with ((full p).value (expression b.now) (past (expression a.now) (env_in env.entry)) w)
+            (combination (acting (expression expr.now)) operator x)))))) }
     {
         match self.leaf(a, &env) {
             Some(x) => {
@@ -132,7 +135,8 @@ impl<'a> Evaluator<'a> {
         ensures { IfOk result (λ next. (p : Program) (bytes : Bytes) →
             Comes p self.new.frames.items next (world self.new bytes)
             (resumed p self.old.frames.items (tag a_value (with ((full p).value (expression a.now) (env_in env.entry) (world self.old bytes))
-            (λ x w. with ((full p).value (expression b.now) (past (expression a.now) (env_in env.entry)) w) (combination operator x)))))) }
+            (λ x w. with ((full p).value (expression b.now) (past (expression a.now) (env_in env.entry)) w)
+            (combination (acting (expression expr.now)) operator x)))))) }
     {
         let following = env.again()?.following(count(a)?)?;
         self.first_value(OnValue::Left(expr, operator, b, following), a, env)
@@ -150,7 +154,8 @@ impl<'a> Evaluator<'a> {
         ensures { IfOk result (λ next. (p : Program) (bytes : Bytes) →
             Comes p self.new.frames.items next (world self.new bytes)
             (resumed p self.old.frames.items (tag a_value (with
-            ((full p).value (expression b.now) (env_in env.entry) (world self.old bytes)) (combination operator (value_in x)))))) }
+            ((full p).value (expression b.now) (env_in env.entry) (world self.old bytes))
+            (combination (acting (expression expr.now)) operator (value_in x)))))) }
     {
         match self.leaf(b, &env) {
             Some(y) => {
@@ -287,7 +292,7 @@ impl<'a> Evaluator<'a> {
     /// What is at an address.
     pub fn fetched(&self, expr: &'a Expr, operands: Operands, at: Worth) -> Next<'a>
         ensures { (p : Program) (b : Bytes) → Comes p self.now.frames.items result (world self.now b)
-            (resumed p self.now.frames.items (tag a_value (Parts.fetch (value_in at) (world self.now b)))) }
+            (resumed p self.now.frames.items (tag a_value (Parts.fetch (acting (expression expr.now)) (value_in at) (world self.now b)))) }
     {
         came(expr, operands, read(&self.store, at))
     }
@@ -296,7 +301,8 @@ impl<'a> Evaluator<'a> {
     #[inline(never)]
     pub fn combined(&self, expr: &'a Expr, operator: Operator, x: Worth, y: Worth) -> Next<'a>
         ensures { (p : Program) (b : Bytes) → Comes p self.now.frames.items result (world self.now b)
-            (resumed p self.now.frames.items (tag a_value (combination operator (value_in x) (value_in y) (world self.now b)))) }
+            (resumed p self.now.frames.items (tag a_value
+            (combination (acting (expression expr.now)) operator (value_in x) (value_in y) (world self.now b)))) }
     {
         came(
             expr,
@@ -308,7 +314,7 @@ impl<'a> Evaluator<'a> {
     /// The truth of a value.
     pub fn truth_given(&self, expr: &'a Expr, x: Worth) -> Next<'a>
         ensures { (p : Program) (b : Bytes) → Comes p self.now.frames.items result (world self.now b)
-            (resumed p self.now.frames.items (tag a_truth (judged (value_in x) (world self.now b)))) }
+            (resumed p self.now.frames.items (tag a_truth (judged (acting (expression expr.now)) (value_in x) (world self.now b)))) }
     {
         match truth_of(&self.store, x) {
             Ok(truth) => Next::Gives(Thing::Truth(truth)),
@@ -320,7 +326,8 @@ impl<'a> Evaluator<'a> {
     pub fn place_given(&self, expr: &'a Expr, x: Worth, y: Worth) -> Next<'a>
         ensures { (p : Program) (b : Bytes) → Comes p self.now.frames.items result (world self.now b)
             (resumed p self.now.frames.items (tag a_target (with
-            (given (sum_of (world self.now b).memory (value_in x) (value_in y)) (world self.now b)) (λ a w. gives (Parts.at a) w)))) }
+            (given (acting (expression expr.now)) (sum_of (world self.now b).memory (value_in x) (value_in y)) (world self.now b))
+            (λ a w. gives (Parts.at a) w)))) }
     {
         match sum(&self.store, x, y) {
             Ok(at) => Next::Gives(Thing::Target(Location::Cell(at))),
@@ -331,7 +338,8 @@ impl<'a> Evaluator<'a> {
     /// A name whose value is asked for.
     fn named(&self, expr: &'a Expr, sense: Option<Sense>) -> Next<'a>
         ensures { (p : Program) (b : Bytes) → Comes p self.now.frames.items result (world self.now b)
-            (resumed p self.now.frames.items (tag a_value (Parts.named (option_map sense_in sense) (world self.now b)))) }
+            (resumed p self.now.frames.items (tag a_value
+            (Parts.named (acting (expression expr.now)) (option_map sense_in sense) (world self.now b)))) }
     {
         match sense {
             Some(Sense::Constant(word)) => Next::Gives(Thing::Value(Worth::Number(word))),
@@ -358,7 +366,7 @@ impl<'a> Evaluator<'a> {
     ) -> Result<Next<'a>, AllocError>
         ensures { IfOk result (λ next. (p : Program) (b : Bytes) →
             Comes p self.new.frames.items next (world self.new b)
-            (resumed p self.old.frames.items (tag a_value (applied p (full p) (expression callee.now) (expressions_in items.now)
+            (resumed p self.old.frames.items (tag a_value (applied p (full p) at (expression callee.now) (expressions_in items.now)
             (env_in env.entry) (world self.old b))))) }
     {
         let here = env.again()?.following(count(callee)?)?;
@@ -378,7 +386,7 @@ impl<'a> Evaluator<'a> {
     ) -> Result<Next<'a>, AllocError>
         ensures { IfOk result (λ next. (p : Program) (b : Bytes) →
             Comes p self.new.frames.items next (world self.new b)
-            (resumed p self.old.frames.items (tag a_value (applied_after p (list_value before.items) (expressions_in items.now)
+            (resumed p self.old.frames.items (tag a_value (applied_after p at (list_value before.items) (expressions_in items.now)
             (env_in here.entry) (expression callee.now) (env_in env.entry) (world self.old b))))) }
     {
         match items.split_first() {
@@ -436,7 +444,8 @@ impl<'a> Evaluator<'a> {
     fn judged(&mut self, expr: &'a Expr, env: Env<'a>) -> Result<Next<'a>, AllocError>
         ensures { IfOk result (λ next. (p : Program) (b : Bytes) →
             Comes p self.new.frames.items next (world self.new b)
-            (resumed p self.old.frames.items (tag a_truth (with (value_of p (full p) (expression expr.now) (env_in env.entry) (world self.old b)) judged)))) }
+            (resumed p self.old.frames.items (tag a_truth (with (value_of p (full p) (expression expr.now) (env_in env.entry) (world self.old b))
+            (judged (acting (expression expr.now))))))) }
     {
         self.frames.push(Continuation::Value(OnValue::Judge(expr)))?;
         self.value_inside(expr, env)
@@ -583,7 +592,9 @@ fn from_place<'a>(command: &'a Command, mode: Option<Sought<'a>>, env: Env<'a>) 
 }
 
 /// Where an expression acts on its operands: at its operator, or where it begins.
-pub fn acts_at(expr: &Expr) -> Position {
+pub fn acts_at(expr: &Expr) -> Position
+    ensures { result ≡ acting (expression expr.now) }
+{
     match expr {
         Expr::Binary { sign, .. } => *sign,
         other => other.at(),

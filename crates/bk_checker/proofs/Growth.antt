@@ -1,5 +1,6 @@
 -- What was written begins what is written then, whatever is still to be done.
 use Rattle.bk_checker.proofs.Terms.{ℕ, suc, Bool, not, Option, List, [], ◌∷◌, ◌++◌, map, arith, Expression, Expressions, Command, Starts, expression, expressions_in, command_in, commands_in, declarations_in, definitions_in, starts_in, Value, unset, World, Exit, break, loop, result, Outcome, gives, leaves, undefined, with, given, either, Done, done, Environment, past, past_command, Program, Target, at, byte_at, call, History, history, Grows, After, full, stays, earlier, Adds, adds, with_after, each_way_after, given_after, either_after, Ties, ties, ties_add, AllTied, done_ties, fetch_ties, combined_ties, operate_prefix_ties, judged_ties, address_in_ties, values_ties, call_ties, assigned_ties, store_ties, choose_case_ties, rounds_of_ties, for_loop_ties, for_test_ties, for_step_ties, where_truth_ties, turn_ties, in_order_ties, landing_ties, result_ties, return_ties, case_exit_ties, starts_ties, let_values_ties, bind_variables_ties, declare_all_ties, scope_ties, library_ties, means_tied, value_in, routine_in, Continuation, Next, letters_in, mode_in, start_in, Given, a_value, a_truth, a_target, is_done, done_tag, tag, resumed, resume_given, resume_left, value_goes, truth_goes, target_goes, done_goes, done_left, next_round, next_for, bound_then, defined_then, started_then, starting_then, declared_then, outcome_next, thing_in, exit_in, assigned_to, OnValue, OnValue as v, OnTruth, OnTruth as o, OnTarget, OnTarget as a, OnDone, OnDone as d, Continuation as f, Next as n}
+use Rattle.bk_tree.specs.Tree.{Mention, mention}
 use Rattle.bk_tree.specs.Tree as t
 use Rattle.bk_meaning.specs.Operators.{sum}
 use Rattle.bk_meaning.specs.Seeking.{the_label, Mode, forwards, seeking}
@@ -19,7 +20,7 @@ full_tied p = record {
   target = λ e env. ties _ _ (λ w n le. ((means_tied p (suc w.turns) (suc n) (omega (arith, le))).target e env).at w n le);
   act = λ c mode env. ties _ _ (λ w n le. ((means_tied p (suc w.turns) (suc n) (omega (arith, le))).act c mode env).at w n le);
   rounds = λ c mode env. ties _ _ (λ w n le. ((means_tied p (suc w.turns) (suc n) (omega (arith, le))).rounds c mode env).at w n le);
-  for_rounds = λ c object limit step env. ties _ _ (λ w n le. ((means_tied p (suc w.turns) (suc n) (omega (arith, le))).for_rounds c object limit step env).at w n le);
+  for_rounds = λ l c object limit step env. ties _ _ (λ w n le. ((means_tied p (suc w.turns) (suc n) (omega (arith, le))).for_rounds l c object limit step env).at w n le);
   scope = λ cs mode env. ties _ _ (λ w n le. ((means_tied p (suc w.turns) (suc n) (omega (arith, le))).scope cs mode env).at w n le);
 }
 
@@ -36,7 +37,7 @@ by : {A B : Type 0} (go : World → Outcome A) (on : A → World → Outcome B) 
 by go on h g = adds _ (λ w. with_after (history w) (go w) on (h.at w) g)
 
 tagged : {A : Type 0} (k : A → Given) (h : History) (u : Outcome A) → After h u → After h (tag k u)
-tagged k h undefined up = tt
+tagged k h (undefined l w) up = up
 tagged k h y up = up
 
 tag_adds : {A : Type 0} (k : A → Given) (go : World → Outcome A) → Adds go → Adds (λ w. tag k (go w))
@@ -55,14 +56,14 @@ module _ (p : Program) where
   act : (c : Command) (mode : Mode) (env : Environment) → Adds ((full p).act c mode env)
   act c mode env = ties_add _ _ (g.act c mode env)
 
-  place : (x y : Value) → Adds (λ w. with (given (sum w.memory x y) w) (λ c w. gives (at c) w))
-  place x y = adds _ (λ w. with_after (history w) (given (sum w.memory x y) w) (λ c w. gives (at c) w) (given_after (sum w.memory x y) w) (λ c. still (at c)))
+  place : (l : ℕ) (x y : Value) → Adds (λ w. with (given l (sum w.memory x y) w) (λ c w. gives (at c) w))
+  place l x y = adds _ (λ w. with_after (history w) (given l (sum w.memory x y) w) (λ c w. gives (at c) w) (given_after l (sum w.memory x y) w) (λ c. still (at c)))
 
   one_of : {A : Type 0} (x : Bool) (go other : World → Outcome A) → Adds go → Adds other → Adds (λ w. either x go other w)
   one_of x go other h k = adds _ (λ w. either_after x go other h k w)
 
-  for_on : (x : List ℕ) (c : Command) (env : Environment) (step : Option ℕ) (start limit : Value) → Adds (λ w. with (given step w) (λ n w. for_loop (full p) x c start limit n env w))
-  for_on x c env step start limit = adds _ (λ w. with_after (history w) (given step w) _ (given_after step w) (λ n. ties_add _ _ (for_loop_ties (full p) (full p) g x c start limit n env)))
+  for_on : (x : Mention) (c : Command) (env : Environment) (step : Option ℕ) (start limit : Value) → Adds (λ w. with (given x.at step w) (λ n w. for_loop (full p) x c start limit n env w))
+  for_on x c env step start limit = adds _ (λ w. with_after (history w) (given x.at step w) _ (given_after x.at step w) (λ n. ties_add _ _ (for_loop_ties (full p) (full p) g x c start limit n env)))
 
   bound : (l : Let) (ss : List b.Start) → Adds (bound_then p l ss)
   bound l ss = by _ _ (ties_add _ _ (bind_variables_ties (full p) (full p) g (map start_in l.starts.items ++ ss) (env_in l.following))) (λ env. declared l env)
@@ -81,29 +82,29 @@ module _ (p : Program) where
 
   -- what goes on with a value
   value_on : (k : OnValue) (x : Value) → Adds (λ w. value_goes p k (gives x w))
-  value_on (v.Contents e) x = tag_adds a_value _ (ties_add _ _ (fetch_ties x))
-  value_on (v.Prefix e q) x = tag_adds a_value _ (ties_add _ _ (operate_prefix_ties q x))
-  value_on (v.Left e q b env) x = tag_adds a_value _ (by _ _ (value (expression b.now) (env_in env)) (λ y. ties_add _ _ (combined_ties q x y)))
-  value_on (v.Right e q y) x = tag_adds a_value _ (ties_add _ _ (combined_ties q (value_in y) x))
-  value_on (v.Judge e) x = tag_adds a_truth _ (ties_add _ _ (judged_ties x))
+  value_on (v.Contents e) x = tag_adds a_value _ (ties_add _ _ (fetch_ties _ x))
+  value_on (v.Prefix e q) x = tag_adds a_value _ (ties_add _ _ (operate_prefix_ties _ q x))
+  value_on (v.Left e q b env) x = tag_adds a_value _ (by _ _ (value (expression b.now) (env_in env)) (λ y. ties_add _ _ (combined_ties _ q x y)))
+  value_on (v.Right e q y) x = tag_adds a_value _ (ties_add _ _ (combined_ties _ q (value_in y) x))
+  value_on (v.Judge e) x = tag_adds a_truth _ (ties_add _ _ (judged_ties _ x))
   value_on v.At x = tag_adds a_target _ (still (at x))
-  value_on (v.Vector e b env) x = tag_adds a_target _ (by _ _ (value (expression b.now) (env_in env)) (λ y. place x y))
-  value_on (v.Offset e y) x = tag_adds a_target _ (place (value_in y) x)
+  value_on (v.Vector e b env) x = tag_adds a_target _ (by _ _ (value (expression b.now) (env_in env)) (λ y. place _ x y))
+  value_on (v.Offset e y) x = tag_adds a_target _ (place _ (value_in y) x)
   value_on (v.String b env) x = tag_adds a_target _ (by _ _ (value (expression b.now) (env_in env)) (λ y. still (byte_at x y)))
   value_on (v.Byte y) x = tag_adds a_target _ (still (byte_at (value_in y) x))
   value_on (v.Argument spot es here before callee env) x = tag_adds a_value _ (by _ _ (ties_add _ _ (values_ties (full p) (full p) g (expressions_in es.now) (env_in here))) (λ vs.
-      by _ _ (value (expression callee.now) (env_in env)) (λ c. ties_add _ _ (call_ties (full p) (full p) g p c (map value_in before.items ++ x ∷ vs)))))
-  value_on (v.Callee spot e before) x = tag_adds a_value _ (ties_add _ _ (call_ties (full p) (full p) g p x (map value_in before.items)))
+      by _ _ (value (expression callee.now) (env_in env)) (λ c. ties_add _ _ (call_ties (full p) (full p) g spot p c (map value_in before.items ++ x ∷ vs)))))
+  value_on (v.Callee spot e before) x = tag_adds a_value _ (ties_add _ _ (call_ties (full p) (full p) g spot p x (map value_in before.items)))
   value_on v.Dropped x = tag_adds done_tag _ finished
   value_on v.Result x = tag_adds done_tag _ (left (result x))
   value_on (v.Assigned xs there es env) x = tag_adds done_tag _ (assigned_on (expressions_in xs.now) (env_in there))
     where
       assigned_on : (xs : Expressions) (there : Environment) → Adds (assigned_to (full p) x xs there (expressions_in es.now) (env_in env))
       assigned_on t.none there = finished
-      assigned_on (t.more d ds) there = by _ _ (ties_add _ _ (g.target d there)) (λ c. by _ _ (ties_add _ _ (store_ties (full p) (full p) g c x)) (λ _. ties_add _ _ (assigned_ties (full p) (full p) g ds (past d there) (expressions_in es.now) (env_in env))))
-  value_on (v.Switch e c env) x = tag_adds done_tag _ (ties_add _ _ (choose_case_ties (full p) (full p) g x (command_in c.now) (env_in env)))
-  value_on (v.ForStart name e env c step) x = tag_adds done_tag _ (by _ _ (value (expression e.now) (env_in env)) (λ h. for_on name.now.letters.items (command_in c.now) (past (expression e.now) (env_in env)) step x h))
-  value_on (v.ForLimit name env start c step) x = tag_adds done_tag _ (for_on name.now.letters.items (command_in c.now) (env_in env) step (value_in start) x)
+      assigned_on (t.more d ds) there = by _ _ (ties_add _ _ (g.target d there)) (λ c. by _ _ (ties_add _ _ (store_ties (full p) (full p) g _ c x)) (λ _. ties_add _ _ (assigned_ties (full p) (full p) g ds (past d there) (expressions_in es.now) (env_in env))))
+  value_on (v.Switch e c env) x = tag_adds done_tag _ (ties_add _ _ (choose_case_ties (full p) (full p) g _ x (command_in c.now) (env_in env)))
+  value_on (v.ForStart name e env c step) x = tag_adds done_tag _ (by _ _ (value (expression e.now) (env_in env)) (λ h. for_on (mention name.now) (command_in c.now) (past (expression e.now) (env_in env)) step x h))
+  value_on (v.ForLimit name env start c step) x = tag_adds done_tag _ (for_on (mention name.now) (command_in c.now) (env_in env) step (value_in start) x)
   value_on (v.Starts is here names l) x = tag_adds done_tag _ (by _ _ (by _ _ (ties_add _ _ (starts_ties (full p) (full p) g (starts_in is.now) (env_in here))) (λ vs. still (x ∷ vs))) (λ vs. started l.value (letters_in names.now) vs))
 
   -- with a truth
@@ -119,8 +120,8 @@ module _ (p : Program) where
 
   -- with a place
   target_on : (k : OnTarget) (x : Target) → Adds (λ w. target_goes p k (gives x w))
-  target_on (a.Address e) x = tag_adds a_value _ (ties_add _ _ (address_in_ties (full p) (full p) g x))
-  target_on (a.Put e y xs there es env) x = tag_adds done_tag _ (by _ _ (ties_add _ _ (store_ties (full p) (full p) g x (value_in y))) (λ _. ties_add _ _ (assigned_ties (full p) (full p) g (expressions_in xs.now) (env_in there) (expressions_in es.now) (env_in env))))
+  target_on (a.Address e) x = tag_adds a_value _ (ties_add _ _ (address_in_ties (full p) (full p) g _ x))
+  target_on (a.Put e y xs there es env) x = tag_adds done_tag _ (by _ _ (ties_add _ _ (store_ties (full p) (full p) g _ x (value_in y))) (λ _. ties_add _ _ (assigned_ties (full p) (full p) g (expressions_in xs.now) (env_in there) (expressions_in es.now) (env_in env))))
 
   next_ties : (c : Command) (env : Environment) → Ties (next_round p c env) (next_round p c env)
   next_ties (t.while l b e c) env = where_truth_ties (full p) (full p) g b e env _ _ (turn_ties (full p) (full p) g _ _ (g.rounds (t.while l b e c) forwards env))
@@ -129,8 +130,8 @@ module _ (p : Program) where
   next_ties c env = done_ties
 
   next_for_adds : (k : For) → Adds (next_for p k)
-  next_for_adds k = by _ _ (ties_add _ _ (for_step_ties (full p) (full p) g k.object k.step)) (λ _.
-      ties_add _ _ (for_test_ties (full p) (full p) g k.object (value_in k.limit) k.step _ _ (turn_ties (full p) (full p) g _ _ (g.for_rounds (command_in k.body.now) k.object (value_in k.limit) k.step (env_in k.env)))))
+  next_for_adds k = by _ _ (ties_add _ _ (for_step_ties (full p) (full p) g k.name.now.at k.object k.step)) (λ _.
+      ties_add _ _ (for_test_ties (full p) (full p) g k.name.now.at k.object (value_in k.limit) k.step _ _ (turn_ties (full p) (full p) g _ _ (g.for_rounds k.name.now.at (command_in k.body.now) k.object (value_in k.limit) k.step (env_in k.env)))))
 
   -- after a command
   done_on : (k : OnDone) → Adds (λ w. done_goes p k (done w))
@@ -159,7 +160,7 @@ module _ (p : Program) where
 
   exit_on : (k : Continuation) (x : Exit) → Adds (λ w. resume_left p k x w)
   exit_on (f.Done k) x = left_on k x
-  exit_on (f.Returned c) x = adds _ (λ w. tt)
+  exit_on (f.Returned c) x = adds _ (λ w. stays (history w))
   exit_on (f.Closing m) x = adds _ (λ w. stays (history w))
   exit_on k x = left x
 
@@ -171,7 +172,7 @@ module _ (p : Program) where
   given_on (f.Target k) (a_target x) = target_on k x
   given_on (f.Done k) is_done = done_on k
   given_on (f.Closing m) is_done = adds _ (λ w. stays (history w))
-  given_on k y = adds _ (λ w. tt)
+  given_on k y = adds _ (λ w. stays (history w))
 
   -- by all frames
   pub resumed_after : (fs : List Continuation) (h : History) (u : Outcome Given) → After h u → After h (resumed p fs u)
@@ -190,8 +191,7 @@ module _ (p : Program) where
   next_on (n.Starts is here names l) = tag_adds done_tag _ (starting (starts_in is.now) (env_in here) (letters_in names.now) l.value)
   next_on (n.Gives t) = still (thing_in t)
   next_on (n.Leaves x) = left (exit_in x)
-  next_on (n.Library spot r vs) = tag_adds a_value _ (ties_add _ _ (library_ties (routine_in r) (map value_in vs.items)))
-  next_on (n.Undefined s why) = adds _ (λ w. tt)
+  next_on (n.Library spot r vs) = tag_adds a_value _ (ties_add _ _ (library_ties spot (routine_in r) (map value_in vs.items)))
   next_on y = adds _ (λ w. stays (history w))
 
   -- what is written, and read, of the whole, from a world on
@@ -199,5 +199,5 @@ module _ (p : Program) where
   whole_after fs next h w grows = resumed_after fs h (outcome_next p next w) (earlier h (history w) (outcome_next p next w) grows ((next_on next).at w))
 
   -- a call
-  pub called_after : (c : Value) (vs : List Value) (h : History) (w : World) → Grows h (history w) → After h (tag a_value (call p (full p) c vs w))
-  called_after c vs h w grows = earlier h (history w) _ grows ((tag_adds a_value _ (ties_add _ _ (call_ties (full p) (full p) g p c vs))).at w)
+  pub called_after : (l : ℕ) (c : Value) (vs : List Value) (h : History) (w : World) → Grows h (history w) → After h (tag a_value (call p (full p) l c vs w))
+  called_after l c vs h w grows = earlier h (history w) _ grows ((tag_adds a_value _ (ties_add _ _ (call_ties (full p) (full p) g l p c vs))).at w)

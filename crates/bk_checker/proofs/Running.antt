@@ -1,10 +1,11 @@
 -- Runs over devices: steps one after another, and what the whole comes to.
 use Rattle.std.specs.Prelude.{IsErr}
-use Rattle.bk_checker.proofs.Terms.{◌≡◌, ℕ, ◌^◌, ◌-◌, Vec, map, Bool, true, false, IsTrue, Result, Ok, Err, IfOk, IfErr, OnOk, OnErr, is_err, arith, List, [], ◌∷◌, ◌++◌, Option, None, Some, refl, sym, ap, subst, ◌∙◌, append_assoc, append-nil, Consumes-nil, Consumes-kept, Consumes-trans, Appends-nil, Appends-trans, Appends-kept, Declarations, Value, address, number, World, End, Outcome, gives, leaves, ends, undefined, going, divide_by_zero, given, globals_object, remembering, Effect, fetch, value_in, routine_in, outcome_of, outcome_in, Program, program_of, first_memory, call, full, History, history, Grows, After, reads_from_the_front, full_call, Continuation, Next, CheckFault, Given, a_value, tag, resume, resumed, outcome_next, Comes, Devices, Exchanged, Follows, Shows, Checks, over, verdict_of, run_given, Answered, Moves, Begun, Runs, ChecksPart, RunsPart, Reaches, Flushed, Worth, Worth as w, Effect as t, Computed, Computed as k, Thing as g, Next as n, Verdict, Verdict as v, CheckFault as x}
+use Rattle.bk_checker.proofs.Terms.{◌≡◌, ℕ, ◌^◌, ◌-◌, Vec, map, Bool, true, false, IsTrue, Result, Ok, Err, IfOk, IfErr, OnOk, OnErr, is_err, arith, List, [], ◌∷◌, ◌++◌, Option, None, Some, refl, sym, ap, subst, ◌∙◌, append_assoc, append-nil, Consumes-nil, Consumes-kept, Consumes-trans, Appends-nil, Appends-trans, Appends-kept, Declarations, Value, address, number, World, End, Outcome, gives, leaves, ends, undefined, going, divide_by_zero, given, globals_object, remembering, Effect, fetch, value_in, routine_in, outcome_of, outcome_in, Program, program_of, first_memory, call, full, History, history, Grows, After, reads_from_the_front, full_call, Continuation, Next, CheckFault, Given, a_value, tag, resume, resumed, outcome_next, Comes, Devices, Exchanged, Follows, Shows, Checks, over, verdict_of, place_of, run_given, Answered, Moves, Begun, Runs, ChecksPart, RunsPart, Reaches, Flushed, Worth, Worth as w, Effect as t, Computed, Computed as k, Thing as g, Next as n, Verdict, Verdict as v, CheckFault as x}
 use Rattle.std.specs.Io.KnownBytes.{Consumes, Appends, Keeps}
 use Rattle.bk_meaning.specs.Memory.{Memory, read}
 use Rattle.std.specs.Global.{Global}
 use Rattle.bk_meaning.specs.Library.{takes_byte, library}
+use Rattle.bk_meaning.specs.Parts.{nowhere}
 use Rattle.bk_objects.specs.declared.worth.Origin.TheVariants as o
 use Rattle.bk_objects.specs.declared.worth.Routine.{Routine}
 use Rattle.bk_meaning.specs.Program.{Run, means, run_of, first_world, started, meaning}
@@ -20,10 +21,10 @@ unfolding resumed
 ends_stays p [] e w = refl
 ends_stays p (f ∷ fs) e w = ap (resume p f) (ends_stays p fs e w)
 
-undefined_stays : (p : Program) (fs : List Continuation) → resumed p fs undefined ≡ undefined
+undefined_stays : (p : Program) (fs : List Continuation) (l : ℕ) (w : World) → resumed p fs (undefined l w) ≡ undefined l w
 unfolding resumed
-undefined_stays p [] = refl
-undefined_stays p (f ∷ fs) = ap (resume p f) (undefined_stays p fs)
+undefined_stays p [] l w = refl
+undefined_stays p (f ∷ fs) l w = ap (resume p f) (undefined_stays p fs l w)
 
 going_stays : (p : Program) (fs : List Continuation) (w : World) → resumed p fs (going w) ≡ going w
 unfolding resumed
@@ -34,21 +35,21 @@ over_is : (p : Program) (fs : List Continuation) (next : Next) (w : World) → o
 unfolding resumed
 over_is p fs (n.Status k) w is = ends_stays p fs _ w
 over_is p fs (n.DivideByZero s) w is = ends_stays p fs _ w
-over_is p fs (n.Undefined s why) w is = undefined_stays p fs
+over_is p fs (n.Undefined s why) w is = undefined_stays p fs _ w
 over_is p fs (n.Going spot) w is = going_stays p fs w
 over_is p [] (n.Gives t) w is = refl
 over_is p [] (n.Leaves x) w is = refl
 over_is p fs next w is = absurd (cc is)
 
 -- the verdict of what ends a run is that of the run
-shows_verdict : (p : Program) (fs : List Continuation) (next : Next) (w : World) → over fs next ≡ true → Shows (verdict_of next) (run_given (outcome_next p next w)) w.input w.output
+shows_verdict : (p : Program) (fs : List Continuation) (next : Next) (w : World) → over fs next ≡ true → Shows (verdict_of next) (place_of next) (run_given (outcome_next p next w)) w.input w.output
 shows_verdict p fs (n.Status k) w is = (w.most_calls, refl)
 shows_verdict p fs (n.DivideByZero s) w is = (w.most_calls, refl)
-shows_verdict p fs (n.Undefined s why) w is = refl
+shows_verdict p fs (n.Undefined s why) w is = (w.most_calls, refl)
 shows_verdict p fs (n.Going spot) w is = (w.most_calls, refl)
 shows_verdict p [] (n.Gives (g.Value x)) w is = (w.most_calls, refl)
-shows_verdict p [] (n.Gives t) w is = refl
-shows_verdict p [] (n.Leaves x) w is = refl
+shows_verdict p [] (n.Gives t) w is = (w.most_calls, refl)
+shows_verdict p [] (n.Leaves x) w is = (w.most_calls, refl)
 shows_verdict p fs next w is = absurd (cc is)
 
 run_given_value : (u : Outcome Value) → run_given (tag a_value u) ≡ run_of u
@@ -123,13 +124,13 @@ no_frames : (p : Program) (fs : List Continuation) (u : Outcome Given) → fs �
 unfolding resumed
 no_frames p fs u none = ap (λ (gs : List Continuation). resumed p gs u) none
 
-pub run_shows : (p : Program) (start : Value) (turns : ℕ) (m m' m'' : Evaluator) (first last : Next) (verdict : Verdict) (old new : Devices)
+pub run_shows : (p : Program) (start : Value) (turns : ℕ) (m m' m'' : Evaluator) (first last : Next) (verdict : Verdict) (place : ℕ) (old new : Devices)
     → Begun p turns m
-    → ((b : Bytes) → Comes p m'.frames.items first (world m' b) (resumed p m.frames.items (tag a_value (call p (full p) start [] (world m b)))))
+    → ((b : Bytes) → Comes p m'.frames.items first (world m' b) (resumed p m.frames.items (tag a_value (call p (full p) nowhere start [] (world m b)))))
     → Moves p m' first m'' last old new → over m''.frames.items last ≡ true
-    → verdict ≡ verdict_of last
-    → Runs p start turns verdict old new
-run_shows p start turns m m' m'' first last verdict old new begun calls moves is reported = record {
+    → (verdict ≡ verdict_of last) × (place ≡ place_of last)
+    → Runs p start turns verdict place old new
+run_shows p start turns m m' m'' first last verdict place old new begun calls moves is reported = record {
   read = moves.read;
   written = moves.written;
   exchanged = moves.exchanged;
@@ -137,27 +138,27 @@ run_shows p start turns m m' m'' first last verdict old new begun calls moves is
       let w = world m'' (record { input = rest; output = moves.written }) in
       let input = moves.read ++ rest in
       let there = world m (record { input = input; output = [] }) in
-      let comes : outcome_next p last w ≡ tag a_value (call p (full p) start [] there) =
-      sym (over_is p m''.frames.items last w is) ∙ moves.comes rest [] follows ∙ calls (record { input = input; output = [] }) ∙ no_frames p m.frames.items (tag a_value (call p (full p) start [] there)) begun.frames in
-      let whole : run_given (outcome_next p last w) ≡ run_of (call p (means p turns) start [] (first_world p input turns)) =
-      ap run_given comes ∙ run_given_value (call p (full p) start [] there)
-      ∙ ap (λ (x : World). run_of (call p (full p) start [] x)) (begun_world p turns m input begun)
-      ∙ sym (ap run_of (full_call p turns start [] (first_world p input turns) (omega arith))) in
-      subst (λ (r : Run). Shows verdict r rest moves.written) whole (subst (λ (v : Verdict). Shows v (run_given (outcome_next p last w)) rest moves.written) (sym reported) (shows_verdict p m''.frames.items last w is));
+      let comes : outcome_next p last w ≡ tag a_value (call p (full p) nowhere start [] there) =
+      sym (over_is p m''.frames.items last w is) ∙ moves.comes rest [] follows ∙ calls (record { input = input; output = [] }) ∙ no_frames p m.frames.items (tag a_value (call p (full p) nowhere start [] there)) begun.frames in
+      let whole : run_given (outcome_next p last w) ≡ run_of (call p (means p turns) nowhere start [] (first_world p input turns)) =
+      ap run_given comes ∙ run_given_value (call p (full p) nowhere start [] there)
+      ∙ ap (λ (x : World). run_of (call p (full p) nowhere start [] x)) (begun_world p turns m input begun)
+      ∙ sym (ap run_of (full_call p turns nowhere start [] (first_world p input turns) (omega arith))) in
+      subst (λ (r : Run). Shows verdict place r rest moves.written) whole (rw (reported.0, reported.1) (shows_verdict p m''.frames.items last w is));
 }
 
 -- what is given is there
-given_some : {A : Type 0} (x : Option A) (a : A) (w : World) → gives a w ≡ given x w → x ≡ Some a
-given_some None a w is = absurd (cc is)
-given_some (Some b) a w is = let same : a ≡ b = cc in ap Some (sym same)
+given_some : {A : Type 0} (l : ℕ) (x : Option A) (a : A) (w : World) → gives a w ≡ given l x w → x ≡ Some a
+given_some l None a w is = absurd (cc is)
+given_some l (Some b) a w is = let same : a ≡ b = cc in ap Some (sym same)
 
-given_none : {A : Type 0} (x : Option A) (w : World) → undefined ≡ given x w → x ≡ None
-given_none None w is = refl
-given_none (Some b) w is = absurd (cc is)
+given_none : {A : Type 0} (l : ℕ) (x : Option A) (w : World) → undefined l w ≡ given l x w → x ≡ None
+given_none l None w is = refl
+given_none l (Some b) w is = absurd (cc is)
 
-given_no_end : {A : Type 0} (x : Option A) (e : End) (w : World) → ends e w ≡ given x w → ⊥
-given_no_end None e w is = cc
-given_no_end (Some b) e w is = cc
+given_no_end : {A : Type 0} (l : ℕ) (x : Option A) (e : End) (w : World) → ends e w ≡ given l x w → ⊥
+given_no_end l None e w is = cc
+given_no_end l (Some b) e w is = cc
 
 -- the first world, whatever its input
 abbrev some_world : Memory → World
@@ -170,17 +171,17 @@ module _ (sections : List Declarations) (p : Program) (turns : ℕ) (is : p ≡ 
   pub means_so : (input : List ℕ) (start : Option Value) → read (first_memory p) (address globals_object 1) ≡ start → starting input start ≡ meaning sections input turns
   means_so input start found = sym (ap (starting input) found) ∙ ap (λ (q : Program). started q (read (first_memory q) (address globals_object 1)) (first_world q input turns) turns) is
 
-  pub checks_start : (start : Value) (verdict : Verdict) (old new : Devices) → read (first_memory p) (address globals_object 1) ≡ Some start → Runs p start turns verdict old new → Checks sections turns verdict old new
-  checks_start start verdict old new found runs = record {
+  pub checks_start : (start : Value) (verdict : Verdict) (place : ℕ) (old new : Devices) → read (first_memory p) (address globals_object 1) ≡ Some start → Runs p start turns verdict place old new → Checks sections turns verdict place old new
+  checks_start start verdict place old new found runs = record {
     read = runs.read;
     written = runs.written;
     exchanged = runs.exchanged;
-    shows = λ rest follows. subst (λ (r : Run). Shows verdict r rest runs.written) (means_so (runs.read ++ rest) (Some start) found) (runs.shows rest follows);
+    shows = λ rest follows. subst (λ (r : Run). Shows verdict place r rest runs.written) (means_so (runs.read ++ rest) (Some start) found) (runs.shows rest follows);
   }
 
-  pub checks_none : (verdict : Verdict) (old new : Devices) → read (first_memory p) (address globals_object 1) ≡ None → verdict ≡ v.NoStart
-      → Exchanged old new [] [] → Checks sections turns verdict old new
-  checks_none verdict old new found none exchanged = record {
+  pub checks_none : (verdict : Verdict) (place : ℕ) (old new : Devices) → read (first_memory p) (address globals_object 1) ≡ None → verdict ≡ v.NoStart
+      → Exchanged old new [] [] → Checks sections turns verdict place old new
+  checks_none verdict place old new found none exchanged = record {
     read = [];
     written = [];
     exchanged = exchanged;
@@ -211,15 +212,15 @@ answered_byte old new b delivered keeps open_ = record {
 
 module _ (p : Program) (m m' : Evaluator) (spot : ℕ) (r : Routine) (vs : Vec Worth Global) (e : Effect)
     (frames : m'.frames.items ≡ m.frames.items) (same : (b : Bytes) → world m' b ≡ remembering m'.store (world m b))
-    (law : (w : World) → w.memory ≡ m.store → outcome_in e (remembering m'.store w) ≡ library (routine_in r) (map value_in vs.items) w) where
-  called : (b : Bytes) → tag a_value (outcome_in e (world m' b)) ≡ outcome_next p (n.Library spot r vs) (world m b)
-  called b = ap (λ (w : World). tag a_value (outcome_in e w)) (same b) ∙ ap (tag a_value) (law (world m b) refl)
+    (law : (w : World) → w.memory ≡ m.store → outcome_in spot e (remembering m'.store w) ≡ library spot (routine_in r) (map value_in vs.items) w) where
+  called : (b : Bytes) → tag a_value (outcome_in spot e (world m' b)) ≡ outcome_next p (n.Library spot r vs) (world m b)
+  called b = ap (λ (w : World). tag a_value (outcome_in spot e w)) (same b) ∙ ap (tag a_value) (law (world m b) refl)
 
   framed : (u v : Outcome Given) → u ≡ v → resumed p m'.frames.items u ≡ resumed p m.frames.items v
   framed u v is = ap (λ (fs : List Continuation). resumed p fs u) frames ∙ ap (resumed p m.frames.items) is
 
   -- it needs no device
-  pub library_still : (next : Next) (reported : Devices) → ((w : World) → outcome_next p next w ≡ tag a_value (outcome_in e w)) → Moves p m (n.Library spot r vs) m' next reported reported
+  pub library_still : (next : Next) (reported : Devices) → ((w : World) → outcome_next p next w ≡ tag a_value (outcome_in spot e w)) → Moves p m (n.Library spot r vs) m' next reported reported
   library_still next reported does = moves_still p m (n.Library spot r vs) m' next reported (λ b. framed _ _ (does (world m' b) ∙ called b))
 
   -- it takes a byte
@@ -231,7 +232,7 @@ module _ (p : Program) (m m' : Evaluator) (spot : ℕ) (r : Routine) (vs : Vec W
     comes = λ rest before follows. unwritten p m'.frames.items (n.Gives (g.Value (w.Number word))) m' rest before _
         (framed _ _ (
         ap (tag a_value) (sym (answered.takes rest (world m' (record { input = answered.read ++ rest; output = before })) follows refl))
-        ∙ ap (λ (x : Effect). tag a_value (outcome_in x (world m' (record { input = answered.read ++ rest; output = before })))) (sym is)
+        ∙ ap (λ (x : Effect). tag a_value (outcome_in spot x (world m' (record { input = answered.read ++ rest; output = before })))) (sym is)
         ∙ called (record { input = answered.read ++ rest; output = before })));
   }
 
@@ -242,7 +243,7 @@ module _ (p : Program) (m m' : Evaluator) (spot : ℕ) (r : Routine) (vs : Vec W
     written = text.items;
     exchanged = exchanged;
     comes = λ rest before follows. framed _ _ (
-        ap (λ (x : Effect). tag a_value (outcome_in x (world m' (record { input = rest; output = before })))) (sym is)
+        ap (λ (x : Effect). tag a_value (outcome_in spot x (world m' (record { input = rest; output = before })))) (sym is)
         ∙ called (record { input = rest; output = before }));
   }
 
@@ -312,7 +313,7 @@ part_grows before part others text w whole = record {
 }
 
 pub reaches_part : (p : Program) (m : Evaluator) (spot : ℕ) (r : Routine) (vs : Vec Worth Global) (s : Memory) (text : Vec ℕ Global) (old new : Devices) (part others : List ℕ)
-    → ((w : World) → w.memory ≡ m.store → outcome_in (t.Writes text) (remembering s w) ≡ library (routine_in r) (map value_in vs.items) w)
+    → ((w : World) → w.memory ≡ m.store → outcome_in spot (t.Writes text) (remembering s w) ≡ library spot (routine_in r) (map value_in vs.items) w)
     → text.items ≡ part ++ others → Exchanged old new [] part → Reaches p m (n.Library spot r vs) old new
 reaches_part p m spot r vs s text old new part others law whole exchanged = record {
   read = [];
@@ -325,13 +326,12 @@ reaches_part p m spot r vs s text old new part others law whole exchanged = reco
 }
 
 run_goes_on : (h : History) (u : Outcome Value) → After h (tag a_value u) → RunGoesOn h (run_of u)
-run_goes_on h (leaves x w) g = tt
-run_goes_on h undefined g = tt
+run_goes_on h (leaves x w) g = g
 run_goes_on h y g = g
 
 pub run_part : (p : Program) (start : Value) (turns : ℕ) (m m' : Evaluator) (first : Next) (old new : Devices)
     → Begun p turns m
-    → ((b : Bytes) → Comes p m'.frames.items first (world m' b) (resumed p m.frames.items (tag a_value (call p (full p) start [] (world m b)))))
+    → ((b : Bytes) → Comes p m'.frames.items first (world m' b) (resumed p m.frames.items (tag a_value (call p (full p) nowhere start [] (world m b)))))
     → Reaches p m' first old new → RunsPart p start turns old new
 run_part p start turns m m' first old new begun calls reaches = record {
   read = reaches.read;
@@ -340,12 +340,12 @@ run_part p start turns m m' first old new begun calls reaches = record {
   goes_on = λ rest follows.
       let input = reaches.read ++ rest in
       let there = world m (record { input = input; output = [] }) in
-      let comes = calls (record { input = input; output = [] }) ∙ no_frames p m.frames.items (tag a_value (call p (full p) start [] there)) begun.frames in
-      let on : RunGoesOn (shown reaches.written rest 0) (run_of (call p (full p) start [] there)) =
-      run_goes_on (shown reaches.written rest 0) (call p (full p) start [] there) (subst (λ (u : Outcome Given). After (shown reaches.written rest 0) u) comes (reaches.grows rest [] follows)) in
+      let comes = calls (record { input = input; output = [] }) ∙ no_frames p m.frames.items (tag a_value (call p (full p) nowhere start [] there)) begun.frames in
+      let on : RunGoesOn (shown reaches.written rest 0) (run_of (call p (full p) nowhere start [] there)) =
+      run_goes_on (shown reaches.written rest 0) (call p (full p) nowhere start [] there) (subst (λ (u : Outcome Given). After (shown reaches.written rest 0) u) comes (reaches.grows rest [] follows)) in
       subst (RunGoesOn (shown reaches.written rest 0)) (
-      ap (λ (x : World). run_of (call p (full p) start [] x)) (begun_world p turns m input begun)
-      ∙ sym (ap run_of (full_call p turns start [] (first_world p input turns) (omega arith)))) on;
+      ap (λ (x : World). run_of (call p (full p) nowhere start [] x)) (begun_world p turns m input begun)
+      ∙ sym (ap run_of (full_call p turns nowhere start [] (first_world p input turns) (omega arith)))) on;
 }
 
 module _ (sections : List Declarations) (p : Program) (turns : ℕ) (is : p ≡ program_of sections) where
@@ -373,8 +373,8 @@ nothing_run p start turns old new exchanged = record {
   exchanged = exchanged;
   goes_on = λ rest follows.
       let w = first_world p rest turns in
-      subst (λ (u : Outcome Value). RunGoesOn (shown [] rest 0) (run_of u)) (sym (full_call p turns start [] w (omega arith)))
-      (run_goes_on (shown [] rest 0) (call p (full p) start [] w) (called_after p start [] (shown [] rest 0) w (still_grows [] rest w refl refl)));
+      subst (λ (u : Outcome Value). RunGoesOn (shown [] rest 0) (run_of u)) (sym (full_call p turns nowhere start [] w (omega arith)))
+      (run_goes_on (shown [] rest 0) (call p (full p) nowhere start [] w) (called_after p nowhere start [] (shown [] rest 0) w (still_grows [] rest w refl refl)));
 }
 
 -- ---- results
@@ -404,8 +404,8 @@ exchanged_kept old mid taken read written keeps exchanged = record {
   stays = exchanged.stays;
 }
 
-pub runs_kept : (p : Program) (start : Value) (turns : ℕ) (verdict : Verdict) (old mid : Devices) (taken : Option (List ℕ)) → Keeps mid.taken taken → Runs p start turns verdict old mid → Runs p start turns verdict old (record mid { taken = taken })
-runs_kept p start turns verdict old mid taken keeps runs = record {
+pub runs_kept : (p : Program) (start : Value) (turns : ℕ) (verdict : Verdict) (place : ℕ) (old mid : Devices) (taken : Option (List ℕ)) → Keeps mid.taken taken → Runs p start turns verdict place old mid → Runs p start turns verdict place old (record mid { taken = taken })
+runs_kept p start turns verdict place old mid taken keeps runs = record {
   read = runs.read;
   written = runs.written;
   exchanged = exchanged_kept old mid taken runs.read runs.written keeps runs.exchanged;
@@ -442,11 +442,11 @@ on_ok_map (Err e) f h = tt
 -- ---- START
 
 module _ (p : Program) (turns : ℕ) (m : Evaluator) (begun : Begun p turns m) (came : Computed)
-    (law : (w : World) → w.memory ≡ m.store → outcome_of came w ≡ fetch (address globals_object 1) w) where
+    (law : (l : ℕ) (w : World) → w.memory ≡ m.store → outcome_of l came w ≡ fetch l (address globals_object 1) w) where
   pub start_found : (x : Worth) → came ≡ k.Value x → read (first_memory p) (address globals_object 1) ≡ Some (value_in x)
   start_found x is =
       ap (λ (s : Memory). read s (address globals_object 1)) (sym begun.store)
-      ∙ given_some (read m.store (address globals_object 1)) (value_in x) (some_world m.store) (sym (ap (λ (y : Computed). outcome_of y (some_world m.store)) is) ∙ law (some_world m.store) refl)
+      ∙ given_some nowhere (read m.store (address globals_object 1)) (value_in x) (some_world m.store) (sym (ap (λ (y : Computed). outcome_of nowhere y (some_world m.store)) is) ∙ law nowhere (some_world m.store) refl)
 
   start_missing : read m.store (address globals_object 1) ≡ None → read (first_memory p) (address globals_object 1) ≡ None
   start_missing none = ap (λ (s : Memory). read s (address globals_object 1)) (sym begun.store) ∙ none
@@ -456,5 +456,5 @@ module _ (p : Program) (turns : ℕ) (m : Evaluator) (begun : Begun p turns m) (
     where
       by : (y : Computed) → came ≡ y → read (first_memory p) (address globals_object 1) ≡ None
       by (k.Value x) is = absurd (not x is)
-      by k.DivideByZero is = absurd (given_no_end (read m.store (address globals_object 1)) divide_by_zero (some_world m.store) (sym (ap (λ (y : Computed). outcome_of y (some_world m.store)) is) ∙ law (some_world m.store) refl))
-      by (k.Undefined why) is = start_missing (given_none (read m.store (address globals_object 1)) (some_world m.store) (sym (ap (λ (y : Computed). outcome_of y (some_world m.store)) is) ∙ law (some_world m.store) refl))
+      by k.DivideByZero is = absurd (given_no_end nowhere (read m.store (address globals_object 1)) divide_by_zero (some_world m.store) (sym (ap (λ (y : Computed). outcome_of nowhere y (some_world m.store)) is) ∙ law nowhere (some_world m.store) refl))
+      by (k.Undefined why) is = start_missing (given_none nowhere (read m.store (address globals_object 1)) (some_world m.store) (sym (ap (λ (y : Computed). outcome_of nowhere y (some_world m.store)) is) ∙ law nowhere (some_world m.store) refl))

@@ -20,7 +20,7 @@ pub use Rattle.bk_objects.specs.Texts.{outcome_in}
 pub use Rattle.bk_objects.specs.Views.{value_in, routine_in, outcome_of}
 pub use Rattle.bk_objects.specs.declared.library.Effect.{Effect}
 pub use Rattle.bk_tree.specs.Tree.{Expression, Expressions, Command, Declarations, Starts, expression, expressions_in, command_in, commands_in, declarations_in, definitions_in, starts_in}
-pub use Rattle.bk_checker.specs.Checks.{Blames, Moves, Devices, Exchanged, Follows, Shows, Checks, over, verdict_of, run_given, Answered, Begun, Runs, ChecksPart, RunsPart, Reaches, Flushed}
+pub use Rattle.bk_checker.specs.Checks.{Blames, Moves, Devices, Exchanged, Follows, Shows, Checks, over, verdict_of, place_of, run_given, Answered, Begun, Runs, ChecksPart, RunsPart, Reaches, Flushed}
 pub use Rattle.bk_checker.specs.declared.report.CheckFault.{CheckFault}
 pub use Rattle.bk_check.specs.declared.frame.OnDone.{OnDone}
 pub use Rattle.bk_check.specs.declared.frame.OnTarget.{OnTarget}

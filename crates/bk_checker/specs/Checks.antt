@@ -9,6 +9,7 @@ use Rattle.bk_meaning.specs.Values.{number}
 use Rattle.bk_meaning.specs.Library.{takes_byte}
 use Rattle.bk_meaning.specs.Values.{Value}
 use Rattle.bk_meaning.specs.Calls.{call}
+use Rattle.bk_meaning.specs.Parts.{nowhere}
 use Rattle.bk_meaning.specs.Lasting.{Program, first_memory}
 use Rattle.bk_meaning.specs.Program.{Run, Ends, Going, Undefined, means, run_of, first_world, meaning}
 use Rattle.bk_meaning.specs.Growing.{After}
@@ -23,7 +24,7 @@ use Rattle.bk_checker.specs.declared.report.Verdict.TheVariants as v
 use Rattle.bk_checker.specs.declared.report.CheckFault.{CheckFault}
 use Rattle.bk_checker.specs.declared.report.CheckFault.TheVariants as x
 use Rattle.bk_check.specs.Worlds.{world}
-use Rattle.bk_check.specs.Resume.{Given, a_value, Comes, resumed, outcome_next}
+use Rattle.bk_check.specs.Resume.{Given, a_value, Comes, resumed, acts_in, outcome_next}
 
 -- What the devices report at a moment: the bytes left of the input and whether its end was reported; the bytes that the output took.
 pub record Devices : Type 0 where
@@ -44,21 +45,22 @@ pub record Exchanged (old new : Devices) (read written : List ℕ) : Type 0 wher
 abbrev pub Follows : Devices → List ℕ → Type 0
 Follows new rest = IsTrue new.ended → rest ≡ []
 
--- The verdict is that of a run, which left this input and wrote these bytes.
-abbrev pub Shows : Verdict → Run → List ℕ → List ℕ → Type 0
-Shows (v.Status k) run left bytes = (calls : ℕ) × (run ≡ Ends bytes left calls (status k))
-Shows v.DivideByZero run left bytes = (calls : ℕ) × (run ≡ Ends bytes left calls divide_by_zero)
-Shows v.NoStart run left bytes = (calls : ℕ) × (run ≡ Ends bytes left calls no_start)
-Shows v.Undefined run left bytes = run ≡ Undefined
-Shows v.Turns run left bytes = (calls : ℕ) × (run ≡ Going bytes left calls)
+-- The verdict is that of a run, which left this input and wrote these bytes; an undefined act is at this position, and nothing was
+-- read or written after it.
+abbrev pub Shows : Verdict → ℕ → Run → List ℕ → List ℕ → Type 0
+Shows (v.Status k) place run left bytes = (calls : ℕ) × (run ≡ Ends bytes left calls (status k))
+Shows v.DivideByZero place run left bytes = (calls : ℕ) × (run ≡ Ends bytes left calls divide_by_zero)
+Shows v.NoStart place run left bytes = (calls : ℕ) × (run ≡ Ends bytes left calls no_start)
+Shows v.Undefined place run left bytes = (calls : ℕ) × (run ≡ Undefined bytes left calls place)
+Shows v.Turns place run left bytes = (calls : ℕ) × (run ≡ Going bytes left calls)
 
--- THE CHECK. With so many turns the meaning of these sections has this verdict: whatever follows the bytes that were read, it reads
--- just these bytes and writes just those that were written.
-pub record Checks (sections : List Declarations) (turns : ℕ) (verdict : Verdict) (old new : Devices) : Type 0 where
+-- THE CHECK. With so many turns the meaning of these sections has this verdict, and its undefined act is at this position: whatever follows
+-- the bytes that were read, it reads just these bytes and writes just those that were written.
+pub record Checks (sections : List Declarations) (turns : ℕ) (verdict : Verdict) (place : ℕ) (old new : Devices) : Type 0 where
   pub read : List ℕ
   pub written : List ℕ
   pub exchanged : Exchanged old new read written
-  pub shows : (rest : List ℕ) → Follows new rest → Shows verdict (meaning sections (read ++ rest) turns) rest written
+  pub shows : (rest : List ℕ) → Follows new rest → Shows verdict place (meaning sections (read ++ rest) turns) rest written
 
 -- How often the devices have failed, before and after a check that was given up: the input failed, and the output did not; or the output
 -- failed; or neither failed, where memory was refused or the limit of frames and cells was reached.
@@ -95,13 +97,20 @@ verdict_of (n.Going spot) = v.Turns
 verdict_of (n.Gives (g.Value x)) = v.Status 0
 verdict_of next = v.Undefined
 
+-- where what comes next acts
+abbrev pub place_of : Next → ℕ
+place_of (n.DivideByZero s) = acts_in s
+place_of (n.Undefined s why) = acts_in s
+place_of (n.Going spot) = spot
+place_of next = nowhere
+
 -- how a run ends whose call of START comes to this
 abbrev pub run_given : Outcome Given → Run
 run_given (gives (a_value v) w) = Ends w.output w.input w.most_calls (status 0)
-run_given (gives t w) = Undefined
-run_given (leaves x w) = Undefined
+run_given (gives t w) = Undefined w.output w.input w.most_calls nowhere
+run_given (leaves x w) = Undefined w.output w.input w.most_calls nowhere
 run_given (ends e w) = Ends w.output w.input w.most_calls e
-run_given undefined = Undefined
+run_given (undefined l w) = Undefined w.output w.input w.most_calls l
 run_given (going w) = Going w.output w.input w.most_calls
 
 -- an answer to RDCH
@@ -128,15 +137,15 @@ pub record Begun (p : Program) (turns : ℕ) (m : Evaluator) : Type 0 where
   pub has_turns : m.turns ≡ turns
 
 -- the verdict is that of the call of START
-pub record Runs (p : Program) (start : Value) (turns : ℕ) (verdict : Verdict) (old new : Devices) : Type 0 where
+pub record Runs (p : Program) (start : Value) (turns : ℕ) (verdict : Verdict) (place : ℕ) (old new : Devices) : Type 0 where
   pub read : List ℕ
   pub written : List ℕ
   pub exchanged : Exchanged old new read written
-  pub shows : (rest : List ℕ) → Follows new rest → Shows verdict (run_of (call p (means p turns) start [] (first_world p (read ++ rest) turns))) rest written
+  pub shows : (rest : List ℕ) → Follows new rest → Shows verdict place (run_of (call p (means p turns) nowhere start [] (first_world p (read ++ rest) turns))) rest written
 
 -- ---- a check that was given up
 
--- What was read and written begins what the meaning reads and writes, whatever follows, where the meaning does nothing undefined.
+-- What was read and written begins what the meaning reads and writes, whatever follows.
 pub record ChecksPart (sections : List Declarations) (turns : ℕ) (old new : Devices) : Type 0 where
   pub read : List ℕ
   pub written : List ℕ
@@ -148,7 +157,7 @@ pub record RunsPart (p : Program) (start : Value) (turns : ℕ) (old new : Devic
   pub read : List ℕ
   pub written : List ℕ
   pub exchanged : Exchanged old new read written
-  pub goes_on : (rest : List ℕ) → Follows new rest → RunGoesOn (shown written rest 0) (run_of (call p (means p turns) start [] (first_world p (read ++ rest) turns)))
+  pub goes_on : (rest : List ℕ) → Follows new rest → RunGoesOn (shown written rest 0) (run_of (call p (means p turns) nowhere start [] (first_world p (read ++ rest) turns)))
 
 -- and of what the whole comes to
 pub record Reaches (p : Program) (m : Evaluator) (next : Next) (old new : Devices) : Type 0 where

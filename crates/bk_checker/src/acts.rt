@@ -288,7 +288,7 @@ pub fn say_act(page: &mut Page, subject: &Subject, reason: Reason) -> Result<(),
         Subject::Library(at, routine, argument, directive) => {
             say_library(page, *at, *routine, *argument, *directive, reason)
         }
-        Subject::Nothing => page.say(&[b"a part is left that nothing goes on after"]),
+        Subject::Nothing(_) => page.say(&[b"a part is left that nothing goes on after"]),
     }
 }
 

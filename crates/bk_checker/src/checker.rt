@@ -49,7 +49,7 @@ fn check_start<'a, I: ByteIn, O: ByteOut>(
     out: &mut O,
 ) -> Result<Report, GivenUp>
     ensures shows { IfOk result (λ report. (turns : ℕ) → Begun (program_in program.now) turns m.old
-        → Runs (program_in program.now) (value_in start) turns report.verdict
+        → Runs (program_in program.now) (value_in start) turns report.verdict report.stop.at
         (devices I.ByteIn O.ByteOut input.old out.old) (devices I.ByteIn O.ByteOut input.new out.new)) }
     ensures flushed { OnOk result (O.passed out.new ≡ O.taken out.new) }
     ensures flushed_where_given_up { IfErr result (λ stop. Flushed stop.fault (O.passed out.new) (O.taken out.new)) }
@@ -96,7 +96,7 @@ fn check_program<'a, I: ByteIn, O: ByteOut>(
     out: &mut O,
 ) -> Result<Report, GivenUp>
     ensures checks { IfOk result (λ report. (sections : List Declarations) → program_in program.now ≡ program_in_sections sections
-        → Checks sections turns report.verdict
+        → Checks sections turns report.verdict report.stop.at
         (devices I.ByteIn O.ByteOut input.old out.old) (devices I.ByteIn O.ByteOut input.new out.new)) }
     ensures flushed { OnOk result (O.passed out.new ≡ O.taken out.new) }
     ensures flushed_where_given_up { IfErr result (λ stop. Flushed stop.fault (O.passed out.new) (O.taken out.new)) }
@@ -125,7 +125,7 @@ pub fn check<I: ByteIn, O: ByteOut>(
     input: &mut I,
     out: &mut O,
 ) -> Result<Report, GivenUp>
-    ensures checks { IfOk result (λ report. Checks (map declarations_of sections.now) turns report.verdict
+    ensures checks { IfOk result (λ report. Checks (map declarations_of sections.now) turns report.verdict report.stop.at
         (devices I.ByteIn O.ByteOut input.old out.old) (devices I.ByteIn O.ByteOut input.new out.new)) }
     ensures flushed { OnOk result (O.passed out.new ≡ O.taken out.new) }
     ensures flushed_where_given_up { IfErr result (λ stop. Flushed stop.fault (O.passed out.new) (O.taken out.new)) }

@@ -1,6 +1,8 @@
-//! What is reported to a person of the end of a check. No contract says anything of these texts: the meaning has no reasons.
+//! What is reported to a person of the end of a check. Contracts say the verdict and the place; of the texts they say nothing, since the
+//! meaning has no reasons.
 ghost use Rattle.std.specs.Prelude.{◌≡◌, IfOk};
-ghost use Rattle.bk_checker.specs.Checks.{verdict_of};
+ghost use Rattle.bk_check.specs.Resume.{acts_in};
+ghost use Rattle.bk_checker.specs.Checks.{verdict_of, place_of};
 
 use crate::acts::{say_act, say_division};
 use crate::calls::{add_calls, innermost};
@@ -13,7 +15,9 @@ use bk_tree::Position;
 use std::alloc::AllocError;
 
 /// The position of what an undefined act is done with.
-fn place_of_subject(subject: &Subject) -> Position {
+fn place_of_subject(subject: &Subject) -> Position
+    ensures { result ≡ acts_in subject.now }
+{
     match subject {
         Subject::Expr(expr)
         | Subject::Prefixed(expr, _)
@@ -21,8 +25,7 @@ fn place_of_subject(subject: &Subject) -> Position {
         | Subject::Condition(expr)
         | Subject::Switch(expr) => acts_at(expr),
         Subject::Variable(name, _, _) => name.at,
-        Subject::Call(at, _) | Subject::Library(at, _, _, _) => *at,
-        Subject::Nothing => Position::first(),
+        Subject::Call(at, _) | Subject::Library(at, _, _, _) | Subject::Nothing(at) => *at,
     }
 }
 
@@ -63,7 +66,7 @@ pub fn explain<'a>(
     program: &[Lasting<'a>],
     next: &Next<'a>,
 ) -> Result<Report, AllocError>
-    ensures { IfOk result (λ report. report.verdict ≡ verdict_of next.now) }
+    ensures { IfOk result (λ report. (report.verdict ≡ verdict_of next.now) × (report.stop.at ≡ place_of next.now)) }
 {
     let mut page = Page::new(m, program);
     let mut calls = Vec::new(m.alloc);

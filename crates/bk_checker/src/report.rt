@@ -1,4 +1,5 @@
 //! What a check answers.
+ghost use Rattle.std.specs.Prelude.{◌≡◌, []};
 
 use crate::remarks::Remark;
 use bk_tree::Position;
@@ -59,7 +60,10 @@ pub struct Notice {
 
 impl Notice {
     /// This at this place, before the text of the source is at hand.
-    pub fn new(alloc: Global, at: Position, what: Vec<u8>, further: Vec<u8>) -> Notice {
+    pub fn new(alloc: Global, at: Position, what: Vec<u8>, further: Vec<u8>) -> Notice
+        ensures at { result.at ≡ at }
+        ensures unplaced { result.place.items ≡ [] }
+    {
         Notice {
             at,
             place: Vec::new(alloc),

@@ -1,5 +1,8 @@
 //! The text of the source, beside what is reported of it.
-ghost use Rattle.std.specs.Prelude.{◌≡◌};
+ghost use Rattle.std.specs.Prelude.{◌≡◌, IfOk, IfSome};
+ghost use Rattle.bk_tree.specs.Position.{line_in};
+ghost use Rattle.bk_lines.specs.Places.{line_after};
+ghost use Rattle.bk_checker.specs.Reports.{IsOnLine, IsOnItsLine};
 
 use crate::remarks::Remark;
 use crate::report::{GivenUp, Notice, Report};
@@ -22,12 +25,21 @@ pub struct SourceTexts {
     texts: Vec<SourceText>,
 }
 
+/// The bytes of a text before a position, whose byte is at this place, if the text has it.
+fn before(text: &SourceText, at: Position, place: usize) -> Option<&[u8]>
+    ensures { IfSome result (λ bytes. line_after text.now.start.line bytes.now ≡ line_in at) }
+{
+    let before = text.bytes.get(..place)?;
+    if place < text.bytes.len() && text.start.after(before).line == at.line() {
+        Some(before)
+    } else {
+        None
+    }
+}
+
 /// Whether a text has a position, whose byte is at this place.
 fn has(text: &SourceText, at: Position, place: usize) -> bool {
-    match text.bytes.get(..place) {
-        Some(before) => { place < text.bytes.len() && text.start.after(before).line == at.line() }
-        None => false,
-    }
+    before(text, at, place).is_some()
 }
 
 impl SourceTexts {
@@ -51,18 +63,16 @@ impl SourceTexts {
     }
 
     /// The place of a position, as `4:36`, and its line with a caret and these lines, if one of the texts has it.
-    fn show(&self, at: Position, further: &[u8]) -> Result<Option<(Vec<u8>, Vec<u8>)>, AllocError> {
+    fn show(&self, at: Position, further: &[u8]) -> Result<Option<(Vec<u8>, Vec<u8>)>, AllocError>
+        ensures { IfOk result (λ shown. IfSome shown (λ parts. IsOnLine at parts.0.items)) }
+    {
         let Some(place) = place_of(at) else {
             return Ok(None);
         };
         for text in &self.texts {
-            if has(text, at, place) {
+            if let Some(before) = before(text, at, place) {
                 let mut name = Vec::new(self.alloc);
-                put_place(
-                    &mut name,
-                    &text.start,
-                    text.bytes.get(..place).unwrap_or(&[]),
-                )?;
+                put_place(&mut name, &text.start, before)?;
                 let mut lines = Vec::new(self.alloc);
                 put_line(&mut lines, &text.bytes, at.line().number(), place, None)?;
                 lines.extend_from_slice(further)?;
@@ -73,18 +83,27 @@ impl SourceTexts {
     }
 
     /// A notice with its place and the line of the source. Where memory is refused, it is without.
-    fn placed(&self, notice: Notice) -> Notice {
-        if notice.what.is_empty() {
-            return notice;
+    fn placed(&self, notice: Notice) -> Notice
+        ensures at { result.at ≡ notice.at }
+        ensures on_its_line { IsOnItsLine result }
+    {
+        let Notice {
+            at,
+            what,
+            further,
+            ..
+        } = notice;
+        if what.is_empty() {
+            return Notice::new(self.alloc, at, what, further);
         }
-        match self.show(notice.at, &notice.further) {
+        match self.show(at, &further) {
             Ok(Some((place, further))) => Notice {
-                at: notice.at,
+                at,
                 place,
-                what: notice.what,
+                what,
                 further,
             },
-            Ok(None) | Err(_) => notice,
+            Ok(None) | Err(_) => Notice::new(self.alloc, at, what, further),
         }
     }
 
@@ -127,7 +146,9 @@ impl SourceTexts {
 
     /// A report beside its source: where the run stopped and what is suspicious, with the lines there, but for what a comment answers.
     pub fn shown(&self, report: Report) -> Report
-        ensures { result.verdict ≡ report.verdict }
+        ensures verdict { result.verdict ≡ report.verdict }
+        ensures at { result.stop.at ≡ report.stop.at }
+        ensures on_its_line { IsOnItsLine result.stop }
     {
         Report {
             verdict: report.verdict,

@@ -16,6 +16,7 @@ use Rattle.bk_checker.specs.declared.report.CheckFault.TheVariants as x
 use Rattle.bk_checker.specs.declared.remarks.Remark.{Remark}
 use Rattle.bk_checker.specs.declared.report.Report.{Report}
 use Rattle.bk_checker.specs.declared.report.Notice.{Notice}
+use Rattle.bk_checker.specs.Reports.{IsOnItsLine}
 use Rattle.bk_checker.specs.Checks.{Devices, Checks, ChecksPart, Blames, Flushed}
 use Rattle.bk_kit.specs.declared.kit_fault.KitFault.{KitFault}
 use Rattle.bk_kit.specs.declared.kit_fault.KitFault.TheVariants.{Source}
@@ -49,11 +50,11 @@ HasTheseTrees trees old new ended = EachSource old new ended (λ source. HasTree
 abbrev pub checked_devices : Streams → Devices
 checked_devices streams = record { left = streams.left; ended = streams.ended; taken = streams.taken }
 
--- The source is accepted, and this is the verdict of its meaning.
-pub record ChecksTrees (verdict : Verdict) (turns : ℕ) (old new : Option (List ℕ)) (ended : Bool) (before after : Streams) : Type 0 where
+-- The source is accepted, this is the verdict of its meaning, and this the position of an undefined act.
+pub record ChecksTrees (verdict : Verdict) (place turns : ℕ) (old new : Option (List ℕ)) (ended : Bool) (before after : Streams) : Type 0 where
   pub trees : List Declarations
   pub has : HasTheseTrees trees old new ended
-  pub checks : Checks trees turns verdict (checked_devices before) (checked_devices after)
+  pub checks : Checks trees turns verdict place (checked_devices before) (checked_devices after)
 
 -- What a person is reported of a fault of a section of this text, which begins here in its source: nothing where memory is refused for it, and
 -- nothing of another fault.
@@ -105,10 +106,10 @@ TextHints (Ok report) old new = ⊤
 TextHints (Err (n.Text refusal)) old new = HintsIn refusal old new
 TextHints (Err (n.Run stop)) old new = ⊤
 
--- THE CHECK. Nothing is done of a source that is refused.
+-- THE CHECK. What is reported of a stop is on the line of the act. Nothing is done of a source that is refused.
 abbrev pub ChecksSource : Result Report NotChecked → ℕ → Option (List ℕ) → Option (List ℕ) → Bool → Streams → Streams → Type 0
 ChecksSource (Ok report) turns old new ended before after =
-    ChecksTrees report.verdict turns old new ended before after × (after.passed ≡ after.taken) × (after.reads ≡ before.reads) × (after.writes ≡ before.writes)
+    ChecksTrees report.verdict report.stop.at turns old new ended before after × IsOnItsLine report.stop × (after.passed ≡ after.taken) × (after.reads ≡ before.reads) × (after.writes ≡ before.writes)
 ChecksSource (Err (n.Text refusal)) turns old new ended before after =
     NotAssembled refusal.fault old new ended × HintsIn refusal old new × (after ≡ before)
 ChecksSource (Err (n.Run stop)) turns old new ended before after =

@@ -22,7 +22,7 @@ pub earlier : {A : Type 0} (u w : History) (o : Outcome A) → Grows u w → Aft
 earlier u w (gives a v) g h = then_on u w (history v) g h
 earlier u w (leaves x v) g h = then_on u w (history v) g h
 earlier u w (ends e v) g h = then_on u w (history v) g h
-earlier u w undefined g h = tt
+earlier u w (undefined l v) g h = then_on u w (history v) g h
 earlier u w (going v) g h = then_on u w (history v) g h
 
 pub record Adds {A : Type 0} (go : World → Outcome A) : Type 0 where
@@ -34,15 +34,14 @@ adds go at = record { at = at }
 pub each_way_after : {A B : Type 0} (h : History) (u : Outcome A) (on : A → World → Outcome B) (out : Exit → World → Outcome B) → After h u → ((a : A) → Adds (on a)) → ((x : Exit) → Adds (out x)) → After h (each_way on out u)
 each_way_after h (gives a v) on out up each exit = earlier h (history v) (on a v) up ((each a).at v)
 each_way_after h (leaves x v) on out up each exit = earlier h (history v) (out x v) up ((exit x).at v)
-each_way_after h undefined on out up each exit = tt
 each_way_after h _ on out up each exit = up
 
 pub with_after : {A B : Type 0} (h : History) (u : Outcome A) (on : A → World → Outcome B) → After h u → ((a : A) → Adds (on a)) → After h (with u on)
 with_after h u on up each = each_way_after h u on (λ x w. leaves x w) up each (λ x. adds _ (λ w. stays (history w)))
 
-pub given_after : {A : Type 0} (x : Option A) (w : World) → After (history w) (given x w)
-given_after None w = tt
-given_after (Some a) w = stays (history w)
+pub given_after : {A : Type 0} (l : ℕ) (x : Option A) (w : World) → After (history w) (given l x w)
+given_after l None w = stays (history w)
+given_after l (Some a) w = stays (history w)
 
 pub either_after : {A : Type 0} (b : Bool) (go other : World → Outcome A) → Adds go → Adds other → (w : World) → After (history w) (either b go other w)
 either_after true go other g h w = g.at w
@@ -56,12 +55,12 @@ turn_after go g w = by w.turns
     by (suc n) = g.at (record w { turns = n })
 
 pub closing_after : {A : Type 0} (h : History) (k : ℕ) (u : Outcome A) → After h u → After h (closing k u)
-closing_after h k undefined up = tt
+closing_after h k (undefined l v) up = up
 closing_after h k _ up = up
 
-pub changes_after : (m : Option Memory) (w : World) → After (history w) (changes m w)
-changes_after None w = tt
-changes_after (Some m) w = stays (history w)
+pub changes_after : (l : ℕ) (m : Option Memory) (w : World) → After (history w) (changes l m w)
+changes_after l None w = stays (history w)
+changes_after l (Some m) w = stays (history w)
 
 pub writing_on : (bytes : List ℕ) (w : World) → Grows (history w) (history (writing bytes w))
 writing_on bytes w = record { written = bytes; output = refl; taken = []; input = refl; most_calls = omega arith }

@@ -1,5 +1,5 @@
 -- Two meanings of the nodes inside that are the same while at most d turns are left give each form the same outcome then.
-use Rattle.bk_meaning.proofs.Terms.{◌≡◌, ℕ, zero, suc, ◌+◌, ◌≤◌, Bool, true, false, List, [], ◌∷◌, length, Option, Some, None, refl, sym, ap, subst, ◌∙◌, arith, Operator as o, Prefix as q, Expression, Expressions, Command, Commands, Declaration, Declarations, Definition, Definitions, Starts, Value, number, address, procedure, routine, unset, holds, World, Exit, break, loop, endcase, goto, result, return, Outcome, gives, leaves, ends, undefined, going, each_way, with, Done, done, given, either, turn, turn_of, making, closing, calling, calls_back, sum, operate, Environment, cell, bind, following, past, past_each, past_command, past_definition, constant_in, labelled, within_let, objects_of_definitions, Body, command, expression, Procedure, Program, procedure_of, the_label, the_case, the_default, Mode, forwards, seeking, at_place, has_place, one_has_place, Meanings}
+use Rattle.bk_meaning.proofs.Terms.{◌≡◌, ℕ, zero, suc, ◌+◌, ◌≤◌, Bool, true, false, List, [], ◌∷◌, length, Option, Some, None, refl, sym, ap, subst, ◌∙◌, arith, Operator as o, Prefix as q, Expression, Expressions, Command, Commands, Declaration, Declarations, Definition, Definitions, Starts, Value, number, address, procedure, routine, unset, holds, World, Exit, break, loop, endcase, goto, result, return, Outcome, gives, leaves, ends, going, each_way, with, Done, done, given, either, turn, turn_of, making, closing, calling, returned, sum, operate, Environment, cell, bind, following, past, past_each, past_command, past_definition, constant_in, labelled, within_let, objects_of_definitions, Body, command, expression, Procedure, Program, procedure_of, the_label, the_case, the_default, Mode, forwards, seeking, at_place, has_place, one_has_place, Meanings, acts_at, Mention}
 use Rattle.bk_tree.specs.Tree as t
 use Rattle.bk_meaning.specs.Scopes
 use Rattle.bk_meaning.specs.Calls
@@ -29,7 +29,7 @@ pub record AllSame (d : ℕ) (m n : Meanings) : Type 0 where
   pub target : (e : Expression) (env : Environment) → Same d (m.target e env) (n.target e env)
   pub act : (c : Command) (mode : Mode) (env : Environment) → Same d (m.act c mode env) (n.act c mode env)
   pub rounds : (c : Command) (mode : Mode) (env : Environment) → Under d (m.rounds c mode env) (n.rounds c mode env)
-  pub for_rounds : (c : Command) (object : ℕ) (limit : Value) (step : ℕ) (env : Environment) → Under d (m.for_rounds c object limit step env) (n.for_rounds c object limit step env)
+  pub for_rounds : (place : ℕ) (c : Command) (object : ℕ) (limit : Value) (step : ℕ) (env : Environment) → Under d (m.for_rounds place c object limit step env) (n.for_rounds place c object limit step env)
   pub scope : (cs : Commands) (mode : Mode) (env : Environment) → Under d (m.scope cs mode env) (n.scope cs mode env)
 
 each_way_one : {A B : Type 0} (w : World) (d : ℕ) (u : Outcome A) (on to : A → World → Outcome B) (out off : Exit → World → Outcome B) → w.turns ≤ d → Spent w.turns u → ((a : A) → Same d (on a) (to a)) → Out d out off → each_way on out u ≡ each_way to off u
@@ -95,19 +95,19 @@ module _ (d : ℕ) (m n : Meanings) (s : AllSpend d m) (g : AllSame d m n) where
   body_same (command c) env = same _ _ _ (λ w le. ap (each_way (λ _ w. gives unset w) Calls.return_exit) ((scope_same (Scopes.alone c) forwards env).at w le))
   body_same (expression e) env = g.value e env
 
-  pub enter_same : (f : Option Procedure) (vs : List Value) → Same d (Calls.enter m f vs) (Calls.enter n f vs)
-  enter_same None vs = it d _
-  enter_same (Some f) vs = same _ _ _ (λ w le. ap (closing (length w.memory)) ((body_same f.body (Calls.bind_formals (length w.memory) 0 f.formals f.env)).at (making (Calls.formal_cells f.formals vs) w) le))
+  pub enter_same : (place : ℕ) (f : Option Procedure) (vs : List Value) → Same d (Calls.enter m place f vs) (Calls.enter n place f vs)
+  enter_same place None vs = it d _
+  enter_same place (Some f) vs = same _ _ _ (λ w le. ap (closing (length w.memory)) ((body_same f.body (Calls.bind_formals (length w.memory) 0 f.formals f.env)).at (making (Calls.formal_cells f.formals vs) w) le))
 
-  pub called_same : (p : Program) (f : Value) (vs : List Value) → Same d (Calls.called p m f vs) (Calls.called p n f vs)
-  called_same p (procedure i) vs = enter_same (procedure_of p i) vs
-  called_same p _ vs = it d _
+  pub called_same : (place : ℕ) (p : Program) (f : Value) (vs : List Value) → Same d (Calls.called p m place f vs) (Calls.called p n place f vs)
+  called_same place p (procedure i) vs = enter_same place (procedure_of p i) vs
+  called_same place p _ vs = it d _
 
-  pub call_same : (p : Program) (f : Value) (vs : List Value) → Same d (Calls.call p m f vs) (Calls.call p n f vs)
-  call_same p f vs = same _ _ _ (λ w le. ap (each_way (λ v after. gives v (calls_back w.calls after)) (λ x w. undefined)) ((called_same p f vs).at (calling w) le))
+  pub call_same : (place : ℕ) (p : Program) (f : Value) (vs : List Value) → Same d (Calls.call p m place f vs) (Calls.call p n place f vs)
+  call_same place p f vs = same _ _ _ (λ w le. ap (returned place w.calls) ((called_same place p f vs).at (calling w) le))
 
-  pub applied_same : (p : Program) (f : Expression) (es : Expressions) (env : Environment) → Same d (Calls.applied p m f es env) (Calls.applied p n f es env)
-  applied_same p f es env = same _ _ _ (λ w le. with_same w d _ _ _ _ le ((N.values_spends d m s es (past f env)).at w le) ((values_same es (past f env)).at w le) (λ vs. same _ _ _ (λ w le. with_same w d _ _ _ _ le ((s.value f env).at w le) ((g.value f env).at w le) (λ v. call_same p v vs))))
+  pub applied_same : (place : ℕ) (p : Program) (f : Expression) (es : Expressions) (env : Environment) → Same d (Calls.applied p m place f es env) (Calls.applied p n place f es env)
+  applied_same place p f es env = same _ _ _ (λ w le. with_same w d _ _ _ _ le ((N.values_spends d m s es (past f env)).at w le) ((values_same es (past f env)).at w le) (λ vs. same _ _ _ (λ w le. with_same w d _ _ _ _ le ((s.value f env).at w le) ((g.value f env).at w le) (λ v. call_same place p v vs))))
 
   pub value_of_same : (p : Program) (e : Expression) (env : Environment) → Same d (Expressions.value_of p m e env) (Expressions.value_of p n e env)
   value_of_same p (t.parens i e) env = g.value e env
@@ -116,7 +116,7 @@ module _ (d : ℕ) (m n : Meanings) (s : AllSpend d m) (g : AllSame d m n) where
   value_of_same p (t.unary i x e) env = same _ _ _ (λ w le. with_same w d _ _ _ _ le ((s.value e env).at w le) ((g.value e env).at w le) (λ a. it d _))
   value_of_same p (t.binary i x j a b) env = same _ _ _ (λ w le. with_same w d _ _ _ _ le ((s.value a env).at w le) ((g.value a env).at w le) (λ x. same _ _ _ (λ w le. with_same w d _ _ _ _ le ((s.value b (past a env)).at w le) ((g.value b (past a env)).at w le) (λ y. it d _))))
   value_of_same p (t.choice i j c a b) env = same _ _ _ (λ w le. with_same w d _ _ _ _ le ((s.truth c env).at w le) ((g.truth c env).at w le) (λ x. same _ _ _ (λ w le. either_same x d _ _ _ _ (g.value a (past c env)) (g.value b (past a (past c env))) w le)))
-  value_of_same p (t.apply i j f es) env = applied_same p f es env
+  value_of_same p (t.apply i j f es) env = applied_same j p f es env
   value_of_same p (t.valof i c) env = same _ _ _ (λ w le. ap Expressions.result_of ((scope_same (Scopes.alone c) forwards env).at w le))
   value_of_same p e env = it d _
 
@@ -125,7 +125,7 @@ module _ (d : ℕ) (m n : Meanings) (s : AllSpend d m) (g : AllSame d m n) where
   truth_of_same p (t.unary i q.Not e) env = same _ _ _ (λ w le. with_same w d _ _ _ _ le ((s.truth e env).at w le) ((g.truth e env).at w le) (λ b. it d _))
   truth_of_same p (t.binary i o.Both j a b) env = same _ _ _ (λ w le. with_same w d _ _ _ _ le ((s.truth a env).at w le) ((g.truth a env).at w le) (λ x. same _ _ _ (λ w le. either_same x d _ _ _ _ (g.truth b (past a env)) (it d _) w le)))
   truth_of_same p (t.binary i o.Either j a b) env = same _ _ _ (λ w le. with_same w d _ _ _ _ le ((s.truth a env).at w le) ((g.truth a env).at w le) (λ x. same _ _ _ (λ w le. either_same x d _ _ _ _ (it d _) (g.truth b (past a env)) w le)))
-  truth_of_same p e env = same _ _ _ (λ w le. ap (λ u. with u Expressions.judged) ((value_of_same p e env).at w le))
+  truth_of_same p e env = same _ _ _ (λ w le. ap (λ u. with u (Expressions.judged (acts_at e))) ((value_of_same p e env).at w le))
 
   pub target_of_same : (e : Expression) (env : Environment) → Same d (Expressions.target_of m e env) (Expressions.target_of n e env)
   target_of_same (t.parens i e) env = g.target e env
@@ -135,7 +135,7 @@ module _ (d : ℕ) (m n : Meanings) (s : AllSpend d m) (g : AllSame d m n) where
   target_of_same e env = it d _
 
   pub assigned_same : (xs : Expressions) (there : Environment) (es : Expressions) (env : Environment) → Same d (commands.assigned m xs there es env) (commands.assigned n xs there es env)
-  assigned_same (t.more x xs) there (t.more e es) env = same _ _ _ (λ w le. with_same w d _ _ _ _ le ((s.value e env).at w le) ((g.value e env).at w le) (λ v. same _ _ _ (λ w le. with_same w d _ _ _ _ le ((s.target x there).at w le) ((g.target x there).at w le) (λ a. same _ _ _ (λ w le. same_with w d _ _ _ le ((N.store_spends d m s a v).at w le) (λ _. assigned_same xs (past x there) es (past e env)))))))
+  assigned_same (t.more x xs) there (t.more e es) env = same _ _ _ (λ w le. with_same w d _ _ _ _ le ((s.value e env).at w le) ((g.value e env).at w le) (λ v. same _ _ _ (λ w le. with_same w d _ _ _ _ le ((s.target x there).at w le) ((g.target x there).at w le) (λ a. same _ _ _ (λ w le. same_with w d _ _ _ le ((N.store_spends d m s (acts_at x) a v).at w le) (λ _. assigned_same xs (past x there) es (past e env)))))))
   assigned_same _ there _ env = it d _
 
   round_same : (go to : World → Outcome Done) → Same d go to → Out d (Loops.round_exit go) (Loops.round_exit to)
@@ -161,26 +161,26 @@ module _ (d : ℕ) (m n : Meanings) (s : AllSpend d m) (g : AllSame d m n) where
   rounds_of_same (t.repeat_while i b c e) mode env = same _ _ _ (λ w le. again_same w _ _ _ _ le ((s.act c mode env).at w le) ((g.act c mode env).at w le) (where_truth_same b e (past_command c env) _ _ (turns_same _ _ (g.rounds (t.repeat_while i b c e) forwards env))))
   rounds_of_same c mode env = it d _
 
-  pub for_test_same : (object : ℕ) (limit : Value) (step : ℕ) (go to : World → Outcome Done) → Same d go to → Same d (Loops.for_test object limit step go) (Loops.for_test object limit step to)
-  for_test_same object limit step go to h = same _ _ _ (λ w le. same_with w d _ _ _ le ((N.fetch_spends d m s (address object 0)).at w le) (λ v. same _ _ _ (λ w le. same_with w d _ _ _ le ((N.operate_spends d m s (Loops.relation step) v limit).at w le) (λ v. same _ _ _ (λ w le. same_with w d _ _ _ le ((N.judged_spends d m s v).at w le) (λ b. same _ _ _ (λ w le. either_same b d _ _ _ _ h (it d done) w le)))))))
+  pub for_test_same : (place : ℕ) (object : ℕ) (limit : Value) (step : ℕ) (go to : World → Outcome Done) → Same d go to → Same d (Loops.for_test place object limit step go) (Loops.for_test place object limit step to)
+  for_test_same place object limit step go to h = same _ _ _ (λ w le. same_with w d _ _ _ le ((N.fetch_spends d m s place (address object 0)).at w le) (λ v. same _ _ _ (λ w le. same_with w d _ _ _ le ((N.operate_spends d m s place (Loops.relation step) v limit).at w le) (λ v. same _ _ _ (λ w le. same_with w d _ _ _ le ((N.judged_spends d m s place v).at w le) (λ b. same _ _ _ (λ w le. either_same b d _ _ _ _ h (it d done) w le)))))))
 
-  pub for_rounds_of_same : (c : Command) (object : ℕ) (limit : Value) (step : ℕ) (env : Environment) → Same d (Loops.for_rounds_of m c object limit step env) (Loops.for_rounds_of n c object limit step env)
-  for_rounds_of_same c object limit step env = same _ _ _ (λ w le. again_same w _ _ _ _ le ((N.scope_spends d m s (Scopes.alone c) forwards env).at w le) ((scope_same (Scopes.alone c) forwards env).at w le) (same _ _ _ (λ w le. same_with w d _ _ _ le ((N.for_step_spends d m s object step).at w le) (λ _. for_test_same object limit step _ _ (turns_same _ _ (g.for_rounds c object limit step env))))))
+  pub for_rounds_of_same : (place : ℕ) (c : Command) (object : ℕ) (limit : Value) (step : ℕ) (env : Environment) → Same d (Loops.for_rounds_of m place c object limit step env) (Loops.for_rounds_of n place c object limit step env)
+  for_rounds_of_same place c object limit step env = same _ _ _ (λ w le. again_same w _ _ _ _ le ((N.scope_spends d m s (Scopes.alone c) forwards env).at w le) ((scope_same (Scopes.alone c) forwards env).at w le) (same _ _ _ (λ w le. same_with w d _ _ _ le ((N.for_step_spends d m s place object step).at w le) (λ _. for_test_same place object limit step _ _ (turns_same _ _ (g.for_rounds place c object limit step env))))))
 
-  pub for_loop_same : (x : List ℕ) (c : Command) (start limit : Value) (step : ℕ) (env : Environment) → Same d (Loops.for_loop m x c start limit step env) (Loops.for_loop n x c start limit step env)
-  for_loop_same x c start limit step env = same _ _ _ (λ w le. ap (closing (length w.memory)) ((for_test_same (length w.memory) limit step _ _ (for_rounds_of_same c (length w.memory) limit step (bind x (cell (length w.memory) 0) env))).at (making (holds start ∷ []) w) le))
+  pub for_loop_same : (x : Mention) (c : Command) (start limit : Value) (step : ℕ) (env : Environment) → Same d (Loops.for_loop m x c start limit step env) (Loops.for_loop n x c start limit step env)
+  for_loop_same x c start limit step env = same _ _ _ (λ w le. ap (closing (length w.memory)) ((for_test_same x.at (length w.memory) limit step _ _ (for_rounds_of_same x.at c (length w.memory) limit step (bind x.letters (cell (length w.memory) 0) env))).at (making (holds start ∷ []) w) le))
 
   pub ended_case_same : (c : Command) (mode : Mode) (env : Environment) → Same d (λ w. commands.ended_case (m.act c mode env w)) (λ w. commands.ended_case (n.act c mode env w))
   ended_case_same c mode env = same _ _ _ (λ w le. ap commands.ended_case ((g.act c mode env).at w le))
 
-  pub choose_case_same : (v : Value) (c : Command) (env : Environment) → Same d (commands.choose_case m v c env) (commands.choose_case n v c env)
-  choose_case_same (number i) c env = same _ _ _ (λ w le. either_same (has_place (the_case (Some i)) env c) d _ _ _ _ (ended_case_same c (seeking (the_case (Some i))) env) (same _ _ _ (λ w le. either_same (has_place the_default env c) d _ _ _ _ (ended_case_same c (seeking the_default) env) (it d done) w le)) w le)
-  choose_case_same v c env = it d _
+  pub choose_case_same : (place : ℕ) (v : Value) (c : Command) (env : Environment) → Same d (commands.choose_case m place v c env) (commands.choose_case n place v c env)
+  choose_case_same place (number i) c env = same _ _ _ (λ w le. either_same (has_place (the_case (Some i)) env c) d _ _ _ _ (ended_case_same c (seeking (the_case (Some i))) env) (same _ _ _ (λ w le. either_same (has_place the_default env c) d _ _ _ _ (ended_case_same c (seeking the_default) env) (it d done) w le)) w le)
+  choose_case_same place v c env = it d _
 
   pub starts_same : (is : Starts) (env : Environment) → Same d (Blocks.starts m is env) (Blocks.starts n is env)
   starts_same t.no_starts env = it d _
   starts_same (t.value e is) env = same _ _ _ (λ w le. with_same w d _ _ _ _ le ((s.value e env).at w le) ((g.value e env).at w le) (λ v. same _ _ _ (λ w le. with_same w d _ _ _ _ le ((N.starts_spends d m s is (past e env)).at w le) ((starts_same is (past e env)).at w le) (λ vs. it d _))))
-  starts_same (t.vector i e is) env = same _ _ _ (λ w le. same_with w d _ _ _ le (turn_spent d _ (λ w lt. kept _ _ ((N.make_vec_spends d m s (constant_in env e)).at w (omega (arith, lt)))) w le) (λ v. same _ _ _ (λ w le. with_same w d _ _ _ _ le ((N.starts_spends d m s is env).at w le) ((starts_same is env).at w le) (λ vs. it d _))))
+  starts_same (t.vector i e is) env = same _ _ _ (λ w le. same_with w d _ _ _ le (turn_spent d _ (λ w lt. kept _ _ ((N.make_vec_spends d m s (acts_at e) (constant_in env e)).at w (omega (arith, lt)))) w le) (λ v. same _ _ _ (λ w le. with_same w d _ _ _ _ le ((N.starts_spends d m s is env).at w le) ((starts_same is env).at w le) (λ vs. it d _))))
 
   pub let_values_same : (ds : Definitions) (env : Environment) → Same d (Blocks.let_values m ds env) (Blocks.let_values n ds env)
   let_values_same t.no_definitions env = it d _
@@ -197,7 +197,7 @@ module _ (d : ℕ) (m n : Meanings) (s : AllSpend d m) (g : AllSame d m n) where
 
   pub act_of_same : (p : Program) (c : Command) (mode : Mode) (env : Environment) → Same d (commands.act_of p m c mode env) (commands.act_of p n c mode env)
   act_of_same p (t.assign i xs es) mode env = assigned_same xs env es (past_each xs env)
-  act_of_same p (t.call i f es) mode env = same _ _ _ (λ w le. ap (λ u. with u (λ _ w. done w)) ((applied_same p f es env).at w le))
+  act_of_same p (t.call i f es) mode env = same _ _ _ (λ w le. ap (λ u. with u (λ _ w. done w)) ((applied_same i p f es env).at w le))
   act_of_same p (t.label i x c) mode env = g.act c (at_place (the_label x) mode) env
   act_of_same p (t.case_of i e c) mode env = g.act c (at_place (the_case (constant_in env e)) mode) env
   act_of_same p (t.default i c) mode env = g.act c (at_place the_default mode) env
@@ -207,8 +207,8 @@ module _ (d : ℕ) (m n : Meanings) (s : AllSpend d m) (g : AllSame d m n) where
   act_of_same p (t.test i e a b) (seeking x) env = same _ _ _ (λ w le. either_same (has_place x env a) d _ _ _ _ (g.act a (seeking x) (past e env)) (g.act b (seeking x) (past_command a (past e env))) w le)
   act_of_same p (t.while i b e c) forwards env = where_truth_same b e env _ _ (rounds_of_same (t.while i b e c) forwards env)
   act_of_same p (t.while i b e c) (seeking x) env = rounds_of_same (t.while i b e c) (seeking x) env
-  act_of_same p (t.for_loop i x a b h c) mode env = same _ _ _ (λ w le. with_same w d _ _ _ _ le ((s.value a env).at w le) ((g.value a env).at w le) (λ u. same _ _ _ (λ w le. with_same w d _ _ _ _ le ((s.value b (past a env)).at w le) ((g.value b (past a env)).at w le) (λ v. same _ _ _ (λ w le. same_with w d _ _ _ le (given_spent (Loops.step_of env h) w) (λ k. for_loop_same x.letters c u v k (past b (past a env))))))))
-  act_of_same p (t.switch i e c) forwards env = same _ _ _ (λ w le. with_same w d _ _ _ _ le ((s.value e env).at w le) ((g.value e env).at w le) (λ v. choose_case_same v c (past e env)))
+  act_of_same p (t.for_loop i x a b h c) mode env = same _ _ _ (λ w le. with_same w d _ _ _ _ le ((s.value a env).at w le) ((g.value a env).at w le) (λ u. same _ _ _ (λ w le. with_same w d _ _ _ _ le ((s.value b (past a env)).at w le) ((g.value b (past a env)).at w le) (λ v. same _ _ _ (λ w le. same_with w d _ _ _ le (given_spent x.at (Loops.step_of env h) w) (λ k. for_loop_same x c u v k (past b (past a env))))))))
+  act_of_same p (t.switch i e c) forwards env = same _ _ _ (λ w le. with_same w d _ _ _ _ le ((s.value e env).at w le) ((g.value e env).at w le) (λ v. choose_case_same (acts_at e) v c (past e env)))
   act_of_same p (t.switch i e c) (seeking x) env = ended_case_same c (seeking x) (past e env)
   act_of_same p (t.result i e) mode env = same _ _ _ (λ w le. ap (λ u. with u (λ v w. leaves (result v) w)) ((g.value e env).at w le))
   act_of_same p (t.block i t.no_declarations cs) mode env = in_order_same cs mode env

@@ -21,7 +21,7 @@ none_spend = record {
   target = λ e env. spends _ _ (λ w le. none_left w le);
   act = λ c mode env. spends _ _ (λ w le. no_turn_spent c w le);
   rounds = λ c mode env. never _;
-  for_rounds = λ c object limit step env. never _;
+  for_rounds = λ place c object limit step env. never _;
   scope = λ cs mode env. never _;
 }
 
@@ -42,7 +42,7 @@ means_with_spend p n m g = record {
   target = λ e env. turned n _ (target_of_spends n m g e env);
   act = λ c mode env. spends _ _ (λ w le. act_spends p n m g c mode env w le);
   rounds = λ c mode env. under n _ (rounds_of_spends n m g c mode env);
-  for_rounds = λ c object limit step env. under n _ (for_rounds_of_spends n m g c object limit step env);
+  for_rounds = λ place c object limit step env. under n _ (for_rounds_of_spends n m g place c object limit step env);
   scope = λ cs mode env. under n _ (scope_spends n m g cs mode env);
 }
 
@@ -51,6 +51,6 @@ means_spend p zero = none_spend
 means_spend p (suc n) = means_with_spend p n (means p n) (means_spend p n)
 
 pub cut_only_without_turns : CutOnlyWithoutTurns
-cut_only_without_turns p f vs n w v le is =
-    let h : Spent w.turns (going v) = subst (λ u. Spent w.turns u) is ((call_spends n (means p n) (means_spend p n) p f vs).at w le) in
+cut_only_without_turns p place f vs n w v le is =
+    let h : Spent w.turns (going v) = subst (λ u. Spent w.turns u) is ((call_spends n (means p n) (means_spend p n) place p f vs).at w le) in
     h.is

@@ -1,9 +1,9 @@
 -- More turns change nothing of what a program means.
-use Rattle.bk_meaning.proofs.Terms.{ℕ, zero, suc, ◌≤◌, List, [], length, Option, Some, None, arith, Expression, Command, Commands, Declarations, Value, address, read, World, Outcome, gives, leaves, ends, undefined, going, Done, Environment, globals_object, Program, program_of, Meanings, Mode, turn_for, means_with, no_turn_for, no_turns, means, run_of, first_world, started, call, History, history, sizes, Keeps, InItsWorld, After, Restores, Throughout, OutputOnlyGrows, CallsComeBack, MemoryNeverShrinks, WhatLastsLives, with_turns, shown, RunGoesOn, Continues, the_same, further, MoreTurns, ReadsFromTheFront}
+use Rattle.bk_meaning.proofs.Terms.{ℕ, zero, suc, ◌≤◌, List, [], length, Option, Some, None, arith, Expression, Command, Commands, Declarations, Value, address, read, World, Outcome, gives, leaves, ends, undefined, going, Done, Environment, globals_object, Program, program_of, Meanings, nowhere, Mode, turn_for, means_with, no_turn_for, no_turns, means, run_of, first_world, started, call, History, history, sizes, Keeps, InItsWorld, After, Restores, Throughout, OutputOnlyGrows, CallsComeBack, MemoryNeverShrinks, WhatLastsLives, with_turns, shown, RunGoesOn, Continues, the_same, further, MoreTurns, ReadsFromTheFront}
 use Rattle.bk_tree.specs.Tree as t
 use Rattle.bk_meaning.proofs.After.{stays}
 use Rattle.bk_meaning.proofs.Objects.{kept_length, kept_lives, first_lives}
-use Rattle.bk_meaning.proofs.Ties.{Below, gives_more, leaves_more, ends_more, undefined_still, cut, Tied, Ties, ties, gives_tied, cut_tied, going_tied, turn_tied}
+use Rattle.bk_meaning.proofs.Ties.{Below, gives_more, leaves_more, ends_more, undefined_more, cut, Tied, Ties, ties, gives_tied, cut_tied, going_tied, turn_tied}
 use Rattle.bk_meaning.proofs.NodeTies.{AllTied, value_of_ties, truth_of_ties, target_of_ties, act_of_ties, rounds_of_ties, for_rounds_of_ties, scope_ties, call_ties}
 
 turn_for_tied : (c : Command) (go to : World → Outcome Done) → Ties go to → (w : World) (n : ℕ) → w.turns ≤ n → Tied w (turn_for c w go) (turn_for c (with_turns n w) to)
@@ -17,7 +17,7 @@ means_with_tied p m l g = record {
   target = λ e env. ties _ _ (λ w n le. turn_tied _ _ (target_of_ties m l g e env) w n le);
   act = λ c mode env. ties _ _ (λ w n le. turn_for_tied c _ _ (act_of_ties m l g p c mode env) w n le);
   rounds = λ c mode env. rounds_of_ties m l g c mode env;
-  for_rounds = λ c object limit step env. for_rounds_of_ties m l g c object limit step env;
+  for_rounds = λ place c object limit step env. for_rounds_of_ties m l g place c object limit step env;
   scope = λ cs mode env. scope_ties m l g cs mode env;
 }
 
@@ -36,7 +36,7 @@ none_tied = record {
   target = λ e env. ties _ _ (λ w n le. going_tied w n);
   act = λ c mode env. ties _ _ (λ w n le. no_turn_tied c w n le);
   rounds = λ c mode env. ties _ _ (λ w n le. going_tied w n);
-  for_rounds = λ c object limit step env. ties _ _ (λ w n le. going_tied w n);
+  for_rounds = λ place c object limit step env. ties _ _ (λ w n le. going_tied w n);
   scope = λ cs mode env. ties _ _ (λ w n le. going_tied w n);
 }
 
@@ -60,15 +60,14 @@ means_tied p zero (suc k) le =
       target = λ e env. ties _ _ (λ w n le. cut_by _ _ (s.target e env) w n le);
       act = λ c mode env. ties _ _ (λ w n le. act_still p k c mode env w n le);
       rounds = λ c mode env. ties _ _ (λ w n le. cut_by _ _ (s.rounds c mode env) w n le);
-      for_rounds = λ c object limit step env. ties _ _ (λ w n le. cut_by _ _ (s.for_rounds c object limit step env) w n le);
+      for_rounds = λ place c object limit step env. ties _ _ (λ w n le. cut_by _ _ (s.for_rounds place c object limit step env) w n le);
       scope = λ cs mode env. ties _ _ (λ w n le. cut_by _ _ (s.scope cs mode env) w n le);
     }
 means_tied p (suc n) zero le = absurd (omega (arith, le))
 means_tied p (suc n) (suc k) le = means_with_tied p (means p n) (means p k) (means_tied p n k (omega (arith, le)))
 
 run_on : (h : History) (u : Outcome Value) → After h u → RunGoesOn h (run_of u)
-run_on h (leaves e x) g = tt
-run_on h undefined g = tt
+run_on h (leaves e x) g = g
 run_on h _ g = g
 
 run_continues : (w : World) (u v : Outcome Value) → Tied w u v → Continues (run_of u) (run_of v)
@@ -78,13 +77,13 @@ run_continues w u v tied = by u v tied.below
     by _ _ (gives_more a v n le) = the_same _
     by _ _ (leaves_more x v n le) = the_same _
     by _ _ (ends_more e v n le) = the_same _
-    by _ _ undefined_still = the_same _
+    by _ _ (undefined_more l w n le) = the_same _
     by _ _ (cut x v up) = further _ _ _ _ (run_on (history x) v up)
 
 started_continues : (p : Program) (f : Option Value) (input : List ℕ) (n k : ℕ) → n ≤ k → Continues (started p f (first_world p input n) n) (started p f (first_world p input k) k)
 started_continues p None input n k le = the_same _
 started_continues p (Some f) input n k le =
-    run_continues (first_world p input n) _ _ ((call_ties (means p n) (means p k) (means_tied p n k le) p f []).at (first_world p input n) k le)
+    run_continues (first_world p input n) _ _ ((call_ties (means p n) (means p k) (means_tied p n k le) nowhere p f []).at (first_world p input n) k le)
 
 pub more_turns : MoreTurns
 more_turns sections input n k le =
@@ -92,12 +91,12 @@ more_turns sections input n k le =
     started_continues p (read (first_world p input n).memory (address globals_object 1)) input n k le
 
 -- a call, from any world on
-pub called_tied : (p : Program) (f : Value) (vs : List Value) (n : ℕ) (w : World) → Tied w (call p (means p n) f vs w) (call p (means p n) f vs w)
-called_tied p f vs n w = (call_ties (means p n) (means p n) (self_tied p n) p f vs).at w w.turns (omega arith)
+pub called_tied : (p : Program) (place : ℕ) (f : Value) (vs : List Value) (n : ℕ) (w : World) → Tied w (call p (means p n) place f vs w) (call p (means p n) place f vs w)
+called_tied p place f vs n w = (call_ties (means p n) (means p n) (self_tied p n) place p f vs).at w w.turns (omega arith)
 
 started_on : (p : Program) (f : Option Value) (input : List ℕ) (n : ℕ) → RunGoesOn (shown [] input 0) (started p f (first_world p input n) n)
 started_on p None input n = stays (history (first_world p input n))
-started_on p (Some f) input n = run_on (history (first_world p input n)) _ ((called_tied p f [] n (first_world p input n)).on)
+started_on p (Some f) input n = run_on (history (first_world p input n)) _ ((called_tied p nowhere f [] n (first_world p input n)).on)
 
 pub reads_from_the_front : ReadsFromTheFront
 reads_from_the_front sections input n =
@@ -117,7 +116,7 @@ only_grows p n =
       target = λ e env w. (alone_tied _ (s.target e env) w).on;
       act = λ c mode env w. (alone_tied _ (s.act c mode env) w).on;
       rounds = λ c mode env w. (alone_tied _ (s.rounds c mode env) w).on;
-      for_rounds = λ c object limit step env w. (alone_tied _ (s.for_rounds c object limit step env) w).on;
+      for_rounds = λ place c object limit step env w. (alone_tied _ (s.for_rounds place c object limit step env) w).on;
       scope = λ cs mode env w. (alone_tied _ (s.scope cs mode env) w).on;
     }
 
@@ -130,7 +129,7 @@ comes_back p n =
       target = λ e env w. (alone_tied _ (s.target e env) w).kept;
       act = λ c mode env w. (alone_tied _ (s.act c mode env) w).kept;
       rounds = λ c mode env w. (alone_tied _ (s.rounds c mode env) w).kept;
-      for_rounds = λ c object limit step env w. (alone_tied _ (s.for_rounds c object limit step env) w).kept;
+      for_rounds = λ place c object limit step env w. (alone_tied _ (s.for_rounds place c object limit step env) w).kept;
       scope = λ cs mode env w. (alone_tied _ (s.scope cs mode env) w).kept;
     }
 
@@ -139,7 +138,7 @@ in_its_world : {A : Type 0} (P : World → Type 0) (calls : ℕ) (old : List (Op
 in_its_world P calls old (gives a v) r h = h v r.kept
 in_its_world P calls old (leaves x v) r h = h v r.kept
 in_its_world P calls old (ends e v) r h = h v r
-in_its_world P calls old undefined r h = tt
+in_its_world P calls old (undefined l v) r h = h v r
 in_its_world P calls old (going v) r h = h v r
 
 never_shrinks_of : {A : Type 0} (w : World) (u : Outcome A) → Restores w.calls (sizes w.memory) u → InItsWorld (λ v. length w.memory ≤ length v.memory) u
@@ -154,7 +153,7 @@ never_shrinks p n =
       target = λ e env w. never_shrinks_of w _ (r.target e env w);
       act = λ c mode env w. never_shrinks_of w _ (r.act c mode env w);
       rounds = λ c mode env w. never_shrinks_of w _ (r.rounds c mode env w);
-      for_rounds = λ c object limit step env w. never_shrinks_of w _ (r.for_rounds c object limit step env w);
+      for_rounds = λ place c object limit step env w. never_shrinks_of w _ (r.for_rounds place c object limit step env w);
       scope = λ cs mode env w. never_shrinks_of w _ (r.scope cs mode env w);
     }
 
@@ -162,4 +161,4 @@ pub what_lasts_lives : WhatLastsLives
 what_lasts_lives sections input n f object lt =
     let p : Program = program_of sections in
     let w : World = first_world p input n in
-    in_its_world _ w.calls (sizes w.memory) _ ((called_tied p f [] n w).kept) (λ v k. kept_lives w.memory v.memory object k (first_lives p object lt))
+    in_its_world _ w.calls (sizes w.memory) _ ((called_tied p nowhere f [] n w).kept) (λ v k. kept_lives w.memory v.memory object k (first_lives p object lt))

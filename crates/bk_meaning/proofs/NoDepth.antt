@@ -40,7 +40,7 @@ none_same p k = record {
   target = λ e env. record { at = λ w le. none_target p k e env w le };
   act = λ c mode env. record { at = λ w le. none_act p k c mode env w le };
   rounds = λ c mode env. never _ _;
-  for_rounds = λ c object limit step env. never _ _;
+  for_rounds = λ place c object limit step env. never _ _;
   scope = λ cs mode env. never _ _;
 }
 
@@ -61,7 +61,7 @@ next_same p d m n s g = record {
   target = λ e env. turned d _ _ (target_of_same d m n s g e env);
   act = λ c mode env. next_act p d m n s g c mode env;
   rounds = λ c mode env. less d _ _ (rounds_of_same d m n s g c mode env);
-  for_rounds = λ c object limit step env. less d _ _ (for_rounds_of_same d m n s g c object limit step env);
+  for_rounds = λ place c object limit step env. less d _ _ (for_rounds_of_same d m n s g place c object limit step env);
   scope = λ cs mode env. less d _ _ (scope_same d m n s g cs mode env);
 }
 
@@ -78,7 +78,7 @@ full_same p k = record {
   target = λ e env. record { at = λ w le. sym (((means_same p w.turns k le).target e env).at w (omega arith)) ∙ ((means_same p w.turns (suc w.turns) (omega arith)).target e env).at w (omega arith) };
   act = λ c mode env. record { at = λ w le. sym (((means_same p w.turns k le).act c mode env).at w (omega arith)) ∙ ((means_same p w.turns (suc w.turns) (omega arith)).act c mode env).at w (omega arith) };
   rounds = λ c mode env. record { at = λ w lt. sym (((means_same p (suc w.turns) k (omega (arith, lt))).rounds c mode env).at w (omega arith)) };
-  for_rounds = λ c object limit step env. record { at = λ w lt. sym (((means_same p (suc w.turns) k (omega (arith, lt))).for_rounds c object limit step env).at w (omega arith)) };
+  for_rounds = λ place c object limit step env. record { at = λ w lt. sym (((means_same p (suc w.turns) k (omega (arith, lt))).for_rounds place c object limit step env).at w (omega arith)) };
   scope = λ cs mode env. record { at = λ w lt. sym (((means_same p (suc w.turns) k (omega (arith, lt))).scope cs mode env).at w (omega arith)) };
 }
 
@@ -103,17 +103,17 @@ pub full_rounds : (p : Program) (c : Command) (mode : Mode) (env : Environment) 
 unfolding full
 full_rounds p c mode env w = (rounds_of_same w.turns (means p w.turns) (full p) (means_spend p w.turns) (full_same p w.turns) c mode env).at w (omega arith)
 
-pub full_for_rounds : (p : Program) (c : Command) (object : ℕ) (limit : Value) (step : ℕ) (env : Environment) (w : World) → (full p).for_rounds c object limit step env w ≡ for_rounds_of (full p) c object limit step env w
+pub full_for_rounds : (p : Program) (place : ℕ) (c : Command) (object : ℕ) (limit : Value) (step : ℕ) (env : Environment) (w : World) → (full p).for_rounds place c object limit step env w ≡ for_rounds_of (full p) place c object limit step env w
 unfolding full
-full_for_rounds p c object limit step env w = (for_rounds_of_same w.turns (means p w.turns) (full p) (means_spend p w.turns) (full_same p w.turns) c object limit step env).at w (omega arith)
+full_for_rounds p place c object limit step env w = (for_rounds_of_same w.turns (means p w.turns) (full p) (means_spend p w.turns) (full_same p w.turns) place c object limit step env).at w (omega arith)
 
 pub full_scope : (p : Program) (cs : Commands) (mode : Mode) (env : Environment) (w : World) → (full p).scope cs mode env w ≡ scope_of (full p) cs mode env w
 unfolding full
 full_scope p cs mode env w = (scope_same w.turns (means p w.turns) (full p) (means_spend p w.turns) (full_same p w.turns) cs mode env).at w (omega arith)
 
 -- the meaning of a call, however deep it goes
-pub full_call : (p : Program) (n : ℕ) (f : Value) (vs : List Value) (w : World) → w.turns ≤ n → call p (means p n) f vs w ≡ call p (full p) f vs w
-full_call p n f vs w le = (call_same n (means p n) (full p) (means_spend p n) (full_same p n) p f vs).at w le
+pub full_call : (p : Program) (n place : ℕ) (f : Value) (vs : List Value) (w : World) → w.turns ≤ n → call p (means p n) place f vs w ≡ call p (full p) place f vs w
+full_call p n place f vs w le = (call_same n (means p n) (full p) (means_spend p n) (full_same p n) place p f vs).at w le
 
 -- with a turn left, and with none
 pub turn_left : {A : Type 0} (w : World) (go : World → Outcome A) → 0 < w.turns → go (record w { turns = w.turns - 1 }) ≡ turn w go

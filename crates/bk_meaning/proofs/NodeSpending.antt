@@ -1,5 +1,5 @@
 -- How each part of the meaning spends turns, if the nodes inside do so.
-use Rattle.bk_meaning.proofs.Terms.{ℕ, ◌+◌, ◌≤◌, Bool, true, false, not, List, [], ◌∷◌, length, Option, Some, None, arith, Operator, Operator as o, Prefix, Prefix as q, Simple, Simple as k, Mention, Expression, Expressions, Command, Commands, Declaration, Declarations, Definition, Definitions, Starts, divides_by_zero, Routine, stop, rdch, wrch, newline, writes, writen, writed, getbyte, putbyte, writef, Value, number, address, procedure, routine, unset, holds, read, World, status, Exit, break, loop, endcase, goto, result, return, Outcome, gives, leaves, ends, undefined, going, with, Done, done, either, turn, making, calling, sum, truth_of_value, on_numbers, operate, operate_prefix, Environment, Sense, constant, cell, label, foreign, sense_of, bind, following, past, past_each, past_command, past_definition, constant_in, labelled, within_let, objects_of_definitions, Body, command, expression, Procedure, Program, procedure_of, library, writes_text, takes_byte, the_label, the_case, the_default, Mode, forwards, seeking, at_place, has_place, one_has_place, Target, at, byte_at, Meanings, Start}
+use Rattle.bk_meaning.proofs.Terms.{ℕ, ◌+◌, ◌≤◌, Bool, true, false, not, List, [], ◌∷◌, length, Option, Some, None, arith, Operator, Operator as o, Prefix, Prefix as q, Simple, Simple as k, Mention, Expression, Expressions, Command, Commands, Declaration, Declarations, Definition, Definitions, Starts, divides_by_zero, Routine, stop, rdch, wrch, newline, writes, writen, writed, getbyte, putbyte, writef, Value, number, address, procedure, routine, unset, holds, read, World, status, Exit, break, loop, endcase, goto, result, return, Outcome, gives, leaves, ends, undefined, going, with, Done, done, either, turn, making, calling, sum, truth_of_value, on_numbers, operate, operate_prefix, Environment, Sense, constant, cell, label, foreign, sense_of, bind, following, past, past_each, past_command, past_definition, constant_in, labelled, within_let, objects_of_definitions, Body, command, expression, Procedure, Program, procedure_of, library, writes_text, takes_byte, the_label, the_case, the_default, Mode, forwards, seeking, at_place, has_place, one_has_place, Target, at, byte_at, acts_at, Meanings, Start}
 use Rattle.bk_tree.specs.Tree as t
 use Rattle.bk_meaning.specs.Parts
 use Rattle.bk_meaning.specs.Scopes
@@ -21,76 +21,76 @@ pub record AllSpend (d : ℕ) (m : Meanings) : Type 0 where
   pub target : (e : Expression) (env : Environment) → Spends d (m.target e env)
   pub act : (c : Command) (mode : Mode) (env : Environment) → Spends d (m.act c mode env)
   pub rounds : (c : Command) (mode : Mode) (env : Environment) → Under d (m.rounds c mode env)
-  pub for_rounds : (c : Command) (object : ℕ) (limit : Value) (step : ℕ) (env : Environment) → Under d (m.for_rounds c object limit step env)
+  pub for_rounds : (place : ℕ) (c : Command) (object : ℕ) (limit : Value) (step : ℕ) (env : Environment) → Under d (m.for_rounds place c object limit step env)
   pub scope : (cs : Commands) (mode : Mode) (env : Environment) → Under d (m.scope cs mode env)
 
 module _ (d : ℕ) (m : Meanings) (g : AllSpend d m) where
-  pub fetch_spends : (a : Value) → Spends d (Parts.fetch a)
-  fetch_spends a = spends _ _ (λ w le. given_spent (read w.memory a) w)
+  pub fetch_spends : (place : ℕ) (a : Value) → Spends d (Parts.fetch place a)
+  fetch_spends place a = spends _ _ (λ w le. given_spent _ (read w.memory a) w)
 
   pub done_spends : Spends d done
   done_spends = spends _ _ (λ w le. gives_spent tt w)
 
-  pub named_spends : (s : Option Sense) → Spends d (Parts.named s)
-  named_spends (Some (constant x)) = spends _ _ (λ w le. gives_spent (number x) w)
-  named_spends (Some (cell a i)) = fetch_spends (address a i)
-  named_spends _ = spends _ _ (λ w le. undefined_spent w)
+  pub named_spends : (place : ℕ) (s : Option Sense) → Spends d (Parts.named place s)
+  named_spends place (Some (constant x)) = spends _ _ (λ w le. gives_spent (number x) w)
+  named_spends place (Some (cell a i)) = fetch_spends place (address a i)
+  named_spends place _ = spends _ _ (λ w le. undefined_spent _ w)
 
-  pub address_named_spends : (s : Option Sense) → Spends d (Parts.address_named s)
-  address_named_spends (Some (cell a i)) = spends _ _ (λ w le. gives_spent (at (address a i)) w)
-  address_named_spends _ = spends _ _ (λ w le. undefined_spent w)
+  pub address_named_spends : (place : ℕ) (s : Option Sense) → Spends d (Parts.address_named place s)
+  address_named_spends place (Some (cell a i)) = spends _ _ (λ w le. gives_spent (at (address a i)) w)
+  address_named_spends place _ = spends _ _ (λ w le. undefined_spent _ w)
 
   -- operators
-  pub on_numbers_spends : (q : Operator) (x y : Value) → Spends d (on_numbers q x y)
-  on_numbers_spends q (number x) (number y) =
-      either_spends (divides_by_zero q (Some x) (Some y)) (spends _ _ (λ w le. ends_spent _ w)) (spends _ _ (λ w le. given_spent _ w))
-  on_numbers_spends q (number x) _ = spends _ _ (λ w le. undefined_spent w)
-  on_numbers_spends q _ y = spends _ _ (λ w le. undefined_spent w)
+  pub on_numbers_spends : (place : ℕ) (q : Operator) (x y : Value) → Spends d (on_numbers place q x y)
+  on_numbers_spends place q (number x) (number y) =
+      either_spends (divides_by_zero q (Some x) (Some y)) (spends _ _ (λ w le. ends_spent _ w)) (spends _ _ (λ w le. given_spent _ _ w))
+  on_numbers_spends place q (number x) _ = spends _ _ (λ w le. undefined_spent _ w)
+  on_numbers_spends place q _ y = spends _ _ (λ w le. undefined_spent _ w)
 
-  pub operate_spends : (q : Operator) (x y : Value) → Spends d (operate q x y)
-  operate_spends o.Add x y = spends _ _ (λ w le. given_spent _ w)
-  operate_spends o.Subtract x y = spends _ _ (λ w le. given_spent _ w)
-  operate_spends o.Equal x y = spends _ _ (λ w le. given_spent _ w)
-  operate_spends o.Unequal x y = spends _ _ (λ w le. given_spent _ w)
-  operate_spends o.Less x y = spends _ _ (λ w le. given_spent _ w)
-  operate_spends o.Greater x y = spends _ _ (λ w le. given_spent _ w)
-  operate_spends o.AtMost x y = spends _ _ (λ w le. given_spent _ w)
-  operate_spends o.AtLeast x y = spends _ _ (λ w le. given_spent _ w)
-  operate_spends q x y = on_numbers_spends q x y
+  pub operate_spends : (place : ℕ) (q : Operator) (x y : Value) → Spends d (operate place q x y)
+  operate_spends place o.Add x y = spends _ _ (λ w le. given_spent _ _ w)
+  operate_spends place o.Subtract x y = spends _ _ (λ w le. given_spent _ _ w)
+  operate_spends place o.Equal x y = spends _ _ (λ w le. given_spent _ _ w)
+  operate_spends place o.Unequal x y = spends _ _ (λ w le. given_spent _ _ w)
+  operate_spends place o.Less x y = spends _ _ (λ w le. given_spent _ _ w)
+  operate_spends place o.Greater x y = spends _ _ (λ w le. given_spent _ _ w)
+  operate_spends place o.AtMost x y = spends _ _ (λ w le. given_spent _ _ w)
+  operate_spends place o.AtLeast x y = spends _ _ (λ w le. given_spent _ _ w)
+  operate_spends place q x y = on_numbers_spends place q x y
 
-  pub combined_spends : (q : Operator) (x y : Value) → Spends d (Expressions.combined q x y)
-  combined_spends o.Subscript x y = then_spends (spends _ _ (λ w le. given_spent (sum w.memory x y) w)) fetch_spends
-  combined_spends o.Byte x y = spends _ _ (λ w le. given_spent _ w)
-  combined_spends q x y = operate_spends q x y
+  pub combined_spends : (place : ℕ) (q : Operator) (x y : Value) → Spends d (Expressions.combined place q x y)
+  combined_spends place o.Subscript x y = then_spends (spends _ _ (λ w le. given_spent _ (sum w.memory x y) w)) (fetch_spends place)
+  combined_spends place o.Byte x y = spends _ _ (λ w le. given_spent _ _ w)
+  combined_spends place q x y = operate_spends place q x y
 
-  pub operate_prefix_spends : (q : Prefix) (x : Value) → Spends d (operate_prefix q x)
-  operate_prefix_spends q (number x) = spends _ _ (λ w le. given_spent _ w)
-  operate_prefix_spends q _ = spends _ _ (λ w le. undefined_spent w)
+  pub operate_prefix_spends : (place : ℕ) (q : Prefix) (x : Value) → Spends d (operate_prefix place q x)
+  operate_prefix_spends place q (number x) = spends _ _ (λ w le. given_spent _ _ w)
+  operate_prefix_spends place q _ = spends _ _ (λ w le. undefined_spent _ w)
 
-  pub judged_spends : (v : Value) → Spends d (Expressions.judged v)
-  judged_spends v = spends _ _ (λ w le. given_spent (truth_of_value w.memory v) w)
+  pub judged_spends : (place : ℕ) (v : Value) → Spends d (Expressions.judged place v)
+  judged_spends place v = spends _ _ (λ w le. given_spent _ (truth_of_value w.memory v) w)
 
   -- the library
-  pub writes_text_spent : (text : Option (List ℕ)) (w : World) → Spent w.turns (writes_text text w)
-  writes_text_spent None w = undefined_spent w
-  writes_text_spent (Some text) w = record { is = omega arith }
+  pub writes_text_spent : (place : ℕ) (text : Option (List ℕ)) (w : World) → Spent w.turns (writes_text place text w)
+  writes_text_spent place None w = undefined_spent place w
+  writes_text_spent place (Some text) w = record { is = omega arith }
 
   pub takes_byte_spent : (bytes : List ℕ) (w : World) → Spent w.turns (takes_byte bytes w)
   takes_byte_spent [] w = gives_spent _ w
   takes_byte_spent (b ∷ rest) w = record { is = omega arith }
 
-  pub library_spends : (r : Routine) (vs : List Value) → Spends d (library r vs)
-  library_spends stop (number x ∷ vs) = spends _ _ (λ w le. ends_spent (status x) w)
-  library_spends rdch vs = spends _ _ (λ w le. takes_byte_spent w.input w)
-  library_spends wrch (number x ∷ vs) = spends _ _ (λ w le. record { is = omega arith })
-  library_spends newline vs = spends _ _ (λ w le. record { is = omega arith })
-  library_spends writes (s ∷ vs) = spends _ _ (λ w le. writes_text_spent _ w)
-  library_spends writen (number x ∷ vs) = spends _ _ (λ w le. record { is = omega arith })
-  library_spends writed (number x ∷ number y ∷ vs) = spends _ _ (λ w le. record { is = omega arith })
-  library_spends getbyte (s ∷ i ∷ vs) = spends _ _ (λ w le. given_spent _ w)
-  library_spends putbyte (s ∷ i ∷ b ∷ vs) = spends _ _ (λ w le. with_spent w d _ _ le (changes_spent _ w) (λ _. spends _ _ (λ w le. gives_spent unset w)))
-  library_spends writef (f ∷ vs) = spends _ _ (λ w le. writes_text_spent _ w)
-  library_spends _ _ = spends _ _ (λ w le. undefined_spent w)
+  pub library_spends : (place : ℕ) (r : Routine) (vs : List Value) → Spends d (library place r vs)
+  library_spends place stop (number x ∷ vs) = spends _ _ (λ w le. ends_spent (status x) w)
+  library_spends place rdch vs = spends _ _ (λ w le. takes_byte_spent w.input w)
+  library_spends place wrch (number x ∷ vs) = spends _ _ (λ w le. record { is = omega arith })
+  library_spends place newline vs = spends _ _ (λ w le. record { is = omega arith })
+  library_spends place writes (s ∷ vs) = spends _ _ (λ w le. writes_text_spent place _ w)
+  library_spends place writen (number x ∷ vs) = spends _ _ (λ w le. record { is = omega arith })
+  library_spends place writed (number x ∷ number y ∷ vs) = spends _ _ (λ w le. record { is = omega arith })
+  library_spends place getbyte (s ∷ i ∷ vs) = spends _ _ (λ w le. given_spent _ _ w)
+  library_spends place putbyte (s ∷ i ∷ b ∷ vs) = spends _ _ (λ w le. with_spent w d _ _ le (changes_spent _ _ w) (λ _. spends _ _ (λ w le. gives_spent unset w)))
+  library_spends place writef (f ∷ vs) = spends _ _ (λ w le. writes_text_spent place _ w)
+  library_spends place _ _ = spends _ _ (λ w le. undefined_spent _ w)
 
   pub values_spends : (es : Expressions) (env : Environment) → Spends d (Calls.values m es env)
   values_spends t.none env = spends _ _ (λ w le. gives_spent [] w)
@@ -135,8 +135,8 @@ module _ (d : ℕ) (m : Meanings) (g : AllSpend d m) where
       by return v n lt le = record { is = omega (arith, lt) }
       by x v n lt le = record { is = lt }
 
-  pub undefined_out : SpendsOut {A = Value} d (λ x w. undefined)
-  undefined_out = record { at = λ x v n lt le. record { is = tt } }
+  pub undefined_out : (place : ℕ) → SpendsOut {A = Value} d (λ x w. undefined place w)
+  undefined_out place = record { at = λ x v n lt le. record { is = tt } }
 
   pub unset_spends : Done → Spends {A = Value} d (λ w. gives unset w)
   unset_spends _ = spends _ _ (λ w le. gives_spent unset w)
@@ -145,39 +145,39 @@ module _ (d : ℕ) (m : Meanings) (g : AllSpend d m) where
   body_spends (command c) env = spends _ _ (λ w le. each_way_spent w d _ _ _ le ((scope_spends (Scopes.alone c) forwards env).at w le) unset_spends return_out)
   body_spends (expression e) env = g.value e env
 
-  pub enter_spends : (f : Option Procedure) (vs : List Value) → Spends d (Calls.enter m f vs)
-  enter_spends None vs = spends _ _ (λ w le. undefined_spent w)
-  enter_spends (Some f) vs = spends _ _ (λ w le.
+  pub enter_spends : (place : ℕ) (f : Option Procedure) (vs : List Value) → Spends d (Calls.enter m place f vs)
+  enter_spends place None vs = spends _ _ (λ w le. undefined_spent _ w)
+  enter_spends place (Some f) vs = spends _ _ (λ w le.
       closing_spent w (length w.memory) _
       (((body_spends f.body (Calls.bind_formals (length w.memory) 0 f.formals f.env)).at (making (Calls.formal_cells f.formals vs) w) le)))
 
-  pub called_spends : (p : Program) (f : Value) (vs : List Value) → Spends d (Calls.called p m f vs)
-  called_spends p (procedure i) vs = enter_spends (procedure_of p i) vs
-  called_spends p (routine r) vs = library_spends r vs
-  called_spends p _ vs = spends _ _ (λ w le. undefined_spent w)
+  pub called_spends : (place : ℕ) (p : Program) (f : Value) (vs : List Value) → Spends d (Calls.called p m place f vs)
+  called_spends place p (procedure i) vs = enter_spends place (procedure_of p i) vs
+  called_spends place p (routine r) vs = library_spends place r vs
+  called_spends place p _ vs = spends _ _ (λ w le. undefined_spent _ w)
 
-  pub call_spends : (p : Program) (f : Value) (vs : List Value) → Spends d (Calls.call p m f vs)
-  call_spends p f vs = spends _ _ (λ w le.
-      each_way_spent w d _ _ _ le ((called_spends p f vs).at (calling w) le) (λ v. spends _ _ (λ x le. record { is = omega arith })) undefined_out)
+  pub call_spends : (place : ℕ) (p : Program) (f : Value) (vs : List Value) → Spends d (Calls.call p m place f vs)
+  call_spends place p f vs = spends _ _ (λ w le.
+      each_way_spent w d _ _ _ le ((called_spends place p f vs).at (calling w) le) (λ v. spends _ _ (λ x le. record { is = omega arith })) (undefined_out place))
 
-  pub applied_spends : (p : Program) (f : Expression) (es : Expressions) (env : Environment) → Spends d (Calls.applied p m f es env)
-  applied_spends p f es env = then_spends (values_spends es (past f env)) (λ vs. then_spends (g.value f env) (λ v. call_spends p v vs))
+  pub applied_spends : (place : ℕ) (p : Program) (f : Expression) (es : Expressions) (env : Environment) → Spends d (Calls.applied p m place f es env)
+  applied_spends place p f es env = then_spends (values_spends es (past f env)) (λ vs. then_spends (g.value f env) (λ v. call_spends place p v vs))
 
-  pub address_in_spends : (a : Target) → Spends d (Expressions.address_in a)
-  address_in_spends (at a) = spends _ _ (λ w le. gives_spent a w)
-  address_in_spends (byte_at a i) = spends _ _ (λ w le. undefined_spent w)
+  pub address_in_spends : (place : ℕ) (a : Target) → Spends d (Expressions.address_in place a)
+  address_in_spends place (at a) = spends _ _ (λ w le. gives_spent a w)
+  address_in_spends place (byte_at a i) = spends _ _ (λ w le. undefined_spent _ w)
 
   pub value_of_spends : (p : Program) (e : Expression) (env : Environment) → Spends d (Expressions.value_of p m e env)
-  value_of_spends p (t.name i x) env = named_spends (sense_of x env)
+  value_of_spends p (t.name i x) env = named_spends i (sense_of x env)
   value_of_spends p (t.number i x) env = spends _ _ (λ w le. gives_spent (number x) w)
   value_of_spends p (t.query i) env = spends _ _ (λ w le. gives_spent unset w)
   value_of_spends p (t.parens i e) env = g.value e env
-  value_of_spends p (t.unary i q.Contents e) env = then_spends (g.value e env) fetch_spends
-  value_of_spends p (t.unary i q.Address e) env = then_spends (g.target e env) address_in_spends
-  value_of_spends p (t.unary i q e) env = then_spends (g.value e env) (operate_prefix_spends q)
-  value_of_spends p (t.binary i q j a b) env = then_spends (g.value a env) (λ x. then_spends (g.value b (past a env)) (λ y. combined_spends q x y))
+  value_of_spends p (t.unary i q.Contents e) env = then_spends (g.value e env) (fetch_spends i)
+  value_of_spends p (t.unary i q.Address e) env = then_spends (g.target e env) (address_in_spends i)
+  value_of_spends p (t.unary i q e) env = then_spends (g.value e env) (operate_prefix_spends i q)
+  value_of_spends p (t.binary i q j a b) env = then_spends (g.value a env) (λ x. then_spends (g.value b (past a env)) (λ y. combined_spends j q x y))
   value_of_spends p (t.choice i j c a b) env = then_spends (g.truth c env) (λ x. either_spends x (g.value a (past c env)) (g.value b (past a (past c env))))
-  value_of_spends p (t.apply i j f es) env = applied_spends p f es env
+  value_of_spends p (t.apply i j f es) env = applied_spends j p f es env
   value_of_spends p (t.valof i c) env = spends _ _ (λ w le. each_way_spent w d _ _ _ le ((scope_spends (Scopes.alone c) forwards env).at w le) unset_spends result_out)
   value_of_spends p _ env = spends _ _ (λ w le. gives_spent _ w)
 
@@ -189,28 +189,28 @@ module _ (d : ℕ) (m : Meanings) (g : AllSpend d m) where
       either_spent x d _ _ (g.truth b (past a env)) (spends _ _ (λ w le. gives_spent false w)) w le)))
   truth_of_spends p (t.binary i o.Either j a b) env =
       then_spends (g.truth a env) (λ x. either_spends x (spends _ _ (λ w le. gives_spent true w)) (g.truth b (past a env)))
-  truth_of_spends p e env = then_spends (value_of_spends p e env) judged_spends
+  truth_of_spends p e env = then_spends (value_of_spends p e env) (judged_spends (acts_at e))
 
   pub target_of_spends : (e : Expression) (env : Environment) → Spends d (Expressions.target_of m e env)
-  target_of_spends (t.name i x) env = address_named_spends (sense_of x env)
+  target_of_spends (t.name i x) env = address_named_spends i (sense_of x env)
   target_of_spends (t.parens i e) env = g.target e env
   target_of_spends (t.unary i q.Contents e) env = then_spends (g.value e env) (λ a. spends _ _ (λ w le. gives_spent (at a) w))
   target_of_spends (t.binary i o.Subscript j a b) env =
       then_spends (g.value a env) (λ x. then_spends (g.value b (past a env)) (λ y.
-      then_spends (spends _ _ (λ w le. given_spent (sum w.memory x y) w)) (λ a. spends _ _ (λ w le. gives_spent (at a) w))))
+      then_spends (spends _ _ (λ w le. given_spent _ (sum w.memory x y) w)) (λ a. spends _ _ (λ w le. gives_spent (at a) w))))
   target_of_spends (t.binary i o.Byte j a b) env =
       then_spends (g.value a env) (λ x. then_spends (g.value b (past a env)) (λ y. spends _ _ (λ w le. gives_spent (byte_at x y) w)))
-  target_of_spends e env = spends _ _ (λ w le. undefined_spent w)
+  target_of_spends e env = spends _ _ (λ w le. undefined_spent _ w)
 
-  pub store_spends : (a : Target) (v : Value) → Spends d (Parts.store a v)
-  store_spends (at a) v = spends _ _ (λ w le. changes_spent _ w)
-  store_spends (byte_at a i) v = spends _ _ (λ w le. changes_spent _ w)
+  pub store_spends : (place : ℕ) (a : Target) (v : Value) → Spends d (Parts.store place a v)
+  store_spends place (at a) v = spends _ _ (λ w le. changes_spent _ _ w)
+  store_spends place (byte_at a i) v = spends _ _ (λ w le. changes_spent _ _ w)
 
   pub assigned_spends : (xs : Expressions) (there : Environment) (es : Expressions) (env : Environment) → Spends d (commands.assigned m xs there es env)
   assigned_spends (t.more x xs) there (t.more e es) env = spends _ _ (λ w le.
       with_spent w d _ _ le ((g.value e env).at w le) (λ v. spends _ _ (λ w le.
       with_spent w d _ _ le ((g.target x there).at w le) (λ a. spends _ _ (λ w le.
-      with_spent w d _ _ le ((store_spends a v).at w le) (λ _. assigned_spends xs (past x there) es (past e env)))))))
+      with_spent w d _ _ le ((store_spends (acts_at x) a v).at w le) (λ _. assigned_spends xs (past x there) es (past e env)))))))
   assigned_spends _ there _ env = done_spends
 
   pub round_out : (go : World → Outcome Done) → Spends d go → SpendsOut d (Loops.round_exit go)
@@ -242,24 +242,24 @@ module _ (d : ℕ) (m : Meanings) (g : AllSpend d m) where
       again_spent w _ _ le ((g.act c mode env).at w le) (where_truth_spends b e (past_command c env) _ (turn_spends _ (g.rounds (t.repeat_while i b c e) forwards env))))
   rounds_of_spends c mode env = done_spends
 
-  pub for_test_spends : (object : ℕ) (limit : Value) (step : ℕ) (go : World → Outcome Done) → Spends d go → Spends d (Loops.for_test object limit step go)
-  for_test_spends object limit step go h =
-      then_spends (fetch_spends (address object 0)) (λ v. then_spends (operate_spends (Loops.relation step) v limit) (λ v. then_spends (judged_spends v) (λ b.
+  pub for_test_spends : (place : ℕ) (object : ℕ) (limit : Value) (step : ℕ) (go : World → Outcome Done) → Spends d go → Spends d (Loops.for_test place object limit step go)
+  for_test_spends place object limit step go h =
+      then_spends (fetch_spends place (address object 0)) (λ v. then_spends (operate_spends place (Loops.relation step) v limit) (λ v. then_spends (judged_spends place v) (λ b.
       either_spends b h done_spends)))
 
-  pub for_step_spends : (object : ℕ) (step : ℕ) → Spends d (Loops.for_step object step)
-  for_step_spends object step =
-      then_spends (fetch_spends (address object 0)) (λ v. then_spends (operate_spends o.Add v (number step)) (λ v. store_spends (at (address object 0)) v))
+  pub for_step_spends : (place : ℕ) (object : ℕ) (step : ℕ) → Spends d (Loops.for_step place object step)
+  for_step_spends place object step =
+      then_spends (fetch_spends place (address object 0)) (λ v. then_spends (operate_spends place o.Add v (number step)) (λ v. store_spends place (at (address object 0)) v))
 
-  pub for_rounds_of_spends : (c : Command) (object : ℕ) (limit : Value) (step : ℕ) (env : Environment) → Spends d (Loops.for_rounds_of m c object limit step env)
-  for_rounds_of_spends c object limit step env = spends _ _ (λ w le.
+  pub for_rounds_of_spends : (place : ℕ) (c : Command) (object : ℕ) (limit : Value) (step : ℕ) (env : Environment) → Spends d (Loops.for_rounds_of m place c object limit step env)
+  for_rounds_of_spends place c object limit step env = spends _ _ (λ w le.
       again_spent w _ _ le ((scope_spends (Scopes.alone c) forwards env).at w le) (spends _ _ (λ w le.
-      with_spent w d _ _ le ((for_step_spends object step).at w le) (λ _. for_test_spends object limit step _ (turn_spends _ (g.for_rounds c object limit step env))))))
+      with_spent w d _ _ le ((for_step_spends place object step).at w le) (λ _. for_test_spends place object limit step _ (turn_spends _ (g.for_rounds place c object limit step env))))))
 
-  pub for_loop_spends : (x : List ℕ) (c : Command) (start limit : Value) (step : ℕ) (env : Environment) → Spends d (Loops.for_loop m x c start limit step env)
+  pub for_loop_spends : (x : Mention) (c : Command) (start limit : Value) (step : ℕ) (env : Environment) → Spends d (Loops.for_loop m x c start limit step env)
   for_loop_spends x c start limit step env = spends _ _ (λ w le.
       closing_spent w (length w.memory) _ (
-      ((for_test_spends (length w.memory) limit step _ (for_rounds_of_spends c (length w.memory) limit step (bind x (cell (length w.memory) 0) env))).at (making (holds start ∷ []) w) le)))
+      ((for_test_spends x.at (length w.memory) limit step _ (for_rounds_of_spends x.at c (length w.memory) limit step (bind x.letters (cell (length w.memory) 0) env))).at (making (holds start ∷ []) w) le)))
 
   pub case_out : SpendsOut d commands.case_exit
   case_out = record { at = by }
@@ -271,20 +271,20 @@ module _ (d : ℕ) (m : Meanings) (g : AllSpend d m) where
   pub ended_case_spends : (c : Command) (mode : Mode) (env : Environment) → Spends d (λ w. commands.ended_case (m.act c mode env w))
   ended_case_spends c mode env = spends _ _ (λ w le. each_way_spent w d _ _ _ le ((g.act c mode env).at w le) (λ _. done_spends) case_out)
 
-  pub choose_case_spends : (v : Value) (c : Command) (env : Environment) → Spends d (commands.choose_case m v c env)
-  choose_case_spends (number i) c env =
+  pub choose_case_spends : (place : ℕ) (v : Value) (c : Command) (env : Environment) → Spends d (commands.choose_case m place v c env)
+  choose_case_spends place (number i) c env =
       either_spends (has_place (the_case (Some i)) env c) (ended_case_spends c (seeking (the_case (Some i))) env)
       (either_spends (has_place the_default env c) (ended_case_spends c (seeking the_default) env) done_spends)
-  choose_case_spends v c env = spends _ _ (λ w le. undefined_spent w)
+  choose_case_spends place v c env = spends _ _ (λ w le. undefined_spent _ w)
 
-  pub make_vec_spends : (k : Option ℕ) → Spends d (Blocks.make_vec k)
-  make_vec_spends None = spends _ _ (λ w le. undefined_spent w)
-  make_vec_spends (Some k) = spends _ _ (λ w le. record { is = omega arith })
+  pub make_vec_spends : (place : ℕ) (k : Option ℕ) → Spends d (Blocks.make_vec place k)
+  make_vec_spends place None = spends _ _ (λ w le. undefined_spent _ w)
+  make_vec_spends place (Some k) = spends _ _ (λ w le. record { is = omega arith })
 
   pub starts_spends : (is : Starts) (env : Environment) → Spends d (Blocks.starts m is env)
   starts_spends t.no_starts env = spends _ _ (λ w le. gives_spent [] w)
   starts_spends (t.value e is) env = then_spends (g.value e env) (λ v. then_spends (starts_spends is (past e env)) (λ vs. spends _ _ (λ w le. gives_spent _ w)))
-  starts_spends (t.vector i e is) env = then_spends (in_turn (make_vec_spends (constant_in env e))) (λ v.
+  starts_spends (t.vector i e is) env = then_spends (in_turn (make_vec_spends (acts_at e) (constant_in env e))) (λ v.
       then_spends (starts_spends is env) (λ vs. spends _ _ (λ w le. gives_spent _ w)))
 
   pub let_values_spends : (ds : Definitions) (env : Environment) → Spends d (Blocks.let_values m ds env)
@@ -314,13 +314,13 @@ module _ (d : ℕ) (m : Meanings) (g : AllSpend d m) where
 
   pub result_kept : (w : World) (u : Outcome Value) → Spent w.turns u → Kept {A = Done} w.turns (with u (λ v w. leaves (result v) w))
   result_kept w (leaves y x) h = let i : x.turns + 1 ≤ w.turns = h.is in record { is = omega (arith, i) }
-  result_kept w undefined h = record { is = tt }
+  result_kept w (undefined l v) h = record { is = tt }
   result_kept w _ h = record { is = h.is }
 
   pub act_of_kept : (p : Program) (c : Command) (mode : Mode) (env : Environment) (w : World) → w.turns ≤ d → Kept w.turns (commands.act_of p m c mode env w)
   act_of_kept p t.empty mode env w le = kept _ _ ((done_spends).at w le)
   act_of_kept p (t.assign i xs es) mode env w le = kept _ _ ((assigned_spends xs env es (past_each xs env)).at w le)
-  act_of_kept p (t.call i f es) mode env w le = kept _ _ ((then_spends (applied_spends p f es env) (λ _. done_spends)).at w le)
+  act_of_kept p (t.call i f es) mode env w le = kept _ _ ((then_spends (applied_spends i p f es env) (λ _. done_spends)).at w le)
   act_of_kept p (t.goto i x) mode env w le = record { is = omega arith }
   act_of_kept p (t.label i x c) mode env w le = kept _ _ ((g.act c (at_place (the_label x) mode) env).at w le)
   act_of_kept p (t.case_of i e c) mode env w le = kept _ _ ((g.act c (at_place (the_case (constant_in env e)) mode) env).at w le)
@@ -334,9 +334,9 @@ module _ (d : ℕ) (m : Meanings) (g : AllSpend d m) where
   act_of_kept p (t.while i b e c) forwards env w le = kept _ _ ((where_truth_spends b e env _ (rounds_of_spends (t.while i b e c) forwards env)).at w le)
   act_of_kept p (t.while i b e c) (seeking s) env w le = kept _ _ ((rounds_of_spends (t.while i b e c) (seeking s) env).at w le)
   act_of_kept p (t.for_loop i x a b h c) mode env w le =
-      kept _ _ ((then_spends (g.value a env) (λ u. then_spends (g.value b (past a env)) (λ v. then_spends (spends _ _ (λ w le. given_spent (Loops.step_of env h) w))
-      (λ i. for_loop_spends x.letters c u v i (past b (past a env)))))).at w le)
-  act_of_kept p (t.switch i e c) forwards env w le = kept _ _ ((then_spends (g.value e env) (λ v. choose_case_spends v c (past e env))).at w le)
+      kept _ _ ((then_spends (g.value a env) (λ u. then_spends (g.value b (past a env)) (λ v. then_spends (spends _ _ (λ w le. given_spent _ (Loops.step_of env h) w))
+      (λ i. for_loop_spends x c u v i (past b (past a env)))))).at w le)
+  act_of_kept p (t.switch i e c) forwards env w le = kept _ _ ((then_spends (g.value e env) (λ v. choose_case_spends (acts_at e) v c (past e env))).at w le)
   act_of_kept p (t.switch i e c) (seeking s) env w le = kept _ _ ((ended_case_spends c (seeking s) (past e env)).at w le)
   act_of_kept p (t.result i e) mode env w le = result_kept w _ ((g.value e env).at w le)
   act_of_kept p (t.simple i s) mode env w le = simple_exit_kept s w

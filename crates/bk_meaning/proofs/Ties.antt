@@ -1,5 +1,5 @@
 -- Runs of one tree, with fewer turns and with more; and what each of them only adds to, or leaves as it was.
-use Rattle.bk_meaning.proofs.Terms.{ℕ, zero, suc, ◌+◌, ◌≤◌, Bool, true, false, List, [], length, Option, Some, None, refl, sym, ◌∙◌, arith, append-nil, Value, Cell, Memory, dead_from, World, Exit, End, Outcome, gives, leaves, ends, undefined, going, each_way, with, given, either, turn, turn_of, closing, forgetting, changes, remembering, making, calling, calls_back, History, history, Grows, sizes, ComesBack, After, Restores, with_turns}
+use Rattle.bk_meaning.proofs.Terms.{ℕ, zero, suc, ◌+◌, ◌≤◌, Bool, true, false, List, [], length, Option, Some, None, refl, sym, ◌∙◌, arith, append-nil, Value, Cell, Memory, dead_from, World, Exit, End, Outcome, gives, leaves, ends, undefined, going, each_way, with, given, either, turn, turn_of, closing, forgetting, changes, remembering, making, calling, calls_back, returned, History, history, Grows, sizes, ComesBack, After, Restores, with_turns}
 use Rattle.bk_meaning.proofs.After.{stays, earlier, Adds, adds, each_way_after, closing_after, calling_on}
 use Rattle.bk_meaning.proofs.Objects.{kept_still, kept_on, sizes-made, closed_keep, KeepsSizes}
 
@@ -11,7 +11,7 @@ pub data Below {A : Type 0} : Outcome A → Outcome A → Type 0 where
   gives_more : (a : A) (w : World) (n : ℕ) → w.turns ≤ n → Below (gives a w) (gives a (with_turns n w))
   leaves_more : (x : Exit) (w : World) (n : ℕ) → w.turns ≤ n → Below (leaves x w) (leaves x (with_turns n w))
   ends_more : (e : End) (w : World) (n : ℕ) → w.turns ≤ n → Below (ends e w) (ends e (with_turns n w))
-  undefined_still : Below undefined undefined
+  undefined_more : (l : ℕ) (w : World) (n : ℕ) → w.turns ≤ n → Below (undefined l w) (undefined l (with_turns n w))
   cut : (w : World) (o : Outcome A) → After (history w) o → Below (going w) o
 
 -- from a world, by fewer turns and by more
@@ -30,7 +30,6 @@ ties go to at = record { at = at }
 from_kept : {A : Type 0} (c : ℕ) (s : List (Option ℕ)) (d : ℕ) (t : List (Option ℕ)) (o : Outcome A) → ComesBack c s d t → Restores d t o → Restores c s o
 from_kept c s d t (gives a v) g h = record { calls = h.calls ∙ g.calls; kept = kept_on _ _ _ g.kept h.kept }
 from_kept c s d t (leaves x v) g h = record { calls = h.calls ∙ g.calls; kept = kept_on _ _ _ g.kept h.kept }
-from_kept c s d t undefined g h = tt
 from_kept c s d t _ g h = kept_on _ _ _ g.kept h
 
 -- from an earlier world
@@ -44,7 +43,6 @@ ties_add go to h = adds to (λ w. (h.at w w.turns (omega arith)).on)
 kept_each_way : {A B : Type 0} (c : ℕ) (s : List (Option ℕ)) (u : Outcome A) (on to : A → World → Outcome B) (out off : Exit → World → Outcome B) → Restores c s u → ((a : A) → Ties (on a) (to a)) → ((x : Exit) → Ties (out x) (off x)) → Restores c s (each_way to off u)
 kept_each_way c s (gives a v) on to out off g h x = from_kept c s _ _ (to a v) g (((h a).at v v.turns (omega arith)).kept)
 kept_each_way c s (leaves y v) on to out off g h x = from_kept c s _ _ (off y v) g (((x y).at v v.turns (omega arith)).kept)
-kept_each_way c s undefined on to out off g h x = tt
 kept_each_way c s _ on to out off g h x = g
 
 pub each_way_tied : {A B : Type 0} (w : World) (u v : Outcome A) (on to : A → World → Outcome B) (out off : Exit → World → Outcome B) → Tied w u v → ((a : A) → Ties (on a) (to a)) → ((x : Exit) → Ties (out x) (off x)) → Tied w (each_way on out u) (each_way to off v)
@@ -54,7 +52,7 @@ each_way_tied {A = A} w u v on to out off t h x = by u v t.below t.on t.kept
     by _ _ (gives_more a v n le) up back = from w v _ _ up back ((h a).at v n le)
     by _ _ (leaves_more y v n le) up back = from w v _ _ up back ((x y).at v n le)
     by _ _ (ends_more e v n le) up back = record { below = ends_more e v n le; on = up; kept = back }
-    by _ _ undefined_still up back = record { below = undefined_still; on = tt; kept = tt }
+    by _ _ (undefined_more l v n le) up back = record { below = undefined_more l v n le; on = up; kept = back }
     by _ _ (cut v p up) ahead back = record {
       below = cut v _ (each_way_after (history v) p to off up (λ a. ties_add (on a) (to a) (h a)) (λ y. ties_add (out y) (off y) (x y)));
       on = each_way_after (history w) p to off ahead (λ a. ties_add (on a) (to a) (h a)) (λ y. ties_add (out y) (off y) (x y));
@@ -73,8 +71,8 @@ with_tied w u v on to t h = each_way_tied w u v on to _ _ t h (λ x. ties _ _ (�
 pub ends_tied : {A : Type 0} (e : End) (w : World) (n : ℕ) → w.turns ≤ n → Tied {A = A} w (ends e w) (ends e (with_turns n w))
 ends_tied e w n le = record { below = ends_more e w n le; on = stays (history w); kept = kept_still (sizes w.memory) }
 
-pub undefined_tied : {A : Type 0} (w : World) → Tied {A = A} w undefined undefined
-undefined_tied w = record { below = undefined_still; on = tt; kept = tt }
+pub undefined_tied : {A : Type 0} (l : ℕ) (w : World) (n : ℕ) → w.turns ≤ n → Tied {A = A} w (undefined l w) (undefined l (with_turns n w))
+undefined_tied l w n le = record { below = undefined_more l w n le; on = stays (history w); kept = kept_still (sizes w.memory) }
 
 pub cut_tied : {A : Type 0} (w : World) (o : Outcome A) → After (history w) o → Restores w.calls (sizes w.memory) o → Tied w (going w) o
 cut_tied w o up back = record { below = cut w o up; on = up; kept = back }
@@ -82,9 +80,9 @@ cut_tied w o up back = record { below = cut w o up; on = up; kept = back }
 pub going_tied : {A : Type 0} (w : World) (n : ℕ) → Tied {A = A} w (going w) (going (with_turns n w))
 going_tied w n = cut_tied w _ (stays (history w)) (kept_still (sizes w.memory))
 
-pub given_tied : {A : Type 0} (x : Option A) (w : World) (n : ℕ) → w.turns ≤ n → Tied w (given x w) (given x (with_turns n w))
-given_tied None w n le = undefined_tied w
-given_tied (Some a) w n le = gives_tied a w n le
+pub given_tied : {A : Type 0} (l : ℕ) (x : Option A) (w : World) (n : ℕ) → w.turns ≤ n → Tied w (given l x w) (given l x (with_turns n w))
+given_tied l None w n le = undefined_tied l w n le
+given_tied l (Some a) w n le = gives_tied a w n le
 
 pub either_tied : {A : Type 0} (b : Bool) (go to other another : World → Outcome A) → Ties go to → Ties other another → (w : World) (n : ℕ) → w.turns ≤ n → Tied w (either b go other w) (either b to another (with_turns n w))
 either_tied true go to other another g h w n le = g.at w n le
@@ -120,20 +118,19 @@ closing_tied {A = A} w u v t = by u v t.below t.on t.kept
     closed_kept : (o : Outcome A) → Restores w.calls (sizes w.memory) o → Restores w.calls (sizes w.memory) (closing (length w.memory) o)
     closed_kept (gives a v) back = closed v back
     closed_kept (leaves x v) back = closed v back
-    closed_kept undefined back = tt
     closed_kept _ back = back
 
     by : (u v : Outcome A) → Below u v → After (history w) v → Restores w.calls (sizes w.memory) v → Tied w (closing (length w.memory) u) (closing (length w.memory) v)
     by _ _ (gives_more a v n le) up back = record { below = gives_more a (forgetting (length w.memory) v) n le; on = up; kept = closed v back }
     by _ _ (leaves_more x v n le) up back = record { below = leaves_more x (forgetting (length w.memory) v) n le; on = up; kept = closed v back }
     by _ _ (ends_more e v n le) up back = record { below = ends_more e v n le; on = up; kept = back }
-    by _ _ undefined_still up back = undefined_tied w
+    by _ _ (undefined_more l v n le) up back = record { below = undefined_more l v n le; on = up; kept = back }
     by _ _ (cut v o up) ahead back = record { below = cut v _ (closing_after (history v) (length w.memory) o up); on = closing_after (history w) (length w.memory) o ahead; kept = closed_kept o back }
 
 -- memory that was changed, in cells alone
-pub changes_tied : (m : Option Memory) (w : World) (n : ℕ) → w.turns ≤ n → KeepsSizes w.memory m → Tied w (changes m w) (changes m (with_turns n w))
-changes_tied None w n le same = undefined_tied w
-changes_tied (Some m) w n le same = record {
+pub changes_tied : (l : ℕ) (m : Option Memory) (w : World) (n : ℕ) → w.turns ≤ n → KeepsSizes w.memory m → Tied w (changes l m w) (changes l m (with_turns n w))
+changes_tied l None w n le same = undefined_tied l w n le
+changes_tied l (Some m) w n le same = record {
   below = gives_more tt (remembering m w) n le;
   on = stays (history w);
   kept = record { calls = refl; kept = record { made = []; objects = same ∙ sym (append-nil (sizes w.memory)) } };
@@ -144,23 +141,23 @@ pub making_tied : {A : Type 0} (cells : List Cell) (w : World) (o p : Outcome A)
 making_tied cells w o p t = from w (making cells w) o p (stays (history w)) (record { calls = refl; kept = sizes-made cells w.memory }) t
 
 -- a call, behind which as many are active as before
-pub call_tied : (w : World) (u v : Outcome Value) → Tied (calling w) u v → Tied w (each_way (λ x after. gives x (calls_back w.calls after)) (λ x w. undefined) u) (each_way (λ x after. gives x (calls_back w.calls after)) (λ x w. undefined) v)
-call_tied w u v t = by u v t.below t.on t.kept
+pub call_tied : (l : ℕ) (w : World) (u v : Outcome Value) → Tied (calling w) u v → Tied w (returned l w.calls u) (returned l w.calls v)
+call_tied l w u v t = by u v t.below t.on t.kept
   where
-    returned : (h : History) (o : Outcome Value) → After h o → After h (each_way (λ x after. gives x (calls_back w.calls after)) (λ x w. undefined) o)
-    returned h o up = each_way_after h o (λ x after. gives x (calls_back w.calls after)) (λ x w. undefined) up (λ a. adds _ (λ v. stays (history v))) (λ x. adds _ (λ v. tt))
+    back_on : (h : History) (o : Outcome Value) → After h o → After h (returned l w.calls o)
+    back_on h o up = each_way_after h o _ _ up (λ a. adds _ (λ v. stays (history v))) (λ x. adds _ (λ v. stays (history v)))
 
-    came_back : (o : Outcome Value) → Restores (w.calls + 1) (sizes w.memory) o → Restores w.calls (sizes w.memory) (each_way (λ x after. gives x (calls_back w.calls after)) (λ x w. undefined) o)
+    came_back : (o : Outcome Value) → Restores (w.calls + 1) (sizes w.memory) o → Restores w.calls (sizes w.memory) (returned l w.calls o)
     came_back (gives a v) k = record { calls = refl; kept = k.kept }
-    came_back (leaves x v) k = tt
-    came_back undefined k = tt
+    came_back (leaves x v) k = k.kept
     came_back _ k = k
 
     later : (o : Outcome Value) → After (history (calling w)) o → After (history w) o
     later o up = earlier (history w) (history (calling w)) o (calling_on w) up
 
-    by : (u v : Outcome Value) → Below u v → After (history (calling w)) v → Restores (w.calls + 1) (sizes w.memory) v → Tied w (each_way (λ x after. gives x (calls_back w.calls after)) (λ x w. undefined) u) (each_way (λ x after. gives x (calls_back w.calls after)) (λ x w. undefined) v)
-    by _ _ (gives_more a v n le) up k = record { below = gives_more a (calls_back w.calls v) n le; on = returned (history w) (gives a v) (later (gives a v) up); kept = came_back (gives a v) k }
+    by : (u v : Outcome Value) → Below u v → After (history (calling w)) v → Restores (w.calls + 1) (sizes w.memory) v → Tied w (returned l w.calls u) (returned l w.calls v)
+    by _ _ (gives_more a v n le) up k = record { below = gives_more a (calls_back w.calls v) n le; on = later (gives a v) up; kept = came_back (gives a v) k }
+    by _ _ (leaves_more x v n le) up k = record { below = undefined_more l v n le; on = later (leaves x v) up; kept = k.kept }
     by _ _ (ends_more e v n le) up k = record { below = ends_more e v n le; on = later (ends e v) up; kept = k }
-    by _ _ (cut v o up) ahead k = record { below = cut v _ (returned (history v) o up); on = returned (history w) o (later o ahead); kept = came_back o k }
-    by _ _ _ up k = undefined_tied w
+    by _ _ (undefined_more i v n le) up k = record { below = undefined_more i v n le; on = later (undefined i v) up; kept = k }
+    by _ _ (cut v o up) ahead k = record { below = cut v _ (back_on (history v) o up); on = back_on (history w) o (later o ahead); kept = came_back o k }

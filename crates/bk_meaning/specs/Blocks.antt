@@ -5,22 +5,22 @@ use Rattle.bk_tree.specs.Tree.{Mention, Expression, Expressions, Command, Comman
 use Rattle.bk_meaning.specs.Values.{Value, address, unset, Cell, holds}
 use Rattle.bk_meaning.specs.World.{World, Outcome, gives, undefined, with, turn, making}
 use Rattle.bk_meaning.specs.Environment.{Environment, cell, bind, following, past, past_definition, constant_in, within_let, constants_declared, letters, objects_of_definitions}
-use Rattle.bk_meaning.specs.Parts.{Meanings}
+use Rattle.bk_meaning.specs.Parts.{Meanings, acts_at}
 
 -- Declarations give the environment after them. Of a LET all values come first, in an environment with its
 -- procedures; then each name is an object. A VEC is an object, and its value the address of that.
 abbrev pub vec_cells : ℕ → List Cell
 vec_cells k = replicate (k + 1) (holds unset)
 
-abbrev pub make_vec : Option ℕ → World → Outcome Value
-make_vec None w = undefined
-make_vec (Some k) w = gives (address (length w.memory) 0) (making (vec_cells k) w)
+abbrev pub make_vec : ℕ → Option ℕ → World → Outcome Value
+make_vec l None w = undefined l w
+make_vec l (Some k) w = gives (address (length w.memory) 0) (making (vec_cells k) w)
 
 abbrev pub starts : Meanings → Starts → Environment → World → Outcome (List Value)
 starts m t.no_starts env w = gives [] w
 starts m (t.value e is) env w = with (m.value e env w) (λ v w. with (starts m is (past e env) w) (λ vs w. gives (v ∷ vs) w))
 starts m (t.vector l e is) env w =
-    with (turn w (λ w. make_vec (constant_in env e) w)) (λ v w. with (starts m is env w) (λ vs w. gives (v ∷ vs) w))
+    with (turn w (λ w. make_vec (acts_at e) (constant_in env e) w)) (λ v w. with (starts m is env w) (λ vs w. gives (v ∷ vs) w))
 
 pub record Start : Type 0 where
   pub name : List ℕ

@@ -36,20 +36,23 @@ abbrev pub run_body : Meanings → Body → Environment → World → Outcome Va
 run_body m (command c) env w = each_way (λ _ w. gives unset w) return_exit (scope_of m (alone c) forwards env w)
 run_body m (expression e) env w = m.value e env w
 
-abbrev pub enter : Meanings → Option Procedure → List Value → World → Outcome Value
-enter m None vs w = undefined
-enter m (Some p) vs w =
+abbrev pub enter : Meanings → ℕ → Option Procedure → List Value → World → Outcome Value
+enter m l None vs w = undefined l w
+enter m l (Some p) vs w =
     closing (length w.memory) (run_body m p.body (bind_formals (length w.memory) 0 p.formals p.env) (making (formal_cells p.formals vs) w))
 
-abbrev pub called : Program → Meanings → Value → List Value → World → Outcome Value
-called p m (procedure n) vs w = enter m (procedure_of p n) vs w
-called p m (routine r) vs w = library r vs w
-called p m _ vs w = undefined
+abbrev pub called : Program → Meanings → ℕ → Value → List Value → World → Outcome Value
+called p m l (procedure n) vs w = enter m l (procedure_of p n) vs w
+called p m l (routine r) vs w = library l r vs w
+called p m l _ vs w = undefined l w
 
--- While it runs a further call is active. No other exit leaves a procedure.
-abbrev pub call : Program → Meanings → Value → List Value → World → Outcome Value
-call p m f vs w = each_way (λ v after. gives v (calls_back w.calls after)) (λ x w. undefined) (called p m f vs (calling w))
+-- While it runs a further call is active. After it n are. No other exit leaves a procedure.
+abbrev pub returned : ℕ → ℕ → Outcome Value → Outcome Value
+returned l n u = each_way (λ v after. gives v (calls_back n after)) (λ x w. undefined l w) u
+
+abbrev pub call : Program → Meanings → ℕ → Value → List Value → World → Outcome Value
+call p m l f vs w = returned l w.calls (called p m l f vs (calling w))
 
 -- the arguments, then the procedure
-abbrev pub applied : Program → Meanings → Expression → Expressions → Environment → World → Outcome Value
-applied p m f es env w = with (values m es (past f env) w) (λ vs w. with (m.value f env w) (λ v w. call p m v vs w))
+abbrev pub applied : Program → Meanings → ℕ → Expression → Expressions → Environment → World → Outcome Value
+applied p m l f es env w = with (values m es (past f env) w) (λ vs w. with (m.value f env w) (λ v w. call p m l v vs w))

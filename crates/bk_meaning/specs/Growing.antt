@@ -6,7 +6,7 @@ use Rattle.bk_meaning.specs.Memory.{Object, living, dead, Memory, lives}
 use Rattle.bk_meaning.specs.World.{World, Outcome, gives, leaves, ends, undefined, going}
 use Rattle.bk_meaning.specs.Environment.{Environment}
 use Rattle.bk_meaning.specs.Seeking.{Mode}
-use Rattle.bk_meaning.specs.Parts.{Meanings}
+use Rattle.bk_meaning.specs.Parts.{Meanings, nowhere}
 use Rattle.bk_meaning.specs.Lasting.{Program, program_of}
 use Rattle.bk_meaning.specs.Calls.{call}
 use Rattle.bk_meaning.specs.Program.{means, first_world}
@@ -51,7 +51,7 @@ abbrev pub InItsWorld : {A : Type 0} → (World → Type 0) → Outcome A → Ty
 InItsWorld P (gives a v) = P v
 InItsWorld P (leaves x v) = P v
 InItsWorld P (ends e v) = P v
-InItsWorld P undefined = Unit {0}
+InItsWorld P (undefined l v) = P v
 InItsWorld P (going v) = P v
 
 -- the outcome of what began with this history; with these calls and objects
@@ -62,7 +62,7 @@ abbrev pub Restores : {A : Type 0} → ℕ → List (Option ℕ) → Outcome A �
 Restores calls old (gives a v) = ComesBack calls old v.calls (sizes v.memory)
 Restores calls old (leaves x v) = ComesBack calls old v.calls (sizes v.memory)
 Restores calls old (ends e v) = Keeps old (sizes v.memory)
-Restores calls old undefined = Unit {0}
+Restores calls old (undefined l v) = Keeps old (sizes v.memory)
 Restores calls old (going v) = Keeps old (sizes v.memory)
 
 -- what holds of the outcome of each part of the meaning, from any world on
@@ -72,7 +72,7 @@ pub record Throughout (Holds : (A : Type 0) → World → Outcome A → Type 0) 
   pub target : (e : Expression) (env : Environment) (w : World) → Holds _ w (m.target e env w)
   pub act : (c : Command) (mode : Mode) (env : Environment) (w : World) → Holds _ w (m.act c mode env w)
   pub rounds : (c : Command) (mode : Mode) (env : Environment) (w : World) → Holds _ w (m.rounds c mode env w)
-  pub for_rounds : (c : Command) (object : ℕ) (limit : Value) (step : ℕ) (env : Environment) (w : World) → Holds _ w (m.for_rounds c object limit step env w)
+  pub for_rounds : (l : ℕ) (c : Command) (object : ℕ) (limit : Value) (step : ℕ) (env : Environment) (w : World) → Holds _ w (m.for_rounds l c object limit step env w)
   pub scope : (cs : Commands) (mode : Mode) (env : Environment) (w : World) → Holds _ w (m.scope cs mode env w)
 
 abbrev pub OutputOnlyGrows : Type 0
@@ -90,4 +90,4 @@ abbrev pub WhatLastsLives : Type 0
 WhatLastsLives =
     (sections : List Declarations) (input : List ℕ) (n : ℕ) (f : Value) (object : ℕ) →
     let p : Program = program_of sections in
-    object < length p → InItsWorld (λ v. IsTrue (lives v.memory object)) (call p (means p n) f [] (first_world p input n))
+    object < length p → InItsWorld (λ v. IsTrue (lives v.memory object)) (call p (means p n) nowhere f [] (first_world p input n))

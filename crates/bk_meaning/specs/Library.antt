@@ -38,23 +38,23 @@ written m (p ∷ ps) [] = None
 written m (p ∷ ps) (v ∷ vs) = option_and_then (λ first. option_map (λ text. first ++ text) (written m ps vs)) (argument_text m p v)
 
 -- writes a text, if it is one
-abbrev pub writes_text : Option (List ℕ) → World → Outcome Value
-writes_text None w = undefined
-writes_text (Some text) w = gives unset (writing text w)
+abbrev pub writes_text : ℕ → Option (List ℕ) → World → Outcome Value
+writes_text l None w = undefined l w
+writes_text l (Some text) w = gives unset (writing text w)
 
 abbrev pub takes_byte : List ℕ → World → Outcome Value
 takes_byte [] w = gives (number (2 ^ 32 - 1)) w
 takes_byte (b ∷ rest) w = gives (number b) (record w { input = rest })
 
-abbrev pub library : Routine → List Value → World → Outcome Value
-library stop (number n ∷ vs) w = ends (status n) w
-library rdch vs w = takes_byte w.input w
-library wrch (number n ∷ vs) w = gives unset (writing (n % 256 ∷ []) w)
-library newline vs w = gives unset (writing (10 ∷ []) w)
-library writes (s ∷ vs) w = writes_text (string_at w.memory s) w
-library writen (number n ∷ vs) w = gives unset (writing (digits n) w)
-library writed (number n ∷ number d ∷ vs) w = gives unset (writing (aligned n d) w)
-library getbyte (s ∷ i ∷ vs) w = given (option_map number (read_byte w.memory s i)) w
-library putbyte (s ∷ i ∷ b ∷ vs) w = with (changes (write_byte w.memory s i b) w) (λ _ w. gives unset w)
-library writef (s ∷ vs) w = writes_text (option_and_then (λ bytes. written w.memory (parts bytes) vs) (string_at w.memory s)) w
-library _ _ w = undefined
+abbrev pub library : ℕ → Routine → List Value → World → Outcome Value
+library l stop (number n ∷ vs) w = ends (status n) w
+library l rdch vs w = takes_byte w.input w
+library l wrch (number n ∷ vs) w = gives unset (writing (n % 256 ∷ []) w)
+library l newline vs w = gives unset (writing (10 ∷ []) w)
+library l writes (s ∷ vs) w = writes_text l (string_at w.memory s) w
+library l writen (number n ∷ vs) w = gives unset (writing (digits n) w)
+library l writed (number n ∷ number d ∷ vs) w = gives unset (writing (aligned n d) w)
+library l getbyte (s ∷ i ∷ vs) w = given l (option_map number (read_byte w.memory s i)) w
+library l putbyte (s ∷ i ∷ b ∷ vs) w = with (changes l (write_byte w.memory s i b) w) (λ _ w. gives unset w)
+library l writef (s ∷ vs) w = writes_text l (option_and_then (λ bytes. written w.memory (parts bytes) vs) (string_at w.memory s)) w
+library l _ _ w = undefined l w

@@ -1,5 +1,5 @@
 -- Loops: WHILE, UNTIL, REPEAT, REPEATWHILE, REPEATUNTIL and FOR.
-use Rattle.std.specs.Prelude.{ℕ, ◌^◌, nat_lt, Bool, true, false, not, cond, Option, Some, List, [], ◌∷◌, length}
+use Rattle.std.specs.Prelude.{ℕ, ◌^◌, nat_lt, Bool, true, false, not, cond, Option, Some, [], ◌∷◌, length}
 use Rattle.bk_tree.specs.declared.tree.Operator.{Operator}
 use Rattle.bk_tree.specs.declared.tree.Operator.TheVariants as o
 use Rattle.bk_tree.specs.Tree as t
@@ -47,20 +47,22 @@ step_of env (t.more e es) = constant_in env e
 abbrev pub relation : ℕ → Operator
 relation step = cond (nat_lt step (2 ^ 31)) o.AtMost o.AtLeast
 
-abbrev pub for_test : ℕ → Value → ℕ → (World → Outcome Done) → World → Outcome Done
-for_test object limit step go w =
-    with (fetch (address object 0) w) (λ v w. with (operate (relation step) v limit w) (λ v w. with (judged v w) (λ b w. either b go done w)))
+abbrev pub for_test : ℕ → ℕ → Value → ℕ → (World → Outcome Done) → World → Outcome Done
+for_test l object limit step go w =
+    with (fetch l (address object 0) w) (λ v w.
+    with (operate l (relation step) v limit w) (λ v w. with (judged l v w) (λ b w. either b go done w)))
 
-abbrev pub for_step : ℕ → ℕ → World → Outcome Done
-for_step object step w =
-    with (fetch (address object 0) w) (λ v w. with (operate o.Add v (number step) w) (λ v w. store (at (address object 0)) v w))
+abbrev pub for_step : ℕ → ℕ → ℕ → World → Outcome Done
+for_step l object step w =
+    with (fetch l (address object 0) w) (λ v w. with (operate l o.Add v (number step) w) (λ v w. store l (at (address object 0)) v w))
 
-abbrev pub for_rounds_of : Meanings → Command → ℕ → Value → ℕ → Environment → World → Outcome Done
-for_rounds_of m c object limit step env w =
-    again (scope_of m (alone c) forwards env w) (λ w. with (for_step object step w) (λ _ w.
-    for_test object limit step (λ w. turn w (λ w. m.for_rounds c object limit step env w)) w))
+abbrev pub for_rounds_of : Meanings → ℕ → Command → ℕ → Value → ℕ → Environment → World → Outcome Done
+for_rounds_of m l c object limit step env w =
+    again (scope_of m (alone c) forwards env w) (λ w. with (for_step l object step w) (λ _ w.
+    for_test l object limit step (λ w. turn w (λ w. m.for_rounds l c object limit step env w)) w))
 
-abbrev pub for_loop : Meanings → List ℕ → Command → Value → Value → ℕ → Environment → World → Outcome Done
+abbrev pub for_loop : Meanings → Mention → Command → Value → Value → ℕ → Environment → World → Outcome Done
 for_loop m x c start limit step env w =
     let object : ℕ = length w.memory in
-    closing object (for_test object limit step (λ w. for_rounds_of m c object limit step (bind x (cell object 0) env) w) (making (holds start ∷ []) w))
+    closing object (for_test x.at object limit step (λ w.
+    for_rounds_of m x.at c object limit step (bind x.letters (cell object 0) env) w) (making (holds start ∷ []) w))

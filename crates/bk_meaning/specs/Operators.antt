@@ -10,7 +10,7 @@ use Rattle.bk_tree.specs.declared.tree.Prefix.{Prefix}
 use Rattle.bk_scope.specs.Constants.{prefix_word, infix_word, divides_by_zero}
 use Rattle.bk_meaning.specs.Values.{Value, number, address, procedure, routine, unset, Cell}
 use Rattle.bk_meaning.specs.Memory.{Memory, cells_at, lives}
-use Rattle.bk_meaning.specs.World.{World, Outcome, ends, divide_by_zero, given, either}
+use Rattle.bk_meaning.specs.World.{World, Outcome, ends, undefined, divide_by_zero, given, either}
 
 -- an address of a living object
 abbrev pub living_address : Memory → ℕ → ℕ → Option Value
@@ -67,26 +67,26 @@ ordered q m (address a i) (address b j) =
 ordered q m _ _ = None
 
 -- operators that are there for numbers alone
-abbrev pub on_numbers : Operator → Value → Value → World → Outcome Value
-on_numbers q (number x) (number y) w =
-    either (divides_by_zero q (Some x) (Some y)) (λ w. ends divide_by_zero w) (λ w. given (option_map number (infix_word q x y)) w) w
-on_numbers q _ _ w = given None w
+abbrev pub on_numbers : ℕ → Operator → Value → Value → World → Outcome Value
+on_numbers l q (number x) (number y) w =
+    either (divides_by_zero q (Some x) (Some y)) (λ w. ends divide_by_zero w) (λ w. given l (option_map number (infix_word q x y)) w) w
+on_numbers l q _ _ w = undefined l w
 
 abbrev pub truth_number : Bool → Value
 truth_number b = number (truth b)
 
-abbrev pub operate : Operator → Value → Value → World → Outcome Value
-operate o.Add x y w = given (sum w.memory x y) w
-operate o.Subtract x y w = given (difference w.memory x y) w
-operate o.Equal x y w = given (option_map truth_number (equal w.memory x y)) w
-operate o.Unequal x y w = given (option_map (λ b. truth_number (not b)) (equal w.memory x y)) w
-operate o.Less x y w = given (ordered o.Less w.memory x y) w
-operate o.Greater x y w = given (ordered o.Greater w.memory x y) w
-operate o.AtMost x y w = given (ordered o.AtMost w.memory x y) w
-operate o.AtLeast x y w = given (ordered o.AtLeast w.memory x y) w
-operate q x y w = on_numbers q x y w
+abbrev pub operate : ℕ → Operator → Value → Value → World → Outcome Value
+operate l o.Add x y w = given l (sum w.memory x y) w
+operate l o.Subtract x y w = given l (difference w.memory x y) w
+operate l o.Equal x y w = given l (option_map truth_number (equal w.memory x y)) w
+operate l o.Unequal x y w = given l (option_map (λ b. truth_number (not b)) (equal w.memory x y)) w
+operate l o.Less x y w = given l (ordered o.Less w.memory x y) w
+operate l o.Greater x y w = given l (ordered o.Greater w.memory x y) w
+operate l o.AtMost x y w = given l (ordered o.AtMost w.memory x y) w
+operate l o.AtLeast x y w = given l (ordered o.AtLeast w.memory x y) w
+operate l q x y w = on_numbers l q x y w
 
 -- `+`, `-` and NOT before a number
-abbrev pub operate_prefix : Prefix → Value → World → Outcome Value
-operate_prefix q (number x) w = given (option_map number (prefix_word q x)) w
-operate_prefix q _ w = given None w
+abbrev pub operate_prefix : ℕ → Prefix → Value → World → Outcome Value
+operate_prefix l q (number x) w = given l (option_map number (prefix_word q x)) w
+operate_prefix l q _ w = undefined l w

@@ -1,6 +1,7 @@
 -- The parts of the meaning: where the nodes inside a node have theirs, each node has its own. From here on p is the program, m
 -- the meanings of the nodes inside, env what the names mean, w the world before and u an outcome.
 use Rattle.std.specs.Prelude.{ℕ, Bool, Option, Some}
+use Rattle.bk_tree.specs.Tree as t
 use Rattle.bk_tree.specs.Tree.{Expression, Command, Commands}
 use Rattle.bk_meaning.specs.Values.{Value, number, address}
 use Rattle.bk_meaning.specs.Memory.{read, write, write_byte}
@@ -13,6 +14,25 @@ pub data Target : Type 0 where
   at : (a : Value) → Target
   byte_at : (a i : Value) → Target
 
+-- where an expression acts on its operands: at the operator between them, or else at its first symbol
+abbrev pub acts_at : Expression → ℕ
+acts_at (t.name l x) = l
+acts_at (t.number l n) = l
+acts_at (t.text l x) = l
+acts_at (t.truth l b) = l
+acts_at (t.query l) = l
+acts_at (t.parens l e) = l
+acts_at (t.unary l q e) = l
+acts_at (t.binary l q i a b) = i
+acts_at (t.choice l i c a b) = l
+acts_at (t.apply l i f es) = l
+acts_at (t.valof l c) = l
+acts_at (t.table l es) = l
+
+-- the position of what is no node of a source: the call of START
+abbrev pub nowhere : ℕ
+nowhere = 1
+
 -- the meaning of the nodes inside
 pub record Meanings : Type 0 where
   pub value : Expression → Environment → World → Outcome Value
@@ -21,26 +41,26 @@ pub record Meanings : Type 0 where
   pub act : Command → Mode → Environment → World → Outcome Done
   -- a round of a loop, and those after it
   pub rounds : Command → Mode → Environment → World → Outcome Done
-  -- a round of a FOR with this body, variable, limit and step, and those after it
-  pub for_rounds : Command → ℕ → Value → ℕ → Environment → World → Outcome Done
+  -- a round of a FOR with the position of its variable's name, this body, variable, limit and step, and those after it
+  pub for_rounds : ℕ → Command → ℕ → Value → ℕ → Environment → World → Outcome Done
   -- the commands of a scope
   pub scope : Commands → Mode → Environment → World → Outcome Done
 
 -- what is at an address
-abbrev pub fetch : Value → World → Outcome Value
-fetch a w = given (read w.memory a) w
+abbrev pub fetch : ℕ → Value → World → Outcome Value
+fetch l a w = given l (read w.memory a) w
 
 -- the value of a name, and its address
-abbrev pub named : Option Sense → World → Outcome Value
-named (Some (constant n)) w = gives (number n) w
-named (Some (cell a i)) w = fetch (address a i) w
-named _ w = undefined
+abbrev pub named : ℕ → Option Sense → World → Outcome Value
+named l (Some (constant n)) w = gives (number n) w
+named l (Some (cell a i)) w = fetch l (address a i) w
+named l _ w = undefined l w
 
-abbrev pub address_named : Option Sense → World → Outcome Target
-address_named (Some (cell a i)) w = gives (at (address a i)) w
-address_named _ w = undefined
+abbrev pub address_named : ℕ → Option Sense → World → Outcome Target
+address_named l (Some (cell a i)) w = gives (at (address a i)) w
+address_named l _ w = undefined l w
 
 -- puts a value there
-abbrev pub store : Target → Value → World → Outcome Done
-store (at a) v w = changes (write w.memory a v) w
-store (byte_at a i) v w = changes (write_byte w.memory a i v) w
+abbrev pub store : ℕ → Target → Value → World → Outcome Done
+store l (at a) v w = changes l (write w.memory a v) w
+store l (byte_at a i) v w = changes l (write_byte w.memory a i v) w

@@ -7,7 +7,7 @@ use Rattle.bk_meaning.specs.Memory.{read}
 use Rattle.bk_meaning.specs.World.{World, End, status, no_start, Outcome, gives, leaves, ends, undefined, going, Done, done, turn}
 use Rattle.bk_meaning.specs.Environment.{globals_object}
 use Rattle.bk_meaning.specs.Lasting.{Program, program_of, first_memory}
-use Rattle.bk_meaning.specs.Parts.{Meanings}
+use Rattle.bk_meaning.specs.Parts.{Meanings, nowhere}
 use Rattle.bk_meaning.specs.Scopes.{scope_of}
 use Rattle.bk_meaning.specs.Calls.{call}
 use Rattle.bk_meaning.specs.Expressions.{value_of, truth_of, target_of}
@@ -27,7 +27,7 @@ means_with p m = record {
   target = λ e env w. turn w (λ w. target_of m e env w);
   act = λ c mode env w. turn_for c w (λ w. act_of p m c mode env w);
   rounds = λ c mode env w. rounds_of m c mode env w;
-  for_rounds = λ c object limit step env w. for_rounds_of m c object limit step env w;
+  for_rounds = λ l c object limit step env w. for_rounds_of m l c object limit step env w;
   scope = λ cs mode env w. scope_of m cs mode env w;
 }
 
@@ -43,7 +43,7 @@ no_turns = record {
   target = λ e env w. going w;
   act = λ c mode env w. no_turn_for c w;
   rounds = λ c mode env w. going w;
-  for_rounds = λ c object limit step env w. going w;
+  for_rounds = λ l c object limit step env w. going w;
   scope = λ cs mode env w. going w;
 }
 
@@ -53,18 +53,18 @@ means p zero = no_turns
 means p (suc n) = means_with p (means p n)
 
 -- How the run of a program ends: with the bytes that it wrote, those of the input that it left, and the most calls that were
--- active at once. It may go on past all turns, or do what is undefined.
+-- active at once. It may go on past all turns, or do what is undefined, at a position.
 pub data Run : Type 0 where
   Ends : (bytes left : List ℕ) (calls : ℕ) (end : End) → Run
   Going : (bytes left : List ℕ) (calls : ℕ) → Run
-  Undefined : Run
+  Undefined : (bytes left : List ℕ) (calls at : ℕ) → Run
 
 -- a return from START ends with 0
 abbrev pub run_of : Outcome Value → Run
 run_of (gives v w) = Ends w.output w.input w.most_calls (status 0)
-run_of (leaves x w) = Undefined
+run_of (leaves x w) = Undefined w.output w.input w.most_calls nowhere
 run_of (ends e w) = Ends w.output w.input w.most_calls e
-run_of undefined = Undefined
+run_of (undefined l w) = Undefined w.output w.input w.most_calls l
 run_of (going w) = Going w.output w.input w.most_calls
 
 -- global 1 is called
@@ -73,7 +73,7 @@ first_world p input n = record { memory = first_memory p; input = input; output 
 
 abbrev pub started : Program → Option Value → World → ℕ → Run
 started p None w n = Ends [] w.input 0 no_start
-started p (Some f) w n = run_of (call p (means p n) f [] w)
+started p (Some f) w n = run_of (call p (means p n) nowhere f [] w)
 
 abbrev pub meaning : List Declarations → List ℕ → ℕ → Run
 meaning sections input n =

@@ -19,7 +19,7 @@ shown bytes left calls = record { output = bytes; input = left; most_calls = cal
 abbrev pub RunGoesOn : History → Run → Type 0
 RunGoesOn old (Ends bytes left calls e) = Grows old (shown bytes left calls)
 RunGoesOn old (Going bytes left calls) = Grows old (shown bytes left calls)
-RunGoesOn old Undefined = Unit {0}
+RunGoesOn old (Undefined bytes left calls at) = Grows old (shown bytes left calls)
 
 -- a run with fewer turns, and with more
 pub data Continues : Run → Run → Type 0 where
@@ -35,4 +35,4 @@ ReadsFromTheFront = (sections : List Declarations) (input : List ℕ) (n : ℕ) 
 
 -- A call is cut off only where no turn is left: the depth to which trees are gone into never runs out before the turns.
 abbrev pub CutOnlyWithoutTurns : Type 0
-CutOnlyWithoutTurns = (p : Program) (f : Value) (vs : List Value) (n : ℕ) (w v : World) → w.turns ≤ n → call p (means p n) f vs w ≡ going v → v.turns ≡ 0
+CutOnlyWithoutTurns = (p : Program) (l : ℕ) (f : Value) (vs : List Value) (n : ℕ) (w v : World) → w.turns ≤ n → call p (means p n) l f vs w ≡ going v → v.turns ≡ 0

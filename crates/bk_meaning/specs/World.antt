@@ -33,12 +33,12 @@ pub data Exit : Type 0 where
   return : Exit
 
 -- What results from an expression or a command: something is given and the run goes on, or it is left by an exit, or the program
--- ends; or the act is undefined; or no turn is left.
+-- ends; or an act is undefined, at the position of the node that acts, in the world before it; or no turn is left.
 pub data Outcome (A : Type 0) : Type 0 where
   gives : (what : A) (w : World) → Outcome A
   leaves : (exit : Exit) (w : World) → Outcome A
   ends : (end : End) (w : World) → Outcome A
-  undefined : Outcome A
+  undefined : (at : ℕ) (w : World) → Outcome A
   going : (w : World) → Outcome A
 
 -- goes on with what was given, or with the exit; any other outcome stays
@@ -46,7 +46,7 @@ abbrev pub each_way : {A B : Type 0} → (A → World → Outcome B) → (Exit �
 each_way on out (gives a w) = on a w
 each_way on out (leaves x w) = out x w
 each_way on out (ends e w) = ends e w
-each_way on out undefined = undefined
+each_way on out (undefined l w) = undefined l w
 each_way on out (going w) = going w
 
 -- goes on with what was given; an exit stays
@@ -60,10 +60,10 @@ Done = Unit {0}
 abbrev pub done : World → Outcome Done
 done w = gives tt w
 
--- nothing is undefined
-abbrev pub given : {A : Type 0} → Option A → World → Outcome A
-given None w = undefined
-given (Some a) w = gives a w
+-- Nothing is undefined. From here on l is the position of what acts.
+abbrev pub given : {A : Type 0} → ℕ → Option A → World → Outcome A
+given l None w = undefined l w
+given l (Some a) w = gives a w
 
 abbrev pub either : {A : Type 0} → Bool → (World → Outcome A) → (World → Outcome A) → World → Outcome A
 either true then_so else_so w = then_so w
@@ -93,9 +93,9 @@ abbrev pub closing : {A : Type 0} → ℕ → Outcome A → Outcome A
 closing o u = each_way (λ a w. gives a (forgetting o w)) (λ x w. leaves x (forgetting o w)) u
 
 -- memory that was changed, if that was allowed
-abbrev pub changes : Option Memory → World → Outcome Done
-changes None w = undefined
-changes (Some m) w = done (remembering m w)
+abbrev pub changes : ℕ → Option Memory → World → Outcome Done
+changes l None w = undefined l w
+changes l (Some m) w = done (remembering m w)
 
 abbrev pub writing : List ℕ → World → World
 writing bytes w = record w { output = w.output ++ bytes }

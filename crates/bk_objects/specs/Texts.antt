@@ -23,10 +23,10 @@ part_in p.Number = f.Number
 part_in p.Character = f.Character
 part_in (p.Column width) = f.Column width
 
--- what a routine does in a world
-abbrev pub outcome_in : Effect → World → Outcome Value
-outcome_in (e.Stops n) w = ends (status n) w
-outcome_in e.TakesByte w = takes_byte w.input w
-outcome_in (e.Writes text) w = gives unset (writing text.items w)
-outcome_in (e.Gives x) w = gives (value_in x) w
-outcome_in (e.Undefined why) w = undefined
+-- what a routine does that is called at a position, in a world
+abbrev pub outcome_in : ℕ → Effect → World → Outcome Value
+outcome_in l (e.Stops n) w = ends (status n) w
+outcome_in l e.TakesByte w = takes_byte w.input w
+outcome_in l (e.Writes text) w = gives unset (writing text.items w)
+outcome_in l (e.Gives x) w = gives (value_in x) w
+outcome_in l (e.Undefined why) w = undefined l w

@@ -1,5 +1,5 @@
 -- What the values of the program are as those of the meaning.
-use Rattle.std.specs.Prelude.{Option, Some, None, Result, Ok, Err}
+use Rattle.std.specs.Prelude.{ℕ, Option, Some, None, Result, Ok, Err}
 use Rattle.bk_meaning.specs.Values as v
 use Rattle.bk_meaning.specs.World.{World, Outcome, gives, ends, undefined, divide_by_zero}
 use Rattle.bk_objects.specs.declared.worth.Routine.{Routine}
@@ -37,11 +37,11 @@ abbrev pub cell_in : Cell → v.Cell
 cell_in (c.Holds x) = v.holds (value_in x)
 cell_in (c.Places a b d e) = v.places a b d e
 
--- the outcome of an operation in a world
-abbrev pub outcome_of : Computed → World → Outcome v.Value
-outcome_of (k.Value x) w = gives (value_in x) w
-outcome_of k.DivideByZero w = ends divide_by_zero w
-outcome_of (k.Undefined why) w = undefined
+-- the outcome of an operation at a position, in a world
+abbrev pub outcome_of : ℕ → Computed → World → Outcome v.Value
+outcome_of l (k.Value x) w = gives (value_in x) w
+outcome_of l k.DivideByZero w = ends divide_by_zero w
+outcome_of l (k.Undefined why) w = undefined l w
 
 -- what was given, if it was not refused
 abbrev pub given_by : {E : Type 0} → Result Worth E → Option v.Value

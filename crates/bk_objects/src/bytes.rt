@@ -1,5 +1,5 @@
 //! Bytes of cells, and what is written to memory.
-ghost use Rattle.std.specs.Prelude.{◌≡◌, ◌==◌, ◌<◌, Some, None, OnErr, is_ok, if◌then◌else◌};
+ghost use Rattle.std.specs.Prelude.{◌≡◌, ◌==◌, ◌<◌, ℕ, Some, None, OnErr, is_ok, if◌then◌else◌};
 ghost use Rattle.std.specs.Option.{option_map};
 ghost use Rattle.std.specs.Result.{result_ok};
 ghost use Rattle.bk_meaning.specs.Values as v;
@@ -145,7 +145,8 @@ pub fn write_byte(store: &mut Store, at: Worth, i: Worth, x: Worth) -> Result<()
 
 /// Puts a value in a place. An `Err` says why it is undefined.
 pub fn put(store: &mut Store, place: Location, x: Worth) -> Result<(), Reason>
-    ensures memory { (w : World) → w.memory ≡ store.old → changes (if is_ok result then Some store.new else None) w ≡ p.store (place_in place) (value_in x) w }
+    ensures memory { (l : ℕ) (w : World) → w.memory ≡ store.old
+        → changes l (if is_ok result then Some store.new else None) w ≡ p.store l (place_in place) (value_in x) w }
     ensures unchanged { OnErr result (store.new ≡ store.old) }
 {
     match place {

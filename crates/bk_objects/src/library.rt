@@ -1,5 +1,5 @@
 //! What the routines of the library do.
-ghost use Rattle.std.specs.Prelude.{◌≡◌, IfOk, OnErr, map};
+ghost use Rattle.std.specs.Prelude.{◌≡◌, ℕ, IfOk, OnErr, map};
 ghost use Rattle.bk_meaning.specs.Values as v;
 ghost use Rattle.bk_meaning.specs.World.{World, remembering, undefined};
 ghost use Rattle.bk_meaning.specs.Library.{library};
@@ -30,7 +30,7 @@ pub enum Effect {
 
 /// An argument, by its number from 1, with which a call is undefined.
 fn misuse(argument: usize, reason: Reason) -> Effect
-    ensures { (w : World) → outcome_in result w ≡ undefined }
+    ensures { (l : ℕ) (w : World) → outcome_in l result w ≡ undefined l w }
 {
     Effect::Undefined(Misuse {
         argument,
@@ -50,7 +50,7 @@ fn byte_argument(reason: Reason) -> usize {
 
 /// STOP ends the program with a status.
 fn stop(arguments: &[Worth]) -> Effect
-    ensures { (w : World) → outcome_in result w ≡ library v.stop (map value_in arguments.now) w }
+    ensures { (l : ℕ) (w : World) → outcome_in l result w ≡ library l v.stop (map value_in arguments.now) w }
 {
     match arguments {
         [] => misuse(1, Reason::Argument),
@@ -61,7 +61,7 @@ fn stop(arguments: &[Worth]) -> Effect
 
 /// WRCH writes the lowest byte of a number.
 fn wrch(alloc: Global, arguments: &[Worth]) -> Result<Effect, AllocError>
-    ensures { IfOk result (λ effect. (w : World) → outcome_in effect w ≡ library v.wrch (map value_in arguments.now) w) }
+    ensures { IfOk result (λ effect. (l : ℕ) (w : World) → outcome_in l effect w ≡ library l v.wrch (map value_in arguments.now) w) }
 {
     match arguments {
         [] => Ok(misuse(1, Reason::Argument)),
@@ -76,7 +76,7 @@ fn wrch(alloc: Global, arguments: &[Worth]) -> Result<Effect, AllocError>
 
 /// WRITES writes a string.
 fn writes(alloc: Global, store: &Store, arguments: &[Worth]) -> Result<Effect, AllocError>
-    ensures { IfOk result (λ effect. (w : World) → w.memory ≡ store.now → outcome_in effect w ≡ library v.writes (map value_in arguments.now) w) }
+    ensures { IfOk result (λ effect. (l : ℕ) (w : World) → w.memory ≡ store.now → outcome_in l effect w ≡ library l v.writes (map value_in arguments.now) w) }
 {
     let Some(at) = arguments.first() else {
         return Ok(misuse(1, Reason::Argument));
@@ -90,7 +90,7 @@ fn writes(alloc: Global, store: &Store, arguments: &[Worth]) -> Result<Effect, A
 
 /// WRITEN writes a signed number.
 fn writen(alloc: Global, arguments: &[Worth]) -> Result<Effect, AllocError>
-    ensures { IfOk result (λ effect. (w : World) → outcome_in effect w ≡ library v.writen (map value_in arguments.now) w) }
+    ensures { IfOk result (λ effect. (l : ℕ) (w : World) → outcome_in l effect w ≡ library l v.writen (map value_in arguments.now) w) }
 {
     match arguments {
         [] => Ok(misuse(1, Reason::Argument)),
@@ -105,7 +105,7 @@ fn writen(alloc: Global, arguments: &[Worth]) -> Result<Effect, AllocError>
 
 /// WRITED writes a signed number, with blanks before it up to a width.
 fn writed(alloc: Global, arguments: &[Worth]) -> Result<Effect, AllocError>
-    ensures { IfOk result (λ effect. (w : World) → outcome_in effect w ≡ library v.writed (map value_in arguments.now) w) }
+    ensures { IfOk result (λ effect. (l : ℕ) (w : World) → outcome_in l effect w ≡ library l v.writed (map value_in arguments.now) w) }
 {
     match arguments {
         [] | [_] => Ok(misuse(arguments.len().saturating_add(1), Reason::Argument)),
@@ -121,7 +121,7 @@ fn writed(alloc: Global, arguments: &[Worth]) -> Result<Effect, AllocError>
 
 /// GETBYTE gives a byte of a string, by its number.
 fn getbyte(store: &Store, arguments: &[Worth]) -> Effect
-    ensures { (w : World) → w.memory ≡ store.now → outcome_in result w ≡ library v.getbyte (map value_in arguments.now) w }
+    ensures { (l : ℕ) (w : World) → w.memory ≡ store.now → outcome_in l result w ≡ library l v.getbyte (map value_in arguments.now) w }
 {
     match arguments {
         [at, i, ..] => match read_byte(store, *at, *i) {
@@ -134,7 +134,7 @@ fn getbyte(store: &Store, arguments: &[Worth]) -> Effect
 
 /// PUTBYTE sets a byte of a string, by its number.
 fn putbyte(store: &mut Store, arguments: &[Worth]) -> Effect
-    ensures { (w : World) → w.memory ≡ store.old → outcome_in result (remembering store.new w) ≡ library v.putbyte (map value_in arguments.now) w }
+    ensures { (l : ℕ) (w : World) → w.memory ≡ store.old → outcome_in l result (remembering store.new w) ≡ library l v.putbyte (map value_in arguments.now) w }
 {
     match arguments {
         [at, i, byte, ..] => match write_byte(store, *at, *i, *byte) {
@@ -147,7 +147,7 @@ fn putbyte(store: &mut Store, arguments: &[Worth]) -> Effect
 
 /// WRITEF writes a format with its arguments.
 fn writef(alloc: Global, store: &Store, arguments: &[Worth]) -> Result<Effect, AllocError>
-    ensures { IfOk result (λ effect. (w : World) → w.memory ≡ store.now → outcome_in effect w ≡ library v.writef (map value_in arguments.now) w) }
+    ensures { IfOk result (λ effect. (l : ℕ) (w : World) → w.memory ≡ store.now → outcome_in l effect w ≡ library l v.writef (map value_in arguments.now) w) }
 {
     let Some((at, others)) = arguments.split_first() else {
         return Ok(misuse(1, Reason::Argument));
@@ -171,8 +171,8 @@ pub fn perform(
     routine: Routine,
     arguments: &[Worth],
 ) -> Result<Effect, AllocError>
-    ensures { IfOk result (λ effect. (w : World) → w.memory ≡ store.old →
-        outcome_in effect (remembering store.new w) ≡ library (routine_in routine) (map value_in arguments.now) w) }
+    ensures { IfOk result (λ effect. (l : ℕ) (w : World) → w.memory ≡ store.old →
+        outcome_in l effect (remembering store.new w) ≡ library l (routine_in routine) (map value_in arguments.now) w) }
 {
     match routine {
         Routine::Stop => Ok(stop(arguments)),

@@ -1,5 +1,5 @@
 //! Operators on values.
-ghost use Rattle.std.specs.Prelude.{◌≡◌, ◌==◌, Option, Some, is_ok};
+ghost use Rattle.std.specs.Prelude.{◌≡◌, ◌==◌, ℕ, Option, Some, is_ok};
 ghost use Rattle.std.specs.Option.{option_map};
 ghost use Rattle.std.specs.Result.{result_ok};
 ghost use Rattle.bk_scope.specs.Constants.{infix_word};
@@ -72,7 +72,7 @@ fn no_numbers(x: Worth, y: Worth) -> Reason {
 
 /// The value at an address.
 pub fn read(store: &Store, at: Worth) -> Computed
-    ensures { (w : World) → w.memory ≡ store.now → outcome_of result w ≡ fetch (value_in at) w }
+    ensures { (l : ℕ) (w : World) → w.memory ≡ store.now → outcome_of l result w ≡ fetch l (value_in at) w }
 {
     let Worth::Address(object, offset) = at else {
         return Computed::Undefined(Reason::NoAddress(at));
@@ -87,7 +87,7 @@ pub fn read(store: &Store, at: Worth) -> Computed
 
 /// What a prefix before a value gives.
 pub fn prefixed(prefix: Prefix, x: Worth) -> Computed
-    ensures { (w : World) → outcome_of result w ≡ operate_prefix prefix (value_in x) w }
+    ensures { (l : ℕ) (w : World) → outcome_of l result w ≡ operate_prefix l prefix (value_in x) w }
 {
     let Worth::Number(word) = x else {
         return Computed::Undefined(no_numbers(x, x));
@@ -246,7 +246,7 @@ fn ordered(store: &Store, operator: Operator, x: Worth, y: Worth) -> Result<Wort
 
 /// What an operator that is there for numbers alone gives.
 fn on_words(operator: Operator, x: Worth, y: Worth) -> Computed
-    ensures { (w : World) → outcome_of result w ≡ on_numbers operator (value_in x) (value_in y) w }
+    ensures { (l : ℕ) (w : World) → outcome_of l result w ≡ on_numbers l operator (value_in x) (value_in y) w }
 {
     let (Worth::Number(a), Worth::Number(b)) = (x, y) else {
         return Computed::Undefined(no_numbers(x, y));
@@ -262,7 +262,7 @@ fn on_words(operator: Operator, x: Worth, y: Worth) -> Computed
 
 /// The value that was given.
 fn given_value(value: Result<Worth, Reason>) -> Computed
-    ensures { (w : World) → outcome_of result w ≡ given (given_by value) w }
+    ensures { (l : ℕ) (w : World) → outcome_of l result w ≡ given l (given_by value) w }
 {
     match value {
         Ok(x) => Computed::Value(x),
@@ -272,7 +272,7 @@ fn given_value(value: Result<Worth, Reason>) -> Computed
 
 /// The number of the truth that was given.
 fn given_truth(truth: Result<bool, Reason>) -> Computed
-    ensures { (w : World) → outcome_of result w ≡ given (option_map o.truth_number (result_ok truth)) w }
+    ensures { (l : ℕ) (w : World) → outcome_of l result w ≡ given l (option_map o.truth_number (result_ok truth)) w }
 {
     match truth {
         Ok(holds) => Computed::Value(Worth::Number(word::truth_of(holds))),
@@ -282,7 +282,7 @@ fn given_truth(truth: Result<bool, Reason>) -> Computed
 
 /// What an operator between two values gives.
 pub fn combine(store: &Store, operator: Operator, x: Worth, y: Worth) -> Computed
-    ensures { (w : World) → w.memory ≡ store.now → outcome_of result w ≡ combined operator (value_in x) (value_in y) w }
+    ensures { (l : ℕ) (w : World) → w.memory ≡ store.now → outcome_of l result w ≡ combined l operator (value_in x) (value_in y) w }
 {
     match operator {
         Operator::Subscript => match sum(store, x, y) {

@@ -1,5 +1,5 @@
 -- All forms: what holds of the meanings of the nodes inside holds of each node.
-use Rattle.bk_simulation.proofs.Words.{word_negation, word_not, ◌≡◌, ℕ, suc, ◌+◌, ◌-◌, ◌*◌, ◌≤◌, Bool, true, false, List, ◌∷◌, ◌++◌, Some, refl, sym, ◌∙◌, subst, arith, zero, State, from_label, Stmt, Monadic, JumpIf, Stack, CallRoutine, FRAME_WORDS, infix_code, Operator, Expression, Expressions, Command, Commands, option_map, infix_word, divides_by_zero, Value, number, sum, on_numbers, operate_prefix, Environment, constant_in, past, past_each, labelled, Sought, the_label, the_case, the_default, Mode, forwards, seeking, World, ends, divide_by_zero, done, given, with, turn, Exit, going, history, After, Throughout, Meanings, at, fetch, in_order, scope_of, landing, alone, value_of, truth_of, address_in, combined, judged, assigned, act_of, applied, rounds_of, means_with, turn_for, means, no_turns, no_turn_for, Adds, adds, stays, given_after, with_after, each_way_after, either_after, Prefix, only_grows, goto, break, loop, endcase, return}
+use Rattle.bk_simulation.proofs.Words.{word_negation, word_not, ◌≡◌, ℕ, suc, ◌+◌, ◌-◌, ◌*◌, ◌≤◌, Bool, true, false, List, ◌∷◌, ◌++◌, Some, refl, sym, ◌∙◌, subst, arith, zero, State, from_label, Stmt, Monadic, JumpIf, Stack, CallRoutine, FRAME_WORDS, infix_code, Operator, Expression, Expressions, Command, Commands, option_map, infix_word, divides_by_zero, Value, number, sum, on_numbers, operate_prefix, Environment, constant_in, past, past_each, labelled, Sought, the_label, the_case, the_default, Mode, forwards, seeking, World, ends, divide_by_zero, done, given, with, turn, Exit, going, history, After, Throughout, Meanings, at, fetch, in_order, scope_of, landing, alone, value_of, truth_of, address_in, combined, judged, assigned, act_of, applied, rounds_of, means_with, turn_for, means, no_turns, no_turn_for, Adds, adds, stays, given_after, with_after, each_way_after, either_after, Prefix, only_grows, goto, break, loop, endcase, return, acts_at}
 use Rattle.bk_simulation.proofs.Forms.{negates, inverts, not_true, turns_of, turns_among, turns_in, turns_through, Setting, Stretch, ByTurns, AreFrom, AreStores, AreValues, AreActs, CallAt, count, IsValue, IsJump, IsAddress, IsStore, IsAct, IsLoop, Entered, EnteredAny, EnteredBody, Configuration, start, Ready, Account, here, Ran, went, with_ran, turn_behind, CompletedAt, Has, Out, stay, completed_more, ran_first, ran_more, Simulates, for_value, for_truth, for_act, for_rounds, HasTruth, HasAddress, Destined, word, through, byte, Did, RanDid, for_scope, for_counts, contents_run, sign_run, plus_run, combined_run, for_two, one_run, two_run, RanValue, name_runs, number_runs, truth_runs, query_runs, text_runs, table_runs, denied_run, straight_run, over_run, choice_run, tested, order_adds, order_run, landing_adds, scope_runs, valof_run, while_rounds, repeat_rounds, repeat_while_rounds, while_run, while_sought, repeat_run, repeat_while_run, switch_run, switch_sought, when_run, when_sought, test_run, test_sought, left_here, finish_runs, resultis_runs, place_run, assigned_run, RanAddress, RanStore, address_runs, word_runs, contents_address, contents_store, subscript_address, subscript_store, byte_store, for_run, for_rounds_run, rounds_adds, AloneRuns, Procedures, KnowsLibrary, AloneAdds, apply_runs}
 use Rattle.bk_simulation.proofs.Terms.{Monadic as w, Operator as o, Prefix as q, Simple as k, Program, Target, byte_at, target_of}
 use Rattle.bk_tree.specs.Tree as t
@@ -18,29 +18,29 @@ pub alone_runs : (setting : Setting) (inner : Meanings) → Simulates setting in
 alone_runs setting inner sim x z j c rest v l r = scope_runs setting inner sim (alone x) forwards z j l.0 c rest c v (l.1, l.2, l.3) refl r
 
 -- what operators add
-prefix_adds : (f : Prefix) (u : Value) → Adds (operate_prefix f u)
-prefix_adds f (number n) = adds _ (λ v. given_after _ v)
-prefix_adds f _ = adds _ (λ v. tt)
+prefix_adds : (place : ℕ) (f : Prefix) (u : Value) → Adds (operate_prefix place f u)
+prefix_adds place f (number n) = adds _ (λ v. given_after _ _ v)
+prefix_adds place f _ = adds _ (λ v. stays (history v))
 
-numbers_add : (f : Operator) (x y : Value) → Adds (on_numbers f x y)
-numbers_add f (number a) (number b) = adds _ (λ v. either_after (divides_by_zero f (Some a) (Some b)) _ _ (adds (λ w. ends divide_by_zero w) (λ w1. stays (history w1))) (adds (λ w. given (option_map number (infix_word f a b)) w) (λ w1. given_after _ w1)) v)
-numbers_add f _ _ = adds _ (λ v. tt)
+numbers_add : (place : ℕ) (f : Operator) (x y : Value) → Adds (on_numbers place f x y)
+numbers_add place f (number a) (number b) = adds _ (λ v. either_after (divides_by_zero f (Some a) (Some b)) _ _ (adds (λ w. ends divide_by_zero w) (λ w1. stays (history w1))) (adds (λ w. given place (option_map number (infix_word f a b)) w) (λ w1. given_after _ _ w1)) v)
+numbers_add place f _ _ = adds _ (λ v. stays (history v))
 
-subscript_adds : (x y : Value) → Adds (combined o.Subscript x y)
-subscript_adds x y = adds (combined o.Subscript x y) (λ v. with_after (history v) (given (sum v.memory x y) v) fetch (given_after (sum v.memory x y) v) (λ a. adds _ (λ w1. given_after _ w1)))
+subscript_adds : (place : ℕ) (x y : Value) → Adds (combined place o.Subscript x y)
+subscript_adds place x y = adds (combined place o.Subscript x y) (λ v. with_after (history v) (given place (sum v.memory x y) v) (fetch place) (given_after place (sum v.memory x y) v) (λ a. adds _ (λ w1. given_after _ _ w1)))
 
-combined_adds : (f : Operator) (x y : Value) → Adds (combined f x y)
-combined_adds o.Subscript x y = subscript_adds x y
-combined_adds o.Times x y = numbers_add o.Times x y
-combined_adds o.Over x y = numbers_add o.Over x y
-combined_adds o.Rem x y = numbers_add o.Rem x y
-combined_adds o.ShiftLeft x y = numbers_add o.ShiftLeft x y
-combined_adds o.ShiftRight x y = numbers_add o.ShiftRight x y
-combined_adds o.Both x y = numbers_add o.Both x y
-combined_adds o.Either x y = numbers_add o.Either x y
-combined_adds o.Same x y = numbers_add o.Same x y
-combined_adds o.Differ x y = numbers_add o.Differ x y
-combined_adds _ x y = adds _ (λ v. given_after _ v)
+combined_adds : (place : ℕ) (f : Operator) (x y : Value) → Adds (combined place f x y)
+combined_adds place o.Subscript x y = subscript_adds place x y
+combined_adds place o.Times x y = numbers_add place o.Times x y
+combined_adds place o.Over x y = numbers_add place o.Over x y
+combined_adds place o.Rem x y = numbers_add place o.Rem x y
+combined_adds place o.ShiftLeft x y = numbers_add place o.ShiftLeft x y
+combined_adds place o.ShiftRight x y = numbers_add place o.ShiftRight x y
+combined_adds place o.Both x y = numbers_add place o.Both x y
+combined_adds place o.Either x y = numbers_add place o.Either x y
+combined_adds place o.Same x y = numbers_add place o.Same x y
+combined_adds place o.Differ x y = numbers_add place o.Differ x y
+combined_adds place _ x y = adds _ (λ v. given_after _ _ v)
 
 -- a turn less
 ready_ticked : (setting : Setting) (z : Configuration) (v : World) (n : ℕ) → Ready setting z v → Ready setting z (record v { turns = n })
@@ -62,7 +62,7 @@ module _ (setting : Setting) (p : Program) (inner : Meanings) (procs : Procedure
   -- ---- values
   value_of_runs : (B : Account) (e : Expression) (z : Configuration) (c rest : List Stmt) (v : World) → 16 * v.turns + 12 ≤ B.most → B.least ≤ suc v.turns - turns_of false e → IsValue setting z.scene z.depth z.env e c rest → Ready setting z v
       → RanValue setting (start z c v) B z rest v (value_of p inner e z.env v)
-  value_of_runs B (t.name l x) z c rest v le ll a r = name_runs setting B z c x rest v (omega arith) (omega arith) a r
+  value_of_runs B (t.name l x) z c rest v le ll a r = name_runs _ setting B z c x rest v (omega arith) (omega arith) a r
   value_of_runs B (t.number l n) z c rest v le ll a r = number_runs setting B z c n rest v (omega arith) (omega arith) a.0 a.1 r
   value_of_runs B (t.text l x) z c rest v le ll a r = text_runs setting B z c _ rest v z.env.next (omega arith) (omega arith) a.0 a.1 r
   value_of_runs B (t.truth l x) z c rest v le ll a r = truth_runs setting B z c x rest v (omega arith) (omega arith) a r
@@ -74,39 +74,39 @@ module _ (setting : Setting) (p : Program) (inner : Meanings) (procs : Procedure
       with_ran address_adds
       (ran_more (omega arith) (omega arith) (simulated.address e z c rest v a r)) addressed
     where
-      address_adds : (u : Target) → Adds (address_in u)
+      address_adds : (u : Target) → Adds (address_in l u)
       address_adds (at a) = adds _ (λ w1. stays (history w1))
-      address_adds (byte_at a i) = adds _ (λ w1. tt)
+      address_adds (byte_at a i) = adds _ (λ w1. stays (history w1))
 
-      addressed : (u : Target) (w1 : World) → HasAddress setting (start z c v) (for_value e v) z rest v u w1 → RanValue setting (start z c v) B z rest v (address_in u w1)
+      addressed : (u : Target) (w1 : World) → HasAddress setting (start z c v) (for_value e v) z rest v u w1 → RanValue setting (start z c v) B z rest v (address_in l u w1)
       addressed (at u) w1 y = went (record { arr = completed_more (omega arith) (omega arith) y.arr; stands = y.stands })
       addressed (byte_at u i) w1 y = went tt
   value_of_runs B (t.unary l q.Contents e) z c rest v le ll a r =
-      one_run setting inner simulated B e z c (Monadic w.Contents ∷ rest) v _ _ (λ u. adds _ (λ w1. given_after _ w1)) (omega arith) (omega arith) a r (λ u w1 y pos. contents_run setting (start z c v) (for_value e v) B z rest v w1 u (omega arith) (omega arith) r.deep y)
+      one_run setting inner simulated B e z c (Monadic w.Contents ∷ rest) v _ _ (λ u. adds _ (λ w1. given_after _ _ w1)) (omega arith) (omega arith) a r (λ u w1 y pos. contents_run _ setting (start z c v) (for_value e v) B z rest v w1 u (omega arith) (omega arith) r.deep y)
   value_of_runs B (t.unary l q.Plus e) z c rest v le ll a r =
-      one_run setting inner simulated B e z c rest v _ _ (λ u. prefix_adds q.Plus u) (omega arith) (omega arith) a r (λ u w1 y pos. plus_run setting (start z c v) (for_value e v) B z rest v w1 u (omega arith) (omega arith) y)
+      one_run setting inner simulated B e z c rest v _ _ (λ u. prefix_adds l q.Plus u) (omega arith) (omega arith) a r (λ u w1 y pos. plus_run _ setting (start z c v) (for_value e v) B z rest v w1 u (omega arith) (omega arith) y)
   value_of_runs B (t.unary l q.Minus e) z c rest v le ll a r =
-      one_run setting inner simulated B e z c (Monadic w.Negate ∷ rest) v _ _ (λ u. prefix_adds q.Minus u) (omega arith) (omega arith) a r (λ u w1 y pos. sign_run setting (start z c v) (for_value e v) B z w.Negate word_negation rest v w1 u (operate_prefix q.Minus u w1) (λ t k. refl) (omega arith) (omega arith) r.deep y
-      (negates setting.codes y.arr.bases1 y.arr.cells1 (z.frame + z.depth) w1 y.arr.fits u _ y.stands))
+      one_run setting inner simulated B e z c (Monadic w.Negate ∷ rest) v _ _ (λ u. prefix_adds l q.Minus u) (omega arith) (omega arith) a r (λ u w1 y pos. sign_run setting (start z c v) (for_value e v) B z w.Negate word_negation rest v w1 u (operate_prefix l q.Minus u w1) (λ t k. refl) (omega arith) (omega arith) r.deep y
+      (negates setting.codes y.arr.bases1 y.arr.cells1 (z.frame + z.depth) w1 y.arr.fits l u _ y.stands))
   value_of_runs B (t.unary l q.Not e) z c rest v le ll a r =
-      one_run setting inner simulated B e z c (Monadic w.Not ∷ rest) v _ _ (λ u. prefix_adds q.Not u) (omega arith) (omega arith) a r (λ u w1 y pos. sign_run setting (start z c v) (for_value e v) B z w.Not word_not rest v w1 u (operate_prefix q.Not u w1) (λ t k. refl) (omega arith) (omega arith) r.deep y
-      (inverts setting.codes y.arr.bases1 y.arr.cells1 (z.frame + z.depth) w1 y.arr.fits u _ y.stands))
+      one_run setting inner simulated B e z c (Monadic w.Not ∷ rest) v _ _ (λ u. prefix_adds l q.Not u) (omega arith) (omega arith) a r (λ u w1 y pos. sign_run setting (start z c v) (for_value e v) B z w.Not word_not rest v w1 u (operate_prefix l q.Not u w1) (λ t k. refl) (omega arith) (omega arith) r.deep y
+      (inverts setting.codes y.arr.bases1 y.arr.cells1 (z.frame + z.depth) w1 y.arr.fits l u _ y.stands))
   value_of_runs B (t.binary l f i x y) z c rest v le ll a r =
-      two_run setting inner simulated B x y z c a.0 (infix_code f ++ rest) v _ _ (λ u1 u2. combined_adds f u1 u2) (omega arith) (omega arith) a.1 a.2 r (λ u1 u2 w2 d pos. combined_run setting (start z c v) (for_two x y v) B z f rest v w2 u1 u2 (omega arith) (omega arith) r.deep d)
+      two_run setting inner simulated B x y z c a.0 (infix_code f ++ rest) v _ _ (λ u1 u2. combined_adds i f u1 u2) (omega arith) (omega arith) a.1 a.2 r (λ u1 u2 w2 d pos. combined_run _ setting (start z c v) (for_two x y v) B z f rest v w2 u1 u2 (omega arith) (omega arith) r.deep d)
   value_of_runs B (t.choice l i e x y) z c rest v le ll a r = choice_run setting inner simulated B e x y z a.0 a.1 c a.2 a.3 rest v le (omega arith) a.4 a.5 a.6 a.7 a.8 r
-  value_of_runs B (t.apply l i f es) z c rest v le ll a r = apply_runs true setting p inner procs known simulated (alone_runs setting inner simulated) (alone_adds setting inner simulated) B f es z c a.0 a.1 rest v (omega arith) (omega arith) a.2 a.3 a.4 a.5 a.6 r
+  value_of_runs B (t.apply l i f es) z c rest v le ll a r = apply_runs _ true setting p inner procs known simulated (alone_runs setting inner simulated) (alone_adds setting inner simulated) B f es z c a.0 a.1 rest v (omega arith) (omega arith) a.2 a.3 a.4 a.5 a.6 r
   value_of_runs B (t.valof l x) z c rest v le ll a r = valof_run setting inner simulated B x z a.0 a.1 c rest v le (omega arith) (a.2.0, (a.2.1, a.2.2, a.2.3)) a.3 r
   value_of_runs B (t.table l es) z c rest v le ll a r = table_runs setting B z c a.0 rest v z.env.next (omega arith) (omega arith) a.1 a.2 r
 
   -- ---- truth
   -- of a value
   plain_truth : (B : Account) (e : Expression) (z : Configuration) (u : Bool) (n : ℕ) (to c rest : List Stmt) (v : World) → 16 * v.turns + 13 ≤ B.most → B.least ≤ suc v.turns - turns_of false e → IsValue setting z.scene z.depth z.env e c (JumpIf u n ∷ rest)
-      → from_label z.scene.own.stmts n ≡ Some to → Ready setting z v → Ran setting (start z c v) B (HasTruth setting (start z c v) B z u to rest v) (Out setting (start z c v) B z v) (with (value_of p inner e z.env v) judged)
+      → from_label z.scene.own.stmts n ≡ Some to → Ready setting z v → Ran setting (start z c v) B (HasTruth setting (start z c v) B z u to rest v) (Out setting (start z c v) B z v) (with (value_of p inner e z.env v) (judged (acts_at e)))
   plain_truth B e z u n to c rest v le ll a f r =
       let A : Account = record { most = 16 * v.turns + 12; least = suc v.turns - turns_of false e } in
-      with_ran (λ x. adds _ (λ w1. given_after _ w1))
+      with_ran (λ x. adds _ (λ w1. given_after _ _ w1))
       (ran_more (omega arith) (omega arith) (value_of_runs A e z c (JumpIf u n ∷ rest) v (omega arith) (omega arith) a r))
-      (λ x w1 y. tested (omega arith) (omega arith) r f y)
+      (λ x w1 y. tested _ (omega arith) (omega arith) r f y)
 
   truth_of_runs : (B : Account) (e : Expression) (z : Configuration) (u : Bool) (n : ℕ) (to c rest : List Stmt) (v : World) → 16 * v.turns + 13 ≤ B.most → B.least ≤ suc v.turns - turns_of false e → IsJump setting z.scene z.depth z.env e u n c rest
       → from_label z.scene.own.stmts n ≡ Some to → Ready setting z v → Ran setting (start z c v) B (HasTruth setting (start z c v) B z u to rest v) (Out setting (start z c v) B z v) (truth_of p inner e z.env v)
@@ -128,23 +128,23 @@ module _ (setting : Setting) (p : Program) (inner : Meanings) (procs : Procedure
   -- ---- places
   address_of_runs : (B : Account) (e : Expression) (z : Configuration) (c rest : List Stmt) (v : World) → 16 * v.turns + 12 ≤ B.most → B.least ≤ suc v.turns - turns_of false e → IsAddress setting z.scene z.depth z.env e c rest → Ready setting z v
       → RanAddress setting (start z c v) B z rest v (target_of inner e z.env v)
-  address_of_runs B (t.name l x) z c rest v le ll a r = address_runs setting B z c x rest v (omega arith) (omega arith) a r
+  address_of_runs B (t.name l x) z c rest v le ll a r = address_runs _ setting B z c x rest v (omega arith) (omega arith) a r
   address_of_runs B (t.parens l e) z c rest v le ll a r =
       ran_first (omega arith) (omega arith) (λ u w1 y. larger_address setting (start z c v) (for_value e v) B z rest v v.turns u w1 (omega arith) (omega arith) y)
       (simulated.address e z c rest v a r)
   address_of_runs B (t.unary l q.Contents e) z c rest v le ll a r = contents_address setting inner simulated B e z c rest v (omega arith) (omega arith) a r
-  address_of_runs B (t.binary l o.Subscript i x y) z c rest v le ll a r = subscript_address setting inner simulated B x y z c a.0 rest v (omega arith) (omega arith) a.1 a.2 r
+  address_of_runs B (t.binary l o.Subscript i x y) z c rest v le ll a r = subscript_address _ setting inner simulated B x y z c a.0 rest v (omega arith) (omega arith) a.1 a.2 r
   address_of_runs B (t.binary l o.Byte i x y) z c rest v le ll a r = absurd a
   address_of_runs B _ z c rest v le ll a r = went tt
 
   store_of_runs : (B : Account) (e : Expression) (z : Configuration) (c rest : List Stmt) (v : World) → 16 * v.turns + 12 ≤ B.most → B.least ≤ suc v.turns - turns_of false e → IsStore setting z.scene z.depth z.env e c rest → Ready setting z v
       → RanStore setting (start z c v) B z rest v (target_of inner e z.env v)
-  store_of_runs B (t.name l x) z c rest v le ll a r = word_runs setting B z c x rest v (omega arith) (omega arith) a r
+  store_of_runs B (t.name l x) z c rest v le ll a r = word_runs _ setting B z c x rest v (omega arith) (omega arith) a r
   store_of_runs B (t.parens l e) z c rest v le ll a r =
       ran_first (omega arith) (omega arith) (λ u w1 y. larger_store setting (start z c v) (for_value e v) B z rest v v.turns u w1 (omega arith) (omega arith) y)
       (simulated.destination e z c rest v a r)
   store_of_runs B (t.unary l q.Contents e) z c rest v le ll a r = contents_store setting inner simulated B e z c rest v (omega arith) (omega arith) a r
-  store_of_runs B (t.binary l o.Subscript i x y) z c rest v le ll a r = subscript_store setting inner simulated B x y z c a.0 rest v (omega arith) (omega arith) a.1 a.2 r
+  store_of_runs B (t.binary l o.Subscript i x y) z c rest v le ll a r = subscript_store _ setting inner simulated B x y z c a.0 rest v (omega arith) (omega arith) a.1 a.2 r
   store_of_runs B (t.binary l o.Byte i x y) z c rest v le ll a r = byte_store setting inner simulated B x y z c a.0 rest v (omega arith) (omega arith) a.1 a.2 r
   store_of_runs B _ z c rest v le ll a r = went tt
 
@@ -157,12 +157,12 @@ module _ (setting : Setting) (p : Program) (inner : Meanings) (procs : Procedure
       (λ _ w1 y. completed_more (omega arith) (omega arith) y)
       (assigned_run setting inner simulated xs es a.0 a.1 z.env (past_each xs z.env) z c rest v a.2 a.3 a.4 refl refl r)
 
-  call_more : (B : Account) (f : Expression) (es : Expressions) (z : Configuration) (c rest : List Stmt) (v : World) → 16 * v.turns + 16 ≤ B.most → B.least ≤ suc v.turns - (1 + (turns_among false es + turns_of false f))
+  call_more : (place : ℕ) (B : Account) (f : Expression) (es : Expressions) (z : Configuration) (c rest : List Stmt) (v : World) → 16 * v.turns + 16 ≤ B.most → B.least ≤ suc v.turns - (1 + (turns_among false es + turns_of false f))
       → (c1 c2 : List Stmt) × (c ≡ Stack (z.depth + 2) ∷ c1) × AreValues setting z.scene (z.depth + 2) (past f z.env) es c1 c2 × IsValue setting z.scene (z.depth + 2 + count es) z.env f c2 (CallRoutine z.depth ∷ rest) × CallAt setting z.scene (CallRoutine z.depth) rest
-      × (z.depth + 2 + count es + 1 ≤ FRAME_WORDS) → Ready setting z v → RanDid setting (start z c v) B z rest v (with (applied p inner f es z.env v) (λ _ w. done w))
-  call_more B f es z c rest v le ll a r =
+      × (z.depth + 2 + count es + 1 ≤ FRAME_WORDS) → Ready setting z v → RanDid setting (start z c v) B z rest v (with (applied p inner place f es z.env v) (λ _ w. done w))
+  call_more place B f es z c rest v le ll a r =
       with_ran (λ _. adds _ (λ w1. stays (history w1)))
-      (apply_runs false setting p inner procs known simulated (alone_runs setting inner simulated) (alone_adds setting inner simulated) B f es z c a.0 a.1 rest v (omega arith) (omega arith) a.2 a.3 a.4 a.5 a.6 r) (λ x w1 y. went y)
+      (apply_runs _ false setting p inner procs known simulated (alone_runs setting inner simulated) (alone_adds setting inner simulated) B f es z c a.0 a.1 rest v (omega arith) (omega arith) a.2 a.3 a.4 a.5 a.6 r) (λ x w1 y. went y)
 
   order_more : (B : Account) (cs : Commands) (mode : Mode) (z : Configuration) (there : Sought → List Stmt) (c rest e : List Stmt) (v : World) → 16 * v.turns + 16 ≤ B.most → B.least ≤ v.turns - turns_through false cs → AreActs setting z.scene z.depth z.env cs there c rest
       → EnteredAny mode z.env cs there c e → Ready setting z v → RanDid setting (start z e v) B z rest v (in_order inner cs mode z.env v)
@@ -176,7 +176,7 @@ module _ (setting : Setting) (p : Program) (inner : Meanings) (procs : Procedure
       subst (λ code. RanDid setting (start z code v) B z rest v (act_of p inner (t.empty) forwards z.env v)) (sym en)
       (went (subst (λ y. CompletedAt setting (start z c v) B z y z.depth v v) a (stay setting B z c v (omega arith) lb r)))
   act_of_runs B (t.assign l xs es) forwards z there c rest e v le ll lb a en r = subst (λ code. RanDid setting (start z code v) B z rest v (act_of p inner (t.assign l xs es) forwards z.env v)) (sym en) (assigned_more B xs es z c rest v le ll a r)
-  act_of_runs B (t.call l f es) forwards z there c rest e v le ll lb a en r = subst (λ code. RanDid setting (start z code v) B z rest v (act_of p inner (t.call l f es) forwards z.env v)) (sym en) (call_more B f es z c rest v le ll a r)
+  act_of_runs B (t.call l f es) forwards z there c rest e v le ll lb a en r = subst (λ code. RanDid setting (start z code v) B z rest v (act_of p inner (t.call l f es) forwards z.env v)) (sym en) (call_more l B f es z c rest v le ll a r)
   act_of_runs B (t.goto l x) forwards z there c rest e v le ll lb a en r = subst (λ code. RanDid setting (start z code v) B z rest v (act_of p inner (t.goto l x) forwards z.env v)) (sym en) (left_here setting B z (goto x.letters) c v (omega arith) (omega arith) r tt ((Stack z.depth ∷ rest, a.0), a.1))
   act_of_runs B (t.label l x y) forwards z there c rest e v le ll lb a en r = place_run setting inner simulated B (the_label x) y forwards z there c rest e v (omega arith) (omega arith) a en r
   act_of_runs B (t.label l x y) (seeking s) z there c rest e v le ll lb a en r = place_run setting inner simulated B (the_label x) y (seeking s) z there c rest e v (omega arith) (omega arith) a en r
@@ -190,7 +190,7 @@ module _ (setting : Setting) (p : Program) (inner : Meanings) (procs : Procedure
   act_of_runs B (t.test l i x y) (seeking s) z there c rest e v le ll lb a en r = test_sought setting inner simulated B i x y s z a.0 a.1 there a.4 a.5 a.2 a.3 e rest v (omega arith) (omega arith) a.7 a.8 a.10 a.11 en r
   act_of_runs B (t.while l b i y) forwards z there c rest e v le ll lb a en r = subst (λ code. RanDid setting (start z code v) B z rest v (act_of p inner (t.while l b i y) forwards z.env v)) (sym en) (while_run setting inner simulated B l b i y z there c rest v (omega arith) (omega arith) a r)
   act_of_runs B (t.while l b i y) (seeking s) z there c rest e v le ll lb a en r = while_sought setting inner simulated B l b i y s z there c rest e v (omega arith) (omega arith) a en r
-  act_of_runs B (t.for_loop l x i j h y) forwards z there c rest e v le ll lb a en r = subst (λ code. RanDid setting (start z code v) B z rest v (act_of p inner (t.for_loop l x i j h y) forwards z.env v)) (sym en) (for_run setting inner simulated B l x i j h y z there c rest v le (omega arith) a (λ o v k env. rounds_adds setting inner simulated y o v k env (adds _ (λ w1. scope_after setting inner simulated (alone y) forwards env w1))) r)
+  act_of_runs B (t.for_loop l x i j h y) forwards z there c rest e v le ll lb a en r = subst (λ code. RanDid setting (start z code v) B z rest v (act_of p inner (t.for_loop l x i j h y) forwards z.env v)) (sym en) (for_run setting inner simulated B l x i j h y z there c rest v le (omega arith) a (λ o v k env. rounds_adds x.at setting inner simulated y o v k env (adds _ (λ w1. scope_after setting inner simulated (alone y) forwards env w1))) r)
   act_of_runs B (t.switch l i y) forwards z there c rest e v le ll lb a en r = subst (λ code. RanDid setting (start z code v) B z rest v (act_of p inner (t.switch l i y) forwards z.env v)) (sym en) (switch_run setting inner simulated B l i y z there c rest v (omega arith) (omega arith) a r)
   act_of_runs B (t.switch l i y) (seeking s) z there c rest e v le ll lb a en r = switch_sought setting inner simulated B l i y s z there c rest e v (omega arith) (omega arith) a en r
   act_of_runs B (t.result l i) forwards z there c rest e v le ll lb a en r = subst (λ code. RanDid setting (start z code v) B z rest v (act_of p inner (t.result l i) forwards z.env v)) (sym en) (resultis_runs setting inner simulated B i z a.0 c rest v (omega arith) (omega arith) a.1 a.2 r)
@@ -272,7 +272,7 @@ module _ (setting : Setting) (p : Program) (inner : Meanings) (procs : Procedure
     act = act_run;
     rounds = loop_run;
     scope = λ cs mode z j there c rest e v a en r. scope_runs setting inner simulated cs mode z j there c rest e v a en r;
-    for_rounds = λ x ob u i d z body rest v ed lf lim r. for_rounds_run setting inner simulated x ob u i d z body rest v ed lf lim r;
+    for_rounds = λ place x ob u i d z body rest v ed lf lim r. for_rounds_run place setting inner simulated x ob u i d z body rest v ed lf lim r;
   }
 
 -- ---- With any number of turns each form does what it means.
@@ -299,7 +299,7 @@ without_turns setting p = record {
   act = act_without setting;
   rounds = λ x mode z there body rest e w a en r. still_going setting (for_rounds x w) z e w (omega arith);
   scope = λ cs mode z j there c rest e w a en r. still_going setting (for_scope cs w) z e w (omega arith);
-  for_rounds = λ x ob u k d z body rest w ed lf lim r. still_going setting (for_counts x w) z body w (omega arith);
+  for_rounds = λ place x ob u k d z body rest w ed lf lim r. still_going setting (for_counts x w) z body w (omega arith);
 }
 
 -- ALL FORMS, WITH ANY NUMBER OF TURNS

@@ -17,11 +17,11 @@ small_word : (base i : ℕ) → base + i < 2 ^ 32 → base + i ≡ (base + i) % 
 small_word base i lt = omega arith
 
 -- the address of a name's word
-pub address_runs : (setting : Setting) (B : Account) (z : Configuration) (c : List Stmt) (x : List ℕ) (rest : List Stmt) (w : World) → 16 * w.turns + 1 ≤ B.most → B.least ≤ w.turns → c ≡ Address (named_word z.scene x) ∷ rest → Ready setting z w
-    → RanAddress setting (start z c w) B z rest w (address_named (sense_of x z.env) w)
-address_runs setting B z c x rest w le le' ec r = by_sense (sense_of x z.env) (r.named.each x)
+pub address_runs : (place : ℕ) (setting : Setting) (B : Account) (z : Configuration) (c : List Stmt) (x : List ℕ) (rest : List Stmt) (w : World) → 16 * w.turns + 1 ≤ B.most → B.least ≤ w.turns → c ≡ Address (named_word z.scene x) ∷ rest → Ready setting z w
+    → RanAddress setting (start z c w) B z rest w (address_named place (sense_of x z.env) w)
+address_runs place setting B z c x rest w le le' ec r = by_sense (sense_of x z.env) (r.named.each x)
   where
-    by_sense : (y : Option Sense) → NameAt z.scene z.bases z.frame x y → RanAddress setting (start z c w) B z rest w (address_named y w)
+    by_sense : (y : Option Sense) → NameAt z.scene z.bases z.frame x y → RanAddress setting (start z c w) B z rest w (address_named place y w)
     by_sense (Some (constant n)) h = went tt
     by_sense (Some (cell o i)) h =
         let v = named_word z.scene x in
@@ -31,11 +31,11 @@ address_runs setting B z c x rest w le le' ec r = by_sense (sense_of x z.env) (r
     by_sense _ h = went tt
 
 -- the word of a name as a destination
-pub word_runs : (setting : Setting) (B : Account) (z : Configuration) (c : List Stmt) (x : List ℕ) (rest : List Stmt) (w : World) → 16 * w.turns ≤ B.most → B.least ≤ w.turns → c ≡ Assign (named_word z.scene x) ∷ rest → Ready setting z w
-    → RanStore setting (start z c w) B z rest w (address_named (sense_of x z.env) w)
-word_runs setting B z c x rest w le le' ec r = by_sense (sense_of x z.env) (r.named.each x)
+pub word_runs : (place : ℕ) (setting : Setting) (B : Account) (z : Configuration) (c : List Stmt) (x : List ℕ) (rest : List Stmt) (w : World) → 16 * w.turns ≤ B.most → B.least ≤ w.turns → c ≡ Assign (named_word z.scene x) ∷ rest → Ready setting z w
+    → RanStore setting (start z c w) B z rest w (address_named place (sense_of x z.env) w)
+word_runs place setting B z c x rest w le le' ec r = by_sense (sense_of x z.env) (r.named.each x)
   where
-    by_sense : (y : Option Sense) → NameAt z.scene z.bases z.frame x y → RanStore setting (start z c w) B z rest w (address_named y w)
+    by_sense : (y : Option Sense) → NameAt z.scene z.bases z.frame x y → RanStore setting (start z c w) B z rest w (address_named place y w)
     by_sense (Some (constant n)) h = went tt
     by_sense (Some (cell o i)) h =
         went (subst (λ l. Destined setting (start z l w) B z rest w (at (address o i)) w) (sym ec)
@@ -56,32 +56,32 @@ contents_store setting inner sim B e z c rest w le le' l r =
     went (through u w1 (record { arr = completed_more (omega arith) (omega arith) q.arr; stands = q.stands })))
 
 -- `E!E`: the sum of two values
-sum_run : (setting : Setting) (s : State) (A B : Account) (z : Configuration) (rest : List Stmt) (w w1 : World) (u v : Value) (L : Target → World → Type 0) → A.most + 1 ≤ B.most → B.least ≤ A.least → 2 ≤ z.depth
+sum_run : (place : ℕ) (setting : Setting) (s : State) (A B : Account) (z : Configuration) (rest : List Stmt) (w w1 : World) (u v : Value) (L : Target → World → Type 0) → A.most + 1 ≤ B.most → B.least ≤ A.least → 2 ≤ z.depth
     → ((a : Value) → Has setting s B z rest (z.depth + 1) w a w1 → L (at a) w1)
-    → Two setting s A z (Dyadic two.Add ∷ rest) w u v w1 → Ran setting s B L (Out setting s B z w) (with (given (sum w1.memory u v) w1) (λ a w. gives (at a) w))
-sum_run setting s A B z rest w w1 u v L le le' dp gain t =
-    by_option (λ y. Ran setting s B L (Out setting s B z w) (with (given y w1) (λ a w. gives (at a) w))) (sum w1.memory u v) (λ _. went tt) (λ a h.
+    → Two setting s A z (Dyadic two.Add ∷ rest) w u v w1 → Ran setting s B L (Out setting s B z w) (with (given place (sum w1.memory u v) w1) (λ a w. gives (at a) w))
+sum_run place setting s A B z rest w w1 u v L le le' dp gain t =
+    by_option (λ y. Ran setting s B L (Out setting s B z w) (with (given place y w1) (λ a w. gives (at a) w))) (sum w1.memory u v) (λ _. went tt) (λ a h.
     let p = sum_applied setting.codes t.arr.bases1 t.arr.cells1 (z.frame + z.depth) w1 t.arr.fits u v a _ _ t.first t.second h in
     went (gain a (dyadic_topped setting s A B z two.Add rest w w1 u v a p.left p.right p.result le le' dp t p.is_left p.is_right p.applies p.stands)))
 
-sum_adds : (u v : Value) → Adds (λ w. with (given (sum w.memory u v) w) (λ a w. gives (at a) w))
-sum_adds u v = grind (arith, adds, given, gives, stays)
+sum_adds : (place : ℕ) (u v : Value) → Adds (λ w. with (given place (sum w.memory u v) w) (λ a w. gives (at a) w))
+sum_adds place u v = grind (arith, adds, given, gives, stays)
 
-pub subscript_address : (setting : Setting) (inner : Meanings) → Simulates setting inner → (B : Account) (a b : Expression) (z : Configuration) (c c1 rest : List Stmt) (w : World) → 16 * w.turns + 1 ≤ B.most → B.least ≤ w.turns - (turns_of false a + turns_of false b)
+pub subscript_address : (place : ℕ) (setting : Setting) (inner : Meanings) → Simulates setting inner → (B : Account) (a b : Expression) (z : Configuration) (c c1 rest : List Stmt) (w : World) → 16 * w.turns + 1 ≤ B.most → B.least ≤ w.turns - (turns_of false a + turns_of false b)
     → IsValue setting z.scene z.depth z.env a c c1 → IsValue setting z.scene (z.depth + 1) (past a z.env) b c1 (Dyadic two.Add ∷ rest) → Ready setting z w
-    → RanAddress setting (start z c w) B z rest w (with (inner.value a z.env w) (λ x w. with (inner.value b (past a z.env) w) (λ y w. with (given (sum w.memory x y) w) (λ a w. gives (at a) w))))
-subscript_address setting inner sim B a b z c c1 rest w le le' la lb r =
+    → RanAddress setting (start z c w) B z rest w (with (inner.value a z.env w) (λ x w. with (inner.value b (past a z.env) w) (λ y w. with (given place (sum w.memory x y) w) (λ a w. gives (at a) w))))
+subscript_address place setting inner sim B a b z c c1 rest w le le' la lb r =
     let dp = r.deep in
-    two_run setting inner sim B a b z c c1 (Dyadic two.Add ∷ rest) w _ _ sum_adds (omega arith) le' la lb r (λ u v w1 t pos.
-    sum_run setting (start z c w) (for_two a b w) B z rest w w1 u v _ (omega arith) (omega arith) dp (λ a q. q) t)
+    two_run setting inner sim B a b z c c1 (Dyadic two.Add ∷ rest) w _ _ (sum_adds _) (omega arith) le' la lb r (λ u v w1 t pos.
+    sum_run _ setting (start z c w) (for_two a b w) B z rest w w1 u v _ (omega arith) (omega arith) dp (λ a q. q) t)
 
-pub subscript_store : (setting : Setting) (inner : Meanings) → Simulates setting inner → (B : Account) (a b : Expression) (z : Configuration) (c c1 rest : List Stmt) (w : World) → 16 * w.turns + 1 ≤ B.most → B.least ≤ w.turns - (turns_of false a + turns_of false b)
+pub subscript_store : (place : ℕ) (setting : Setting) (inner : Meanings) → Simulates setting inner → (B : Account) (a b : Expression) (z : Configuration) (c c1 rest : List Stmt) (w : World) → 16 * w.turns + 1 ≤ B.most → B.least ≤ w.turns - (turns_of false a + turns_of false b)
     → IsValue setting z.scene z.depth z.env a c c1 → IsValue setting z.scene (z.depth + 1) (past a z.env) b c1 (Dyadic two.Add ∷ AssignAt ∷ rest) → Ready setting z w
-    → RanStore setting (start z c w) B z rest w (with (inner.value a z.env w) (λ x w. with (inner.value b (past a z.env) w) (λ y w. with (given (sum w.memory x y) w) (λ a w. gives (at a) w))))
-subscript_store setting inner sim B a b z c c1 rest w le le' la lb r =
+    → RanStore setting (start z c w) B z rest w (with (inner.value a z.env w) (λ x w. with (inner.value b (past a z.env) w) (λ y w. with (given place (sum w.memory x y) w) (λ a w. gives (at a) w))))
+subscript_store place setting inner sim B a b z c c1 rest w le le' la lb r =
     let dp = r.deep in
-    two_run setting inner sim B a b z c c1 (Dyadic two.Add ∷ AssignAt ∷ rest) w _ _ sum_adds (omega arith) le' la lb r (λ u v w1 t pos.
-    sum_run setting (start z c w) (for_two a b w) B z (AssignAt ∷ rest) w w1 u v _ (omega arith) (omega arith) dp (λ a q. through a w1 q) t)
+    two_run setting inner sim B a b z c c1 (Dyadic two.Add ∷ AssignAt ∷ rest) w _ _ (sum_adds _) (omega arith) le' la lb r (λ u v w1 t pos.
+    sum_run _ setting (start z c w) (for_two a b w) B z (AssignAt ∷ rest) w w1 u v _ (omega arith) (omega arith) dp (λ a q. through a w1 q) t)
 
 -- `E%E`
 pub byte_store : (setting : Setting) (inner : Meanings) → Simulates setting inner → (B : Account) (a b : Expression) (z : Configuration) (c c1 rest : List Stmt) (w : World) → 16 * w.turns ≤ B.most + 4 → B.least ≤ w.turns - (turns_of false a + turns_of false b)
@@ -116,11 +116,11 @@ place_is own k c cells frame hand written w (Local n) = refl
 place_is own k c cells frame hand written w _ = refl
 
 -- SP, SG and SL
-pub word_stored : (setting : Setting) (s : State) (A B : Account) (z : Configuration) (rest : List Stmt) (w w2 : World) (v : Named) (o i b : ℕ) (u : Value) → A.most + 1 ≤ B.most → B.least ≤ A.least → Ready setting z w
+pub word_stored : (place : ℕ) (setting : Setting) (s : State) (A B : Account) (z : Configuration) (rest : List Stmt) (w w2 : World) (v : Named) (o i b : ℕ) (u : Value) → A.most + 1 ≤ B.most → B.least ≤ A.least → Ready setting z w
     → (a : CompletedAt setting s A z (Assign v ∷ rest) (z.depth + 1) w w2) → BaseOf a.bases1 o b → b + i ≡ place_of z.scene.own z.frame v → Applies setting.codes a.bases1 u (content_of (a.cells1 (z.frame + z.depth)))
-    → RanDid setting s B z rest w (put_value (at (address o i)) u w2)
-word_stored setting s A B z rest w w2 v o i b u le le' r a eb ep st =
-    by_option (λ y. RanDid setting s B z rest w (changes y w2)) (memory.write w2.memory (address o i) u) (λ _. went tt) (λ mem1 e.
+    → RanDid setting s B z rest w (put_value place (at (address o i)) u w2)
+word_stored place setting s A B z rest w w2 v o i b u le le' r a eb ep st =
+    by_option (λ y. RanDid setting s B z rest w (changes place y w2)) (memory.write w2.memory (address o i) u) (λ _. went tt) (λ mem1 e.
     let here = there setting s A z (Assign v ∷ rest) (z.depth + 1) w w2 a in
     let y = content_of (a.cells1 (z.frame + z.depth)) in
     let q = write_here setting.codes (record { bases = a.bases1; mem = w2.memory; cells = a.cells1 }) (z.frame + z.depth) o i b (holds u) mem1 a.fits eb e in
@@ -133,11 +133,11 @@ word_stored setting s A B z rest w w2 v o i b u le le' r a eb ep st =
     (stored_on setting s A z (Assign v ∷ rest) rest (z.depth + 1) w w2 mem1 (b + i) y ((b + i) ∷ a.written1) r a (q.fits y st) (q.moved y (z.frame + z.depth)) move2)))
 
 -- STIND
-through_stored : (setting : Setting) (s : State) (A B : Account) (z : Configuration) (rest : List Stmt) (w w2 : World) (p u : Value) → A.most + 1 ≤ B.most → B.least ≤ A.least → Ready setting z w
+through_stored : (place : ℕ) (setting : Setting) (s : State) (A B : Account) (z : Configuration) (rest : List Stmt) (w w2 : World) (p u : Value) → A.most + 1 ≤ B.most → B.least ≤ A.least → Ready setting z w
     → (a : CompletedAt setting s A z (AssignAt ∷ rest) (z.depth + 1 + 1) w w2) → Applies setting.codes a.bases1 p (content_of (a.cells1 (z.frame + (z.depth + 1)))) → Applies setting.codes a.bases1 u (content_of (a.cells1 (z.frame + z.depth)))
-    → RanDid setting s B z rest w (put_value (at p) u w2)
-through_stored setting s A B z rest w w2 p u le le' r a sp su =
-    by_option (λ y. RanDid setting s B z rest w (changes y w2)) (memory.write w2.memory p u) (λ _. went tt) (λ mem1 e.
+    → RanDid setting s B z rest w (put_value place (at p) u w2)
+through_stored place setting s A B z rest w w2 p u le le' r a sp su =
+    by_option (λ y. RanDid setting s B z rest w (changes place y w2)) (memory.write w2.memory p u) (λ _. went tt) (λ mem1 e.
     let here = there setting s A z (AssignAt ∷ rest) (z.depth + 1 + 1) w w2 a in
     let y = content_of (a.cells1 (z.frame + z.depth)) in
     let q = write_at setting.codes (record { bases = a.bases1; mem = w2.memory; cells = a.cells1 }) (z.frame + z.depth) p _ (holds u) mem1 a.fits sp e in
@@ -148,13 +148,13 @@ through_stored setting s A B z rest w w2 p u le le' r a sp su =
     (stored_on setting s A z (AssignAt ∷ rest) rest (z.depth + 1 + 1) w w2 mem1 (q.base + q.offset) y ((q.base + q.offset) ∷ a.written1) r a (q.cell.fits y su) (q.cell.moved y (z.frame + z.depth)) move)))
 
 -- PUTBYTE
-byte_stored : (setting : Setting) (s : State) (A B : Account) (z : Configuration) (rest : List Stmt) (w w2 : World) (p k u : Value) → A.most + 1 ≤ B.most → B.least ≤ A.least → Ready setting z w
+byte_stored : (place : ℕ) (setting : Setting) (s : State) (A B : Account) (z : Configuration) (rest : List Stmt) (w w2 : World) (p k u : Value) → A.most + 1 ≤ B.most → B.least ≤ A.least → Ready setting z w
     → (a : CompletedAt setting s A z (AssignByte ∷ rest) (z.depth + 1 + 1 + 1) w w2) → Applies setting.codes a.bases1 p (content_of (a.cells1 (z.frame + (z.depth + 1)))) → Applies setting.codes a.bases1 k (content_of (a.cells1 (z.frame + (z.depth + 1 + 1))))
-    → Applies setting.codes a.bases1 u (content_of (a.cells1 (z.frame + z.depth))) → RanDid setting s B z rest w (put_value (byte_at p k) u w2)
-byte_stored setting s A B z rest w w2 p k u le le' r a sp sk su =
+    → Applies setting.codes a.bases1 u (content_of (a.cells1 (z.frame + z.depth))) → RanDid setting s B z rest w (put_value place (byte_at p k) u w2)
+byte_stored place setting s A B z rest w w2 p k u le le' r a sp sk su =
     let three_deep : (d : ℕ) → d + 1 + 1 + 1 ≡ d + 3 = λ d. omega arith in
     let two_deep : (d : ℕ) → d + 1 + 1 ≡ d + 2 = λ d. omega arith in
-    by_option (λ y. RanDid setting s B z rest w (changes y w2)) (write_byte w2.memory p k u) (λ _. went tt) (λ mem1 e.
+    by_option (λ y. RanDid setting s B z rest w (changes place y w2)) (write_byte w2.memory p k u) (λ _. went tt) (λ mem1 e.
     let here = there setting s A z (AssignByte ∷ rest) (z.depth + 1 + 1 + 1) w w2 a in
     let high = fits_more setting.codes _ (z.frame + z.depth) (z.frame + (z.depth + 3)) (omega arith) a.fits in
     let are : (x : ℕ) (c : Content) → a.cells1 x ≡ Held Variable c → AreBytes c = λ x c ec. subst AreBytes (ap content_of ec) (a.bytes.words x) in
@@ -169,30 +169,30 @@ byte_stored setting s A B z rest w w2 p k u le le' r a sp sk su =
 abbrev pub for_assigned : Expressions → Expressions → World → Account
 for_assigned xs es w = record { most = 16 * w.turns; least = w.turns - (turns_among false xs + turns_among false es) }
 
-put_adds : (a : Target) (v : Value) → Adds (put_value a v)
-put_adds (at p) v = adds _ (λ w. changes_after (memory.write w.memory p v) w)
-put_adds (byte_at p i) v = adds _ (λ w. changes_after (write_byte w.memory p i v) w)
+put_adds : (place : ℕ) (a : Target) (v : Value) → Adds (put_value place a v)
+put_adds place (at p) v = adds _ (λ w. changes_after place (memory.write w.memory p v) w)
+put_adds place (byte_at p i) v = adds _ (λ w. changes_after place (write_byte w.memory p i v) w)
 
 assigned_adds : (setting : Setting) (inner : Meanings) → Simulates setting inner → (xs es : Expressions) (there env : Environment) → Adds (assigned inner xs there es env)
 assigned_adds setting inner sim (t.more x xs) (t.more e es) there env =
-    adds _ (λ w. with_after _ _ _ (sim.grows.value e env w) (λ v. adds _ (λ w1. with_after _ _ _ (sim.grows.target x there w1) (λ a. adds _ (λ w2. with_after _ _ _ ((put_adds a v).at w2) (λ _.
+    adds _ (λ w. with_after _ _ _ (sim.grows.value e env w) (λ v. adds _ (λ w1. with_after _ _ _ (sim.grows.target x there w1) (λ a. adds _ (λ w2. with_after _ _ _ ((put_adds _ a v).at w2) (λ _.
     assigned_adds setting inner sim xs es (past x there) (past e env)))))))
 assigned_adds setting inner sim t.none t.none there env = adds _ (λ w. stays (history w))
 assigned_adds setting inner sim t.none (t.more e es) there env = adds _ (λ w. stays (history w))
 assigned_adds setting inner sim (t.more x xs) t.none there env = adds _ (λ w. stays (history w))
 
 -- the value on top goes to its destination
-destined_stored : (setting : Setting) (s : State) (A N C D : Account) (z : Configuration) (c1 rest : List Stmt) (w w1 w2 : World) (there : Environment) (u : Value) (a : Target) → A.most + N.most ≤ C.most + 16 * w1.turns → C.least ≤ N.least + (A.least - w1.turns) → C.most + 1 ≤ D.most
+destined_stored : (place : ℕ) (setting : Setting) (s : State) (A N C D : Account) (z : Configuration) (c1 rest : List Stmt) (w w1 w2 : World) (there : Environment) (u : Value) (a : Target) → A.most + N.most ≤ C.most + 16 * w1.turns → C.least ≤ N.least + (A.least - w1.turns) → C.most + 1 ≤ D.most
     → D.least ≤ C.least → Ready setting z w → (va : Has setting s A z c1 (z.depth + 1) w u w1)
-    → Destined setting (start (next setting s A z c1 (z.depth + 1) w w1 there (z.depth + 1) va.arr) c1 w1) N (next setting s A z c1 (z.depth + 1) w w1 there (z.depth + 1) va.arr) rest w1 a w2 → RanDid setting s D z rest w (put_value a u w2)
-destined_stored setting s A N C D z c1 rest w w1 w2 there u _ le1 le2 le3 le4 r va (word v o i b _ x eb ep) =
-    word_stored setting s C D z rest w w2 v o i b u le3 le4 r (completed_on le1 le2 r (omega arith) va.arr x) eb ep
+    → Destined setting (start (next setting s A z c1 (z.depth + 1) w w1 there (z.depth + 1) va.arr) c1 w1) N (next setting s A z c1 (z.depth + 1) w w1 there (z.depth + 1) va.arr) rest w1 a w2 → RanDid setting s D z rest w (put_value place a u w2)
+destined_stored place setting s A N C D z c1 rest w w1 w2 there u _ le1 le2 le3 le4 r va (word v o i b _ x eb ep) =
+    word_stored _ setting s C D z rest w w2 v o i b u le3 le4 r (completed_on le1 le2 r (omega arith) va.arr x) eb ep
     (above va x)
-destined_stored setting s A N C D z c1 rest w w1 w2 there u _ le1 le2 le3 le4 r va (through p _ x) =
-    through_stored setting s C D z rest w w2 p u le3 le4 r (completed_on le1 le2 r (omega arith) va.arr x.arr) x.stands
+destined_stored place setting s A N C D z c1 rest w w1 w2 there u _ le1 le2 le3 le4 r va (through p _ x) =
+    through_stored _ setting s C D z rest w w2 p u le3 le4 r (completed_on le1 le2 r (omega arith) va.arr x.arr) x.stands
     (above va x.arr)
-destined_stored setting s A N C D z c1 rest w w1 w2 there u _ le1 le2 le3 le4 r va (byte p k _ x sp sk) =
-    byte_stored setting s C D z rest w w2 p k u le3 le4 r (completed_on le1 le2 r (omega arith) va.arr x) sp sk
+destined_stored place setting s A N C D z c1 rest w w1 w2 there u _ le1 le2 le3 le4 r va (byte p k _ x sp sk) =
+    byte_stored _ setting s C D z rest w w2 p k u le3 le4 r (completed_on le1 le2 r (omega arith) va.arr x) sp sk
     (above va x)
 
 pub assigned_run : (setting : Setting) (inner : Meanings) → Simulates setting inner → (xs es : Expressions) (vs ss : List Stretch) (there env : Environment) (z : Configuration) (c rest : List Stmt) (w : World) → AreFrom setting z.scene z.depth env es vs → AreStores setting z.scene (z.depth + 1) there xs ss
@@ -204,17 +204,17 @@ assigned_run setting inner sim (t.more x xs) (t.more e es) (v ∷ vs) (d ∷ ds)
     let A = for_value e w in
     let ze = record z { env = env } in
     subst (λ y. RanDid setting (start z y w) B z rest w (assigned inner (t.more x xs) there (t.more e es) env w)) (sym bt.0)
-    (one_run setting inner sim B e ze v.from v.to w _ _ (λ u. adds _ (λ w1. with_after _ _ _ (sim.grows.target x there w1) (λ a. adds _ (λ w2. with_after _ _ _ ((put_adds a u).at w2) (λ _. assigned_adds setting inner sim xs es (past x there) (past e env))))))
+    (one_run setting inner sim B e ze v.from v.to w _ _ (λ u. adds _ (λ w1. with_after _ _ _ (sim.grows.target x there w1) (λ a. adds _ (λ w2. with_after _ _ _ ((put_adds _ a u).at w2) (λ _. assigned_adds setting inner sim xs es (past x there) (past e env))))))
     (omega arith) (omega arith) fv.0 (ready_at setting z w env ee r) (λ u w1 va pos.
     let C : Account = record { most = 16 * w.turns - 4; least = w.turns - (turns_of false e + turns_of false x) } in
     let D : Account = record { most = 16 * w.turns - 3; least = w.turns - (turns_of false e + turns_of false x) } in
     let m0 = va.arr.most in
-    with_ran (λ a. adds _ (λ w2. with_after _ _ _ ((put_adds a u).at w2) (λ _. assigned_adds setting inner sim xs es (past x there) (past e env))))
+    with_ran (λ a. adds _ (λ w2. with_after _ _ _ ((put_adds _ a u).at w2) (λ _. assigned_adds setting inner sim xs es (past x there) (past e env))))
     (ran_on (omega arith) (omega arith) r (omega arith) va.arr (λ a w2 q. q)
     (sim.destination x (next setting s A z v.to (z.depth + 1) w w1 there (z.depth + 1) va.arr) v.to d.to w1 (subst (λ y. IsStore setting z.scene (z.depth + 1) there x y d.to) (sym bt.1) fs.0) (ready_next there (z.depth + 1) va.arr et (omega arith) r)))
     (λ a w2 q.
     with_ran (λ _. assigned_adds setting inner sim xs es (past x there) (past e env))
-    (ran_more (omega arith) (omega arith) (destined_stored setting s A (for_value x w1) C D z v.to d.to w w1 w2 there u a (omega arith) (omega arith) (omega arith) (omega arith) r (record { arr = va.arr; stands = va.stands }) q))
+    (ran_more (omega arith) (omega arith) (destined_stored _ setting s A (for_value x w1) C D z v.to d.to w w1 w2 there u a (omega arith) (omega arith) (omega arith) (omega arith) r (record { arr = va.arr; stands = va.stands }) q))
     (λ _ w3 y.
     let my = y.most in
     comes_to (omega arith) (omega arith) r (omega arith) y

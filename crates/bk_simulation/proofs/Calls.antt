@@ -318,11 +318,11 @@ call_run {of} {setting} {s} {A} {B} {z} {rest} {w} {w1} {o = o} led ca after ins
     (λ (hc : nat_lt setting.cap (max w1.most_calls (w1.calls + 1)) ≡ true). record { is = inr (falls_on setting s (calling w1) o (inr (ltb-true _ _ hc)) after) })
     (λ (hc : nat_lt setting.cap (max w1.most_calls (w1.calls + 1)) ≡ false). inside h (ltb-false _ _ hc)))
 
-pub entered_runs : (of : Bool) (setting : Setting) (inner : Meanings) → Simulates setting inner → AloneRuns setting inner → ((x : Command) (env : Environment) (w : World) → After (history w) (scope_of inner (alone x) forwards env w))
+pub entered_runs : (place : ℕ) (of : Bool) (setting : Setting) (inner : Meanings) → Simulates setting inner → AloneRuns setting inner → ((x : Command) (env : Environment) (w : World) → After (history w) (scope_of inner (alone x) forwards env w))
     → (k : ℕ) (f : Procedure) → IsProcedure setting k f → (s : State) (A B : Account) (z : Configuration) (rest : List Stmt) (w w1 : World) (vs : List Value) → A.most + 4 ≤ B.most → B.least ≤ A.least → z.depth ≤ FRAME_WORDS
     → Ready setting z w → CallAt setting z.scene (call_stmt of z.depth) rest → Calling of setting s A z rest w vs (procedure k) w1
-    → Ran setting s B (λ v w3. Gave of setting s B z rest w v (calls_back w1.calls w3)) AnyExit (enter inner (Some f) vs (calling w1))
-entered_runs of setting inner sim alone_runs alone_after k f ip s A B z rest w w1 vs leB leB' led r call ca =
+    → Ran setting s B (λ v w3. Gave of setting s B z rest w v (calls_back w1.calls w3)) AnyExit (enter inner place (Some f) vs (calling w1))
+entered_runs place of setting inner sim alone_runs alone_after k f ip s A B z rest w w1 vs leB leB' led r call ca =
     let top : ℕ = z.frame + z.depth in
     let size : ℕ = length f.formals + 2 in
     let o : ℕ = length w1.memory in
@@ -339,9 +339,9 @@ entered_runs of setting inner sim alone_runs alone_after k f ip s A B z rest w w
     let b : ℕ = top + 2 in
     let w2 : World = making cells (calling w1) in
     let z1 : Configuration = in_body ip.scene env top (ca.arr.bases1 ++ b ∷ []) c3 wr size in
-    let after_it : After (history (calling w1)) (enter inner (Some f) vs (calling w1)) =
+    let after_it : After (history (calling w1)) (enter inner place (Some f) vs (calling w1)) =
     closing_after _ o (run_body inner f.body env w2) (body_after inner sim.grows alone_after f.body env w2) in
-    let inside : nat_lt (2 ^ 31 - 65536) (z.frame + z.depth) ≡ false → max w1.most_calls (w1.calls + 1) ≤ setting.cap → Ran setting s B (λ v w3. Gave of setting s B z rest w v (calls_back w1.calls w3)) AnyExit (enter inner (Some f) vs (calling w1)) = λ h lc.
+    let inside : nat_lt (2 ^ 31 - 65536) (z.frame + z.depth) ≡ false → max w1.most_calls (w1.calls + 1) ≤ setting.cap → Ran setting s B (λ v w3. Gave of setting s B z rest w v (calls_back w1.calls w3)) AnyExit (enter inner place (Some f) vs (calling w1)) = λ h lc.
     let argument_stands : (i : ℕ) (c : Cell_of) → ((v : Value) × (slice_get vs i ≡ Some v) × (c ≡ holds v)) → i + 2 < size → StandsCell setting.codes ca.arr.bases1 c (content_of (c3 (b + i))) = λ i c x lt.
     let id = ca.is_depth in
     let li : i < length vs = slice_get_within vs i x.0 x.1 in

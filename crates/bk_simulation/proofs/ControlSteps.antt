@@ -71,12 +71,12 @@ caught_at {setting} {s} {B} {sc} {frame} {calls} {top} {h} {x} {w1} e to d there
     completed_more (omega arith) (omega arith) (jump_on lt le found (stack_on lt le (goes.1 ∙ ap (λ y. Stack y ∷ Jump to.label ∷ goes.0) deep) a))
 
 -- a test of the value on top
-pub tested : {setting : Setting} {s : State} {A B : Account} {z : Configuration} {u : Bool} {n : ℕ} {to rest : List Stmt} {w w1 : World} {v : Value} → A.most + 1 ≤ B.most
+pub tested : {setting : Setting} {s : State} {A B : Account} {z : Configuration} {u : Bool} {n : ℕ} {to rest : List Stmt} {w w1 : World} {v : Value} (place : ℕ) → A.most + 1 ≤ B.most
     → B.least ≤ A.least → Ready setting z w
     → from_label z.scene.own.stmts n ≡ Some to → Has setting s A z (JumpIf u n ∷ rest) (z.depth + 1) w v w1 → Ran setting s B (HasTruth setting s B z u to rest w) (Out setting s B z w)
-    (judged v w1)
-tested {setting} {s} {A} {B} {z} {u} {n} {to} {rest} {w} {w1} {v} le le' r e a =
-    by_option (λ y. Ran setting s B (HasTruth setting s B z u to rest w) (Out setting s B z w) (given y w1)) (truth_of_value w1.memory v) (λ _. went tt) (λ t h.
+    (judged place v w1)
+tested {setting} {s} {A} {B} {z} {u} {n} {to} {rest} {w} {w1} {v} place le le' r e a =
+    by_option (λ y. Ran setting s B (HasTruth setting s B z u to rest w) (Out setting s B z w) (given place y w1)) (truth_of_value w1.memory v) (λ _. went tt) (λ t h.
     let j = judged_word setting.codes a.arr.bases1 a.arr.cells1 (z.frame + z.depth) w1 a.arr.fits v _ t a.stands h in
     went (lands u t j.word refl j.is_word j.zero_if))
   where

@@ -21,10 +21,10 @@ slot_run : (setting : Setting) (s : State) (A B : Account) (z : Configuration) (
 slot_run setting s A B z q rest w w1 v le le' dp a st =
     topped _ le le' dp a st (does setting.program (there setting s A z (Load (Local q) ∷ rest) z.depth w w1 a) z.scene.own rest z.depth (Load (Local q)) refl refl refl)
 
-variable_run : (setting : Setting) (s : State) (A B : Account) (z : Configuration) (d o : ℕ) (rest : List Stmt) (w w1 : World) → A.most + 1 ≤ B.most → B.least ≤ A.least → 2 ≤ z.depth → BaseOf z.bases o (z.frame + d) → CompletedAt setting s A z (Load (Local d) ∷ rest) z.depth w w1
-    → RanValue setting s B z rest w (fetch (address o 0) w1)
-variable_run setting s A B z d o rest w w1 le le' dp eb a =
-    by_option (λ y. RanValue setting s B z rest w (given y w1)) (read w1.memory (address o 0)) (λ _. went tt) (λ v e.
+variable_run : (place : ℕ) (setting : Setting) (s : State) (A B : Account) (z : Configuration) (d o : ℕ) (rest : List Stmt) (w w1 : World) → A.most + 1 ≤ B.most → B.least ≤ A.least → 2 ≤ z.depth → BaseOf z.bases o (z.frame + d) → CompletedAt setting s A z (Load (Local d) ∷ rest) z.depth w w1
+    → RanValue setting s B z rest w (fetch place (address o 0) w1)
+variable_run place setting s A B z d o rest w w1 le le' dp eb a =
+    by_option (λ y. RanValue setting s B z rest w (given place y w1)) (read w1.memory (address o 0)) (λ _. went tt) (λ v e.
     let f = read_here setting.codes _ (z.frame + z.depth) o 0 (z.frame + d) v a.fits (a.moved.grown.each o (z.frame + d) eb) e in
     let zero : z.frame + d + 0 ≡ z.frame + d = omega arith in
     went (slot_run setting s A B z d rest w w1 v le le' dp a (subst (λ y. Applies setting.codes a.bases1 v (content_of (a.cells1 y))) zero (subst (λ y. Applies setting.codes a.bases1 v y) (sym (ap content_of f.there)) f.stands))))
@@ -61,26 +61,26 @@ limit_pushed setting s A B z d o v rest w w1 u le le' ed l r a =
     (does setting.program (start z1 (Load (Local (d + 1)) ∷ rest) w1) z.scene.own rest (z.depth + 1) (Load (Local (d + 1))) refl refl refl))
 
 -- ---- the step is added to the variable
-sum_adds : (u v : Value) → Adds (operate op.Add u v)
-sum_adds u v = adds _ (λ w. given_after _ w)
+sum_adds : (place : ℕ) (u v : Value) → Adds (operate place op.Add u v)
+sum_adds place u v = adds _ (λ w. given_after _ _ w)
 
-put_adds : (p v : Value) → Adds (put_value (at p) v)
-put_adds p v = adds _ (λ w. changes_after (memory.write w.memory p v) w)
+put_adds : (place : ℕ) (p v : Value) → Adds (put_value place (at p) v)
+put_adds place p v = adds _ (λ w. changes_after _ (memory.write w.memory p v) w)
 
-pub step_run : (setting : Setting) (s : State) (A B : Account) (z : Configuration) (d o k : ℕ) (rest : List Stmt) (w w1 : World) → A.most + 4 ≤ B.most → B.least ≤ A.least → k < 2 ^ 32 → BaseOf z.bases o (z.frame + d) → Ready setting z w
-    → CompletedAt setting s A z (Load (Local d) ∷ Number (signed k) ∷ Dyadic two.Add ∷ Assign (Local d) ∷ rest) z.depth w w1 → RanDid setting s B z rest w (for_step o k w1)
-step_run setting s A B z d o k rest w w1 le le' lk eb r a =
+pub step_run : (place : ℕ) (setting : Setting) (s : State) (A B : Account) (z : Configuration) (d o k : ℕ) (rest : List Stmt) (w w1 : World) → A.most + 4 ≤ B.most → B.least ≤ A.least → k < 2 ^ 32 → BaseOf z.bases o (z.frame + d) → Ready setting z w
+    → CompletedAt setting s A z (Load (Local d) ∷ Number (signed k) ∷ Dyadic two.Add ∷ Assign (Local d) ∷ rest) z.depth w w1 → RanDid setting s B z rest w (for_step place o k w1)
+step_run place setting s A B z d o k rest w w1 le le' lk eb r a =
     let A1 : Account = record { most = A.most + 1; least = A.least } in
     let A2 : Account = record { most = A.most + 2; least = A.least } in
     let A3 : Account = record { most = A.most + 3; least = A.least } in
-    with_ran (λ v. adds _ (λ w2. with_after _ _ _ ((sum_adds v (number k)).at w2) (λ x. put_adds (address o 0) x)))
-    (ran_more (omega arith) (omega arith) (variable_run setting s A A1 z d o (Number (signed k) ∷ Dyadic two.Add ∷ Assign (Local d) ∷ rest) w w1 (omega arith) (omega arith) r.deep eb a))
+    with_ran (λ v. adds _ (λ w2. with_after _ _ _ ((sum_adds _ v (number k)).at w2) (λ x. put_adds _ (address o 0) x)))
+    (ran_more (omega arith) (omega arith) (variable_run _ setting s A A1 z d o (Number (signed k) ∷ Dyadic two.Add ∷ Assign (Local d) ∷ rest) w w1 (omega arith) (omega arith) r.deep eb a))
     (λ v w2 q.
     let t = step_pushed setting s A1 A2 z k (Dyadic two.Add ∷ Assign (Local d) ∷ rest) w w2 v (omega arith) (omega arith) lk r q in
-    with_ran (λ x. put_adds (address o 0) x)
-    (ran_more (omega arith) (omega arith) (dyadic_run setting s A2 A3 z two.Add (Assign (Local d) ∷ rest) w w2 v (number k) (operate op.Add v (number k) w2) (omega arith) (omega arith) r.deep t
-    (operates setting.codes t.arr.bases1 t.arr.cells1 (z.frame + z.depth) w2 t.arr.fits op.Add v (number k) _ _ t.first t.second)))
-    (λ x w3 y. word_stored setting s A3 B z rest w w3 (Local d) o 0 (z.frame + d) x (omega arith) (omega arith) r y.arr (y.arr.moved.grown.each o (z.frame + d) eb) (omega arith) y.stands))
+    with_ran (λ x. put_adds _ (address o 0) x)
+    (ran_more (omega arith) (omega arith) (dyadic_run setting s A2 A3 z two.Add (Assign (Local d) ∷ rest) w w2 v (number k) (operate place op.Add v (number k) w2) (omega arith) (omega arith) r.deep t
+    (operates setting.codes t.arr.bases1 t.arr.cells1 (z.frame + z.depth) w2 t.arr.fits place op.Add v (number k) _ _ t.first t.second)))
+    (λ x w3 y. word_stored _ setting s A3 B z rest w w3 (Local d) o 0 (z.frame + d) x (omega arith) (omega arith) r y.arr (y.arr.moved.grown.each o (z.frame + d) eb) (omega arith) y.stands))
 
 -- ---- the test
 -- a step below 0 counts down
@@ -95,37 +95,37 @@ same_test k lt = ap (λ (b : Bool). cond b (Dyadic two.AtLeast) (Dyadic two.AtMo
     by_bool true = refl
     by_bool false = refl
 
-related_run : (setting : Setting) (s : State) (A B : Account) (z : Configuration) (b : Bool) (rest : List Stmt) (w w1 : World) (u v : Value) → A.most + 1 ≤ B.most → B.least ≤ A.least → 2 ≤ z.depth → Two setting s A z (Dyadic (cond b two.AtMost two.AtLeast) ∷ rest) w u v w1
-    → RanValue setting s B z rest w (operate (cond b op.AtMost op.AtLeast) u v w1)
-related_run setting s A B z true rest w w1 u v le le' dp t =
-    dyadic_run setting s A B z two.AtMost rest w w1 u v (operate op.AtMost u v w1) le le' dp t (operates setting.codes t.arr.bases1 t.arr.cells1 (z.frame + z.depth) w1 t.arr.fits op.AtMost u v _ _ t.first t.second)
-related_run setting s A B z false rest w w1 u v le le' dp t =
-    dyadic_run setting s A B z two.AtLeast rest w w1 u v (operate op.AtLeast u v w1) le le' dp t (operates setting.codes t.arr.bases1 t.arr.cells1 (z.frame + z.depth) w1 t.arr.fits op.AtLeast u v _ _ t.first t.second)
+related_run : (place : ℕ) (setting : Setting) (s : State) (A B : Account) (z : Configuration) (b : Bool) (rest : List Stmt) (w w1 : World) (u v : Value) → A.most + 1 ≤ B.most → B.least ≤ A.least → 2 ≤ z.depth → Two setting s A z (Dyadic (cond b two.AtMost two.AtLeast) ∷ rest) w u v w1
+    → RanValue setting s B z rest w (operate place (cond b op.AtMost op.AtLeast) u v w1)
+related_run place setting s A B z true rest w w1 u v le le' dp t =
+    dyadic_run setting s A B z two.AtMost rest w w1 u v (operate place op.AtMost u v w1) le le' dp t (operates setting.codes t.arr.bases1 t.arr.cells1 (z.frame + z.depth) w1 t.arr.fits place op.AtMost u v _ _ t.first t.second)
+related_run place setting s A B z false rest w w1 u v le le' dp t =
+    dyadic_run setting s A B z two.AtLeast rest w w1 u v (operate place op.AtLeast u v w1) le le' dp t (operates setting.codes t.arr.bases1 t.arr.cells1 (z.frame + z.depth) w1 t.arr.fits place op.AtLeast u v _ _ t.first t.second)
 
-related_adds : (b : Bool) (u v : Value) → Adds (operate (cond b op.AtMost op.AtLeast) u v)
-related_adds true u v = adds _ (λ w. given_after _ w)
-related_adds false u v = adds _ (λ w. given_after _ w)
+related_adds : (place : ℕ) (b : Bool) (u v : Value) → Adds (operate place (cond b op.AtMost op.AtLeast) u v)
+related_adds place true u v = adds _ (λ w. given_after _ _ w)
+related_adds place false u v = adds _ (λ w. given_after _ _ w)
 
-fetch_adds : (a : Value) → Adds (fetch a)
-fetch_adds a = adds _ (λ w. given_after _ w)
+fetch_adds : (place : ℕ) (a : Value) → Adds (fetch place a)
+fetch_adds place a = adds _ (λ w. given_after _ _ w)
 
-judged_adds : (v : Value) → Adds (judged v)
-judged_adds v = adds _ (λ w. given_after _ w)
+judged_adds : (place : ℕ) (v : Value) → Adds (judged place v)
+judged_adds place v = adds _ (λ w. given_after _ _ w)
 
 either_adds : (go : World → Outcome Done) → Adds go → (b : Bool) → Adds (λ w. either b go done w)
 either_adds go ad b = adds _ (λ w. either_after b go done ad (adds _ (λ w1. stays (history w1))) w)
 
-pub test_adds : (o k : ℕ) (u : Value) (go : World → Outcome Done) → Adds go → Adds (for_test o u k go)
-test_adds o k u go ad = grind (arith, adds, go, either, done, related_adds, judged_adds, either_adds, (address o 0), (fetch_adds (address o 0)))
+pub test_adds : (place : ℕ) (o k : ℕ) (u : Value) (go : World → Outcome Done) → Adds go → Adds (for_test place o u k go)
+test_adds place o k u go ad = grind (arith, adds, go, either, done, related_adds, judged_adds, either_adds, (address o 0), (fetch_adds place (address o 0)))
 
-pub step_adds : (o k : ℕ) → Adds (for_step o k)
-step_adds o k = adds (for_step o k) (λ w. with_after (history w) (fetch (address o 0) w) (λ v w. with (operate op.Add v (number k) w) (λ x w. put_value (at (address o 0)) x w)) ((fetch_adds (address o 0)).at w) (λ v. adds _ (λ w1. with_after _ _ _ ((sum_adds v (number k)).at w1) (λ x. put_adds (address o 0) x))))
+pub step_adds : (place : ℕ) (o k : ℕ) → Adds (for_step place o k)
+step_adds place o k = adds (for_step place o k) (λ w. with_after (history w) (fetch place (address o 0) w) (λ v w. with (operate place op.Add v (number k) w) (λ x w. put_value place (at (address o 0)) x w)) ((fetch_adds _ (address o 0)).at w) (λ v. adds _ (λ w1. with_after _ _ _ ((sum_adds _ v (number k)).at w1) (λ x. put_adds _ (address o 0) x))))
 
 -- the variable is compared with the limit
-pub test_run : (setting : Setting) (s : State) (A B : Account) (z : Configuration) (d o k n1 : ℕ) (u : Value) (to rest end : List Stmt) (w w1 : World) (go : World → Outcome Done) → Adds go → A.most + 4 ≤ B.most → B.least ≤ A.least → k < 2 ^ 32 → z.depth ≡ d + 2
+pub test_run : (place : ℕ) (setting : Setting) (s : State) (A B : Account) (z : Configuration) (d o k n1 : ℕ) (u : Value) (to rest end : List Stmt) (w w1 : World) (go : World → Outcome Done) → Adds go → A.most + 4 ≤ B.most → B.least ≤ A.least → k < 2 ^ 32 → z.depth ≡ d + 2
     → Limit setting z w d o u → from_label z.scene.own.stmts n1 ≡ Some to → Ready setting z w → CompletedAt setting s A z (Load (Local d) ∷ Load (Local (d + 1)) ∷ test_of_step k ∷ JumpIf true n1 ∷ rest) z.depth w w1
-    → ((b : Bool) (w2 : World) → CompletedAt setting s (record { most = A.most + 4; least = A.least }) z (where_to true b to rest) z.depth w w2 → RanDid setting s B z end w (either b go done w2)) → RanDid setting s B z end w (for_test o u k go w1)
-test_run setting s A B z d o k n1 u to rest end w w1 go ad le le' lk ed l e r a fin =
+    → ((b : Bool) (w2 : World) → CompletedAt setting s (record { most = A.most + 4; least = A.least }) z (where_to true b to rest) z.depth w w2 → RanDid setting s B z end w (either b go done w2)) → RanDid setting s B z end w (for_test place o u k go w1)
+test_run place setting s A B z d o k n1 u to rest end w w1 go ad le le' lk ed l e r a fin =
     let A1 : Account = record { most = A.most + 1; least = A.least } in
     let A2 : Account = record { most = A.most + 2; least = A.least } in
     let A3 : Account = record { most = A.most + 3; least = A.least } in
@@ -133,15 +133,15 @@ test_run setting s A B z d o k n1 u to rest end w w1 go ad le le' lk ed l e r a 
     let b0 = nat_lt k (2 ^ 31) in
     let a0 = subst (λ y. CompletedAt setting s A z (Load (Local d) ∷ Load (Local (d + 1)) ∷ y ∷ JumpIf true n1 ∷ rest) z.depth w w1) (same_test k lk) a in
     let T = Dyadic (cond b0 two.AtMost two.AtLeast) in
-    with_ran (λ v. adds _ (λ w2. with_after _ _ _ ((related_adds b0 v u).at w2) (λ x. adds _ (λ w3. with_after _ _ _ ((judged_adds x).at w3) (λ b. either_adds go ad b)))))
-    (ran_more (omega arith) (omega arith) (variable_run setting s A A1 z d o (Load (Local (d + 1)) ∷ T ∷ JumpIf true n1 ∷ rest) w w1 (omega arith) (omega arith) r.deep l.base a0))
+    with_ran (λ v. adds _ (λ w2. with_after _ _ _ ((related_adds _ b0 v u).at w2) (λ x. adds _ (λ w3. with_after _ _ _ ((judged_adds _ x).at w3) (λ b. either_adds go ad b)))))
+    (ran_more (omega arith) (omega arith) (variable_run _ setting s A A1 z d o (Load (Local (d + 1)) ∷ T ∷ JumpIf true n1 ∷ rest) w w1 (omega arith) (omega arith) r.deep l.base a0))
     (λ v w2 q.
     let t = limit_pushed setting s A1 A2 z d o u (T ∷ JumpIf true n1 ∷ rest) w w2 v (omega arith) (omega arith) ed l r q in
-    with_ran (λ x. adds _ (λ w3. with_after _ _ _ ((judged_adds x).at w3) (λ b. either_adds go ad b)))
-    (ran_more (omega arith) (omega arith) (related_run setting s A2 A3 z b0 (JumpIf true n1 ∷ rest) w w2 v u (omega arith) (omega arith) r.deep t))
+    with_ran (λ x. adds _ (λ w3. with_after _ _ _ ((judged_adds _ x).at w3) (λ b. either_adds go ad b)))
+    (ran_more (omega arith) (omega arith) (related_run _ setting s A2 A3 z b0 (JumpIf true n1 ∷ rest) w w2 v u (omega arith) (omega arith) r.deep t))
     (λ x w3 y.
     with_ran (λ b. either_adds go ad b)
-    (ran_more (omega arith) (omega arith) (tested {B = A4} (omega arith) (omega arith) r e y))
+    (ran_more (omega arith) (omega arith) (tested {B = A4} _ (omega arith) (omega arith) r e y))
     (λ b w4 k. fin b w4 k)))
 
 -- the limit in the situation behind an arrival
@@ -153,10 +153,10 @@ limit_next setting s A z c w w1 d o u ed r l a = record {
 }
 
 -- a further round: the LAB of the body pays, and a turn is taken
-further_count : (setting : Setting) (inner : Meanings) → Simulates setting inner → (s : State) (A B : Account) (x : Command) (o : ℕ) (u : Value) (k d : ℕ) (z : Configuration) (n1 : ℕ) (body rest : List Stmt) (w w1 : World) → A.most + 1 ≤ B.most → A.most ≤ 16 * w.turns + 10
+further_count : (place : ℕ) (setting : Setting) (inner : Meanings) → Simulates setting inner → (s : State) (A B : Account) (x : Command) (o : ℕ) (u : Value) (k d : ℕ) (z : Configuration) (n1 : ℕ) (body rest : List Stmt) (w w1 : World) → A.most + 1 ≤ B.most → A.most ≤ 16 * w.turns + 10
     → 16 * w.turns + 11 ≤ B.most → B.least ≤ w.turns - suc (turns_in false x) → w.turns ≤ A.least + turns_in false x → suc (turns_in false x) ≤ setting.pay → z.depth ≡ d + 2 → IsForLoop setting z.scene z.depth d k z.env x body rest → Limit setting z w d o u
-    → LabelAt setting z.scene z.depth n1 body → Ready setting z w → CompletedAt setting s A z (Label n1 ∷ body) z.depth w w1 → RanDid setting s B z rest w (turn w1 (λ w. inner.for_rounds x o u k z.env w))
-further_count setting inner sim s A B x o u k d z n1 body rest w w1 le0 le1 le ll la lp ed lf lim ln r a =
+    → LabelAt setting z.scene z.depth n1 body → Ready setting z w → CompletedAt setting s A z (Label n1 ∷ body) z.depth w w1 → RanDid setting s B z rest w (turn w1 (λ w. inner.for_rounds place x o u k z.env w))
+further_count place setting inner sim s A B x o u k d z n1 body rest w w1 le0 le1 le ll la lp ed lf lim ln r a =
     let b = label_on ln a in
     let bl = b.least in
     turn_there _ (omega arith) (omega arith) b (λ t et.
@@ -166,49 +166,49 @@ further_count setting inner sim s A B x o u k d z n1 body rest w w1 le0 le1 le l
     let ar : CompletedAt setting s D z body z.depth w w2 = completed_turn t et (omega arith) (omega arith) b in
     let m0 = ar.most in
     comes_to (omega arith) (omega arith) r (omega arith) ar
-    (sim.for_rounds x o u k d (next setting s D z body z.depth w w2 z.env z.depth ar) body rest w2 ed lf (limit_next setting s D z body w w2 d o u ed r lim ar) (ready_next z.env z.depth ar refl (omega arith) r)))
+    (sim.for_rounds place x o u k d (next setting s D z body z.depth w w2 z.env z.depth ar) body rest w2 ed lf (limit_next setting s D z body w w2 d o u ed r lim ar) (ready_next z.env z.depth ar refl (omega arith) r)))
 
 -- what a further round adds, and what the step and the test before it do
-turn_adds : (setting : Setting) (inner : Meanings) → Simulates setting inner → (x : Command) (o : ℕ) (u : Value) (k : ℕ) (env : Environment) → Adds (λ w. turn w (λ w. inner.for_rounds x o u k env w))
-turn_adds setting inner sim x o u k env = adds _ (λ w. turn_after _ (adds _ (λ w1. sim.grows.for_rounds x o u k env w1)) w)
+turn_adds : (place : ℕ) (setting : Setting) (inner : Meanings) → Simulates setting inner → (x : Command) (o : ℕ) (u : Value) (k : ℕ) (env : Environment) → Adds (λ w. turn w (λ w. inner.for_rounds place x o u k env w))
+turn_adds place setting inner sim x o u k env = adds _ (λ w. turn_after _ (adds _ (λ w1. sim.grows.for_rounds place x o u k env w1)) w)
 
-next_adds : (setting : Setting) (inner : Meanings) → Simulates setting inner → (x : Command) (o : ℕ) (u : Value) (k : ℕ) (env : Environment)
-    → Adds (λ w. with (for_step o k w) (λ _ w. for_test o u k (λ w. turn w (λ w. inner.for_rounds x o u k env w)) w))
-next_adds setting inner sim x o u k env =
-    adds _ (λ w. with_after (history w) (for_step o k w) (λ _ w. for_test o u k (λ w. turn w (λ w. inner.for_rounds x o u k env w)) w) ((step_adds o k).at w)
-    (λ _. test_adds o k u (λ w. turn w (λ w. inner.for_rounds x o u k env w)) (turn_adds setting inner sim x o u k env)))
+next_adds : (place : ℕ) (setting : Setting) (inner : Meanings) → Simulates setting inner → (x : Command) (o : ℕ) (u : Value) (k : ℕ) (env : Environment)
+    → Adds (λ w. with (for_step place o k w) (λ _ w. for_test place o u k (λ w. turn w (λ w. inner.for_rounds place x o u k env w)) w))
+next_adds place setting inner sim x o u k env =
+    adds _ (λ w. with_after (history w) (for_step place o k w) (λ _ w. for_test place o u k (λ w. turn w (λ w. inner.for_rounds place x o u k env w)) w) ((step_adds _ o k).at w)
+    (λ _. test_adds _ o k u (λ w. turn w (λ w. inner.for_rounds place x o u k env w)) (turn_adds _ setting inner sim x o u k env)))
 
-pub for_rounds_run : (setting : Setting) (inner : Meanings) → Simulates setting inner → (x : Command) (o : ℕ) (u : Value) (k d : ℕ) (z : Configuration) (body rest : List Stmt) (w : World) → z.depth ≡ d + 2 → IsForLoop setting z.scene z.depth d k z.env x body rest → Limit setting z w d o u
-    → Ready setting z w → RanDid setting (start z body w) (for_counts x w) z rest w (for_rounds_of inner x o u k z.env w)
-for_rounds_run setting inner sim x o u k d z body rest w ed lf lim r =
-    each_way_ran (λ _. next_adds setting inner sim x o u k z.env) (round_exit_adds _ (next_adds setting inner sim x o u k z.env))
+pub for_rounds_run : (place : ℕ) (setting : Setting) (inner : Meanings) → Simulates setting inner → (x : Command) (o : ℕ) (u : Value) (k d : ℕ) (z : Configuration) (body rest : List Stmt) (w : World) → z.depth ≡ d + 2 → IsForLoop setting z.scene z.depth d k z.env x body rest → Limit setting z w d o u
+    → Ready setting z w → RanDid setting (start z body w) (for_counts x w) z rest w (for_rounds_of inner place x o u k z.env w)
+for_rounds_run place setting inner sim x o u k d z body rest w ed lf lim r =
+    each_way_ran (λ _. next_adds _ setting inner sim x o u k z.env) (round_exit_adds _ (next_adds _ setting inner sim x o u k z.env))
     (so (omega arith) (omega arith) (λ _ w1 q. q) (λ y w1 q. q)
     (scope_runs setting inner sim (alone x) forwards (looping lf.2 lf.3 z) lf.4 lf.6.0 body (Label lf.2 ∷ behind_body d k lf.0 lf.5) body w (lf.6.1, lf.6.2, lf.6.3) refl (around_ready setting (in_loop lf.2 lf.3 z.depth z.scene).around (in_loop lf.2 lf.3 z.depth z.scene).exits z w r)))
     (λ _ w1 q. go (for_scope (alone x) w) w1 (omega arith) (omega arith) q) out
   where
     go : (A : Account) (w1 : World) → A.most ≤ 16 * w.turns → w.turns ≤ A.least + turns_in false x → CompletedAt setting (start z body w) A z (Label lf.2 ∷ behind_body d k lf.0 lf.5) z.depth w w1
-        → RanDid setting (start z body w) (for_counts x w) z rest w (with (for_step o k w1) (λ _ w. for_test o u k (λ w. turn w (λ w. inner.for_rounds x o u k z.env w)) w))
+        → RanDid setting (start z body w) (for_counts x w) z rest w (with (for_step place o k w1) (λ _ w. for_test place o u k (λ w. turn w (λ w. inner.for_rounds place x o u k z.env w)) w))
     go A w1 lm ll a =
         let s = start z body w in
         let B = for_counts x w in
         let A1 : Account = record { most = A.most + 1; least = A.least } in
         let A5 : Account = record { most = A.most + 5; least = A.least } in
         let A6 : Account = record { most = A.most + 6; least = A.least } in
-        with_ran (λ _. test_adds o k u (λ w. turn w (λ w. inner.for_rounds x o u k z.env w)) (turn_adds setting inner sim x o u k z.env))
-        (ran_more (omega arith) (omega arith) (step_run setting s A1 A5 z d o k (Label lf.0 ∷ lf.5) w w1 (omega arith) (omega arith) lf.13 lim.base r (landed_on (omega arith) (omega arith) lf.10 a)))
+        with_ran (λ _. test_adds _ o k u (λ w. turn w (λ w. inner.for_rounds place x o u k z.env w)) (turn_adds _ setting inner sim x o u k z.env))
+        (ran_more (omega arith) (omega arith) (step_run _ setting s A1 A5 z d o k (Label lf.0 ∷ lf.5) w w1 (omega arith) (omega arith) lf.13 lim.base r (landed_on (omega arith) (omega arith) lf.10 a)))
         (λ _ w2 b.
-        test_run setting s A6 B z d o k lf.1 u (Label lf.1 ∷ body) (Label lf.3 ∷ rest) rest w w2 (λ w. turn w (λ w. inner.for_rounds x o u k z.env w)) (turn_adds setting inner sim x o u k z.env) (omega arith) (omega arith) lf.13 ed lim lf.9.found r
+        test_run _ setting s A6 B z d o k lf.1 u (Label lf.1 ∷ body) (Label lf.3 ∷ rest) rest w w2 (λ w. turn w (λ w. inner.for_rounds place x o u k z.env w)) (turn_adds _ setting inner sim x o u k z.env) (omega arith) (omega arith) lf.13 ed lim lf.9.found r
         (subst (λ y. CompletedAt setting s A6 z y z.depth w w2) lf.7 (landed_on (omega arith) (omega arith) lf.8 b)) (fin A lm ll))
       where
         fin : (A : Account) → A.most ≤ 16 * w.turns → w.turns ≤ A.least + turns_in false x → (t : Bool) (w3 : World)
             → CompletedAt setting (start z body w) (record { most = A.most + 6 + 4; least = A.least }) z (where_to true t (Label lf.1 ∷ body) (Label lf.3 ∷ rest)) z.depth w w3
-            → RanDid setting (start z body w) (for_counts x w) z rest w (either t (λ w. turn w (λ w. inner.for_rounds x o u k z.env w)) done w3)
+            → RanDid setting (start z body w) (for_counts x w) z rest w (either t (λ w. turn w (λ w. inner.for_rounds place x o u k z.env w)) done w3)
         fin A lm ll true w3 c =
-            further_count setting inner sim (start z body w) (record { most = A.most + 6 + 4; least = A.least }) (for_counts x w) x o u k d z lf.1 body rest w w3 (omega arith) (omega arith) (omega arith) (omega arith) (omega arith) lf.12 ed lf lim lf.9 r c
+            further_count _ setting inner sim (start z body w) (record { most = A.most + 6 + 4; least = A.least }) (for_counts x w) x o u k d z lf.1 body rest w w3 (omega arith) (omega arith) (omega arith) (omega arith) (omega arith) lf.12 ed lf lim lf.9 r c
         fin A lm ll false w3 c = went (landed_on (omega arith) (omega arith) lf.11 c)
 
     out : (y : Exit) (w1 : World) → Out setting (start z body w) (for_scope (alone x) w) (looping lf.2 lf.3 z) w y w1
-        → RanDid setting (start z body w) (for_counts x w) z rest w (round_exit (λ w. with (for_step o k w) (λ _ w. for_test o u k (λ w. turn w (λ w. inner.for_rounds x o u k z.env w)) w)) y w1)
+        → RanDid setting (start z body w) (for_counts x w) z rest w (round_exit (λ w. with (for_step place o k w) (λ _ w. for_test place o u k (λ w. turn w (λ w. inner.for_rounds place x o u k z.env w)) w)) y w1)
     out loop w1 q = let dp = r.deep in
         go (record { most = 16 * w.turns; least = (w.turns - turns_through false (alone x)) + setting.pay + setting.pay }) w1 (omega arith) (omega arith)
         (caught_at q (goal lf.2 z.depth) z.depth (Label lf.2 ∷ behind_body d k lf.0 lf.5) refl q.leads.0 lf.10.found refl (omega arith) (omega arith))
@@ -218,9 +218,9 @@ for_rounds_run setting inner sim x o u k d z body rest w ed lf lim r =
     out x w1 q = went (outside z.scene (omega arith) (omega arith) q q.leads)
 
 -- what rounds add
-pub rounds_adds : (setting : Setting) (inner : Meanings) → Simulates setting inner → (x : Command) (o : ℕ) (u : Value) (k : ℕ) (env : Environment) → Adds (λ w. scope_of inner (alone x) forwards env w) → Adds (λ w. for_rounds_of inner x o u k env w)
-rounds_adds setting inner sim x o u k env au =
-    adds _ (λ w. each_way_after (history w) (scope_of inner (alone x) forwards env w) (λ _ w. with (for_step o k w) (λ _ w. for_test o u k (λ w. turn w (λ w. inner.for_rounds x o u k env w)) w)) (round_exit (λ w. with (for_step o k w) (λ _ w. for_test o u k (λ w. turn w (λ w. inner.for_rounds x o u k env w)) w))) (au.at w) (λ _. next_adds setting inner sim x o u k env) (round_exit_adds _ (next_adds setting inner sim x o u k env)))
+pub rounds_adds : (place : ℕ) (setting : Setting) (inner : Meanings) → Simulates setting inner → (x : Command) (o : ℕ) (u : Value) (k : ℕ) (env : Environment) → Adds (λ w. scope_of inner (alone x) forwards env w) → Adds (λ w. for_rounds_of inner place x o u k env w)
+rounds_adds place setting inner sim x o u k env au =
+    adds _ (λ w. each_way_after (history w) (scope_of inner (alone x) forwards env w) (λ _ w. with (for_step place o k w) (λ _ w. for_test place o u k (λ w. turn w (λ w. inner.for_rounds place x o u k env w)) w)) (round_exit (λ w. with (for_step place o k w) (λ _ w. for_test place o u k (λ w. turn w (λ w. inner.for_rounds place x o u k env w)) w))) (au.at w) (λ _. next_adds _ setting inner sim x o u k env) (round_exit_adds _ (next_adds _ setting inner sim x o u k env)))
 
 -- ---- what follows an arrival in a situation of its own that has not all its items
 abbrev joined : {setting : Setting} {s : State} {A N B : Account} {z : Configuration} {c c2 : List Stmt} {k d2 : ℕ} {w w1 w2 : World} → A.most + N.most ≤ B.most + 16 * w1.turns
@@ -247,15 +247,15 @@ same_label : (setting : Setting) (sc : Scene) (bs : List Binding) (d n : ℕ) (r
 same_label setting sc bs d n rest l = record { is_own = l.is_own; place = l.place; at = l.at; same_depth = l.same_depth; following = l.following; found = l.found }
 
 -- ---- the test and the rounds, with the variable in scope
-first_test : (setting : Setting) (inner : Meanings) → Simulates setting inner → (B : Account) (x : Command) (o : ℕ) (u : Value) (k d n1 : ℕ) (z : Configuration) (body test end : List Stmt) (n3 : ℕ) (w : World) → 16 * w.turns + 16 ≤ B.most → B.least ≤ w.turns - suc (turns_in false x) → z.depth ≡ d + 2
+first_test : (place : ℕ) (setting : Setting) (inner : Meanings) → Simulates setting inner → (B : Account) (x : Command) (o : ℕ) (u : Value) (k d n1 : ℕ) (z : Configuration) (body test end : List Stmt) (n3 : ℕ) (w : World) → 16 * w.turns + 16 ≤ B.most → B.least ≤ w.turns - suc (turns_in false x) → z.depth ≡ d + 2
     → IsForLoop setting z.scene z.depth d k z.env x body end → test ≡ Load (Local d) ∷ Load (Local (d + 1)) ∷ test_of_step k ∷ JumpIf true n1 ∷ Label n3 ∷ end → LabelAt setting z.scene z.depth n1 body → LabelAt setting z.scene z.depth n3 end → suc (turns_in false x) ≤ setting.pay → k < 2 ^ 32
-    → Limit setting z w d o u → Adds (λ w. for_rounds_of inner x o u k z.env w) → Ready setting z w → RanDid setting (start z test w) B z end w (for_test o u k (λ w. for_rounds_of inner x o u k z.env w) w)
-first_test setting inner sim B x o u k d n1 z body test end n3 w le le' ed lf et l1 l3 few lk lim ad r =
-    test_run setting (start z test w) (record { most = 16 * w.turns; least = w.turns }) B z d o k n1 u (Label n1 ∷ body) (Label n3 ∷ end) end w w (λ w. for_rounds_of inner x o u k z.env w) ad (omega arith) (omega arith) lk ed lim l1.found r
+    → Limit setting z w d o u → Adds (λ w. for_rounds_of inner place x o u k z.env w) → Ready setting z w → RanDid setting (start z test w) B z end w (for_test place o u k (λ w. for_rounds_of inner place x o u k z.env w) w)
+first_test place setting inner sim B x o u k d n1 z body test end n3 w le le' ed lf et l1 l3 few lk lim ad r =
+    test_run _ setting (start z test w) (record { most = 16 * w.turns; least = w.turns }) B z d o k n1 u (Label n1 ∷ body) (Label n3 ∷ end) end w w (λ w. for_rounds_of inner place x o u k z.env w) ad (omega arith) (omega arith) lk ed lim l1.found r
     (subst (λ y. CompletedAt setting (start z test w) (record { most = 16 * w.turns; least = w.turns }) z y z.depth w w) et (stay setting (record { most = 16 * w.turns; least = w.turns }) z test w (omega arith) (omega arith) r)) fin
   where
     fin : (t : Bool) (w2 : World) → CompletedAt setting (start z test w) (record { most = 16 * w.turns + 4; least = w.turns }) z (where_to true t (Label n1 ∷ body) (Label n3 ∷ end)) z.depth w w2
-        → RanDid setting (start z test w) B z end w (either t (λ w. for_rounds_of inner x o u k z.env w) done w2)
+        → RanDid setting (start z test w) B z end w (either t (λ w. for_rounds_of inner place x o u k z.env w) done w2)
     fin false w2 q = went (landed_on (omega arith) (omega arith) l3 q)
     fin true w2 q =
         let s = start z test w in
@@ -263,7 +263,7 @@ first_test setting inner sim B x o u k d n1 z body test end n3 w le le' ed lf et
         let ar : CompletedAt setting s C z body z.depth w w2 = completed_more (omega arith) (omega arith) (label_on l1 q) in
         let m0 = ar.most in
         comes_to (omega arith) (omega arith) r (omega arith) ar
-        (for_rounds_run setting inner sim x o u k d (next setting s C z body z.depth w w2 z.env z.depth ar) body end w2 ed lf (limit_next setting s C z body w w2 d o u ed r lim ar) (ready_next z.env z.depth ar refl (omega arith) r))
+        (for_rounds_run _ setting inner sim x o u k d (next setting s C z body z.depth w w2 z.env z.depth ar) body end w2 ed lf (limit_next setting s C z body w w2 d o u ed r lim ar) (ready_next z.env z.depth ar refl (omega arith) r))
 
 -- ---- the words above the items become variables, and the lowest an object
 abbrev stored_cells : ℕ → ℕ → (ℕ → Cell) → ℕ → Cell
@@ -327,9 +327,9 @@ limit_free setting z w u r o1 n b1 i li eb lt e = ⊎_elim
 for_opened : (setting : Setting) (inner : Meanings) → Simulates setting inner → (l : ℕ) (x : Mention) (a y : Expression) (h : Expressions) (c : Command) (z z0 : Configuration)
     (there : Sought → List Stmt) (c0 rest : List Stmt) (w : World) (u v : Value) (lx : IsAct setting z.scene z.depth z0.env (t.for_loop l x a y h c) there c0 rest)
     → z.env ≡ past y (past a z0.env) → Ready setting z w → Applies setting.codes z.bases u (content_of (z.cells (z.frame + z.depth)))
-    → Applies setting.codes z.bases v (content_of (z.cells (z.frame + (z.depth + 1)))) → ((o : ℕ) → Adds (λ w. for_rounds_of inner c o v lx.4 (bind x.letters (cell o 0) z.env) w))
+    → Applies setting.codes z.bases v (content_of (z.cells (z.frame + (z.depth + 1)))) → ((o : ℕ) → Adds (λ w. for_rounds_of inner x.at c o v lx.4 (bind x.letters (cell o 0) z.env) w))
     → RanDid setting (state z.scene.own (z.depth + 1 + 1) (Store_stmt ∷ Jump lx.0 ∷ Label lx.1 ∷ lx.7) z.cells z.frame z.hand z.written w) (record { most = 16 * w.turns + 20; least = w.turns - suc (turns_in false c) }) z rest w
-    (for_loop inner x.letters c u v lx.4 z.env w)
+    (for_loop inner x c u v lx.4 z.env w)
 unfolding variable_made
 for_opened g m sim l x a y h c z z0 there c0 rest w u v lx ez r su sv ad =
     let dp = r.deep in
@@ -382,29 +382,29 @@ for_opened g m sim l x a y h c z z0 there c0 rest w u v lx ez r su sv ad =
     } in
     closed_ran {K = λ _ w2. OpenCompleted g s0 D z w (Stack z.depth ∷ rest) d2 more w2} r (λ _ w2 q. closes (omega arith) (omega arith) r q)
     (ran_open bs env1 (omega arith) (omega arith) r (omega arith) (variable_keeps x.letters z.scene.procedure z.depth z.scene.bindings) a3 (λ _ w2 q. open_on (omega arith) (omega arith) r (omega arith) a3 q)
-    (first_test g m sim N c o v lx.4 z.depth lx.1 z1 lx.7 lx.8 (Stack z.depth ∷ rest) lx.3 w1 (omega arith) (omega arith) refl scope lx.12 (same_label g z.scene bs d2 lx.1 lx.7 lx.15) (same_label g z.scene bs d2 lx.3 (Stack z.depth ∷ rest) lx.17) lx.19 lx.20 lim (ad o) r1))
+    (first_test _ g m sim N c o v lx.4 z.depth lx.1 z1 lx.7 lx.8 (Stack z.depth ∷ rest) lx.3 w1 (omega arith) (omega arith) refl scope lx.12 (same_label g z.scene bs d2 lx.1 lx.7 lx.15) (same_label g z.scene bs d2 lx.3 (Stack z.depth ∷ rest) lx.17) lx.19 lx.20 lim (ad o) r1))
 
 -- ---- FOR
-loop_adds : (inner : Meanings) (x : List ℕ) (c : Command) (u v : Value) (k : ℕ) (env : Environment) → ((o : ℕ) → Adds (λ w. for_rounds_of inner c o v k (bind x (cell o 0) env) w)) → Adds (for_loop inner x c u v k env)
+loop_adds : (inner : Meanings) (x : Mention) (c : Command) (u v : Value) (k : ℕ) (env : Environment) → ((o : ℕ) → Adds (λ w. for_rounds_of inner x.at c o v k (bind x.letters (cell o 0) env) w)) → Adds (for_loop inner x c u v k env)
 loop_adds inner x c u v k env ad =
-    adds _ (λ w. closing_after (history w) (length w.memory) (for_test (length w.memory) v k (λ q. for_rounds_of inner c (length w.memory) v k (bind x (cell (length w.memory) 0) env) q) (making (holds u ∷ []) w))
-    ((test_adds (length w.memory) k v (λ y. for_rounds_of inner c (length w.memory) v k (bind x (cell (length w.memory) 0) env) y) (ad (length w.memory))).at (making (holds u ∷ []) w)))
+    adds _ (λ w. closing_after (history w) (length w.memory) (for_test x.at (length w.memory) v k (λ q. for_rounds_of inner x.at c (length w.memory) v k (bind x.letters (cell (length w.memory) 0) env) q) (making (holds u ∷ []) w))
+    ((test_adds _ (length w.memory) k v (λ y. for_rounds_of inner x.at c (length w.memory) v k (bind x.letters (cell (length w.memory) 0) env) y) (ad (length w.memory))).at (making (holds u ∷ []) w)))
 
 pub for_run : (setting : Setting) (inner : Meanings) → Simulates setting inner → (B : Account) (l : ℕ) (x : Mention) (a y : Expression) (h : Expressions) (c : Command) (z : Configuration)
     (there : Sought → List Stmt) (c0 rest : List Stmt) (w : World) → 16 * w.turns + 16 ≤ B.most
     → B.least ≤ w.turns - (turns_of false a + (turns_of false y + suc (turns_in false c))) → IsAct setting z.scene z.depth z.env (t.for_loop l x a y h c) there c0 rest
-    → ((o : ℕ) (v : Value) (k : ℕ) (env : Environment) → Adds (λ w. for_rounds_of inner c o v k env w)) → Ready setting z w
-    → RanDid setting (start z c0 w) B z rest w (with (inner.value a z.env w) (λ u w. with (inner.value y (past a z.env) w) (λ v w. with (given (step_of z.env h) w) (λ n w. for_loop inner x.letters c u v n (past y (past a z.env)) w))))
+    → ((o : ℕ) (v : Value) (k : ℕ) (env : Environment) → Adds (λ w. for_rounds_of inner x.at c o v k env w)) → Ready setting z w
+    → RanDid setting (start z c0 w) B z rest w (with (inner.value a z.env w) (λ u w. with (inner.value y (past a z.env) w) (λ v w. with (given x.at (step_of z.env h) w) (λ n w. for_loop inner x c u v n (past y (past a z.env)) w))))
 for_run setting inner sim B l x a y h c z there c0 rest w le le' lx ad r =
-    let all_adds : (u v : Value) → Adds (λ w. with (given (step_of z.env h) w) (λ n w. for_loop inner x.letters c u v n (past y (past a z.env)) w)) = λ u v.
-    adds _ (λ w1. with_after (history w1) (given (step_of z.env h) w1) (λ n w. for_loop inner x.letters c u v n (past y (past a z.env)) w) (given_after (step_of z.env h) w1)
-    (λ n. loop_adds inner x.letters c u v n (past y (past a z.env)) (λ o. ad o v n (bind x.letters (cell o 0) (past y (past a z.env)))))) in
+    let all_adds : (u v : Value) → Adds (λ w. with (given x.at (step_of z.env h) w) (λ n w. for_loop inner x c u v n (past y (past a z.env)) w)) = λ u v.
+    adds _ (λ w1. with_after (history w1) (given x.at (step_of z.env h) w1) (λ n w. for_loop inner x c u v n (past y (past a z.env)) w) (given_after x.at (step_of z.env h) w1)
+    (λ n. loop_adds inner x c u v n (past y (past a z.env)) (λ o. ad o v n (bind x.letters (cell o 0) (past y (past a z.env)))))) in
     two_run setting inner sim B a y z c0 lx.6 (Store_stmt ∷ Jump lx.0 ∷ Label lx.1 ∷ lx.7) w _ _ all_adds (omega arith) (omega arith) lx.9 lx.10 r (λ u v w2 t pos.
     let s = start z c0 w in
     let A = for_two a y w in
     let m0 = t.arr.most in
     let zf = next setting s A z (Store_stmt ∷ Jump lx.0 ∷ Label lx.1 ∷ lx.7) (z.depth + 1 + 1) w w2 (past y (past a z.env)) z.depth t.arr in
     let rf = ready_next (past y (past a z.env)) z.depth t.arr refl (omega arith) r in
-    subst (λ q. RanDid setting s B z rest w (with (given q w2) (λ n w. for_loop inner x.letters c u v n (past y (past a z.env)) w))) (sym lx.13)
+    subst (λ q. RanDid setting s B z rest w (with (given x.at q w2) (λ n w. for_loop inner x c u v n (past y (past a z.env)) w))) (sym lx.13)
     (joined_ran (omega arith) (omega arith) r t.arr
     (for_opened setting inner sim l x a y h c zf z there c0 rest w2 u v lx refl rf t.first t.second (λ o. ad o v lx.4 (bind x.letters (cell o 0) (past y (past a z.env)))))))

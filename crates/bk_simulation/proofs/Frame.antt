@@ -138,14 +138,14 @@ abbrev pub Falls : {A : Type 0} → Setting → State → Outcome A → Type 0
 Falls setting s (gives a w) = FallsThose setting s w.output w.most_calls
 Falls setting s (leaves x w) = FallsThose setting s w.output w.most_calls
 Falls setting s (ends e w) = FallsThose setting s w.output w.most_calls
-Falls setting s undefined = Unit {0}
+Falls setting s (undefined l v) = Unit {0}
 Falls setting s (going w) = FallsThose setting s w.output w.most_calls
 
 abbrev pub Went : {A : Type 0} → Setting → State → Account → (A → World → Type 0) → (Exit → World → Type 0) → Outcome A → Type 0
 Went setting s B K X (gives a w) = K a w
 Went setting s B K X (leaves x w) = X x w
 Went setting s B K X (ends e w) = Stopped setting s B e w
-Went setting s B K X undefined = Unit {0}
+Went setting s B K X (undefined l v) = Unit {0}
 Went setting s B K X (going w) = Reaches setting s B w
 
 pub record Ran {A : Type 0} (setting : Setting) (s : State) (B : Account) (K : A → World → Type 0) (X : Exit → World → Type 0) (o : Outcome A) : Type 0 where
@@ -165,7 +165,7 @@ pub falls_on : {A : Type 0} (setting : Setting) (s : State) (w : World) (o : Out
 falls_on setting s w (gives a w1) f h = falls_later setting s w w1 h f
 falls_on setting s w (leaves x w1) f h = falls_later setting s w w1 h f
 falls_on setting s w (ends e w1) f h = falls_later setting s w w1 h f
-falls_on setting s w undefined f h = tt
+falls_on setting s w (undefined l v) f h = tt
 falls_on setting s w (going w1) f h = falls_later setting s w w1 h f
 
 -- what was given and each exit are gone on with
@@ -209,7 +209,7 @@ ran_from {A} {setting} {s} {t} {k} {p} {M} {N} {K} {L} {X} {Y} {o} c le le' h i 
         let m = q.most in went
         (record { to = q.to; steps = k + q.steps; paid = p + q.paid; comes = comes_on setting _ _ _ _ _ _ _ c q.comes; most = omega arith; end = q.end; is_end = q.is_end; stops = q.stops; wrote = q.wrote; left = q.left })
     by (ends e w) (inr f) = record { is = inr (falls_before setting s t k p w c f) }
-    by undefined r = went tt
+    by (undefined l v) r = went tt
     by (going w) (inl q) =
         let m = q.most in let l = q.least in went
         (record { to = q.to; steps = k + q.steps; paid = p + q.paid; comes = comes_on setting _ _ _ _ _ _ _ c q.comes; most = omega arith; least = omega arith; wrote = q.wrote; left = q.left })

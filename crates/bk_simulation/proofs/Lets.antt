@@ -1,5 +1,5 @@
 -- The values of a LET's variables, definition by definition.
-use Rattle.bk_simulation.proofs.Words.{length-replicate, ◌≡◌, ℕ, zero, suc, ◌+◌, ◌-◌, ◌*◌, ◌<◌, ◌≤◌, Bool, true, false, List, [], ◌∷◌, ◌++◌, Some, sym, ap, ◌∙◌, subst, arith, slice_get, ◌≢◌, length, refl, ⊎_elim, length-append, ◌%◌, ◌^◌, Option, None, FRAME_WORDS, Definitions, Starts, Binding, State, Placed, Inside, Stmt, World, Outcome, gives, making, Environment, past, past_definition, letters, cell, constant_in, history, After, Throughout, Meanings, adds, stays, with_after, turn_after, Content, Variable, Cell, Held, content_of, Word, Temporary, write, below, settle, Value, holds, address, unset, living, made, Local, Stack, Address, Start, paired, let_values, bind_variables, vec_cells, make_vec, Cell_of}
+use Rattle.bk_simulation.proofs.Words.{length-replicate, ◌≡◌, ℕ, zero, suc, ◌+◌, ◌-◌, ◌*◌, ◌<◌, ◌≤◌, Bool, true, false, List, [], ◌∷◌, ◌++◌, Some, sym, ap, ◌∙◌, subst, arith, slice_get, ◌≢◌, length, refl, ⊎_elim, length-append, ◌%◌, ◌^◌, Option, None, FRAME_WORDS, Definitions, Starts, Binding, State, Placed, Inside, Stmt, World, Outcome, gives, making, Environment, past, past_definition, letters, cell, constant_in, history, After, Throughout, Meanings, adds, stays, with_after, turn_after, Content, Variable, Cell, Held, content_of, Word, Temporary, write, below, settle, Value, holds, address, unset, living, made, Local, Stack, Address, Start, paired, let_values, bind_variables, vec_cells, make_vec, Cell_of, acts_at}
 use Rattle.bk_simulation.proofs.Pieces.{Store, BaseOf, Alive, limit, Codes, Applies, StandsCell, Grown, Fits, stands_grown, Like, like_refl, like_on, fits_more, turns_started, turns_defined, turns_of, Setting, Scene, NamedIn, Spot, spots_of, defines_variables, AreStarts, AreDefined, KeepsLabels, variables_bound, AreAt, Configuration, Ready, Account, Ran, went, so, with_ran, OpenCompleted, store_at, named_grown, state, further, ran_same, Completed, named_again, Simulates, completed_more, out_more, turn_there, OpenExited, open_ticked, with_objects, open_configuration, open_ready, open_wider, open_step, open_on, ran_open, Since, since_refl, since_on, IsFree, make, make_fits_in, grown_made, lying, since_cells, since_moved, since_made, make_fits, get_new, get_replicate, Moves, does, untouched, below_at, below_like, settle_like, settle_at, value_run}
 use Rattle.bk_tree.specs.Tree as t
 use Rattle.bk_simulation.proofs.Terms.{bind, starts}
@@ -49,16 +49,16 @@ open_make {top = top} {h = h} {w1 = w1} b cells more1 a low f =
     with_objects (a.bases1 ++ b ∷ []) (making cells w1).memory more1 (Since top h) a f
     (since_on (omega arith) a.moved (since_made b cells (store_at a) a.fits.long low))
 
-make_vec_after : (k : Option ℕ) (w : World) → After (history w) (make_vec k w)
-make_vec_after None w = tt
-make_vec_after (Some k) w = stays (history w)
+make_vec_after : (place : ℕ) (k : Option ℕ) (w : World) → After (history w) (make_vec place k w)
+make_vec_after place None w = stays (history w)
+make_vec_after place (Some k) w = stays (history w)
 
 pub starts_after : (inner : Meanings) → Throughout (λ A w u. After (history w) u) inner → (is : Starts) (env : Environment) (w : World) → After (history w) (starts inner is env w)
 starts_after inner grows t.no_starts env w = stays (history w)
 starts_after inner grows (t.value e is) env w =
     with_after _ (inner.value e env w) _ (grows.value e env w) (λ v. adds _ (λ w1. with_after _ (starts inner is (past e env) w1) _ (starts_after inner grows is (past e env) w1) (λ vs. adds _ (λ w2. stays (history w2)))))
 starts_after inner grows (t.vector x e is) env w =
-    with_after _ _ _ (turn_after _ (adds _ (λ w1. make_vec_after (constant_in env e) w1)) w) (λ v. adds _ (λ w1. with_after _ (starts inner is env w1) _ (starts_after inner grows is env w1) (λ vs. adds _ (λ w2. stays (history w2)))))
+    with_after _ _ _ (turn_after _ (adds _ (λ w1. make_vec_after _ (constant_in env e) w1)) w) (λ v. adds _ (λ w1. with_after _ (starts inner is env w1) _ (starts_after inner grows is env w1) (λ vs. adds _ (λ w2. stays (history w2)))))
 
 -- ---- a VEC
 
@@ -192,12 +192,12 @@ starts_run setting inner sim (t.vector x e is) env bs s A B z w c rest d d1 slot
     let grows : Throughout (λ A w u. After (history w) u) inner = sim.grows in
     with_ran {K = NextItem setting s A1 z w h d (d + k + 1) c0 (d + k + 2)}
     (λ v. adds _ (λ w2. with_after _ (starts inner is env w2) _ (starts_after inner grows is env w2) (λ vs. adds _ (λ w3. stays (history w3)))))
-    (turn_there (λ w. make_vec (constant_in env e) w) le1 (omega arith) a (λ n en.
+    (turn_there (λ w. make_vec (acts_at e) (constant_in env e) w) le1 (omega arith) a (λ n en.
     let A0 : Account = record { most = A.most - 16; least = A.least - 1 } in
     let a1 = open_ticked n en a in
     let v = vec_done setting s A0 z w c c0 d k (record w1 { turns = n }) r le (omega arith) l.4 a1 in
     let big : 16 ≤ A.most = (let q = a.most in omega arith) in
-    subst (λ y. Ran setting s B (NextItem setting s A1 z w h d (d + k + 1) c0 (d + k + 2)) (OpenExited setting s B z w) (make_vec y (record w1 { turns = n }))) (sym l.3)
+    subst (λ y. Ran setting s B (NextItem setting s A1 z w h d (d + k + 1) c0 (d + k + 2)) (OpenExited setting s B z w) (make_vec (acts_at e) y (record w1 { turns = n }))) (sym l.3)
     (went (record { arr = completed_more (omega arith) (omega arith) v.arr; since = v.since; stands = v.stands; free = v.free }))))
     (λ v w2 i. with_ran {K = λ vs w3. Started setting s B z w h d rest d1 slots (v ∷ vs) w3} (λ vs. adds _ (λ w3. stays (history w3)))
     (ran_same (λ vs w3 q. subst (λ y. Started setting s B z w h d rest d1 y (v ∷ vs) w3) (sym l.6) (item_before setting s A1 B z w h d (d + k + 1) c0 rest (d + k + 2) d1 l.2 v vs w2 w3 (omega arith) (omega arith) rise i q))

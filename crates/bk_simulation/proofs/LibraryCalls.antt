@@ -201,10 +201,10 @@ low_place top p cells k e = by_truth (λ b. (if b then variable_in (cells p) els
 low_byte : (top w i b : ℕ) (cells : ℕ → Cell) (k : Content) → word_with_byte_at top cells w i b ≡ Some k → word_sum w (byte_distance i) < top
 low_byte top w i b cells k e = grind (arith, by_option, variable_at, low_place)
 
-pub library_runs : (of : Bool) (setting : Setting) (s : State) (A B : Account) (z : Configuration) (rest : List Stmt) (w w1 : World) (vs : List Value) (r : value.Routine) (n : ℕ) → A.most + 1 ≤ B.most → B.least ≤ A.least → n ≡ w.calls → Ready setting z w
+pub library_runs : (place : ℕ) (of : Bool) (setting : Setting) (s : State) (A B : Account) (z : Configuration) (rest : List Stmt) (w w1 : World) (vs : List Value) (r : value.Routine) (n : ℕ) → A.most + 1 ≤ B.most → B.least ≤ A.least → n ≡ w.calls → Ready setting z w
     → CallAt setting z.scene (call_stmt of z.depth) rest → setting.program.callables.routine (setting.codes.routine r) ≡ Some (named_there r) → AtRoutine setting s A z w vs (z.scene.own.places.call (length rest)) (setting.codes.routine r) w1
-    → Ran setting s B (λ v w3. Gave of setting s B z rest w v (calls_back n w3)) AnyExit (library r vs w1)
-library_runs of setting s A B z rest w w1 (number k ∷ vs) value.stop n le le' en ready call known at =
+    → Ran setting s B (λ v w3. Gave of setting s B z rest w v (calls_back n w3)) AnyExit (library place r vs w1)
+library_runs place of setting s A B z rest w w1 (number k ∷ vs) value.stop n le le' en ready call known at =
     let h = here of setting s A B z rest w w1 (number k ∷ vs) value.stop n le le' en ready call known at in
     let mq = at.most in
     went (record {
@@ -219,7 +219,7 @@ library_runs of setting s A B z rest w w1 (number k ∷ vs) value.stop n le le' 
       wrote = refl;
       left = refl;
     })
-library_runs of setting s A B z rest w w1 vs value.rdch n le le' en ready call known at = by_input w1.input refl
+library_runs place of setting s A B z rest w w1 vs value.rdch n le le' en ready call known at = by_input w1.input refl
   where
     h : State
     h = record { control = At (setting.codes.routine value.rdch); cells = at.cells1; frame = z.frame + z.depth; hand = None; input = w1.input; output = w1.output; written = at.written1 }
@@ -229,15 +229,15 @@ library_runs of setting s A B z rest w w1 vs value.rdch n le le' en ready call k
         back_same of setting s A B z rest w w1 vs value.rdch n le le' en ready call known at (number (2 ^ 32 - 1)) (Some (Word (2 ^ 32 - 1))) w1 refl refl refl (ap (λ y. takes_input y h) e)
     by_input (b ∷ more) e =
         back_same of setting s A B z rest w w1 vs value.rdch n le le' en ready call known at (number b) (Some (Word b)) (record w1 { input = more }) refl refl refl (ap (λ y. takes_input y h) e)
-library_runs of setting s A B z rest w w1 (number k ∷ vs) value.wrch n le le' en ready call known at =
+library_runs place of setting s A B z rest w w1 (number k ∷ vs) value.wrch n le le' en ready call known at =
     let h = here of setting s A B z rest w w1 (number k ∷ vs) value.wrch n le le' en ready call known at in
     back_same of setting s A B z rest w w1 (number k ∷ vs) value.wrch n le le' en ready call known at unset None (writing (k % 256 ∷ []) w1) refl refl tt
     (ap (λ y. on_number y (λ b. tells h (b % 256 ∷ []))) (at.each 0 (number k) refl))
-library_runs of setting s A B z rest w w1 vs value.newline n le le' en ready call known at =
+library_runs place of setting s A B z rest w w1 vs value.newline n le le' en ready call known at =
     back_same of setting s A B z rest w w1 vs value.newline n le le' en ready call known at unset None (writing (10 ∷ []) w1) refl refl tt refl
-library_runs of setting s A B z rest w w1 (a ∷ vs) value.writes n le le' en ready call known at =
+library_runs place of setting s A B z rest w w1 (a ∷ vs) value.writes n le le' en ready call known at =
     let h : State = record { control = At (setting.codes.routine value.writes); cells = at.cells1; frame = z.frame + z.depth; hand = None; input = w1.input; output = w1.output; written = at.written1 } in
-    by_option (λ o. Ran setting s B (λ v w3. Gave of setting s B z rest w v (calls_back n w3)) AnyExit (writes_text o w1))
+    by_option (λ o. Ran setting s B (λ v w3. Gave of setting s B z rest w v (calls_back n w3)) AnyExit (writes_text place o w1))
     (m.string_at w1.memory a) (λ _. went tt) (λ text e.
     let hs : Store = record { bases = at.bases1; mem = w1.memory; cells = at.cells1 } in
     let x = string_word setting.codes hs (z.frame + z.depth) at.fits a _ text (at.each 0 a refl) e in
@@ -245,18 +245,18 @@ library_runs of setting s A B z rest w w1 (a ∷ vs) value.writes n le le' en re
     back_same of setting s A B z rest w w1 (a ∷ vs) value.writes n le le' en ready call known at unset None (writing text w1) refl refl tt
     (ap (λ y. on_number y (λ a. on_some (string_at h.frame h.cells a) (λ bytes. tells h bytes))) x.1
     ∙ ap (λ y. on_some y (λ bytes. tells h bytes)) (string_read setting.codes hs (z.frame + z.depth) at.fits a x.0 text st e)))
-library_runs of setting s A B z rest w w1 (number k ∷ vs) value.writen n le le' en ready call known at =
+library_runs place of setting s A B z rest w w1 (number k ∷ vs) value.writen n le le' en ready call known at =
     let h = here of setting s A B z rest w w1 (number k ∷ vs) value.writen n le le' en ready call known at in
     back_same of setting s A B z rest w w1 (number k ∷ vs) value.writen n le le' en ready call known at unset None (writing (spelling (signed k)) w1) refl refl tt
     (ap (λ y. on_number y (λ n. tells h (spelling (signed n)))) (at.each 0 (number k) refl))
-library_runs of setting s A B z rest w w1 (number k ∷ number d ∷ vs) value.writed n le le' en ready call known at =
+library_runs place of setting s A B z rest w w1 (number k ∷ number d ∷ vs) value.writed n le le' en ready call known at =
     let h = here of setting s A B z rest w w1 (number k ∷ number d ∷ vs) value.writed n le le' en ready call known at in
     back_same of setting s A B z rest w w1 (number k ∷ number d ∷ vs) value.writed n le le' en ready call known at unset None (writing (aligned k d) w1) refl refl tt
     (ap (λ y. on_number y (λ n. on_number (slot h 3) (λ w. tells h (aligned n w)))) (at.each 0 (number k) refl)
     ∙ ap (λ y. on_number y (λ w. tells h (aligned k w))) (at.each 1 (number d) refl))
-library_runs of setting s A B z rest w w1 (a ∷ i ∷ vs) value.getbyte n le le' en ready call known at =
+library_runs place of setting s A B z rest w w1 (a ∷ i ∷ vs) value.getbyte n le le' en ready call known at =
     let h : State = record { control = At (setting.codes.routine value.getbyte); cells = at.cells1; frame = z.frame + z.depth; hand = None; input = w1.input; output = w1.output; written = at.written1 } in
-    by_option (λ o. Ran setting s B (λ v w3. Gave of setting s B z rest w v (calls_back n w3)) AnyExit (given (option_map number o) w1))
+    by_option (λ o. Ran setting s B (λ v w3. Gave of setting s B z rest w v (calls_back n w3)) AnyExit (given place (option_map number o) w1))
     (read_byte w1.memory a i) (λ _. went tt) (λ b e.
     let hs : Store = record { bases = at.bases1; mem = w1.memory; cells = at.cells1 } in
     let x = read_byte_at setting.codes hs (z.frame + z.depth) a i _ _ b at.fits (at.each 0 a refl) (at.each 1 i refl) e in
@@ -264,10 +264,10 @@ library_runs of setting s A B z rest w w1 (a ∷ i ∷ vs) value.getbyte n le le
     (ap (λ y. on_number y (λ a. on_number (slot h 3) (λ i. on_some (byte_at h.frame h.cells a i) (λ b. return h (Some (Word b)))))) x.is_word
     ∙ ap (λ y. on_number y (λ i. on_some (byte_at h.frame h.cells x.word i) (λ b. return h (Some (Word b))))) x.is_index
     ∙ ap (λ y. on_some y (λ b. return h (Some (Word b)))) x.reads))
-library_runs of setting s A B z rest w w1 (a ∷ i ∷ u ∷ vs) value.putbyte n le le' en ready call known at =
+library_runs place of setting s A B z rest w w1 (a ∷ i ∷ u ∷ vs) value.putbyte n le le' en ready call known at =
     let h : State = record { control = At (setting.codes.routine value.putbyte); cells = at.cells1; frame = z.frame + z.depth; hand = None; input = w1.input; output = w1.output; written = at.written1 } in
     let set_to : ℕ → Content → State = λ p x. record h { cells = write h.cells p (Held Variable x); written = p ∷ h.written } in
-    by_option (λ o. Ran setting s B (λ v w3. Gave of setting s B z rest w v (calls_back n w3)) AnyExit (with (changes o w1) (λ _ w. gives unset w)))
+    by_option (λ o. Ran setting s B (λ v w3. Gave of setting s B z rest w v (calls_back n w3)) AnyExit (with (changes place o w1) (λ _ w. gives unset w)))
     (write_byte w1.memory a i u) (λ _. went tt) (λ m1 e.
     let hs : Store = record { bases = at.bases1; mem = w1.memory; cells = at.cells1 } in
     let x = write_byte_at setting.codes hs (z.frame + z.depth) a i u _ _ _ m1 (λ p k e. subst (λ c. AreBytes (content_of c)) e (at.has.words p)) at.fits (at.each 0 a refl) (at.each 1 i refl) (at.each 2 u refl) e in
@@ -283,10 +283,10 @@ library_runs of setting s A B z rest w w1 (a ∷ i ∷ u ∷ vs) value.putbyte n
     (ap content_of (untouched at.cells1 p (Held Variable x.content) (z.frame + z.depth + 0) n0) ∙ at.link0)
     (ap content_of (untouched at.cells1 p (Held Variable x.content) (z.frame + z.depth + 1) n1) ∙ at.link1)
     x.fits (x.moved (z.frame + z.depth)))
-library_runs of setting s A B z rest w w1 (a ∷ vs) value.writef n le le' en ready call known at =
-    by_option (λ o. Ran setting s B (λ v w3. Gave of setting s B z rest w v (calls_back n w3)) AnyExit (writes_text (option_and_then (λ bytes. m.written w1.memory (parts bytes) vs) o) w1))
+library_runs place of setting s A B z rest w w1 (a ∷ vs) value.writef n le le' en ready call known at =
+    by_option (λ o. Ran setting s B (λ v w3. Gave of setting s B z rest w v (calls_back n w3)) AnyExit (writes_text place (option_and_then (λ bytes. m.written w1.memory (parts bytes) vs) o) w1))
     (m.string_at w1.memory a) (λ _. went tt) (λ bytes eb.
-    by_option (λ o. Ran setting s B (λ v w3. Gave of setting s B z rest w v (calls_back n w3)) AnyExit (writes_text o w1)) (m.written w1.memory (parts bytes) vs) (λ _. went tt) (λ text e.
+    by_option (λ o. Ran setting s B (λ v w3. Gave of setting s B z rest w v (calls_back n w3)) AnyExit (writes_text place o w1)) (m.written w1.memory (parts bytes) vs) (λ _. went tt) (λ text e.
     let h = here of setting s A B z rest w w1 (a ∷ vs) value.writef n le le' en ready call known at in
     let hs : Store = record { bases = at.bases1; mem = w1.memory; cells = at.cells1 } in
     let x = string_word setting.codes hs (z.frame + z.depth) at.fits a _ bytes (at.each 0 a refl) eb in
@@ -297,4 +297,4 @@ library_runs of setting s A B z rest w w1 (a ∷ vs) value.writef n le le' en re
     (ap (λ y. on_number y (λ f. on_some (string_at h.frame h.cells f) (λ format. on_some (format_bytes (λ a. number_in (slot h a)) (string_at h.frame h.cells) (parts format) 3) (λ bytes. tells h bytes)))) x.1
     ∙ ap (λ y. on_some y (λ format. on_some (format_bytes (λ a. number_in (slot h a)) (string_at h.frame h.cells) (parts format) 3) (λ bytes. tells h bytes))) (string_read setting.codes hs (z.frame + z.depth) at.fits a x.0 bytes st eb)
     ∙ ap (λ y. on_some y (λ bytes. tells h bytes)) reported)))
-library_runs of setting s A B z rest w w1 _ _ n le le' en ready call known at = went tt
+library_runs place of setting s A B z rest w w1 _ _ n le le' en ready call known at = went tt

@@ -1,5 +1,5 @@
 -- Scopes: commands that own their labels; and VALOF. WHILE, UNTIL, REPEAT, REPEATWHILE and REPEATUNTIL. SWITCHON.
-use Rattle.bk_simulation.proofs.Words.{◌≡◌, ℕ, ◌+◌, ◌≤◌, Bool, true, false, List, refl, sym, ◌∙◌, subst, arith, ◌-◌, ◌*◌, ◌∷◌, Some, bound_in, State, Stmt, meant, goal_in, Commands, Command, Environment, labelled, Sought, the_label, Mode, seeking, one_has_place, forwards, World, Exit, goto, leaves, either, break, result, return, history, Meanings, landing, scope_of, alone, Adds, adds, stays, either_after, Unset, option_map_or, Label, TakeResult, Around, Value, result_exit, result_of, cond, suc, Jump, goal, Expression, past, past_command, has_place, loop, Outcome, Done, done, turn, round_exit, again, same_truth, where_truth, rounds_of, with_after, turn_after, each_way_after, None, ap, below, from_label, case_label, Case, Switch, number, the_case, the_default, is_label, endcase, with, case_exit, ended_case, choose_case, labels_of_each}
+use Rattle.bk_simulation.proofs.Words.{◌≡◌, ℕ, ◌+◌, ◌≤◌, Bool, true, false, List, refl, sym, ◌∙◌, subst, arith, ◌-◌, ◌*◌, ◌∷◌, Some, bound_in, State, Stmt, meant, goal_in, Commands, Command, Environment, labelled, Sought, the_label, Mode, seeking, one_has_place, forwards, World, Exit, goto, leaves, either, break, result, return, history, Meanings, landing, scope_of, alone, Adds, adds, stays, either_after, Unset, option_map_or, Label, TakeResult, Around, Value, result_exit, result_of, cond, suc, Jump, goal, Expression, past, past_command, has_place, loop, Outcome, Done, done, turn, round_exit, again, same_truth, where_truth, rounds_of, with_after, turn_after, each_way_after, None, ap, below, from_label, case_label, Case, Switch, number, the_case, the_default, is_label, endcase, with, case_exit, ended_case, choose_case, labels_of_each, acts_at}
 use Rattle.bk_simulation.proofs.Pieces.{by_test, not_true, turns_through, turns_in, turns_of, label_stands_one, same_stands, Setting, Scene, owning, goal_named, IsLabelHere, IsScopeAt, EnteredAny, Exits, in_valof, LabelAt, IsScope, in_loop, IsJump, IsAct, IsLoop, Entered, EnteredBody, in_switch, Configuration, start, Ready, Account, went, each_way_ran, CompletedAt, GoesTo, Leads, Out, next, ready_in, ready_next, Ran, so, Has, Handed, paying, with_ran, there, comes_to, outside, completed_turn, completed_on, turn_there, ran_on, stay, completed_more, ran_first, links_below, completed_paid, Simulates, for_scope, RanDid, for_act, turns_in_round, for_rounds, HasTruth, for_value, caught_at, label_on, taken_on, landed_on, jump_on, jumped_on, order_run, ready_at, not_owned, around_named, Applies, some_is, switch_moves, below_like, one_run, labels_named}
 use Rattle.bk_simulation.proofs.Branches.{jump_evaluation}
 use Rattle.bk_tree.specs.Tree as t
@@ -343,10 +343,10 @@ ended_behind setting inner sim st A B a s z env n at c1 rest e w w1 le ll en l e
     comes_to (omega arith) (omega arith) r (omega arith) ar
     (ended_run setting inner sim (record { most = 16 * w1.turns + 1; least = w1.turns - turns_in false a }) a s (next setting st A z e z.depth w w1 z.env z.depth ar) env n at c1 rest e w1 (omega arith) (omega arith) en l ent ln (ready_next z.env z.depth ar refl (omega arith) r))
 
-choose_adds : (setting : Setting) (inner : Meanings) → Simulates setting inner → (v : Value) (a : Command) (env : Environment) → Adds (choose_case inner v a env)
-choose_adds setting inner sim (number k) a env = adds _ (λ w. either_after (has_place (the_case (Some k)) env a) _ _ (ended_adds setting inner sim a (seeking (the_case (Some k))) env)
+choose_adds : (place : ℕ) (setting : Setting) (inner : Meanings) → Simulates setting inner → (v : Value) (a : Command) (env : Environment) → Adds (choose_case inner place v a env)
+choose_adds place setting inner sim (number k) a env = adds _ (λ w. either_after (has_place (the_case (Some k)) env a) _ _ (ended_adds setting inner sim a (seeking (the_case (Some k))) env)
     (adds _ (λ w1. either_after (has_place the_default env a) _ _ (ended_adds setting inner sim a (seeking the_default) env) (adds _ (λ w2. stays (history w2))) w1)) w)
-choose_adds setting inner sim _ a env = adds _ (λ w. tt)
+choose_adds place setting inner sim _ a env = adds _ (λ w. stays (history w))
 
 -- the switch itself
 switched : {setting : Setting} {s : State} {A : Account} {z : Configuration} {other k : ℕ} {cs : List Case} {to c1 : List Stmt} {w w1 : World} → Ready setting z w
@@ -357,11 +357,11 @@ switched {setting} {s} {A} {z} {other} {k} {cs} {to} {c1} {w} {w1} r a e =
     (switch_moves setting.program (there setting s A z (Switch other cs ∷ c1) (z.depth + 1) w w1 a.arr) z.scene.own c1 z.depth other k cs to refl a.stands e)
 
 pub switch_run : (setting : Setting) (inner : Meanings) → Simulates setting inner → (B : Account) (l : ℕ) (e : Expression) (a : Command) (z : Configuration) (at : Sought → List Stmt) (c rest : List Stmt) (w : World) → 16 * w.turns + 4 ≤ B.most → B.least ≤ w.turns - (turns_of false e + turns_in false a)
-    → IsAct setting z.scene z.depth z.env (t.switch l e a) at c rest → Ready setting z w → RanDid setting (start z c w) B z rest w (with (inner.value e z.env w) (λ v w. choose_case inner v a (past e z.env) w))
+    → IsAct setting z.scene z.depth z.env (t.switch l e a) at c rest → Ready setting z w → RanDid setting (start z c w) B z rest w (with (inner.value e z.env w) (λ v w. choose_case inner (acts_at e) v a (past e z.env) w))
 switch_run setting inner sim B l e a z at c rest w le le' lx r =
-    one_run setting inner sim B e z c (Switch lx.1 lx.2 ∷ lx.3) w _ _ (λ v. choose_adds setting inner sim v a (past e z.env)) (omega arith) (omega arith) lx.4 r by_value
+    one_run setting inner sim B e z c (Switch lx.1 lx.2 ∷ lx.3) w _ _ (λ v. choose_adds _ setting inner sim v a (past e z.env)) (omega arith) (omega arith) lx.4 r by_value
   where
-    by_number : (k : ℕ) (w1 : World) → Has setting (start z c w) (for_value e w) z (Switch lx.1 lx.2 ∷ lx.3) (z.depth + 1) w (number k) w1 → RanDid setting (start z c w) B z rest w (choose_case inner (number k) a (past e z.env) w1)
+    by_number : (k : ℕ) (w1 : World) → Has setting (start z c w) (for_value e w) z (Switch lx.1 lx.2 ∷ lx.3) (z.depth + 1) w (number k) w1 → RanDid setting (start z c w) B z rest w (choose_case inner (acts_at e) (number k) a (past e z.env) w1)
     by_number k w1 q = let dp = r.deep in let m0 = q.arr.most in
         by_test (has_place (the_case (Some k)) (past e z.env) a)
         (λ (h : has_place (the_case (Some k)) (past e z.env) a ≡ true).
@@ -382,7 +382,7 @@ switch_run setting inner sim B l e a z at c rest w le le' lx r =
         (went (landed_on (omega arith) (omega arith) lx.6
         (switched r q (ap (λ n. from_label z.scene.own.stmts n) (lx.9 k h i) ∙ lx.6.found)))))))
 
-    by_value : (v : Value) (w1 : World) → Has setting (start z c w) (for_value e w) z (Switch lx.1 lx.2 ∷ lx.3) (z.depth + 1) w v w1 → 1 ≤ w.turns → RanDid setting (start z c w) B z rest w (choose_case inner v a (past e z.env) w1)
+    by_value : (v : Value) (w1 : World) → Has setting (start z c w) (for_value e w) z (Switch lx.1 lx.2 ∷ lx.3) (z.depth + 1) w v w1 → 1 ≤ w.turns → RanDid setting (start z c w) B z rest w (choose_case inner (acts_at e) v a (past e z.env) w1)
     by_value (number k) w1 q pos = by_number k w1 q
     by_value _ w1 q pos = went tt
 

@@ -247,62 +247,62 @@ module _ (codes : Codes) (bases : List ℕ) (cells : ℕ → Cell) (top : ℕ) (
   abbrev pub OperatedAs : Dyadic → Content → Content → Outcome Value → Type 0
   OperatedAs op x y (gives v w1) = (w1 ≡ w) × Applied op x y v
   OperatedAs op x y (ends e w1) = (w1 ≡ w) × (e ≡ divide_by_zero) × Undivided op x y
-  OperatedAs op x y undefined = Unit {0}
+  OperatedAs op x y (undefined l v) = Unit {0}
   OperatedAs op x y _ = ⊥
 
-  given_as : (op : Dyadic) (x y : Content) (r : Option Value) → ((v : Value) → r ≡ Some v → Applied op x y v) → OperatedAs op x y (given r w)
-  given_as op x y None go = tt
-  given_as op x y (Some v) go = (refl, go v refl)
+  given_as : (op : Dyadic) (x y : Content) (place : ℕ) (r : Option Value) → ((v : Value) → r ≡ Some v → Applied op x y v) → OperatedAs op x y (given place r w)
+  given_as op x y place None go = tt
+  given_as op x y place (Some v) go = (refl, go v refl)
 
-  divided : (op : Dyadic) (g : ℕ → ℕ → ℕ) (a b : ℕ) (x y : Content) → x ≡ Word a → y ≡ Word b → ((a b : ℕ) → dyadic_word op a b ≡ quotient g a b) → (t : Bool) → (b == 0) ≡ t
-      → OperatedAs op x y (either t (λ w. ends divide_by_zero w) (λ w. given (option_map number (cond t None (Some (g a b)))) w) w)
-  divided op g a b x y ex ey ed true et =
+  divided : (place : ℕ) (op : Dyadic) (g : ℕ → ℕ → ℕ) (a b : ℕ) (x y : Content) → x ≡ Word a → y ≡ Word b → ((a b : ℕ) → dyadic_word op a b ≡ quotient g a b) → (t : Bool) → (b == 0) ≡ t
+      → OperatedAs op x y (either t (λ w. ends divide_by_zero w) (λ w. given place (option_map number (cond t None (Some (g a b)))) w) w)
+  divided place op g a b x y ex ey ed true et =
       (refl, refl, record { left = a; right = b; is_left = ex; is_right = ey; none = ed a b ∙ ap (λ (z : Bool). if z then None else Some (g a b)) et })
-  divided op g a b x y ex ey ed false et = grind (arith, numbers_applied, number)
+  divided place op g a b x y ex ey ed false et = grind (arith, numbers_applied, number)
 
   -- operators on numbers alone
-  abbrev OnNumbers : Operator → Dyadic → Type 0
-  OnNumbers q op = (a b : ℕ) (x y : Content) → x ≡ Word a → y ≡ Word b → OperatedAs op x y (on_numbers q (number a) (number b) w)
+  abbrev OnNumbers : ℕ → Operator → Dyadic → Type 0
+  OnNumbers place q op = (a b : ℕ) (x y : Content) → x ≡ Word a → y ≡ Word b → OperatedAs op x y (on_numbers place q (number a) (number b) w)
 
-  on_numbers_as : (q : Operator) (op : Dyadic) → OnNumbers q op → (u v : Value) (x y : Content) → Applies codes bases u x → Applies codes bases v y → OperatedAs op x y (on_numbers q u v w)
-  on_numbers_as q op go (number a) (number b) x y su sv = go a b x y su sv
-  on_numbers_as q op go _ _ x y su sv = tt
+  on_numbers_as : (place : ℕ) (q : Operator) (op : Dyadic) → OnNumbers place q op → (u v : Value) (x y : Content) → Applies codes bases u x → Applies codes bases v y → OperatedAs op x y (on_numbers place q u v w)
+  on_numbers_as place q op go (number a) (number b) x y su sv = go a b x y su sv
+  on_numbers_as place q op go _ _ x y su sv = tt
 
   abbrev pub ByOperator : Option Dyadic → Content → Content → Outcome Value → Type 0
   ByOperator None x y u = Unit {0}
   ByOperator (Some op) x y u = OperatedAs op x y u
 
-  pub operates : (q : Operator) (u v : Value) (x y : Content) → Applies codes bases u x → Applies codes bases v y → ByOperator (dyadic_of q) x y (operate q u v w)
-  operates o.Add u v x y su sv = given_as d.Add x y (sum w.memory u v) (λ r e. sum_applied u v r x y su sv e)
-  operates o.Subtract u v x y su sv = given_as d.Subtract x y (difference w.memory u v) (λ r e. difference_applied u v r x y su sv e)
-  operates o.Equal u v x y su sv = given_as d.Equal x y _ (λ r e. equal_applied d.Equal (λ b. b) (λ a b. refl) u v r x y su sv e)
-  operates o.Unequal u v x y su sv = given_as d.Unequal x y _ (λ r e. equal_applied d.Unequal not (λ a b. refl) u v r x y su sv e)
-  operates o.Less u v x y su sv = given_as d.Less x y _ (λ r e. less_applied u v r x y su sv e)
-  operates o.Greater u v x y su sv = given_as d.Greater x y _ (λ r e. greater_applied u v r x y su sv e)
-  operates o.AtMost u v x y su sv = given_as d.AtMost x y _ (λ r e. at_most_applied u v r x y su sv e)
-  operates o.AtLeast u v x y su sv = given_as d.AtLeast x y _ (λ r e. at_least_applied u v r x y su sv e)
-  operates o.Times u v x y su sv = on_numbers_as o.Times d.Multiply (λ a b x y ex ey. (refl, numbers_applied d.Multiply a b _ x y _ ex ey refl refl)) u v x y su sv
-  operates o.Over u v x y su sv = on_numbers_as o.Over d.Divide (λ a b x y ex ey. divided d.Divide word_quotient a b x y ex ey (λ a b. refl) (b == 0) refl) u v x y su sv
-  operates o.Rem u v x y su sv = on_numbers_as o.Rem d.Remainder (λ a b x y ex ey. divided d.Remainder word_remainder a b x y ex ey (λ a b. refl) (b == 0) refl) u v x y su sv
-  operates o.ShiftLeft u v x y su sv = on_numbers_as o.ShiftLeft d.ShiftLeft (λ a b x y ex ey. (refl, numbers_applied d.ShiftLeft a b _ x y _ ex ey refl refl)) u v x y su sv
-  operates o.ShiftRight u v x y su sv = on_numbers_as o.ShiftRight d.ShiftRight (λ a b x y ex ey. (refl, numbers_applied d.ShiftRight a b _ x y _ ex ey refl refl)) u v x y su sv
-  operates o.Both u v x y su sv = on_numbers_as o.Both d.And (λ a b x y ex ey. (refl, numbers_applied d.And a b _ x y _ ex ey refl refl)) u v x y su sv
-  operates o.Either u v x y su sv = on_numbers_as o.Either d.Or (λ a b x y ex ey. (refl, numbers_applied d.Or a b _ x y _ ex ey refl refl)) u v x y su sv
-  operates o.Same u v x y su sv = on_numbers_as o.Same d.Eqv (λ a b x y ex ey. (refl, numbers_applied d.Eqv a b _ x y _ ex ey refl refl)) u v x y su sv
-  operates o.Differ u v x y su sv = on_numbers_as o.Differ d.Neqv (λ a b x y ex ey. (refl, numbers_applied d.Neqv a b _ x y _ ex ey refl refl)) u v x y su sv
-  operates _ u v x y su sv = tt
+  pub operates : (place : ℕ) (q : Operator) (u v : Value) (x y : Content) → Applies codes bases u x → Applies codes bases v y → ByOperator (dyadic_of q) x y (operate place q u v w)
+  operates place o.Add u v x y su sv = given_as d.Add x y place (sum w.memory u v) (λ r e. sum_applied u v r x y su sv e)
+  operates place o.Subtract u v x y su sv = given_as d.Subtract x y place (difference w.memory u v) (λ r e. difference_applied u v r x y su sv e)
+  operates place o.Equal u v x y su sv = given_as d.Equal x y place _ (λ r e. equal_applied d.Equal (λ b. b) (λ a b. refl) u v r x y su sv e)
+  operates place o.Unequal u v x y su sv = given_as d.Unequal x y place _ (λ r e. equal_applied d.Unequal not (λ a b. refl) u v r x y su sv e)
+  operates place o.Less u v x y su sv = given_as d.Less x y place _ (λ r e. less_applied u v r x y su sv e)
+  operates place o.Greater u v x y su sv = given_as d.Greater x y place _ (λ r e. greater_applied u v r x y su sv e)
+  operates place o.AtMost u v x y su sv = given_as d.AtMost x y place _ (λ r e. at_most_applied u v r x y su sv e)
+  operates place o.AtLeast u v x y su sv = given_as d.AtLeast x y place _ (λ r e. at_least_applied u v r x y su sv e)
+  operates place o.Times u v x y su sv = on_numbers_as place o.Times d.Multiply (λ a b x y ex ey. (refl, numbers_applied d.Multiply a b _ x y _ ex ey refl refl)) u v x y su sv
+  operates place o.Over u v x y su sv = on_numbers_as place o.Over d.Divide (λ a b x y ex ey. divided place d.Divide word_quotient a b x y ex ey (λ a b. refl) (b == 0) refl) u v x y su sv
+  operates place o.Rem u v x y su sv = on_numbers_as place o.Rem d.Remainder (λ a b x y ex ey. divided place d.Remainder word_remainder a b x y ex ey (λ a b. refl) (b == 0) refl) u v x y su sv
+  operates place o.ShiftLeft u v x y su sv = on_numbers_as place o.ShiftLeft d.ShiftLeft (λ a b x y ex ey. (refl, numbers_applied d.ShiftLeft a b _ x y _ ex ey refl refl)) u v x y su sv
+  operates place o.ShiftRight u v x y su sv = on_numbers_as place o.ShiftRight d.ShiftRight (λ a b x y ex ey. (refl, numbers_applied d.ShiftRight a b _ x y _ ex ey refl refl)) u v x y su sv
+  operates place o.Both u v x y su sv = on_numbers_as place o.Both d.And (λ a b x y ex ey. (refl, numbers_applied d.And a b _ x y _ ex ey refl refl)) u v x y su sv
+  operates place o.Either u v x y su sv = on_numbers_as place o.Either d.Or (λ a b x y ex ey. (refl, numbers_applied d.Or a b _ x y _ ex ey refl refl)) u v x y su sv
+  operates place o.Same u v x y su sv = on_numbers_as place o.Same d.Eqv (λ a b x y ex ey. (refl, numbers_applied d.Eqv a b _ x y _ ex ey refl refl)) u v x y su sv
+  operates place o.Differ u v x y su sv = on_numbers_as place o.Differ d.Neqv (λ a b x y ex ey. (refl, numbers_applied d.Neqv a b _ x y _ ex ey refl refl)) u v x y su sv
+  operates place _ u v x y su sv = tt
 
   -- ---- an operand with an operator before it
 
   abbrev pub PrefixedAs : (ℕ → ℕ) → Content → Outcome Value → Type 0
   PrefixedAs g x (gives v w1) = (w1 ≡ w) × (n : ℕ) × (x ≡ Word n) × Applies codes bases v (Word (g n))
-  PrefixedAs g x undefined = Unit {0}
+  PrefixedAs g x (undefined l v) = Unit {0}
   PrefixedAs g x _ = ⊥
 
-  pub negates : (v : Value) (x : Content) → Applies codes bases v x → PrefixedAs word_negation x (operate_prefix q.Minus v w)
-  negates (number n) x s = (refl, n, s, refl)
-  negates _ x s = tt
+  pub negates : (place : ℕ) (v : Value) (x : Content) → Applies codes bases v x → PrefixedAs word_negation x (operate_prefix place q.Minus v w)
+  negates place (number n) x s = (refl, n, s, refl)
+  negates place _ x s = tt
 
-  pub inverts : (v : Value) (x : Content) → Applies codes bases v x → PrefixedAs word_not x (operate_prefix q.Not v w)
-  inverts (number n) x s = (refl, n, s, refl)
-  inverts _ x s = tt
+  pub inverts : (place : ℕ) (v : Value) (x : Content) → Applies codes bases v x → PrefixedAs word_not x (operate_prefix place q.Not v w)
+  inverts place (number n) x s = (refl, n, s, refl)
+  inverts place _ x s = tt

@@ -73,9 +73,9 @@ push_word ts _ h = absurd h
 
 -- the word of a name is pushed
 cell_runs : (setting : Setting) (B : Account) (z : Configuration) (c : List Stmt) (x : List ℕ) (rest : List Stmt) (w : World) (o i base : ℕ) → 16 * w.turns + 1 ≤ B.most → B.least ≤ w.turns → c ≡ Load (named_word z.scene x) ∷ rest → Ready setting z w
-    → BaseOf z.bases o base → base + i ≡ place_of z.scene.own z.frame (named_word z.scene x) → (y : Option Value) → read w.memory (address o i) ≡ y → RanValue setting (start z c w) B z rest w (given y w)
-cell_runs setting B z c x rest w o i base le le' ec r eb ep None h = went tt
-cell_runs setting B z c x rest w o i base le le' ec r eb ep (Some v) h =
+    → BaseOf z.bases o base → base + i ≡ place_of z.scene.own z.frame (named_word z.scene x) → (place : ℕ) (y : Option Value) → read w.memory (address o i) ≡ y → RanValue setting (start z c w) B z rest w (given place y w)
+cell_runs setting B z c x rest w o i base le le' ec r eb ep place None h = went tt
+cell_runs setting B z c x rest w o i base le le' ec r eb ep place (Some v) h =
     let f = read_here setting.codes (store z w) (z.frame + z.depth) o i base v r.fits eb h in
     let s = start z (Load (named_word z.scene x) ∷ rest) w in
     let here : z.cells (named_place s z.scene.own (named_word z.scene x)) ≡ z.cells (base + i) = ap z.cells (named_at z (Load (named_word z.scene x) ∷ rest) w (named_word z.scene x) ∙ sym ep) in
@@ -83,14 +83,14 @@ cell_runs setting B z c x rest w o i base le le' ec r eb ep (Some v) h =
     (subst (λ k. Applies setting.codes z.bases v k) (sym (ap content_of (here ∙ f.there))) f.stands)
     (does setting.program s z.scene.own rest z.depth (Load (named_word z.scene x)) refl refl refl))
 
-pub name_runs : (setting : Setting) (B : Account) (z : Configuration) (c : List Stmt) (x : List ℕ) (rest : List Stmt) (w : World) → 16 * w.turns + 1 ≤ B.most → B.least ≤ w.turns → c ≡ push z.scene.targets (meant (bound_in z.scene.bindings x)) ∷ rest
-    → Ready setting z w → RanValue setting (start z c w) B z rest w (named (sense_of x z.env) w)
-name_runs setting B z c x rest w le le' ec r = by_sense (sense_of x z.env) (r.named.each x)
+pub name_runs : (place : ℕ) (setting : Setting) (B : Account) (z : Configuration) (c : List Stmt) (x : List ℕ) (rest : List Stmt) (w : World) → 16 * w.turns + 1 ≤ B.most → B.least ≤ w.turns → c ≡ push z.scene.targets (meant (bound_in z.scene.bindings x)) ∷ rest
+    → Ready setting z w → RanValue setting (start z c w) B z rest w (named place (sense_of x z.env) w)
+name_runs place setting B z c x rest w le le' ec r = by_sense (sense_of x z.env) (r.named.each x)
   where
-    by_sense : (y : Option Sense) → NameAt z.scene z.bases z.frame x y → RanValue setting (start z c w) B z rest w (named y w)
+    by_sense : (y : Option Sense) → NameAt z.scene z.bases z.frame x y → RanValue setting (start z c w) B z rest w (named place y w)
     by_sense (Some (constant n)) h = number_runs setting B z c n rest w le le' (ec ∙ ap (λ y. push z.scene.targets (meant y) ∷ rest) h.0) h.1 r
     by_sense (Some (cell o i)) h =
-        cell_runs setting B z c x rest w o i h.0 le le' (ec ∙ ap (λ y. y ∷ rest) (push_word z.scene.targets (bound_in z.scene.bindings x) h.4)) r h.1 h.3 (read w.memory (address o i)) refl
+        cell_runs setting B z c x rest w o i h.0 le le' (ec ∙ ap (λ y. y ∷ rest) (push_word z.scene.targets (bound_in z.scene.bindings x) h.4)) r h.1 h.3 place (read w.memory (address o i)) refl
     by_sense _ h = went tt
 
 -- ---- One value and two, and what is done with them.
@@ -130,9 +130,9 @@ two_run setting inner sim B a b z c c1 rest w L go ad le le' la lb r h =
     (λ v w2 q. h u v w2 q pos))
 
 -- the contents of an address on top
-pub contents_run : (setting : Setting) (s : State) (A B : Account) (z : Configuration) (rest : List Stmt) (w w1 : World) (u : Value) → A.most + 1 ≤ B.most → B.least ≤ A.least → 2 ≤ z.depth
-    → Has setting s A z (Monadic m.Contents ∷ rest) (z.depth + 1) w u w1 → RanValue setting s B z rest w (fetch u w1)
-contents_run setting s A B z rest w w1 u le le' dp a = by_option (λ y. RanValue setting s B z rest w (given y w1)) (read w1.memory u) (λ _. went tt) (λ v h.
+pub contents_run : (place : ℕ) (setting : Setting) (s : State) (A B : Account) (z : Configuration) (rest : List Stmt) (w w1 : World) (u : Value) → A.most + 1 ≤ B.most → B.least ≤ A.least → 2 ≤ z.depth
+    → Has setting s A z (Monadic m.Contents ∷ rest) (z.depth + 1) w u w1 → RanValue setting s B z rest w (fetch place u w1)
+contents_run place setting s A B z rest w w1 u le le' dp a = by_option (λ y. RanValue setting s B z rest w (given place y w1)) (read w1.memory u) (λ _. went tt) (λ v h.
     let f = read_at setting.codes _ (z.frame + z.depth) u v _ a.arr.fits a.stands h in
     let k = f.cell.content in
     let low : f.base + f.offset < z.frame + z.depth = f.cell.low in
@@ -148,14 +148,14 @@ pub sign_run : (setting : Setting) (s : State) (A B : Account) (z : Configuratio
 sign_run setting s A B z op f rest w w1 u (gives v w2) is le le' dp a h =
     let t = there setting s A z (Monadic op ∷ rest) (z.depth + 1) w w1 a.arr in
     subst (λ x. RanValue setting s B z rest w (gives v x)) (sym h.0) (went (topped _ le le' dp a.arr h.3 (does setting.program t z.scene.own rest (z.depth + 1) (Monadic op) refl (is t (z.depth + 1) ∙ rw (one_off z.depth, h.2)) refl)))
-sign_run setting s A B z op f rest w w1 u undefined is le le' dp a h = went tt
+sign_run setting s A B z op f rest w w1 u (undefined l v) is le le' dp a h = went tt
 sign_run setting s A B z op f rest w w1 u _ is le le' dp a h = absurd h
 
 -- `+` before a number has no code
-pub plus_run : (setting : Setting) (s : State) (A B : Account) (z : Configuration) (rest : List Stmt) (w w1 : World) (u : Value) → A.most ≤ B.most → B.least ≤ A.least
-    → Has setting s A z rest (z.depth + 1) w u w1 → RanValue setting s B z rest w (operate_prefix q.Plus u w1)
-plus_run setting s A B z rest w w1 (number n) le le' a = went (record { arr = completed_more le le' a.arr; stands = a.stands })
-plus_run setting s A B z rest w w1 _ le le' a = went tt
+pub plus_run : (place : ℕ) (setting : Setting) (s : State) (A B : Account) (z : Configuration) (rest : List Stmt) (w w1 : World) (u : Value) → A.most ≤ B.most → B.least ≤ A.least
+    → Has setting s A z rest (z.depth + 1) w u w1 → RanValue setting s B z rest w (operate_prefix place q.Plus u w1)
+plus_run place setting s A B z rest w w1 (number n) le le' a = went (record { arr = completed_more le le' a.arr; stands = a.stands })
+plus_run place setting s A B z rest w w1 _ le le' a = went tt
 
 -- ---- two operands
 two_on : (z : Configuration) (c : List Stmt) → Inside z.scene.own (z.depth + 1 + 1) c ≡ Inside z.scene.own (z.depth + 2) c
@@ -192,37 +192,37 @@ dyadic_run setting s A B z op rest w w1 u v (ends e w2) le le' dp t h =
       wrote = refl;
       left = refl;
     })))
-dyadic_run setting s A B z op rest w w1 u v undefined le le' dp t h = went tt
+dyadic_run setting s A B z op rest w w1 u v (undefined l x) le le' dp t h = went tt
 dyadic_run setting s A B z op rest w w1 u v _ le le' dp t h = absurd h
 
 -- `!` between two operands: their sum, and its contents
-pub subscript_run : (setting : Setting) (s : State) (A B : Account) (z : Configuration) (rest : List Stmt) (w w1 : World) (u v : Value) → A.most + 2 ≤ B.most → B.least ≤ A.least → 2 ≤ z.depth
-    → Two setting s A z (Dyadic two.Add ∷ Monadic m.Contents ∷ rest) w u v w1 → RanValue setting s B z rest w (with (given (sum w1.memory u v) w1) fetch)
-subscript_run setting s A B z rest w w1 u v le le' dp t =
-    by_option (λ y. RanValue setting s B z rest w (with (given y w1) fetch)) (sum w1.memory u v) (λ _. went tt) (λ a h.
+pub subscript_run : (place : ℕ) (setting : Setting) (s : State) (A B : Account) (z : Configuration) (rest : List Stmt) (w w1 : World) (u v : Value) → A.most + 2 ≤ B.most → B.least ≤ A.least → 2 ≤ z.depth
+    → Two setting s A z (Dyadic two.Add ∷ Monadic m.Contents ∷ rest) w u v w1 → RanValue setting s B z rest w (with (given place (sum w1.memory u v) w1) (fetch place))
+subscript_run place setting s A B z rest w w1 u v le le' dp t =
+    by_option (λ y. RanValue setting s B z rest w (with (given place y w1) (fetch place))) (sum w1.memory u v) (λ _. went tt) (λ a h.
     let p = sum_applied setting.codes t.arr.bases1 t.arr.cells1 (z.frame + z.depth) w1 t.arr.fits u v a _ _ t.first t.second h in
     let N : Account = record { most = A.most + 1; least = A.least } in
-    contents_run setting s N B z rest w w1 a (omega arith) le' dp
+    contents_run _ setting s N B z rest w w1 a (omega arith) le' dp
     (dyadic_topped setting s A N z two.Add (Monadic m.Contents ∷ rest) w w1 u v a p.left p.right p.result (omega arith) (omega arith) dp t p.is_left p.is_right p.applies p.stands))
 
 -- a byte
-pub byte_run : (setting : Setting) (s : State) (A B : Account) (z : Configuration) (rest : List Stmt) (w w1 : World) (u v : Value) → A.most + 1 ≤ B.most → B.least ≤ A.least → 2 ≤ z.depth
-    → Two setting s A z (LoadByte ∷ rest) w u v w1 → RanValue setting s B z rest w (given (option_map number (read_byte w1.memory u v)) w1)
-byte_run setting s A B z rest w w1 u v le le' dp t =
-    by_option (λ y. RanValue setting s B z rest w (given (option_map number y) w1)) (read_byte w1.memory u v) (λ _. went tt) (λ n h.
+pub byte_run : (place : ℕ) (setting : Setting) (s : State) (A B : Account) (z : Configuration) (rest : List Stmt) (w w1 : World) (u v : Value) → A.most + 1 ≤ B.most → B.least ≤ A.least → 2 ≤ z.depth
+    → Two setting s A z (LoadByte ∷ rest) w u v w1 → RanValue setting s B z rest w (given place (option_map number (read_byte w1.memory u v)) w1)
+byte_run place setting s A B z rest w w1 u v le le' dp t =
+    by_option (λ y. RanValue setting s B z rest w (given place (option_map number y) w1)) (read_byte w1.memory u v) (λ _. went tt) (λ n h.
     let f = fits_more setting.codes _ (z.frame + z.depth) (z.frame + (z.depth + 2)) (omega arith) t.arr.fits in
     let p = read_byte_at setting.codes _ (z.frame + (z.depth + 2)) u v _ _ n f t.first t.second h in
     went (topped _ le le' dp t.arr refl
     (load_byte_moves setting.program (there setting s A z (LoadByte ∷ rest) (z.depth + 1 + 1) w w1 t.arr) z.scene.own rest z.depth p.word p.index n (two_on z (LoadByte ∷ rest)) p.is_word p.is_index p.reads)))
 
 -- any operator between two operands
-pub combined_run : (setting : Setting) (s : State) (A B : Account) (z : Configuration) (f : Operator) (rest : List Stmt) (w w1 : World) (u v : Value) → A.most + 2 ≤ B.most → B.least ≤ A.least → 2 ≤ z.depth
-    → Two setting s A z (infix_code f ++ rest) w u v w1 → RanValue setting s B z rest w (combined f u v w1)
-combined_run setting s A B z o.Subscript rest w w1 u v le le' dp t = subscript_run setting s A B z rest w w1 u v le le' dp t
-combined_run setting s A B z o.Byte rest w w1 u v le le' dp t = byte_run setting s A B z rest w w1 u v (omega arith) le' dp t
-combined_run setting s A B z f rest w w1 u v le le' dp t =
-    dyadic_run setting s A B z _ rest w w1 u v (operate f u v w1) (omega arith) le' dp t
-    (operates setting.codes t.arr.bases1 t.arr.cells1 (z.frame + z.depth) w1 t.arr.fits f u v _ _ t.first t.second)
+pub combined_run : (place : ℕ) (setting : Setting) (s : State) (A B : Account) (z : Configuration) (f : Operator) (rest : List Stmt) (w w1 : World) (u v : Value) → A.most + 2 ≤ B.most → B.least ≤ A.least → 2 ≤ z.depth
+    → Two setting s A z (infix_code f ++ rest) w u v w1 → RanValue setting s B z rest w (combined place f u v w1)
+combined_run place setting s A B z o.Subscript rest w w1 u v le le' dp t = subscript_run _ setting s A B z rest w w1 u v le le' dp t
+combined_run place setting s A B z o.Byte rest w w1 u v le le' dp t = byte_run _ setting s A B z rest w w1 u v (omega arith) le' dp t
+combined_run place setting s A B z f rest w w1 u v le le' dp t =
+    dyadic_run setting s A B z _ rest w w1 u v (operate place f u v w1) (omega arith) le' dp t
+    (operates setting.codes t.arr.bases1 t.arr.cells1 (z.frame + z.depth) w1 t.arr.fits place f u v _ _ t.first t.second)
 
 -- the other truth leads to the other place
 pub where_not : (u t : Bool) (to rest : List Stmt) → where_to (not u) t to rest ≡ where_to u (not t) to rest

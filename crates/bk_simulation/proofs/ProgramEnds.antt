@@ -1,5 +1,5 @@
 -- How the program ends where the call of START ends, comes on or falls.
-use Rattle.bk_simulation.proofs.Words.{◌≡◌, ℕ, zero, suc, ◌+◌, ◌*◌, ◌≤◌, List, ◌++◌, Option, Some, None, refl, sym, ap, ◌∙◌, subst, arith, ◌⊎◌, ⊎_elim, inl, inr, max, [], ◌∷◌, length, FRAME_WORDS, State, Goes, Ends, At, global_place, program_step, run, HasFrames, Value, procedure, address, World, Outcome, gives, leaves, ends, undefined, going, each_way, calls_back, status, calling, making, Run, Going, Undefined, run_of, first_world, started, means, option_map, number_in, Unset, Word, content_of, first_cells, first_state, Entry, read, Environment, globals_object, Procedure, procedure_of, first_memory, history, After, Meanings, enter, call, run_body, bind_formals, formal_cells, closing_after, End, settled, end_of, IsTooHigh, EndsWithin, ComesWithin, RunsOut, DoesEnd, Does, DoesFrom, drop}
+use Rattle.bk_simulation.proofs.Words.{◌≡◌, ℕ, zero, suc, ◌+◌, ◌*◌, ◌≤◌, List, ◌++◌, Option, Some, None, refl, sym, ap, ◌∙◌, subst, arith, ◌⊎◌, ⊎_elim, inl, inr, max, [], ◌∷◌, length, FRAME_WORDS, State, Goes, Ends, At, global_place, program_step, run, HasFrames, Value, procedure, address, World, Outcome, gives, leaves, ends, undefined, going, status, calling, making, Run, Going, Undefined, run_of, first_world, started, means, option_map, number_in, Unset, Word, content_of, first_cells, first_state, Entry, read, Environment, globals_object, Procedure, procedure_of, first_memory, history, After, Meanings, enter, call, run_body, bind_formals, formal_cells, closing_after, End, settled, end_of, IsTooHigh, EndsWithin, ComesWithin, RunsOut, DoesEnd, Does, DoesFrom, drop, returned, nowhere}
 use Rattle.bk_simulation.proofs.Pieces.{settled_step, entry_settled, Setting, FewFrames, Account, Reaches, Stopped, Fell, FallsThose, Ran, Went, Falls, state, run_after, goes_on_so, RunSo, comes_run, roomy, Simulates, by_option}
 use Rattle.bk_meaning.specs.World as world
 use Rattle.bk_simulation.proofs.Terms.{Ends as Finishes, Program}
@@ -11,7 +11,7 @@ use Rattle.bk_simulation.proofs.Applied.{AloneAdds}
 abbrev pub calls_of : Run → ℕ
 calls_of (Finishes bytes left calls e) = calls
 calls_of (Going bytes left calls) = calls
-calls_of Undefined = 1
+calls_of (Undefined bytes left calls place) = calls
 
 last_or : (k n : ℕ) → k ≤ suc n → (k ≤ n) ⊎ (k ≡ suc n)
 last_or zero n le = inl (omega arith)
@@ -83,8 +83,8 @@ module _ (setting : Setting) (s0 s : State) (is : settled setting.program s0 ≡
 
   -- what the call of START comes to, the program does
   does_those : (n k : ℕ) (B : Account) (o : Outcome Value) → B.most ≤ 16 * n + 16
-      → calls_of (run_of (each_way (λ v after. gives v (calls_back k after)) (λ x w. undefined) o)) ≡ setting.cap → Went setting s B (Over setting s B) AnyExit o ⊎ Falls setting s o
-      → Does setting.program setting.first n s0 (run_of (each_way (λ v after. gives v (calls_back k after)) (λ x w. undefined) o))
+      → calls_of (run_of (returned nowhere k o)) ≡ setting.cap → Went setting s B (Over setting s B) AnyExit o ⊎ Falls setting s o
+      → Does setting.program setting.first n s0 (run_of (returned nowhere k o))
   does_those n k B (gives v w) le ec r = grind (arith, (at_end n B (status 0) w le ec (end_of (status 0)) refl r))
   does_those n k B (ends e w) le ec r = subst (λ c. DoesEnd setting.program setting.first n s0 w.output w.input c (end_of e)) (sym ec) (at_end n B e w le ec (end_of e) refl r)
   does_those n k B (going w) le ec (inl q) = subst (λ c. Does setting.program setting.first n s0 (Going w.output w.input c)) (sym ec) (inl (reached_comes B w (16 * n + 16) le q))
@@ -107,14 +107,14 @@ pub record HasStart (setting : Setting) (p : Program) : Type 0 where
 abbrev pub called_at : Setting → List ℕ → ℕ → State
 called_at setting input start = record { control = At start; cells = first_cells setting.program setting.first; frame = setting.first; hand = None; input = input; output = []; written = [] }
 
-pub some_calls : (k : ℕ) (w0 : World) (o : Outcome Value) → After (history (calling w0)) o → 1 ≤ calls_of (run_of (each_way (λ v after. gives v (calls_back k after)) (λ x w. undefined) o))
+pub some_calls : (k : ℕ) (w0 : World) (o : Outcome Value) → After (history (calling w0)) o → 1 ≤ calls_of (run_of (returned nowhere k o))
 some_calls k w0 (gives v w) h = let c : max w0.most_calls (w0.calls + 1) ≤ w.most_calls = h.most_calls in omega arith
-some_calls k w0 (leaves x w) h = omega arith
+some_calls k w0 (leaves x w) h = let c : max w0.most_calls (w0.calls + 1) ≤ w.most_calls = h.most_calls in omega arith
 some_calls k w0 (ends e w) h = let c : max w0.most_calls (w0.calls + 1) ≤ w.most_calls = h.most_calls in omega arith
-some_calls k w0 undefined h = omega arith
+some_calls k w0 (undefined l w) h = let c : max w0.most_calls (w0.calls + 1) ≤ w.most_calls = h.most_calls in omega arith
 some_calls k w0 (going w) h = let c : max w0.most_calls (w0.calls + 1) ≤ w.most_calls = h.most_calls in omega arith
 
-pub enter_after : (inner : Meanings) → AloneAdds inner → (setting : Setting) → Simulates setting inner → (f : Procedure) (vs : List Value) (w : World) → After (history w) (enter inner (Some f) vs w)
+pub enter_after : (inner : Meanings) → AloneAdds inner → (setting : Setting) → Simulates setting inner → (f : Procedure) (vs : List Value) (w : World) → After (history w) (enter inner nowhere (Some f) vs w)
 enter_after inner alone_after setting sim f vs w =
     let w2 : World = making (formal_cells f.formals vs) w in
     let env : Environment = bind_formals (length w.memory) 0 f.formals f.env in
@@ -125,7 +125,7 @@ pub record Entered (setting : Setting) (inner : Meanings) (f : Procedure) (w0 : 
   pub at : State
   pub is : settled setting.program s0 ≡ at
   pub few : FewFrames setting s0.cells s0.frame setting.cap
-  pub ran : (B : Account) → 16 * w0.turns + 16 ≤ B.most → B.least ≤ w0.turns → Ran setting at B (Over setting at B) AnyExit (enter inner (Some f) [] (calling w0))
+  pub ran : (B : Account) → 16 * w0.turns + 16 ≤ B.most → B.least ≤ w0.turns → Ran setting at B (Over setting at B) AnyExit (enter inner nowhere (Some f) [] (calling w0))
 
 pub entered_so : (setting : Setting) (p : Program) (n : ℕ) (input : List ℕ) → Simulates setting (means p n) → AloneRuns setting (means p n) → FirstStore setting (first_memory p) (first_cells setting.program setting.first) → (k : ℕ) (f : Procedure) → IsProcedure setting k f → 1 ≤ setting.cap
     → Entered setting (means p n) f (first_world p input n) (called_at setting input (setting.codes.procedure k))
@@ -149,14 +149,14 @@ does_from setting p n input sim alone_runs alone_after procs fs (inr has) ec =
     let m : Meanings = means p n in
     let w0 : World = first_world p input n in
     let s0 : State = called_at setting input (setting.codes.procedure has.number) in
-    let run_at : Option Procedure → Run = λ o. run_of (each_way (λ v after. gives v (calls_back 0 after)) (λ x w. undefined) (enter m o [] (calling w0))) in
+    let run_at : Option Procedure → Run = λ o. run_of (returned nowhere 0 (enter m nowhere o [] (calling w0))) in
     let B : Account = record { most = 16 * n + 16; least = 0 } in
     let ef : first_state setting.program setting.first input ≡ Some s0 = ap (λ c. option_map (called_at setting input) (number_in c)) has.word in
-    let em : started p (read (first_memory p) (address globals_object 1)) (first_world p input n) n ≡ run_of (call p m (procedure has.number) [] w0) = ap (λ v. started p v w0 n) has.is in
+    let em : started p (read (first_memory p) (address globals_object 1)) (first_world p input n) n ≡ run_of (call p m nowhere (procedure has.number) [] w0) = ap (λ v. started p v w0 n) has.is in
     subst (λ s. DoesFrom setting.program setting.first n s (started p (read (first_memory p) (address globals_object 1)) w0 n)) (sym ef)
     (subst (λ r. Does setting.program setting.first n s0 r) (sym em)
     (by_option (λ o. calls_of (run_at o) ≡ setting.cap → Does setting.program setting.first n s0 (run_at o)) (procedure_of p has.number) (λ _ ec. tt) (λ f eo ec.
-    let o : Outcome Value = enter m (Some f) [] (calling w0) in
+    let o : Outcome Value = enter m nowhere (Some f) [] (calling w0) in
     let c1 : 1 ≤ calls_of (run_at (Some f)) = some_calls 0 w0 o (enter_after m alone_after setting sim f [] (calling w0)) in
     let cap1 : 1 ≤ setting.cap = omega arith in
     let x = entered_so setting p n input sim alone_runs fs has.number f (procs.each has.number f eo) cap1 in

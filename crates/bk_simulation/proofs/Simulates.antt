@@ -86,5 +86,5 @@ pub record Simulates (setting : Setting) (inner : Meanings) : Type 0 where
       → RanDid setting (start z e w) (for_rounds x w) z rest w (inner.rounds x mode z.env w)
   pub scope : (cs : Commands) (mode : Mode) (z : Configuration) (j : ℕ) (at : Sought → List Stmt) (c rest e : List Stmt) (w : World) → IsScopeAt setting z.scene z.depth z.env cs j at c rest → EnteredAny mode (labelled cs z.env) cs at c e → Ready setting z w
       → RanDid setting (start z e w) (for_scope cs w) z rest w (inner.scope cs mode z.env w)
-  pub for_rounds : (x : Command) (o : ℕ) (u : Value) (k d : ℕ) (z : Configuration) (body rest : List Stmt) (w : World) → z.depth ≡ d + 2 → IsForLoop setting z.scene z.depth d k z.env x body rest → Limit setting z w d o u → Ready setting z w
-      → RanDid setting (start z body w) (for_counts x w) z rest w (inner.for_rounds x o u k z.env w)
+  pub for_rounds : (place : ℕ) (x : Command) (o : ℕ) (u : Value) (k d : ℕ) (z : Configuration) (body rest : List Stmt) (w : World) → z.depth ≡ d + 2 → IsForLoop setting z.scene z.depth d k z.env x body rest → Limit setting z w d o u → Ready setting z w
+      → RanDid setting (start z body w) (for_counts x w) z rest w (inner.for_rounds place x o u k z.env w)

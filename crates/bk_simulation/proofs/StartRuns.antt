@@ -1,5 +1,5 @@
 -- START is called: into its frame, through its body, and home.
-use Rattle.bk_simulation.proofs.Words.{Save, ◌≡◌, ℕ, suc, ◌+◌, ◌-◌, ◌*◌, ◌<◌, ◌≤◌, ◌^◌, List, [], ◌∷◌, ◌++◌, length, Some, None, pos, refl, sym, ap, ◌∙◌, subst, arith, ⊎_elim, slice_get, slice_get_within, FRAME_WORDS, GLOBAL_NUMBER, Status, Word, Link, Cell, Held, content_of, below, settle, Placed, Inside, At, State, Ends, global_place, step, Program, program_step, HasFrames, start, called, Entry, Value, unset, holds, Memory, World, making, forgetting, calling, status, Environment, Procedure, Meanings, formal_cells, bind_formals, enter, settle-kept, settled, drop, eq-eqb, Cell_of}
+use Rattle.bk_simulation.proofs.Words.{Save, ◌≡◌, ℕ, suc, ◌+◌, ◌-◌, ◌*◌, ◌<◌, ◌≤◌, ◌^◌, List, [], ◌∷◌, ◌++◌, length, Some, None, pos, refl, sym, ap, ◌∙◌, subst, arith, ⊎_elim, slice_get, slice_get_within, FRAME_WORDS, GLOBAL_NUMBER, Status, Word, Link, Cell, Held, content_of, below, settle, Placed, Inside, At, State, Ends, global_place, step, Program, program_step, HasFrames, start, called, Entry, Value, unset, holds, Memory, World, making, forgetting, calling, status, Environment, Procedure, Meanings, formal_cells, bind_formals, enter, settle-kept, settled, drop, eq-eqb, Cell_of, nowhere}
 use Rattle.bk_simulation.proofs.Pieces.{Moves, returning, does, links_kept, links_through, links_settled, BaseOf, Like, like_on, StandsCell, Store, Grown, Fits, fits_above, fits_more, make, grown_made, make_fits, get_new, below_at, below_like, settle_like, settle_at, HasBytes, AllBytes, moves_bytes, Setting, Configuration, state, FewFrames, Ready, Account, Comes, here, go_on, comes_on, one, Ran, ran_from, there, Stopped, roomy, Simulates, formals_long, formal_is}
 use Rattle.bk_simulation.proofs.FramesKept.{links_below}
 use Rattle.bk_simulation.proofs.Calls.{AnyExit, Yielded, AloneRuns, for_body, body_small, body_runs, closing_ran, IsProcedure, in_body, links_free}
@@ -30,7 +30,7 @@ Over setting s B v w = Stopped setting s B (status 0) w
 pub start_runs : (setting : Setting) (inner : Meanings) → Simulates setting inner → AloneRuns setting inner → (k : ℕ) (f : Procedure) → (ip : IsProcedure setting k f) → (c0 : ℕ → Cell) (w0 : World) → FirstStore setting w0.memory c0 → w0.calls ≡ 0 → 1 ≤ setting.cap → (B : Account)
     → 16 * w0.turns + 16 ≤ B.most → B.least ≤ w0.turns
     → Ran setting (state ip.scene.own 2 (Entry ip.label ip.name ∷ drop (suc ip.place) ip.scene.own.stmts) c0 setting.first None [] w0) B (Over setting (state ip.scene.own 2 (Entry ip.label ip.name ∷ drop (suc ip.place) ip.scene.own.stmts) c0 setting.first None [] w0) B) AnyExit
-    (enter inner (Some f) [] (calling w0))
+    (enter inner nowhere (Some f) [] (calling w0))
 start_runs setting inner sim alone_runs k f ip c0 w0 fs no_calls cap1 B leB leB' =
     let top : ℕ = setting.first in
     let size : ℕ = length f.formals + 2 in

@@ -15,7 +15,7 @@ pub use Rattle.bk_base.specs.declared.limit.TheConstants.{FRAME_WORDS, GLOBAL_NU
 pub use Rattle.bk_base.specs.declared.run_end.End.TheVariants.{DivideByZero, Status}
 pub use Rattle.bk_tree.specs.Parts.{at_expression, size}
 pub use Rattle.bk_tree.specs.Tree.{Command, Commands, Declaration, Declarations, Definition, Definitions, Expression, Expressions, Items, Mention, Starts}
-pub use Rattle.bk_simulation.proofs.Terms.{Operator, Sort, Bound, Destination, Truth, Environment, Named, Sense, following, bind_each, bind_procedure_as, bind_procedures, cell, constant, constant_in, constants_declared, count, foreign, global_named, globals_object, label, labelled, letters, manifests, objects, objects_of_command, objects_of_commands, objects_of_declaration, objects_of_declarations, objects_of_definitions, objects_of_each, objects_of_starts, past, past_command, past_definition, past_each, sense_in, sense_of, sense_of_constant, sense_of_global, statics, within_let, word_named, address_in, combined, judged, result_exit, result_of, truth_of, value_of, Body, Lasting, Procedure, all_declared, code, command, constant_words, declared, entry_cells, expression, first_memory, global_cells, global_vector, in_scope, library_cells, object_of, objects_from, of_command, of_commands, of_declaration, of_declarations, of_definitions, of_each, of_expression, of_items, of_sections, of_starts, procedure_in, procedure_of, procedures_set, program_of, set_global, static_words, text_words, variables_hidden, words, difference, equal, equals_zero, lies_within, on_numbers, operate, operate_prefix, ordered, sum, truth_number, truth_of_value, Meanings, address_named, at, fetch, named, store, Going, Run, Undefined, first_world, meaning, means, means_with, no_turn_for, no_turns, run_of, started, turn_for, Simple, Prefix, Start, bind_variables, declare, declare_all, let_values, make_vec, paired, vec_cells}
+pub use Rattle.bk_simulation.proofs.Terms.{Operator, Sort, Bound, Destination, Truth, Environment, Named, Sense, following, bind_each, bind_procedure_as, bind_procedures, cell, constant, constant_in, constants_declared, count, foreign, global_named, globals_object, label, labelled, letters, manifests, objects, objects_of_command, objects_of_commands, objects_of_declaration, objects_of_declarations, objects_of_definitions, objects_of_each, objects_of_starts, past, past_command, past_definition, past_each, sense_in, sense_of, sense_of_constant, sense_of_global, statics, within_let, word_named, address_in, combined, judged, result_exit, result_of, truth_of, value_of, Body, Lasting, Procedure, all_declared, code, command, constant_words, declared, entry_cells, expression, first_memory, global_cells, global_vector, in_scope, library_cells, object_of, objects_from, of_command, of_commands, of_declaration, of_declarations, of_definitions, of_each, of_expression, of_items, of_sections, of_starts, procedure_in, procedure_of, procedures_set, program_of, set_global, static_words, text_words, variables_hidden, words, difference, equal, equals_zero, lies_within, on_numbers, operate, operate_prefix, ordered, sum, truth_number, truth_of_value, Meanings, acts_at, nowhere, address_named, at, fetch, named, store, Going, Run, Undefined, first_world, meaning, means, means_with, no_turn_for, no_turns, run_of, started, turn_for, Simple, Prefix, Start, bind_variables, declare, declare_all, let_values, make_vec, paired, vec_cells}
 pub use Rattle.bk_scope.specs.Constants.{constant_word, divides_by_zero, infix_word, named_word, prefix_word}
 pub use Rattle.bk_scope.specs.Entering.{labels_of, labels_of_each, with_formals}
 pub use Rattle.bk_scope.specs.Names.{parenthesised, place_after, variables_of, within, words_of_start, words_of_vector, place_of_second, role_of_operands}
@@ -55,7 +55,7 @@ pub use Rattle.bk_trans.specs.declared.around.Around.{Around}
 pub use Rattle.bk_trans.specs.declared.around.Goal.{Goal}
 pub use Rattle.bk_trans.specs.declared.around.Target.{Target}
 pub use Rattle.bk_meaning.proofs.Lemmas.{all_declared-next, declared-next, Adds, adds, calling_on, changes_after, closing_after, each_way_after, earlier, either_after, given_after, stays, turn_after, with_after, cut_only_without_turns, library_ties, only_grows, ties_add}
-pub use Rattle.bk_meaning.specs.Calls.{applied, bind_formals, call, enter, formal_cells, return_exit, run_body, values}
+pub use Rattle.bk_meaning.specs.Calls.{applied, bind_formals, call, enter, formal_cells, return_exit, returned, run_body, values}
 pub use Rattle.bk_meaning.specs.Commands.{act_of, assigned, case_exit, choose_case, ended_case}
 pub use Rattle.bk_meaning.specs.Growing.{After, Grows, Throughout, history}
 pub use Rattle.bk_meaning.specs.Loops.{again, for_loop, for_rounds_of, for_step, for_test, relation, round_exit, rounds_of, same_truth, step_of, where_truth}

@@ -88,7 +88,7 @@ module _ (program : Program) (first : ℕ) where
   abbrev pub Does : ℕ → State → Run → Type 0
   Does n s (Finishes bytes left calls e) = DoesEnd n s bytes left calls (end_of e)
   Does n s (Going bytes left calls) = ComesWithin s (16 * n + 16) calls bytes left ⊎ RunsOut s calls bytes
-  Does n s Undefined = Unit {0}
+  Does n s (Undefined bytes left calls place) = Unit {0}
 
   -- without a first state the source has no START
   abbrev pub DoesFrom : ℕ → Option State → Run → Type 0

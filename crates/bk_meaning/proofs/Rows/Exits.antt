@@ -33,7 +33,7 @@ rows =
     []))
     -- GOTO out of a VALOF in a VALOF in a FOR with a block; their objects are dead behind it.
     --   LET START() BE $( LET P = 0; FOR I = 1 TO 3 DO $( LET V = VEC 2; P := V; WRITEN(VALOF RESULTIS 1 + VALOF GOTO L) $); L: WRCH('A'); WRCH(P -> 'B', 'C') $)
-    ∷ takes 26 [] Undefined (Going (65 ∷ []) [] 2)
+    ∷ takes 26 [] (Undefined (65 ∷ []) [] 2 1) (Going (65 ∷ []) [] 2)
     (main (block (a_variable n.p (number 0) ∷ []) (for_loop n.i (number 1) (number 3) [] (block (a_vector n.v (number 2) ∷ []) (set n.p (named n.v) ∷
     writen (valof (result (plus (number 1) (valof (goto n.l))))) ∷ [])) ∷ label n.l (wrch (number 65)) ∷ wrch (choice (named n.p) (number 66) (number
     67)) ∷ [])))

@@ -49,24 +49,24 @@ rows =
     switch (number 1) (compound (case (number 1) empty ∷ [])) ∷ [])))
     -- The difference of two addresses of a dead object.
     --   LET START() BE $( LET P, Q = 0, 0; $( LET V = VEC 1; P := V; Q := V + 1 $); WRCH('A'); P := Q - P $)
-    ∷ takes 22 [] Undefined (Going (65 ∷ []) [] 2)
+    ∷ takes 22 [] (Undefined (65 ∷ []) [] 2 1) (Going (65 ∷ []) [] 2)
     (main (block (lets (variables (n.p ∷ n.q ∷ []) (value (number 0) ∷ value (number 0) ∷ []) ∷ []) ∷ []) (block (a_vector n.v (number 1) ∷ []) (set
     n.p (named n.v) ∷ set n.q (plus (named n.v) (number 1)) ∷ []) ∷ wrch (number 65) ∷ set n.p (binary o.Subtract (named n.q) (named n.p)) ∷ [])))
     -- Whether two addresses of a dead object are equal.
     --   LET START() BE $( LET P, Q = 0, 0; $( LET V = VEC 1; P := V; Q := V + 1 $); WRCH('A'); IF P = Q DO WRCH('B') $)
-    ∷ takes 22 [] Undefined (Going (65 ∷ []) [] 2)
+    ∷ takes 22 [] (Undefined (65 ∷ []) [] 2 1) (Going (65 ∷ []) [] 2)
     (main (block (lets (variables (n.p ∷ n.q ∷ []) (value (number 0) ∷ value (number 0) ∷ []) ∷ []) ∷ []) (block (a_vector n.v (number 1) ∷ []) (set
     n.p (named n.v) ∷ set n.q (plus (named n.v) (number 1)) ∷ []) ∷ wrch (number 65) ∷ when true (binary o.Equal (named n.p) (named n.q)) (wrch
     (number 66)) ∷ [])))
     -- The order of two addresses of a dead object.
     --   LET START() BE $( LET P, Q = 0, 0; $( LET V = VEC 1; P := V; Q := V + 1 $); WRCH('A'); IF P <= Q DO WRCH('B') $)
-    ∷ takes 22 [] Undefined (Going (65 ∷ []) [] 2)
+    ∷ takes 22 [] (Undefined (65 ∷ []) [] 2 1) (Going (65 ∷ []) [] 2)
     (main (block (lets (variables (n.p ∷ n.q ∷ []) (value (number 0) ∷ value (number 0) ∷ []) ∷ []) ∷ []) (block (a_vector n.v (number 1) ∷ []) (set
     n.p (named n.v) ∷ set n.q (plus (named n.v) (number 1)) ∷ []) ∷ wrch (number 65) ∷ when true (binary o.AtMost (named n.p) (named n.q)) (wrch
     (number 66)) ∷ [])))
     -- The order of a place and of one outside of its object.
     --   LET START() BE $( LET V = VEC 1; WRCH('A'); IF V < V + 3 DO WRCH('B') $)
-    ∷ takes 12 [] Undefined (Going (65 ∷ []) [] 2)
+    ∷ takes 12 [] (Undefined (65 ∷ []) [] 2 1) (Going (65 ∷ []) [] 2)
     (main (block (a_vector n.v (number 1) ∷ []) (wrch (number 65) ∷ when true (binary o.Less (named n.v) (plus (named n.v) (number 3))) (wrch (number
     66)) ∷ [])))
     ∷ []

@@ -1,4 +1,4 @@
-use Rattle.bk_check.proofs.Terms.{◌≡◌, ◌∷◌, ap, starts_in, address, made, Outcome, Done, gives, with, starts, vec_cells, full, letters_in, env_in, world, tag, done_tag, resumed, started_then}
+use Rattle.bk_check.proofs.Terms.{◌≡◌, ◌∷◌, ap, expression, starts_in, acts_at, address, made, Outcome, Done, gives, with, starts, vec_cells, full, letters_in, env_in, world, tag, done_tag, resumed, started_then}
 use Rattle.bk_check.proofs.Vectors.{meets_there, vector_made}
 use Rattle.bk_check.proofs.blocks.make_vector.Goals as goal
 
@@ -9,5 +9,5 @@ returns c =
     (λ p w. with (with (starts (full p) (starts_in c.args.others.now) (env_in c.args.here) w) (λ vs w. gives (address c.made-object.result 0 ∷ vs) w)) (λ vs w. started_then p c.args.rest.value (letters_in c.args.names.now) vs w))
     _
     (λ p b. ap (λ (u : Outcome Done). resumed p c.args.m.now.frames.items (tag done_tag u))
-    (vector_made p c.args.last c.in-Some.last c.made-object.result c.make_unset.new.self (starts_in c.args.others.now) (env_in c.args.here) (letters_in c.args.names.now) c.args.rest.value (world c.args.m.now b) c.in-Some.is c.made-object.ensures mem))
+    (vector_made p (acts_at (expression c.args.size.now)) c.args.last c.in-Some.last c.made-object.result c.make_unset.new.self (starts_in c.args.others.now) (env_in c.args.here) (letters_in c.args.names.now) c.args.rest.value (world c.args.m.now b) c.in-Some.is c.made-object.ensures mem))
     c.named.ensures

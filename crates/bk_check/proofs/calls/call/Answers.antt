@@ -12,5 +12,5 @@ returns c =
     let k : c.max-m.result ≡ max c.args.m.now.most_calls (c.args.m.now.calls + 1) = grind arith in
     meets_in p c.called.result _ (λ b. world c.called.new.m b) _ _
     (λ b. let w = world c.args.m.now b in
-    pushed_return p c.args.m.now.frames.items _ (record { at = c.args.at; callee = c.args.callee; arguments = c.len.result; calls = c.args.m.now.calls }) (called p (full p) f vs (record w { calls = c.in_ok-m.field-0; most_calls = c.max-m.result })) c.in_ok-push.ensures.items
-    ∙ ap (λ (u : Outcome Value). resumed p c.args.m.now.frames.items (tag a_value u)) (counted p f vs w c.in_ok-m.field-0 c.max-m.result n k)) c.called.ensures
+    pushed_return p c.args.m.now.frames.items _ (record { at = c.args.at; callee = c.args.callee; arguments = c.len.result; calls = c.args.m.now.calls }) (called p (full p) c.args.at f vs (record w { calls = c.in_ok-m.field-0; most_calls = c.max-m.result })) c.in_ok-push.ensures.items
+    ∙ ap (λ (u : Outcome Value). resumed p c.args.m.now.frames.items (tag a_value u)) (counted p c.args.at f vs w c.in_ok-m.field-0 c.max-m.result n k)) c.called.ensures

@@ -1,6 +1,6 @@
 use Rattle.bk_check.proofs.Terms.{◌≡◌, List, map, ap, ◌∙◌, Value, made, Outcome, remembering, Environment, formal_cells, bind_formals, run_body, Worth, Cell, cell_in, full, env_in, procedure_in, world, tag, a_value, resumed, list_value}
 use Rattle.bk_meaning.specs.Values as v
-use Rattle.bk_check.proofs.Resuming.{meets, pushed_closing_value}
+use Rattle.bk_check.proofs.Resuming.{meets_each, pushed_closing_value}
 use Rattle.bk_check.proofs.Entering.{entered}
 use Rattle.bk_check.proofs.calls.enter.Goals as goal
 
@@ -10,6 +10,6 @@ returns c =
     let vs = list_value c.args.values.items in
     let env : env_in c.in_ok-env.env ≡ bind_formals c.made-object.result 0 q.formals q.env = c.in_ok-env.ensures ∙ ap (λ (x : Environment). bind_formals c.made-object.result 0 q.formals x) c.in_ok-again.ensures in
     let mem : c.make.new.self ≡ made (formal_cells q.formals vs) c.args.m.now.store = c.in_ok-make.ensures.made ∙ ap (λ (xs : List Cell). made (map cell_in xs) c.args.m.now.store) c.deref-2.ensures.value ∙ ap (λ (xs : List v.Cell). made xs c.args.m.now.store) (c.in_ok-cells.ensures ∙ ap (λ (ys : List Worth). formal_cells q.formals (list_value ys)) c.deref.ensures.value) in
-    meets c.body.result _ (λ b. world c.body.new.m b) _ _
-    (λ p b. pushed_closing_value p c.args.m.now.frames.items _ c.made-object.result (run_body (full p) q.body (env_in c.in_ok-env.env) (remembering c.make.new.self (world c.args.m.now b))) c.in_ok-push.ensures.items
-    ∙ ap (λ (u : Outcome Value). resumed p c.args.m.now.frames.items (tag a_value u)) (entered p q vs (world c.args.m.now b) c.made-object.result (env_in c.in_ok-env.env) c.make.new.self c.made-object.ensures env mem)) c.body.ensures
+    meets_each c.body.result _ (λ b. world c.body.new.m b) _ _
+    (λ p b l. pushed_closing_value p c.args.m.now.frames.items _ c.made-object.result (run_body (full p) q.body (env_in c.in_ok-env.env) (remembering c.make.new.self (world c.args.m.now b))) c.in_ok-push.ensures.items
+    ∙ ap (λ (u : Outcome Value). resumed p c.args.m.now.frames.items (tag a_value u)) (entered p l q vs (world c.args.m.now b) c.made-object.result (env_in c.in_ok-env.env) c.make.new.self c.made-object.ensures env mem)) c.body.ensures

@@ -9,5 +9,5 @@ returns c =
     meets c.for_round.result _ (λ b. world c.for_round.new.m b) _ _
     (λ p b. let w = world c.args.m.now b in
     ap (λ (u : Outcome Done). resumed p c.args.m.now.frames.items (tag done_tag u))
-    (sym (full_for_rounds p (command_in f.body.now) f.object (value_in f.limit) f.step (env_in f.env) (record w { turns = w.turns - 1 }))
-    ∙ turn_left w (λ (w : World). (full p).for_rounds (command_in f.body.now) f.object (value_in f.limit) f.step (env_in f.env) w) lt)) c.for_round.ensures
+    (sym (full_for_rounds p f.name.now.at (command_in f.body.now) f.object (value_in f.limit) f.step (env_in f.env) (record w { turns = w.turns - 1 }))
+    ∙ turn_left w (λ (w : World). (full p).for_rounds f.name.now.at (command_in f.body.now) f.object (value_in f.limit) f.step (env_in f.env) w) lt)) c.for_round.ensures

@@ -9,7 +9,7 @@ pub returns-in-Value-clause-checks : goal.returns-in-Value-clause-checks
 returns-in-Value-clause-checks g c =
     let p = program_in c.args.program.now in
     ok_map _ _ c.check_start.result (λ report runs sections is.
-    checks_start sections p c.args.turns is (value_in c.in-Value.start) report.verdict _ _ (start_found p c.args.turns c.in_ok-m.m c.in_ok-m.ensures c.read.result c.read.ensures c.in-Value.start c.in-Value.is) (runs c.args.turns c.in_ok-m.ensures)) c.check_start.ensures.shows
+    checks_start sections p c.args.turns is (value_in c.in-Value.start) report.verdict report.stop.at _ _ (start_found p c.args.turns c.in_ok-m.m c.in_ok-m.ensures c.read.result c.read.ensures c.in-Value.start c.in-Value.is) (runs c.args.turns c.in_ok-m.ensures)) c.check_start.ensures.shows
 
 pub returns-in-Value-clause-part : goal.returns-in-Value-clause-part
 returns-in-Value-clause-part g c =
@@ -23,7 +23,7 @@ returns g c =
     let same = exchanged_still _ _ (Keeps-refl (g.I.ByteIn.left c.args.input.now)) refl c.no_start.ensures.keeps in
     record {
       checks = ok_map _ _ c.no_start.result (λ report none sections is.
-          checks_none sections p c.args.turns is report.verdict _ _ (no_start_found p c.args.turns c.in_ok-m.m c.in_ok-m.ensures c.read.result c.read.ensures c.in_default.not-Value) none same) c.no_start.ensures.verdict;
+          checks_none sections p c.args.turns is report.verdict report.stop.at _ _ (no_start_found p c.args.turns c.in_ok-m.m c.in_ok-m.ensures c.read.result c.read.ensures c.in_default.not-Value) none same) c.no_start.ensures.verdict;
       flushed = c.no_start.ensures.flushed;
       flushed_where_given_up = err_map _ _ c.no_start.result (λ stop failed. subst (λ (f : CheckFault). Flushed f (g.O.ByteOut.passed c.no_start.new.out) (g.O.ByteOut.taken c.no_start.new.out)) (sym failed.0) tt) c.no_start.ensures.failed;
       part = if_err c.no_start.result (λ sections is. nothing_yet sections c.args.turns _ _ same);

@@ -1,4 +1,4 @@
-use Rattle.bk_objects.proofs.Terms.{◌≡◌, ◌+◌, ◌∙◌, length, length-append, refl, arith, common_steps, memory_of}
+use Rattle.bk_objects.proofs.Terms.{◌≡◌, ◌+◌, ◌∙◌, length, length-append, arith, common_steps, memory_of}
 use Rattle.bk_objects.proofs.Memories.{Laid-wider, Laid-push, memory_of-more, memory_of-made, on_err}
 use Rattle.bk_objects.proofs.store.Store.make.Goals as goal
 

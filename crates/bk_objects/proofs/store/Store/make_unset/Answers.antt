@@ -1,4 +1,4 @@
-use Rattle.bk_objects.proofs.Terms.{◌≡◌, ◌+◌, ◌∙◌, length, length-append, refl, ap, arith, common_steps, length-replicate, memory_of}
+use Rattle.bk_objects.proofs.Terms.{◌≡◌, ◌+◌, ◌∙◌, length, length-append, ap, arith, common_steps, length-replicate, memory_of}
 use Rattle.bk_objects.specs.declared.worth.Cell.TheVariants.{Holds}
 use Rattle.bk_objects.specs.declared.worth.Worth.TheVariants.{Unset}
 use Rattle.bk_objects.specs.declared.worth.Origin.TheVariants.{Never}
