@@ -18,19 +18,19 @@ use Rattle.bk_checker.specs.declared.report.Report.{Report}
 use Rattle.bk_checker.specs.declared.report.Notice.{Notice}
 use Rattle.bk_checker.specs.Reports.{IsOnItsLine}
 use Rattle.bk_checker.specs.Checks.{Devices, Checks, ChecksPart, Blames, Flushed}
-use Rattle.bk_kit.specs.declared.kit_fault.KitFault.{KitFault}
-use Rattle.bk_kit.specs.declared.kit_fault.KitFault.TheVariants.{Source}
+use Rattle.bk_filters.specs.declared.kit_fault.KitFault.{KitFault}
+use Rattle.bk_filters.specs.declared.kit_fault.KitFault.TheVariants.{Source}
+use Rattle.bk_filters.specs.FaultLine.{fault_text, line_of}
+use Rattle.bk_filters.specs.Interpreting.{Streams, is_read_fault}
+use Rattle.bk_filters.specs.ReadingSource.{EachSource}
+use Rattle.bk_filters.specs.RunningSource.{NotAssembled}
+use Rattle.bk_filters.specs.SourceSections.{HasTrees}
+use Rattle.bk_filters.specs.Telling.{Output, ReportsLine, Tells}
 use Rattle.bk_kit.specs.declared.cut.CutSection.{CutSection}
 use Rattle.bk_kit.specs.declared.checker.Refusal.{Refusal}
 use Rattle.bk_kit.specs.declared.checker.NotChecked.{NotChecked}
 use Rattle.bk_kit.specs.declared.checker.NotChecked.TheVariants as n
-use Rattle.bk_kit.specs.FaultLine.{fault_text, line_of}
-use Rattle.bk_kit.specs.Interpreting.{Streams, is_read_fault}
-use Rattle.bk_kit.specs.ReadingSource.{EachSource}
-use Rattle.bk_kit.specs.RunningSource.{NotAssembled}
-use Rattle.bk_kit.specs.SourceSections.{HasTrees}
 use Rattle.bk_kit.specs.Statuses.{fault_status}
-use Rattle.bk_kit.specs.Telling.{Output, ReportsLine, Tells}
 use Rattle.bk_kit.specs.Tracing.{FileRead}
 
 -- the source could not be read

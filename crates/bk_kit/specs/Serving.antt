@@ -3,22 +3,22 @@ use Rattle.std.specs.Prelude.{◌≡◌, ◌≢◌, ℕ, ⊤, List, Option, None
 use Rattle.bk_base.specs.Devices.{Begins}
 use Rattle.bk_base.specs.declared.run_end.End.{End}
 use Rattle.bk_base.specs.declared.run_end.End.TheVariants.{WriteFault}
-use Rattle.bk_kit.specs.declared.kit_fault.KitFault.{KitFault}
+use Rattle.bk_filters.specs.declared.kit_fault.KitFault.{KitFault}
+use Rattle.bk_filters.specs.Interpreting.{Streams, Interpreted, is_read}
+use Rattle.bk_filters.specs.Headline.{Headline}
+use Rattle.bk_filters.specs.Compiling.{Compiles}
+use Rattle.bk_filters.specs.Generating.{Generates}
+use Rattle.bk_filters.specs.RunningSource.{ReadsSource, KeepsLimits}
+use Rattle.bk_filters.specs.SourceMeaning.{meanings}
+use Rattle.bk_filters.specs.Sizes.{store_words, Reports}
+use Rattle.bk_filters.specs.Telling.{Output, Tells}
 use Rattle.bk_kit.specs.declared.orders.Order.{Order}
 use Rattle.bk_kit.specs.declared.orders.Order.TheVariants.{Compile, Generate, Run, TraceSource, Check, Show, ShowInput, Interpret, Trace, Sizes}
-use Rattle.bk_kit.specs.Interpreting.{Streams, Interpreted, is_read}
-use Rattle.bk_kit.specs.Headline.{Headline}
-use Rattle.bk_kit.specs.Compiling.{Compiles}
-use Rattle.bk_kit.specs.Generating.{Generates}
-use Rattle.bk_kit.specs.RunningSource.{ReadsSource, KeepsLimits}
-use Rattle.bk_kit.specs.SourceMeaning.{meanings}
 use Rattle.bk_checker.specs.declared.report.Report.{Report}
 use Rattle.bk_kit.specs.declared.checker.NotChecked.{NotChecked}
 use Rattle.bk_kit.specs.Checking.{fails_check, ChecksSource, ReadsOn, check_status, ReportsCheck}
 use Rattle.bk_kit.specs.Showing.{ShowsSource}
-use Rattle.bk_kit.specs.Sizes.{store_words, Reports}
 use Rattle.bk_kit.specs.Statuses.{run_status, run_line, done_status, done_line}
-use Rattle.bk_kit.specs.Telling.{Output, Tells}
 use Rattle.bk_kit.specs.Tracing.{FileRead, Traced, TracedNamed, ReportsTrace}
 
 -- what the output reports these

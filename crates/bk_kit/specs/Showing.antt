@@ -7,14 +7,14 @@ use Rattle.bk_gen.specs.Represents.{Represents}
 use Rattle.bk_show.specs.Viewed.{Viewed}
 use Rattle.bk_show.specs.declared.section.NotShown.{NotShown}
 use Rattle.bk_show.specs.declared.section.NotShown.TheVariants as unshown
-use Rattle.bk_kit.specs.declared.kit_fault.KitFault.{KitFault}
-use Rattle.bk_kit.specs.declared.kit_fault.KitFault.TheVariants.{Source, Ocode, Intcode, TooSmall, NoStart, Read, Write, Memory}
-use Rattle.bk_kit.specs.declared.section.SectionCode.{SectionCode}
+use Rattle.bk_filters.specs.declared.kit_fault.KitFault.{KitFault}
+use Rattle.bk_filters.specs.declared.kit_fault.KitFault.TheVariants.{Source, Ocode, Intcode, TooSmall, NoStart, Read, Write, Memory}
+use Rattle.bk_filters.specs.declared.section.SectionCode.{SectionCode}
+use Rattle.bk_filters.specs.Interpreting.{is_read, is_read_fault}
+use Rattle.bk_filters.specs.RunningSource.{NotAssembled, ReadsSource}
+use Rattle.bk_filters.specs.Sources.{IsTree, stmts_of_tree}
+use Rattle.bk_filters.specs.Telling.{Output}
 use Rattle.bk_kit.specs.Checking.{HasTheseTrees}
-use Rattle.bk_kit.specs.Interpreting.{is_read, is_read_fault}
-use Rattle.bk_kit.specs.RunningSource.{NotAssembled, ReadsSource}
-use Rattle.bk_kit.specs.Sources.{IsTree, stmts_of_tree}
-use Rattle.bk_kit.specs.Telling.{Output}
 
 -- The output failed; else the source is accepted, or refused for the first of its faults, or not read. `reads` counts the failures of
 -- the source, `writes` those of the output.

@@ -2,12 +2,12 @@
 use Rattle.std.specs.Prelude.{ℕ, ℤ, pos, negsuc, nat_lt, List, Option, None, Some, Result, Ok, Err, codes, if◌then◌else◌}
 use Rattle.bk_base.specs.declared.run_end.End.{End}
 use Rattle.bk_base.specs.declared.run_end.End.TheVariants.{Status, DivideByZero, StoreLimit, StepLimit, BadOperation, ReadFault, WriteFault}
-use Rattle.bk_kit.specs.declared.kit_fault.KitFault.{KitFault}
-use Rattle.bk_kit.specs.declared.kit_fault.KitFault.TheVariants.{Source, Ocode, Intcode, TooSmall, NoStart, Read, Write, Memory}
+use Rattle.bk_filters.specs.declared.kit_fault.KitFault.{KitFault}
+use Rattle.bk_filters.specs.declared.kit_fault.KitFault.TheVariants.{Source, Ocode, Intcode, TooSmall, NoStart, Read, Write, Memory}
+use Rattle.bk_filters.specs.FaultLine.{fault_text, line_of}
 use Rattle.bk_kit.specs.declared.command_line.LineFault.{LineFault}
 use Rattle.bk_kit.specs.declared.command_line.LineFault.TheVariants as line
 use Rattle.bk_kit.specs.declared.command_line.LineFault.TheVariants.{Help, Bad}
-use Rattle.bk_kit.specs.FaultLine.{fault_text, line_of}
 
 -- STOP of 0 to 99 gives that number, STOP of any other gives 100
 abbrev pub stop_status : ℤ → ℕ

@@ -7,12 +7,12 @@ use Rattle.bk_base.specs.Devices.{Begins}
 use Rattle.bk_machine.specs.Runs.{Blames}
 use Rattle.bk_ocode.specs.SectionAnswer.{StopsAtDevice}
 use Rattle.bk_ocode.specs.declared.stmt.Stmt.{Stmt}
-use Rattle.bk_kit.specs.declared.kit_fault.KitFault.{KitFault}
-use Rattle.bk_kit.specs.declared.kit_fault.KitFault.TheVariants.{Source, Ocode, Intcode, TooSmall, NoStart, Read, Write, Memory}
-use Rattle.bk_kit.specs.Generating.{ocode}
-use Rattle.bk_kit.specs.Interpreting.{Streams, devices_of, CodeRefused, Interprets, is_read_fault, is_read}
-use Rattle.bk_kit.specs.Texts.{Applies, StopsInPart, parts, refused}
-use Rattle.bk_kit.specs.Telling.{Output, Tells}
+use Rattle.bk_filters.specs.declared.kit_fault.KitFault.{KitFault}
+use Rattle.bk_filters.specs.declared.kit_fault.KitFault.TheVariants.{Source, Ocode, Intcode, TooSmall, NoStart, Read, Write, Memory}
+use Rattle.bk_filters.specs.Generating.{ocode}
+use Rattle.bk_filters.specs.Interpreting.{Streams, devices_of, CodeRefused, Interprets, is_read_fault, is_read}
+use Rattle.bk_filters.specs.Texts.{Applies, StopsInPart, parts, refused}
+use Rattle.bk_filters.specs.Telling.{Output, Tells}
 
 -- THE TRACE. The run is the one of `interpret`, with the same bytes and the same end, unless the output fails: it is flushed at each step, so
 -- that its failure may show at an earlier one.

@@ -2,17 +2,15 @@
 ghost use Rattle.std.specs.Prelude.{◌≡◌, [], ◌++◌, None, map, IfOk, IfErr, OnOk, if◌then◌else◌};
 ghost use Rattle.bk_base.specs.Devices.{Begins};
 ghost use Rattle.bk_tree.specs.Section.{declarations_of};
-ghost use Rattle.bk_kit.specs.CompilingSection.{trees_in};
-ghost use Rattle.bk_kit.specs.RunningSource.{NotAssembled, ReadsSource};
+ghost use Rattle.bk_filters.specs.CompilingSection.{trees_in};
+ghost use Rattle.bk_filters.specs.RunningSource.{NotAssembled, ReadsSource};
+ghost use Rattle.bk_filters.specs.Interpreting.{streams};
 ghost use Rattle.bk_kit.specs.Checking.{fails_reading, fails_check, HasTheseTrees, HintsAt, HintsIn, IsCut, ChecksSource, Untouched};
-ghost use Rattle.bk_kit.specs.Interpreting.{streams};
 
 use crate::cut::{CutSection, cut_at};
-use crate::kit_fault::KitFault;
-use crate::reading::read_source_section;
-use crate::section::{SectionCode, compile_section};
 use bk_base::{ByteIn, ByteOut, Line};
 use bk_checker::{GivenUp, Report, SourceTexts, check};
+use bk_filters::{KitFault, SectionCode, compile_section, read_source_section};
 use bk_hints::hints;
 use bk_lines::Start;
 use bk_tree::Section;

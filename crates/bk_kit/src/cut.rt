@@ -5,9 +5,9 @@ ghost use Rattle.bk_kit.specs.Checking.{HintsIn, IsCut, is_kind_of_bytes, is_of_
 ghost use Rattle.bk_kit.specs.Tracing.{read_from};
 
 use crate::checker::{NotChecked, Refusal, hints_of, no_hint};
-use crate::kit_fault::KitFault;
 use bk_base::{ByteIn, SourceKind};
 use bk_checker::Report;
+use bk_filters::KitFault;
 use bk_lines::{Start, read_line_end};
 use std::alloc::{AllocError, Global};
 

@@ -1,10 +1,8 @@
 //! The faults of a source after those of the first section that is refused.
 
 use crate::cut::{is_kind_of_bytes, read_on};
-use crate::kit_fault::KitFault;
-use crate::reading::read_source_section;
-use crate::section::compile_section;
 use bk_base::{ByteIn, Line};
+use bk_filters::{KitFault, compile_section, read_source_section};
 use bk_hints::hints;
 use bk_lex::Lexer;
 use bk_lines::Start;

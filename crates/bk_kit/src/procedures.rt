@@ -1,14 +1,13 @@
 //! The procedures that a text of OCODE names.
 ghost use Rattle.std.specs.Prelude.{◌≡◌, IfErr, IfOk, map, if◌then◌else◌};
 ghost use Rattle.bk_ocode.specs.SectionStmts.{stmts_of};
-ghost use Rattle.bk_kit.specs.Generating.{ocode};
-ghost use Rattle.bk_kit.specs.Interpreting.{is_read};
-ghost use Rattle.bk_kit.specs.Texts.{parts, Applies};
+ghost use Rattle.bk_filters.specs.Generating.{ocode};
+ghost use Rattle.bk_filters.specs.Interpreting.{is_read};
+ghost use Rattle.bk_filters.specs.Texts.{parts, Applies};
 ghost use Rattle.bk_kit.specs.Tracing.{OcodeRefused};
 
-use crate::generator::section_refused;
-use crate::kit_fault::KitFault;
 use bk_base::ByteIn;
+use bk_filters::{KitFault, section_refused};
 use bk_gen::generate;
 use bk_ocode::{Ocode, read_section};
 use bk_show::Procedures;

@@ -1,26 +1,23 @@
 //! Serving an order.
 ghost use Rattle.std.specs.Prelude.{◌≡◌};
 ghost use Rattle.bk_machine.specs.Runs.{HeldBy};
+ghost use Rattle.bk_filters.specs.Telling.{Tells, output};
+ghost use Rattle.bk_filters.specs.Interpreting.{streams};
 ghost use Rattle.bk_kit.specs.declared.orders.Order.TheVariants.{TraceSource, Check};
 ghost use Rattle.bk_kit.specs.Serving.{Serves, ServesNamed, LeavesFile, LeavesNames, LeavesInput};
 ghost use Rattle.bk_kit.specs.Statuses.{refusal_status, refusal_line};
-ghost use Rattle.bk_kit.specs.Telling.{Tells, output};
-ghost use Rattle.bk_kit.specs.Interpreting.{streams};
 ghost use Rattle.bk_kit.specs.Tracing.{file_read};
 
 use crate::checker::check_source;
 use crate::command_line::LineFault;
-use crate::compiler::compile;
 use crate::cut::with_whole_line;
-use crate::generator::generate_all;
 use crate::orders::{Files, Order};
-use crate::runner::{interpret, sizes};
 use crate::showing::show_source;
-use crate::source::run_source;
 use crate::source_trace::trace_source;
 use crate::status::{report_check, report_done, report_run, report_text};
 use crate::tracing::{trace, trace_named};
 use bk_base::{ByteIn, ByteOut, Limits};
+use bk_filters::{compile, generate_all, interpret, run_source, sizes};
 use bk_show::Extent;
 use std::alloc::Global;
 

@@ -1,15 +1,13 @@
 //! A source as a person reads what the phases of the compiler make of it.
 ghost use Rattle.std.specs.Prelude.{◌≡◌, IfOk, IfErr, Err};
 ghost use Rattle.bk_base.specs.Devices.{Begins};
-ghost use Rattle.bk_kit.specs.declared.kit_fault.KitFault.TheVariants.{Write};
-ghost use Rattle.bk_kit.specs.CompilingSection.{Compiled, Refuses};
+ghost use Rattle.bk_filters.specs.declared.kit_fault.KitFault.TheVariants.{Write};
+ghost use Rattle.bk_filters.specs.CompilingSection.{Compiled, Refuses};
+ghost use Rattle.bk_filters.specs.Telling.{output};
 ghost use Rattle.bk_kit.specs.Showing.{PutsSection, NotPut, ShowsSections, ShowsSource};
-ghost use Rattle.bk_kit.specs.Telling.{output};
 
-use crate::kit_fault::KitFault;
-use crate::reading::read_source_section;
-use crate::section::{CompiledSection, compile_section, hashers_of};
 use bk_base::{ByteIn, ByteOut, Line};
+use bk_filters::{CompiledSection, KitFault, compile_section, hashers_of, read_source_section};
 use bk_gen::generate_placed;
 use bk_lex::Lexer;
 use bk_scope::resolve_keyed;

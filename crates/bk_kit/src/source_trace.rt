@@ -3,17 +3,14 @@ ghost use Rattle.std.specs.Prelude.{◌≡◌, ◌≢◌, Ok, OnErr, if◌then�
 ghost use Rattle.bk_base.specs.declared.run_end.End.TheVariants.{WriteFault};
 ghost use Rattle.bk_base.specs.Devices.{Begins};
 ghost use Rattle.bk_machine.specs.Runs.{HeldBy};
-ghost use Rattle.bk_kit.specs.Interpreting.{is_read, streams};
-ghost use Rattle.bk_kit.specs.Headline.{Headline};
-ghost use Rattle.bk_kit.specs.RunningSource.{KeepsLimits, ReadsSource};
-ghost use Rattle.bk_kit.specs.SourceMeaning.{meanings};
+ghost use Rattle.bk_filters.specs.Interpreting.{is_read, streams};
+ghost use Rattle.bk_filters.specs.Headline.{Headline};
+ghost use Rattle.bk_filters.specs.RunningSource.{KeepsLimits, ReadsSource};
+ghost use Rattle.bk_filters.specs.SourceMeaning.{meanings};
 
-use crate::kit_fault::KitFault;
-use crate::laws::sources_run;
-use crate::section::SectionCode;
-use crate::source::{SegmentMaker, load_source};
 use crate::tracing::{Telling, run_steps};
 use bk_base::{ByteIn, ByteOut, End, Limits};
+use bk_filters::{KitFault, SectionCode, SegmentMaker, load_source, sources_run};
 use bk_gen::{PlacedSegment, generate_placed};
 use bk_lex::Lexer;
 use bk_machine::Intcode;
@@ -21,7 +18,14 @@ use bk_show::{Extent, PlacedCode, Program, SourceTrace, put_source_end, put_sour
 use bk_source_map::places_of;
 use std::alloc::{AllocError, Global};
 
-impl SegmentMaker for Program {
+/// Segments with the places of their code, which a program has.
+#[derive(Drop)]
+struct Placed {
+    /// The program.
+    program: Program,
+}
+
+impl SegmentMaker for Placed {
     /// The segment that `generate` makes, which the program then knows.
     fn segment(
         &mut self,
@@ -41,7 +45,7 @@ impl SegmentMaker for Program {
             segment: &placed.segment,
             ends: placed.ends.as_slice(),
         };
-        self.add(alloc, &code)?;
+        self.program.add(alloc, &code)?;
         let PlacedSegment { segment, .. } = placed;
         Ok(segment)
     }
@@ -90,10 +94,12 @@ pub fn trace_source<C: ByteIn, I: ByteIn, O: ByteOut, E: ByteOut>(
     ensures reported { Begins (E.taken err.old) (E.taken err.new) × Begins (E.passed err.old) (E.passed err.new) }
 {
     sources_run();
-    let mut program = Program::new(alloc);
-    let mut machine = load_source(alloc, source, limits.words(), &mut program)?;
+    let mut placed = Placed {
+        program: Program::new(alloc),
+    };
+    let mut machine = load_source(alloc, source, limits.words(), &mut placed)?;
     report_heading(alloc, err);
-    let mut telling = Telling::Source(SourceTrace::of(&program, extent));
+    let mut telling = Telling::Source(SourceTrace::of(&placed.program, extent));
     let end = run_steps(alloc, &mut machine, limits, &mut telling, input, out, err);
     report_end(alloc, end, err);
     Ok(end)

@@ -1,16 +1,15 @@
 //! Exit statuses, and the lines that report them.
 ghost use Rattle.std.specs.Prelude.{◌≡◌, map, decimal};
-ghost use Rattle.bk_kit.specs.FaultLine.{fault_text, line_of};
+ghost use Rattle.bk_filters.specs.FaultLine.{fault_text, line_of};
+ghost use Rattle.bk_filters.specs.Telling.{ReportsLine, Tells, output};
+ghost use Rattle.bk_filters.specs.Pieces.{joined};
 ghost use Rattle.bk_kit.specs.Statuses.{stop_status, end_status, end_line, fault_status, run_status, run_line, done_status, done_line};
-ghost use Rattle.bk_kit.specs.Telling.{ReportsLine, Tells, output};
-ghost use Rattle.bk_kit.specs.Pieces.{joined};
 ghost use Rattle.bk_kit.specs.Checking.{verdict_status, check_fault_status, check_fault_text, check_status, placed_text, notice_text, remark_text, hint_text, verdict_text, limit_text, ReportsEach, ReportsCheck};
 
 use crate::checker::NotChecked;
-use crate::kit_fault::{KitFault, put_text};
-use crate::pieces::put_pieces;
 use bk_base::{ByteOut, End, Line};
 use bk_checker::{CheckFault, Notice, Remark, Report, Verdict};
+use bk_filters::{KitFault, put_pieces, put_text};
 use itoa::Buffer;
 
 /// The status for STOP of a number.

@@ -4,14 +4,13 @@ ghost use Rattle.bk_base.specs.declared.run_end.End.TheVariants.{StepLimit, Writ
 ghost use Rattle.bk_base.specs.Devices.{Begins};
 ghost use Rattle.bk_machine.specs.Runs.{HeldBy, Ran, Blames, devices};
 ghost use Rattle.bk_machine.specs.State.{store_of, registers_of, end_of};
-ghost use Rattle.bk_kit.specs.Interpreting.{is_read, streams};
+ghost use Rattle.bk_filters.specs.Interpreting.{is_read, streams};
 ghost use Rattle.bk_kit.specs.Tracing.{Traced, TracedNamed, file_read};
 
-use crate::code::load_code;
-use crate::kit_fault::KitFault;
 use crate::orders::Files;
 use crate::procedures::{procedures_of, read_sections};
 use bk_base::{ByteIn, ByteOut, End, Limits};
+use bk_filters::{KitFault, load_code};
 use bk_machine::Machine;
 use bk_show::{
     Procedures, SourceTrace, Step, put_heading, put_other, put_procedure, put_source_step, put_step,

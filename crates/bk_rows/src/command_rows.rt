@@ -6,7 +6,8 @@ use bk_base::{
     IntcodeFault, IntcodeKind, Limits, Line, OcodeFault, OcodeKind, Reader512, SourceFault,
     SourceKind, Writer512,
 };
-use bk_kit::{KitFault, LineFault, Order, order, serve};
+use bk_filters::KitFault;
+use bk_kit::{LineFault, Order, order, serve};
 use std::alloc::Global;
 use std::test::Fail;
 

@@ -3,7 +3,8 @@ use crate::checks::{Refusing, asked};
 use crate::devices::Slow;
 use crate::outcome::RUN;
 use bk_base::{ByteIn, Reader512, Writer512};
-use bk_kit::{KitFault, compile, generate_all, serve};
+use bk_filters::{KitFault, compile, generate_all};
+use bk_kit::serve;
 use std::alloc::Global;
 use std::test::Fail;
 

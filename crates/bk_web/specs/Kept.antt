@@ -1,6 +1,6 @@
 -- The bytes that an output keeps.
 use Rattle.std.specs.Prelude.{◌≡◌, ℕ, false, List, [], Some, length, take, if◌then◌else◌}
-use Rattle.bk_kit.specs.Telling.{Output}
+use Rattle.bk_filters.specs.Telling.{Output}
 use Rattle.bk_web.specs.declared.kept.Kept.{Kept}
 
 abbrev pub kept_of : Kept → List ℕ

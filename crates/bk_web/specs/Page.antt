@@ -11,15 +11,15 @@ use Rattle.bk_machine.specs.declared.registers.Registers.{Registers}
 use Rattle.bk_machine.specs.Placement.{SEGMENTS, stack_start, loaded_store}
 use Rattle.bk_machine.specs.State.{words_of}
 use Rattle.bk_machine.specs.Runs.{Devices, Ran}
+use Rattle.bk_filters.specs.declared.kit_fault.KitFault.{KitFault}
+use Rattle.bk_filters.specs.Interpreting.{Streams, CodeRefused, Loads, Loadable, first_registers, devices_of}
+use Rattle.bk_filters.specs.Telling.{Output, Tells}
 use Rattle.bk_kit.specs.declared.command_line.LineFault.{LineFault}
 use Rattle.bk_kit.specs.declared.command_line.LineFault.TheVariants.{Help, Bad, Memory}
-use Rattle.bk_kit.specs.declared.kit_fault.KitFault.{KitFault}
 use Rattle.bk_kit.specs.declared.orders.Order.{Order}
 use Rattle.bk_kit.specs.CommandLine.{kit_command, Reads, Refuses}
-use Rattle.bk_kit.specs.Interpreting.{Streams, CodeRefused, Loads, Loadable, first_registers, devices_of}
 use Rattle.bk_kit.specs.Serving.{ServesNamed}
 use Rattle.bk_kit.specs.Statuses.{refusal_status, refusal_line, fault_status, end_status}
-use Rattle.bk_kit.specs.Telling.{Output, Tells}
 use Rattle.bk_kit.specs.Tracing.{FileRead}
 use Rattle.bk_web.specs.declared.answer.Standing.{Standing}
 use Rattle.bk_web.specs.Kept.{IsFront}

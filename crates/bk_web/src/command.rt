@@ -2,9 +2,9 @@
 ghost use Rattle.std.specs.Prelude.{◌≡◌, ◌⊎◌, IfOk, IfErr, length, map};
 ghost use Rattle.clap.specs.Words.{subcommand_of};
 ghost use Rattle.bk_machine.specs.Runs.{HeldBy};
+ghost use Rattle.bk_filters.specs.Telling.{Tells};
 ghost use Rattle.bk_kit.specs.CommandLine.{kit_command, Reads};
 ghost use Rattle.bk_kit.specs.Statuses.{refusal_status, refusal_line};
-ghost use Rattle.bk_kit.specs.Telling.{Tells};
 ghost use Rattle.bk_web.specs.Kept.{kept_of, report_of, IsFresh};
 ghost use Rattle.bk_web.specs.Page.{texts_of, RefusesBytes, IsHelp, Commands, Answers};
 

@@ -1,9 +1,9 @@
 use Rattle.bk_kit.proofs.Terms.{◌≡◌, ◌++◌, sym, subst, arith, List, map, rules, Declarations, declarations_of, KitFault, trees_in, Compiled, Refuses, HasTheseTrees, is_read_fault, NotAssembled, ReadsSource}
 use Rattle.bk_tree.specs.Position.{column_after}
 use Rattle.bk_lines.specs.Places.{line_after}
+use Rattle.bk_filters.proofs.Lemmas.{some_taken, WithTrees, trees_none, not_read, no_memory, not_compiled, trees_go_on, trees_end, stops_reading, has_read}
 use Rattle.bk_kit.specs.Checking.{HintsAt, IsCut}
-use Rattle.bk_kit.proofs.PassedSections.{some_taken}
-use Rattle.bk_kit.proofs.SourceLemmas.{WithTrees, trees_none, not_read, no_memory, not_compiled, trees_go_on, trees_end, stops_reading, has_read, reached_none, reached_on, hinted, not_hinted}
+use Rattle.bk_kit.proofs.HintLemmas.{reached_none, reached_on, hinted, not_hinted}
 use Rattle.bk_kit.proofs.checker.read_trees.Goals as goal
 
 pub loop-lexer-init : goal.loop-lexer-init

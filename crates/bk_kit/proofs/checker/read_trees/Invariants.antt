@@ -1,5 +1,6 @@
 use Rattle.bk_kit.proofs.Terms.{◌-◌, ◌^◌, map, declarations_of}
-use Rattle.bk_kit.proofs.SourceLemmas.{WithTrees, Reached}
+use Rattle.bk_filters.proofs.Lemmas.{WithTrees}
+use Rattle.bk_kit.proofs.HintLemmas.{Reached}
 use Rattle.bk_kit.proofs.checker.read_trees.Given as goal
 
 abbrev pub invariant-loop-lexer : goal.invariant-loop-lexer

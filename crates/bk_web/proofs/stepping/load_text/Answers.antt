@@ -1,8 +1,8 @@
 use Rattle.std.proofs.Common.{◌≡◌, ℕ, Bool, List, Option, Some, Result, Ok, Err, IfOk, IfErr}
 use Rattle.bk_machine.specs.declared.machine.Machine.{Machine}
 use Rattle.bk_machine.specs.State.{words_of}
-use Rattle.bk_kit.specs.declared.kit_fault.KitFault.{KitFault}
-use Rattle.bk_kit.specs.Interpreting.{CodeRefused, Loads}
+use Rattle.bk_filters.specs.declared.kit_fault.KitFault.{KitFault}
+use Rattle.bk_filters.specs.Interpreting.{CodeRefused, Loads}
 use Rattle.bk_web.specs.Page.{LoadsText, RefusesText}
 use Rattle.bk_web.proofs.stepping.load_text.Goals as goal
 

@@ -1,0 +1,11 @@
+use Rattle.std.proofs.Common.{rules}
+use Rattle.bk_filters.proofs.GenerateLemmas.{generates, generates_no_more}
+use Rattle.bk_filters.proofs.generator.generate_all.Goals as goal
+
+pub returns-in_default : goal.returns-in_default
+returns-in_default g c =
+    record { generates = generates_no_more _ _ _ _ _ _ _ _ c.put_segments-answer.ensures.puts c.flush.ensures.keeps c.flush.ensures.passes (rw c.in_default.is at c.flush.ensures.failures) }
+
+pub returns : goal.returns
+returns g c =
+    record { generates = generates _ _ _ _ _ _ _ _ c.put_segments-answer.ensures.puts c.flush.ensures.keeps c.flush.ensures.passes (λ failed. search rules) (search rules) (search rules) }

@@ -1,8 +1,0 @@
-use Rattle.bk_kit.proofs.GenerateLemmas.{Front}
-use Rattle.bk_kit.specs.Telling.{output}
-use Rattle.bk_kit.proofs.generator.put_segments.Given as goal
-
-abbrev pub invariant-loop-before : goal.invariant-loop-before
-invariant-loop-before g l =
-    Front l.before (g.I.ByteIn.left l.initial.input) (g.I.ByteIn.left l.input) (g.I.ByteIn.ended l.input)
-    (output g.O.ByteOut l.initial.out) (output g.O.ByteOut l.out)
