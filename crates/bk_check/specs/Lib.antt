@@ -3,3 +3,4 @@ pub mod Plain
 pub mod Resume
 pub mod Worlds
 pub mod Fors
+pub mod Progress

@@ -1,5 +1,5 @@
 //! Blocks: what the declarations at the head of one do.
-ghost use Rattle.std.specs.Prelude.{◌≡◌, ℕ, IfOk, List, [], map, ◌∷◌};
+ghost use Rattle.std.specs.Prelude.{◌≡◌, ℕ, IfOk, List, [], map, ◌∷◌, ◌+◌, ◌≤◌};
 ghost use Rattle.bk_tree.specs.Tree as t;
 ghost use Rattle.bk_tree.specs.Tree.{declaration, declarations_in, definition, definitions_in, commands_in, items_in, starts_in, expression};
 ghost use Rattle.bk_meaning.specs.World.{World, gives, with, turn, remembering};
@@ -13,6 +13,7 @@ ghost use Rattle.bk_objects.specs.Views.{value_in};
 ghost use Rattle.bk_lasting.specs.Views.{env_in};
 ghost use Rattle.bk_check.specs.Worlds.{Bytes, world};
 ghost use Rattle.bk_check.specs.Resume.{tag, done_tag, Comes, resumed, declared_then, bound_then, defined_then, started_then, starting_then, variables_then, vector_then};
+ghost use Rattle.bk_check.specs.Progress.{Within, Adds, definitions_cost, declaration_cost, declare_cost, define_cost, starts_cost};
 
 use crate::commands::scope;
 use crate::frame::{Continuation, Let, Next, OnValue, Start, Subject};
@@ -31,10 +32,11 @@ pub fn declare<'a>(
     commands: &'a [Command],
     env: Env<'a>,
 ) -> Result<Next<'a>, AllocError>
-    ensures { IfOk result (λ next. (p : Program) (b : Bytes) →
+    ensures comes { IfOk result (λ next. (p : Program) (b : Bytes) →
         Comes p m.new.frames.items next (world m.new b)
         (resumed p m.old.frames.items (tag done_tag (declared_then p (declarations_in decls.now) (commands_in commands.now)
         (env_in env.entry) (world m.old b))))) }
+    ensures falls { Within (declare_cost decls.now commands.now) m.old m.new result }
 {
     match decls.split_first() {
         None => scope(m, commands, None, env),
@@ -50,10 +52,11 @@ fn declare_one<'a>(
     commands: &'a [Command],
     env: Env<'a>,
 ) -> Result<Next<'a>, AllocError>
-    ensures { IfOk result (λ next. (p : Program) (b : Bytes) →
+    ensures comes { IfOk result (λ next. (p : Program) (b : Bytes) →
         Comes p m.new.frames.items next (world m.new b)
         (resumed p m.old.frames.items (tag done_tag (declared_then p (t.declare (declaration first.now) (declarations_in rest.now))
         (commands_in commands.now) (env_in env.entry) (world m.old b))))) }
+    ensures falls { Within (declaration_cost (declaration first.now) + declare_cost rest.now commands.now) m.old m.new result }
 {
     match first {
         Decl::Constants { sort, items, .. } => declare_constants(
@@ -73,11 +76,12 @@ fn declare_constants<'a>(
     commands: &'a [Command],
     env: Env<'a>,
 ) -> Result<Next<'a>, AllocError>
-    ensures { IfOk result (λ next. (p : Program) (b : Bytes) (l : ℕ) →
+    ensures comes { IfOk result (λ next. (p : Program) (b : Bytes) (l : ℕ) →
         Comes p m.new.frames.items next (world m.new b)
         (resumed p m.old.frames.items (tag done_tag (declared_then p
         (t.declare (t.constants l sort (items_in items.now)) (declarations_in rest.now)) (commands_in commands.now)
         (env_in env.entry) (world m.old b))))) }
+    ensures falls { Within (declare_cost rest.now commands.now + 1) m.old m.new result }
 {
     let inside = constants(m.alloc, sort, items, env)?;
     Ok(Next::Declare(rest, commands, inside))
@@ -92,11 +96,12 @@ fn declare_let<'a>(
     commands: &'a [Command],
     env: Env<'a>,
 ) -> Result<Next<'a>, AllocError>
-    ensures { IfOk result (λ next. (p : Program) (b : Bytes) (l : ℕ) →
+    ensures comes { IfOk result (λ next. (p : Program) (b : Bytes) (l : ℕ) →
         Comes p m.new.frames.items next (world m.new b)
         (resumed p m.old.frames.items (tag done_tag (declared_then p
         (t.declare (t.definitions l (definitions_in defs.now)) (declarations_in rest.now)) (commands_in commands.now)
         (env_in env.entry) (world m.old b))))) }
+    ensures falls { Within (definitions_cost (definitions_in defs.now) + declare_cost rest.now commands.now + 2) m.old m.new result }
 {
     let here = within_let(m.alloc, defs, env)?;
     let count = count_defs(defs)?;
@@ -116,9 +121,10 @@ fn declare_let<'a>(
 /// The definitions that are left of a LET. After the last one the variables come into being.
 #[inline(never)]
 pub fn define<'a>(m: &mut Evaluator<'a>, rest: Box<Let<'a>>) -> Result<Next<'a>, AllocError>
-    ensures { IfOk result (λ next. (p : Program) (b : Bytes) →
+    ensures comes { IfOk result (λ next. (p : Program) (b : Bytes) →
         Comes p m.new.frames.items next (world m.new b)
         (resumed p m.old.frames.items (tag done_tag (defined_then p rest.entry.value (world m.old b))))) }
+    ensures falls { Within (define_cost rest.entry.value) m.old m.new result }
 {
     match rest.defs.split_first() {
         None => begin_scope(m, rest),
@@ -133,11 +139,12 @@ fn define_after<'a>(
     others: &'a [Def],
     rest: Box<Let<'a>>,
 ) -> Result<Next<'a>, AllocError>
-    ensures { IfOk result (λ next. (p : Program) (b : Bytes) →
+    ensures comes { IfOk result (λ next. (p : Program) (b : Bytes) →
         Comes p m.new.frames.items next (world m.new b)
         (resumed p m.old.frames.items (tag done_tag (with (k.let_values (full p)
         (t.define (definition first.now) (definitions_in others.now)) (env_in rest.entry.value.here) (world m.old b))
         (λ ss w. bound_then p rest.entry.value ss w))))) }
+    ensures falls { Within (define_cost (record rest.entry.value { defs = others.entry }) + 1) m.old m.new result }
 {
     let mut rest = rest;
     rest.defs = others;
@@ -146,9 +153,10 @@ fn define_after<'a>(
 
 /// The variables of a LET, and what is after it.
 fn begin_scope<'a>(m: &mut Evaluator<'a>, rest: Box<Let<'a>>) -> Result<Next<'a>, AllocError>
-    ensures { IfOk result (λ next. (p : Program) (b : Bytes) →
+    ensures comes { IfOk result (λ next. (p : Program) (b : Bytes) →
         Comes p m.new.frames.items next (world m.new b)
         (resumed p m.old.frames.items (tag done_tag (bound_then p rest.entry.value [] (world m.old b))))) }
+    ensures falls { Within (declare_cost rest.entry.value.decls.now rest.entry.value.commands.now + 1) m.old m.new result }
 {
     let following = rest.following.again()?;
     let inside = bind_starts(m.alloc, &mut m.store, &rest.starts, following)?;
@@ -161,11 +169,12 @@ fn define_one<'a>(
     first: &'a Def,
     rest: Box<Let<'a>>,
 ) -> Result<Next<'a>, AllocError>
-    ensures { IfOk result (λ next. (p : Program) (b : Bytes) →
+    ensures comes { IfOk result (λ next. (p : Program) (b : Bytes) →
         Comes p m.new.frames.items next (world m.new b)
         (resumed p m.old.frames.items (tag done_tag (with (k.let_values (full p)
         (t.define (definition first.now) (definitions_in rest.entry.value.defs.now)) (env_in rest.entry.value.here)
         (world m.old b)) (λ ss w. bound_then p rest.entry.value ss w))))) }
+    ensures falls { Within (define_cost rest.entry.value + 1) m.old m.new result }
 {
     let count = count_def(first)?;
     let there = rest.here.again()?.following(count)?;
@@ -178,8 +187,9 @@ fn define_one<'a>(
 
 /// After a procedure.
 fn pass<'a>(there: Env<'a>, rest: Box<Let<'a>>) -> Next<'a>
-    ensures { (p : Program) (fs : List Continuation) (w : World) → Comes p fs result w (resumed p fs (tag done_tag
+    ensures comes { (p : Program) (fs : List Continuation) (w : World) → Comes p fs result w (resumed p fs (tag done_tag
         (with (k.let_values (full p) (definitions_in rest.entry.value.defs.now) (env_in there.entry) w) (λ ss w. bound_then p rest.entry.value ss w)))) }
+    ensures falls { Adds (define_cost rest.entry.value + 1) (Ok result) }
 {
     let mut rest = rest;
     rest.here = there;
@@ -195,8 +205,9 @@ fn variables<'a>(
     there: Env<'a>,
     rest: Box<Let<'a>>,
 ) -> Next<'a>
-    ensures { (p : Program) (b : Bytes) → Comes p m.new.frames.items result (world m.new b) (resumed p m.old.frames.items (tag done_tag
+    ensures comes { (p : Program) (b : Bytes) → Comes p m.new.frames.items result (world m.new b) (resumed p m.old.frames.items (tag done_tag
         (turn (world m.old b) (variables_then p (starts_in inits.now) (letters_in names.now) (env_in there.entry) rest.entry.value)))) }
+    ensures falls { Within 0 m.old m.new (Ok result) }
 {
     if m.turns == 0 {
         return Next::Going(at);
@@ -236,10 +247,11 @@ pub fn starts<'a>(
     names: &'a [Name],
     rest: Box<Let<'a>>,
 ) -> Result<Next<'a>, AllocError>
-    ensures { IfOk result (λ next. (p : Program) (b : Bytes) →
+    ensures comes { IfOk result (λ next. (p : Program) (b : Bytes) →
         Comes p m.new.frames.items next (world m.new b)
         (resumed p m.old.frames.items (tag done_tag (starting_then p (starts_in inits.now) (env_in here.entry)
         (letters_in names.now) rest.entry.value (world m.old b))))) }
+    ensures falls { Within (starts_cost inits.now rest.entry.value) m.old m.new result }
 {
     match inits.split_first() {
         None => Ok(no_start(names, rest)),
@@ -249,8 +261,9 @@ pub fn starts<'a>(
 
 /// Where no variable is left.
 fn no_start<'a>(names: &'a [Name], rest: Box<Let<'a>>) -> Next<'a>
-    ensures { (p : Program) (fs : List Continuation) (w : World)
+    ensures comes { (p : Program) (fs : List Continuation) (w : World)
         → Comes p fs result w (resumed p fs (tag done_tag (started_then p rest.entry.value (letters_in names.now) [] w))) }
+    ensures falls { Adds (define_cost rest.entry.value + 1) (Ok result) }
 {
     match names.split_first() {
         None => Next::Define(rest),
@@ -267,10 +280,11 @@ fn start_one<'a>(
     names: &'a [Name],
     rest: Box<Let<'a>>,
 ) -> Result<Next<'a>, AllocError>
-    ensures { IfOk result (λ next. (p : Program) (b : Bytes) →
+    ensures comes { IfOk result (λ next. (p : Program) (b : Bytes) →
         Comes p m.new.frames.items next (world m.new b)
         (resumed p m.old.frames.items (tag done_tag (starting_then p (starts_in (first.now ∷ others.now)) (env_in here.entry)
         (letters_in names.now) rest.entry.value (world m.old b))))) }
+    ensures falls { Within (starts_cost others.now rest.entry.value + 3) m.old m.new result }
 {
     match first {
         Init::Value(value) => start_value(m, value, others, here, names, rest),
@@ -287,10 +301,11 @@ fn start_value<'a>(
     names: &'a [Name],
     rest: Box<Let<'a>>,
 ) -> Result<Next<'a>, AllocError>
-    ensures { IfOk result (λ next. (p : Program) (b : Bytes) →
+    ensures comes { IfOk result (λ next. (p : Program) (b : Bytes) →
         Comes p m.new.frames.items next (world m.new b)
         (resumed p m.old.frames.items (tag done_tag (starting_then p (t.value (expression value.now) (starts_in others.now))
         (env_in here.entry) (letters_in names.now) rest.entry.value (world m.old b))))) }
+    ensures falls { Within (starts_cost others.now rest.entry.value + 3) m.old m.new result }
 {
     let count = count(value)?;
     let following = here.again()?.following(count)?;
@@ -307,11 +322,12 @@ fn vector<'a>(
     names: &'a [Name],
     rest: Box<Let<'a>>,
 ) -> Result<Next<'a>, AllocError>
-    ensures { IfOk result (λ next. (p : Program) (b : Bytes) →
+    ensures comes { IfOk result (λ next. (p : Program) (b : Bytes) →
         Comes p m.new.frames.items next (world m.new b)
         (resumed p m.old.frames.items (tag done_tag (turn (world m.old b)
         (vector_then p (acts_at (expression size.now)) (constant_in (env_in here.entry) (expression size.now)) (starts_in others.now) (env_in here.entry)
         (letters_in names.now) rest.entry.value))))) }
+    ensures falls { Within 0 m.old m.new result }
 {
     if m.turns == 0 {
         return Ok(Next::Going(at));
@@ -331,10 +347,11 @@ fn make_vector<'a>(
     names: &'a [Name],
     rest: Box<Let<'a>>,
 ) -> Result<Next<'a>, AllocError>
-    ensures { IfOk result (λ next. (p : Program) (b : Bytes) →
+    ensures comes { IfOk result (λ next. (p : Program) (b : Bytes) →
         Comes p m.new.frames.items next (world m.new b)
         (resumed p m.old.frames.items (tag done_tag (vector_then p (acts_at (expression size.now)) last (starts_in others.now) (env_in here.entry)
         (letters_in names.now) rest.entry.value (world m.old b))))) }
+    ensures turns { m.new.turns ≤ m.old.turns }
 {
     match last {
         None => Ok(Next::Undefined(Subject::Expr(size), Reason::NoConstant)),
@@ -356,9 +373,10 @@ pub fn named<'a>(
     value: Worth,
     rest: Box<Let<'a>>,
 ) -> Result<Next<'a>, AllocError>
-    ensures { IfOk result (λ next. (p : Program) (fs : List Continuation) (w : World) → Comes p fs next w
+    ensures comes { IfOk result (λ next. (p : Program) (fs : List Continuation) (w : World) → Comes p fs next w
         (resumed p fs (tag done_tag (with (with (k.starts (full p) (starts_in inits.now) (env_in here.entry) w)
         (λ vs w. gives (value_in value ∷ vs) w)) (λ vs w. started_then p rest.entry.value (letters_in names.now) vs w))))) }
+    ensures falls { Adds (starts_cost inits.now rest.entry.value + 1) result }
 {
     match names.split_first() {
         None => Ok(Next::Starts(inits, here, names, rest)),

@@ -13,6 +13,7 @@ ghost use Rattle.bk_lasting.specs.Views.{env_in, body_in, procedure_in};
 ghost use Rattle.bk_check.specs.Worlds.{Bytes, world};
 ghost use Rattle.bk_meaning.specs.World.{World, undefined};
 ghost use Rattle.bk_check.specs.Resume.{tag, a_value, Comes, resumed, outcome_next, list_value};
+ghost use Rattle.bk_check.specs.Progress.{Within, Adds};
 
 use crate::frame::{Call, Continuation, Next, OnDone, Subject};
 use crate::machine::Evaluator;
@@ -75,9 +76,10 @@ fn bind_formals<'a>(
 
 /// The body of a procedure.
 fn body<'a>(m: &mut Evaluator<'a>, body: Body<'a>, env: Env<'a>) -> Result<Next<'a>, AllocError>
-    ensures { IfOk result (λ next. (p : Program) (b : Bytes) →
+    ensures comes { IfOk result (λ next. (p : Program) (b : Bytes) →
         Comes p m.new.frames.items next (world m.new b)
         (resumed p m.old.frames.items (tag a_value (c.run_body (full p) (body_in body.entry) (env_in env.entry) (world m.old b))))) }
+    ensures falls { Within 5 m.old m.new result }
 {
     match body {
         Body::Command(command) => {
@@ -103,9 +105,10 @@ fn enter<'a>(
     procedure: &Procedure<'a>,
     values: Vec<Worth>,
 ) -> Result<Next<'a>, AllocError>
-    ensures { IfOk result (λ next. (p : Program) (b : Bytes) (l : ℕ) →
+    ensures comes { IfOk result (λ next. (p : Program) (b : Bytes) (l : ℕ) →
         Comes p m.new.frames.items next (world m.new b)
         (resumed p m.old.frames.items (tag a_value (c.enter (full p) l (Some (procedure_in procedure.now)) (list_value values.items) (world m.old b))))) }
+    ensures falls { Within 6 m.old m.new result }
 {
     let object = m.store.made();
     m.frames.push(Continuation::Closing(object))?;
@@ -117,7 +120,8 @@ fn enter<'a>(
 
 /// A call of what is no procedure.
 fn no_procedure<'a>(at: Position, expr: Option<&'a Expr>, callee: Worth) -> Next<'a>
-    ensures { (p : Program) (w : World) → outcome_next p result w ≡ undefined at w }
+    ensures comes { (p : Program) (w : World) → outcome_next p result w ≡ undefined at w }
+    ensures falls { Adds 0 (Ok result) }
 {
     let subject = match expr {
         Some(expr) => Subject::Call(at, expr),
@@ -136,11 +140,12 @@ fn called<'a>(
     callee: Worth,
     values: Vec<Worth>,
 ) -> Result<Next<'a>, AllocError>
-    ensures { IfOk result (λ next. (b : Bytes) →
+    ensures comes { IfOk result (λ next. (b : Bytes) →
         Comes (program_in program.now) m.new.frames.items next (world m.new b)
         (resumed (program_in program.now) m.old.frames.items
         (tag a_value (c.called (program_in program.now) (full (program_in program.now)) at (value_in callee)
         (list_value values.items) (world m.old b))))) }
+    ensures falls { Within 6 m.old m.new result }
 {
     match callee {
         Worth::Routine(routine) => Ok(Next::Library(at, routine, values)),
@@ -164,11 +169,12 @@ pub fn call<'a>(
     callee: Worth,
     values: Vec<Worth>,
 ) -> Result<Next<'a>, AllocError>
-    ensures { IfOk result (λ next. (b : Bytes) →
+    ensures comes { IfOk result (λ next. (b : Bytes) →
         Comes (program_in program.now) m.new.frames.items next (world m.new b)
         (resumed (program_in program.now) m.old.frames.items
         (tag a_value (c.call (program_in program.now) (full (program_in program.now)) at (value_in callee)
         (list_value values.items) (world m.old b))))) }
+    ensures falls { Within 7 m.old m.new result }
 {
     let calls = m.calls;
     m.frames.push(Continuation::Returned(Call {

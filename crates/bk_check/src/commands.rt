@@ -1,5 +1,5 @@
 //! Commands: what a machine does for each, from its beginning or from a place in it that is sought.
-ghost use Rattle.std.specs.Prelude.{◌≡◌, ℕ, IfOk, List};
+ghost use Rattle.std.specs.Prelude.{◌≡◌, ℕ, IfOk, List, ◌+◌, ◌≤◌};
 ghost use Rattle.bk_tree.specs.Tree as t;
 ghost use Rattle.bk_tree.specs.Tree.{command_in, commands_in, expression, expressions_in, declarations_in, step_in, mention};
 ghost use Rattle.bk_meaning.specs.World.{World, with, done};
@@ -18,6 +18,7 @@ ghost use Rattle.bk_objects.specs.Views.{value_in};
 ghost use Rattle.bk_lasting.specs.Views.{env_in};
 ghost use Rattle.bk_check.specs.Worlds.{Bytes, world};
 ghost use Rattle.bk_check.specs.Resume.{tag, done_tag, Comes, resumed, begun_loop};
+ghost use Rattle.bk_check.specs.Progress.{Within, order_cost, scope_cost, assign_cost};
 
 use crate::frame::{Continuation, Exit, Next, OnDone, OnTruth, OnValue, Sought, Subject, Thing};
 use crate::loops::round;
@@ -36,9 +37,10 @@ pub fn act<'a>(
     mode: Option<Sought<'a>>,
     env: Env<'a>,
 ) -> Result<Next<'a>, AllocError>
-    ensures { IfOk result (λ next. (p : Program) (b : Bytes) →
+    ensures comes { IfOk result (λ next. (p : Program) (b : Bytes) →
         Comes p m.new.frames.items next (world m.new b)
         (resumed p m.old.frames.items (tag done_tag ((full p).act (command_in command.now) (mode_in mode.entry) (env_in env.entry) (world m.old b))))) }
+    ensures falls { Within 0 m.old m.new result }
 {
     if is_empty(command) {
         return Ok(Next::Gives(Thing::Done));
@@ -64,9 +66,10 @@ fn act_inside<'a>(
     mode: Option<Sought<'a>>,
     env: Env<'a>,
 ) -> Result<Next<'a>, AllocError>
-    ensures { IfOk result (λ next. (p : Program) (b : Bytes) →
+    ensures comes { IfOk result (λ next. (p : Program) (b : Bytes) →
         Comes p m.new.frames.items next (world m.new b)
         (resumed p m.old.frames.items (tag done_tag (c.act_of p (full p) (command_in command.now) (mode_in mode.entry) (env_in env.entry) (world m.old b))))) }
+    ensures turns { m.new.turns ≤ m.old.turns }
 {
     match command {
         Command::Empty => Ok(Next::Gives(Thing::Done)),
@@ -155,10 +158,11 @@ fn assign<'a>(
     values: &'a [Expr],
     env: Env<'a>,
 ) -> Result<Next<'a>, AllocError>
-    ensures { IfOk result (λ next. (p : Program) (b : Bytes) →
+    ensures comes { IfOk result (λ next. (p : Program) (b : Bytes) →
         Comes p m.new.frames.items next (world m.new b)
         (resumed p m.old.frames.items (tag done_tag (c.assigned (full p) (expressions_in dests.now) (env_in env.entry)
         (expressions_in values.now) (past_each (expressions_in dests.now) (env_in env.entry)) (world m.old b))))) }
+    ensures turns { m.new.turns ≤ m.old.turns }
 {
     let following = env.again()?.following(count_each(dests)?)?;
     assigned(m, dests, env, values, following)
@@ -173,10 +177,11 @@ fn call_command<'a>(
     items: &'a [Expr],
     env: Env<'a>,
 ) -> Result<Next<'a>, AllocError>
-    ensures { IfOk result (λ next. (p : Program) (b : Bytes) →
+    ensures comes { IfOk result (λ next. (p : Program) (b : Bytes) →
         Comes p m.new.frames.items next (world m.new b)
         (resumed p m.old.frames.items (tag done_tag (with (applied p (full p) at (expression callee.now) (expressions_in items.now)
         (env_in env.entry) (world m.old b)) (λ _ w. done w))))) }
+    ensures turns { m.new.turns ≤ m.old.turns }
 {
     m.frames.push(Continuation::Value(OnValue::Dropped))?;
     m.apply(at, callee, items, env)
@@ -193,11 +198,12 @@ fn for_command<'a>(
     body: &'a Command,
     env: Env<'a>,
 ) -> Result<Next<'a>, AllocError>
-    ensures { IfOk result (λ next. (p : Program) (bytes : Bytes) (l : ℕ) (mode : Mode) →
+    ensures comes { IfOk result (λ next. (p : Program) (bytes : Bytes) (l : ℕ) (mode : Mode) →
         Comes p m.new.frames.items next (world m.new bytes)
         (resumed p m.old.frames.items (tag done_tag (c.act_of p (full p)
         (t.for_loop l (mention name.now) (expression first.now) (expression last.now) (step_in by.now) (command_in body.now)) mode
         (env_in env.entry) (world m.old bytes))))) }
+    ensures turns { m.new.turns ≤ m.old.turns }
 {
     let following = env.again()?.following(count(first)?)?;
     let step = step_of(&env, by);
@@ -217,10 +223,11 @@ fn switch<'a>(
     mode: Option<Sought<'a>>,
     env: Env<'a>,
 ) -> Result<Next<'a>, AllocError>
-    ensures { IfOk result (λ next. (p : Program) (bytes : Bytes) (l : ℕ) →
+    ensures comes { IfOk result (λ next. (p : Program) (bytes : Bytes) (l : ℕ) →
         Comes p m.new.frames.items next (world m.new bytes)
         (resumed p m.old.frames.items (tag done_tag (c.act_of p (full p) (t.switch l (expression value.now) (command_in inside.now))
         (mode_in mode.entry) (env_in env.entry) (world m.old bytes))))) }
+    ensures turns { m.new.turns ≤ m.old.turns }
 {
     let following = env.again()?.following(count(value)?)?;
     match mode {
@@ -239,11 +246,12 @@ fn when<'a>(
     mode: Option<Sought<'a>>,
     env: Env<'a>,
 ) -> Result<Next<'a>, AllocError>
-    ensures { IfOk result (λ next. (p : Program) (bytes : Bytes) (l : ℕ) →
+    ensures comes { IfOk result (λ next. (p : Program) (bytes : Bytes) (l : ℕ) →
         Comes p m.new.frames.items next (world m.new bytes)
         (resumed p m.old.frames.items (tag done_tag (c.act_of p (full p)
         (t.when l truth (expression condition.now) (command_in inside.now)) (mode_in mode.entry) (env_in env.entry)
         (world m.old bytes))))) }
+    ensures turns { m.new.turns ≤ m.old.turns }
 {
     let following = env.again()?.following(count(condition)?)?;
     match mode {
@@ -262,10 +270,11 @@ fn while_command<'a>(
     mode: Option<Sought<'a>>,
     env: Env<'a>,
 ) -> Result<Next<'a>, AllocError>
-    ensures { IfOk result (λ next. (p : Program) (b : Bytes) →
+    ensures comes { IfOk result (λ next. (p : Program) (b : Bytes) →
         Comes p m.new.frames.items next (world m.new b)
         (resumed p m.old.frames.items (tag done_tag (begun_loop p truth (expression condition.now) (command_in command.now)
         (mode_in mode.entry) (env_in env.entry) (world m.old b))))) }
+    ensures turns { m.new.turns ≤ m.old.turns }
 {
     match mode {
         None => {
@@ -299,11 +308,12 @@ fn test<'a>(
     mode: Option<Sought<'a>>,
     env: Env<'a>,
 ) -> Result<Next<'a>, AllocError>
-    ensures { IfOk result (λ next. (p : Program) (bytes : Bytes) (l : ℕ) →
+    ensures comes { IfOk result (λ next. (p : Program) (bytes : Bytes) (l : ℕ) →
         Comes p m.new.frames.items next (world m.new bytes)
         (resumed p m.old.frames.items (tag done_tag (c.act_of p (full p)
         (t.test l (expression condition.now) (command_in a.now) (command_in b.now)) (mode_in mode.entry) (env_in env.entry)
         (world m.old bytes))))) }
+    ensures turns { m.new.turns ≤ m.old.turns }
 {
     let following = env.again()?.following(count(condition)?)?;
     match mode {
@@ -328,10 +338,11 @@ pub fn assigned<'a>(
     values: &'a [Expr],
     env: Env<'a>,
 ) -> Result<Next<'a>, AllocError>
-    ensures { IfOk result (λ next. (p : Program) (b : Bytes) →
+    ensures comes { IfOk result (λ next. (p : Program) (b : Bytes) →
         Comes p m.new.frames.items next (world m.new b)
         (resumed p m.old.frames.items (tag done_tag (c.assigned (full p) (expressions_in dests.now) (env_in there.entry)
         (expressions_in values.now) (env_in env.entry) (world m.old b))))) }
+    ensures falls { Within (assign_cost dests.now + 2) m.old m.new result }
 {
     match dests.split_first() {
         None => Ok(Next::Gives(Thing::Done)),
@@ -353,9 +364,10 @@ pub fn in_order<'a>(
     mode: Option<Sought<'a>>,
     env: Env<'a>,
 ) -> Result<Next<'a>, AllocError>
-    ensures { IfOk result (λ next. (p : Program) (b : Bytes) →
+    ensures comes { IfOk result (λ next. (p : Program) (b : Bytes) →
         Comes p m.new.frames.items next (world m.new b)
         (resumed p m.old.frames.items (tag done_tag (s.in_order (full p) (commands_in commands.now) (mode_in mode.entry) (env_in env.entry) (world m.old b))))) }
+    ensures falls { Within (order_cost commands.now) m.old m.new result }
 {
     match commands.split_first() {
         None => Ok(Next::Gives(Thing::Done)),
@@ -383,9 +395,10 @@ pub fn scope<'a>(
     mode: Option<Sought<'a>>,
     env: Env<'a>,
 ) -> Result<Next<'a>, AllocError>
-    ensures { IfOk result (λ next. (p : Program) (b : Bytes) →
+    ensures comes { IfOk result (λ next. (p : Program) (b : Bytes) →
         Comes p m.new.frames.items next (world m.new b)
         (resumed p m.old.frames.items (tag done_tag (s.scope_of (full p) (commands_in commands.now) (mode_in mode.entry) (env_in env.entry) (world m.old b))))) }
+    ensures falls { Within (scope_cost commands.now) m.old m.new result }
 {
     m.frames
         .push(Continuation::Done(OnDone::Scope(commands, env.again()?)))?;
@@ -402,10 +415,11 @@ fn block<'a>(
     mode: Option<Sought<'a>>,
     env: Env<'a>,
 ) -> Result<Next<'a>, AllocError>
-    ensures { IfOk result (λ next. (p : Program) (b : Bytes) (l : ℕ) →
+    ensures comes { IfOk result (λ next. (p : Program) (b : Bytes) (l : ℕ) →
         Comes p m.new.frames.items next (world m.new b)
         (resumed p m.old.frames.items (tag done_tag (c.act_of p (full p)
         (t.block l (declarations_in decls.now) (commands_in commands.now)) (mode_in mode.entry) (env_in env.entry) (world m.old b))))) }
+    ensures turns { m.new.turns ≤ m.old.turns }
 {
     match decls.split_first() {
         None => Ok(Next::InOrder(commands, mode, env)),
@@ -425,10 +439,11 @@ pub fn choose_case<'a>(
     command: &'a Command,
     env: Env<'a>,
 ) -> Result<Next<'a>, AllocError>
-    ensures { IfOk result (λ next. (p : Program) (b : Bytes) →
+    ensures comes { IfOk result (λ next. (p : Program) (b : Bytes) →
         Comes p m.new.frames.items next (world m.new b)
         (resumed p m.old.frames.items (tag done_tag (c.choose_case (full p) (acts_at (expression expr.now)) (value_in value)
         (command_in command.now) (env_in env.entry) (world m.old b))))) }
+    ensures falls { Within 2 m.old m.new result }
 {
     match value {
         Worth::Number(n) => {

@@ -14,6 +14,7 @@ ghost use Rattle.bk_check.specs.Worlds.{Bytes, world};
 ghost use Rattle.bk_check.specs.Resume.{tag, done_tag, Comes, resumed, next_for as after_for, further_for};
 ghost use Rattle.bk_objects.specs.Views.{outcome_of};
 ghost use Rattle.bk_check.specs.Fors.{tested as tested_by, stepped as stepped_by, truth_then, limit_then};
+ghost use Rattle.bk_check.specs.Progress.{Within};
 
 use crate::frame::{Continuation, For, Next, OnDone, Subject, Thing};
 use crate::machine::Evaluator;
@@ -124,11 +125,12 @@ pub fn begin_for<'a>(
     body: &'a Command,
     step: Option<u32>,
 ) -> Result<Next<'a>, AllocError>
-    ensures { IfOk result (λ next. (p : Program) (b : Bytes) →
+    ensures comes { IfOk result (λ next. (p : Program) (b : Bytes) →
         Comes p m.new.frames.items next (world m.new b)
         (resumed p m.old.frames.items (tag done_tag (with (given name.now.at step (world m.old b))
         (λ n w. for_loop (full p) (mention name.now) (command_in body.now) (value_in start) (value_in limit) n
         (env_in env.entry) w))))) }
+    ensures falls { Within 6 m.old m.new result }
 {
     match step {
         None => Ok(Next::Undefined(Subject::Variable(name, 0, limit), Reason::NoConstant)),
@@ -146,10 +148,11 @@ fn begin_by<'a>(
     body: &'a Command,
     step: u32,
 ) -> Result<Next<'a>, AllocError>
-    ensures { IfOk result (λ next. (p : Program) (b : Bytes) →
+    ensures comes { IfOk result (λ next. (p : Program) (b : Bytes) →
         Comes p m.new.frames.items next (world m.new b)
         (resumed p m.old.frames.items (tag done_tag (for_loop (full p) (mention name.now) (command_in body.now) (value_in start)
         (value_in limit) step (env_in env.entry) (world m.old b))))) }
+    ensures falls { Within 6 m.old m.new result }
 {
     let object = m.store.made();
     m.frames.push(Continuation::Closing(object))?;
@@ -177,11 +180,12 @@ fn make_one(store: &mut Store, value: Worth, at: Position) -> Result<(), AllocEr
 
 /// The test and the first round of a FOR.
 fn first_round<'a>(m: &mut Evaluator<'a>, run: For<'a>) -> Result<Next<'a>, AllocError>
-    ensures { IfOk result (λ next. (p : Program) (b : Bytes) →
+    ensures comes { IfOk result (λ next. (p : Program) (b : Bytes) →
         Comes p m.new.frames.items next (world m.new b)
         (resumed p m.old.frames.items (tag done_tag (test_of run.entry.name.now.at run.entry.object (value_in run.entry.limit) run.entry.step
         (λ w. for_rounds_of (full p) run.entry.name.now.at (command_in run.entry.body.now) run.entry.object (value_in run.entry.limit) run.entry.step
         (env_in run.entry.env) w) (world m.old b))))) }
+    ensures falls { Within 5 m.old m.new result }
 {
     match try_limit(&m.store, run.object, run.limit, run.step) {
         Tested::Holds(truth) => if truth {
@@ -202,10 +206,11 @@ fn first_round<'a>(m: &mut Evaluator<'a>, run: For<'a>) -> Result<Next<'a>, Allo
 /// The rounds of a FOR, from one on.
 #[inline(never)]
 fn for_round<'a>(m: &mut Evaluator<'a>, run: For<'a>) -> Result<Next<'a>, AllocError>
-    ensures { IfOk result (λ next. (p : Program) (b : Bytes) →
+    ensures comes { IfOk result (λ next. (p : Program) (b : Bytes) →
         Comes p m.new.frames.items next (world m.new b)
         (resumed p m.old.frames.items (tag done_tag (for_rounds_of (full p) run.entry.name.now.at (command_in run.entry.body.now) run.entry.object
         (value_in run.entry.limit) run.entry.step (env_in run.entry.env) (world m.old b))))) }
+    ensures falls { Within 5 m.old m.new result }
 {
     let body = run.body;
     let env = run.env.again()?;
@@ -215,9 +220,10 @@ fn for_round<'a>(m: &mut Evaluator<'a>, run: For<'a>) -> Result<Next<'a>, AllocE
 
 /// A further round of a FOR, which takes a turn.
 fn further_round<'a>(m: &mut Evaluator<'a>, run: For<'a>) -> Result<Next<'a>, AllocError>
-    ensures { IfOk result (λ next. (p : Program) (b : Bytes) →
+    ensures comes { IfOk result (λ next. (p : Program) (b : Bytes) →
         Comes p m.new.frames.items next (world m.new b)
         (resumed p m.old.frames.items (tag done_tag (further_for p run.entry (world m.old b))))) }
+    ensures falls { Within 0 m.old m.new result }
 {
     if m.turns == 0 {
         return Ok(Next::Going(run.name.at));
@@ -228,10 +234,11 @@ fn further_round<'a>(m: &mut Evaluator<'a>, run: For<'a>) -> Result<Next<'a>, Al
 
 /// The test after a round.
 fn test_again<'a>(m: &mut Evaluator<'a>, run: For<'a>) -> Result<Next<'a>, AllocError>
-    ensures { IfOk result (λ next. (p : Program) (b : Bytes) →
+    ensures comes { IfOk result (λ next. (p : Program) (b : Bytes) →
         Comes p m.new.frames.items next (world m.new b)
         (resumed p m.old.frames.items (tag done_tag (test_of run.entry.name.now.at run.entry.object (value_in run.entry.limit) run.entry.step
         (further_for p run.entry) (world m.old b))))) }
+    ensures falls { Within 0 m.old m.new result }
 {
     match try_limit(&m.store, run.object, run.limit, run.step) {
         Tested::Holds(truth) => if truth {
@@ -252,9 +259,10 @@ fn test_again<'a>(m: &mut Evaluator<'a>, run: For<'a>) -> Result<Next<'a>, Alloc
 /// After a round of a FOR.
 #[inline(never)]
 pub fn next_for<'a>(m: &mut Evaluator<'a>, run: For<'a>) -> Result<Next<'a>, AllocError>
-    ensures { IfOk result (λ next. (p : Program) (b : Bytes) →
+    ensures comes { IfOk result (λ next. (p : Program) (b : Bytes) →
         Comes p m.new.frames.items next (world m.new b)
         (resumed p m.old.frames.items (tag done_tag (after_for p run.entry (world m.old b))))) }
+    ensures falls { Within 0 m.old m.new result }
 {
     match add_step(&mut m.store, run.object, run.step) {
         Stepped::Done => test_again(m, run),

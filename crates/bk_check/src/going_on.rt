@@ -1,5 +1,5 @@
 //! Frames go on with what the parts inside gave.
-ghost use Rattle.std.specs.Prelude.{◌≡◌, IfOk, List};
+ghost use Rattle.std.specs.Prelude.{◌≡◌, IfOk, List, ◌+◌};
 ghost use Rattle.bk_tree.specs.Tree.{command_in, commands_in, expressions_in};
 ghost use Rattle.bk_meaning.specs.World.{World, goto, gives, leaves, undefined, done};
 ghost use Rattle.bk_meaning.specs.Scopes.{alone};
@@ -12,6 +12,7 @@ ghost use Rattle.bk_lasting.specs.Views.{env_in};
 ghost use Rattle.bk_check.specs.Worlds.{Bytes, world};
 ghost use Rattle.bk_check.specs.Resume.{tag, done_tag, exit_in, thing_in, lands as landing_in, Comes, resumed, resume_value, resume_truth, resume_target, resume_done, resume_left, resume_given, value_goes, truth_goes, target_goes, done_goes, done_left, assigned_to};
 ghost use Rattle.bk_objects.specs.Views.{place_in};
+ghost use Rattle.bk_check.specs.Progress.{Within, LeftWithin, Adds, Falls, order_cost, assign_cost, value_cost, truth_cost, target_cost, done_cost, cost_of};
 
 use crate::blocks::named;
 use crate::calls::call;
@@ -35,9 +36,10 @@ fn with_value<'a>(
     frame: OnValue<'a>,
     x: Worth,
 ) -> Result<Next<'a>, AllocError>
-    ensures { IfOk result (λ next. (b : Bytes) →
+    ensures comes { IfOk result (λ next. (b : Bytes) →
         Comes (program_in program.now) m.new.frames.items next (world m.new b)
         (resumed (program_in program.now) m.old.frames.items (value_goes (program_in program.now) frame.entry (gives (value_in x) (world m.old b))))) }
+    ensures falls { Within (value_cost frame.entry) m.old m.new result }
 {
     match frame {
         OnValue::Contents(expr) => Ok(m.fetched(expr, Operands::One(x), x)),
@@ -85,10 +87,11 @@ fn put_first<'a>(
     values: &'a [Expr],
     env: Env<'a>,
 ) -> Result<Next<'a>, AllocError>
-    ensures { IfOk result (λ next. (p : Program) (b : Bytes) →
+    ensures comes { IfOk result (λ next. (p : Program) (b : Bytes) →
         Comes p m.new.frames.items next (world m.new b)
         (resumed p m.old.frames.items (tag done_tag (assigned_to (full p) (value_in x) (expressions_in dests.now)
         (env_in there.entry) (expressions_in values.now) (env_in env.entry) (world m.old b))))) }
+    ensures falls { Within (assign_cost dests.now) m.old m.new result }
 {
     match dests.split_first() {
         Some((first, rest)) => {
@@ -110,9 +113,10 @@ fn with_truth<'a>(
     frame: OnTruth<'a>,
     x: bool,
 ) -> Result<Next<'a>, AllocError>
-    ensures { IfOk result (λ next. (p : Program) (b : Bytes) →
+    ensures comes { IfOk result (λ next. (p : Program) (b : Bytes) →
         Comes p m.new.frames.items next (world m.new b)
         (resumed p m.old.frames.items (truth_goes p frame.entry (gives x (world m.old b))))) }
+    ensures falls { Within (truth_cost frame.entry) m.old m.new result }
 {
     match frame {
         OnTruth::Choice(a, b, env) => {
@@ -167,9 +171,10 @@ fn with_target<'a>(
     frame: OnTarget<'a>,
     x: Location,
 ) -> Result<Next<'a>, AllocError>
-    ensures { IfOk result (λ next. (p : Program) (b : Bytes) →
+    ensures comes { IfOk result (λ next. (p : Program) (b : Bytes) →
         Comes p m.new.frames.items next (world m.new b)
         (resumed p m.old.frames.items (target_goes p frame.entry (gives (place_in x) (world m.old b))))) }
+    ensures falls { Within (target_cost frame.entry) m.old m.new result }
 {
     match frame {
         OnTarget::Address(expr) => match x {
@@ -213,9 +218,10 @@ fn of_valof(m: &Evaluator, line: u32) -> Origin {
 /// What goes on after a command.
 #[inline(never)]
 fn with_done<'a>(m: &mut Evaluator<'a>, frame: OnDone<'a>) -> Result<Next<'a>, AllocError>
-    ensures { IfOk result (λ next. (p : Program) (b : Bytes) →
+    ensures comes { IfOk result (λ next. (p : Program) (b : Bytes) →
         Comes p m.new.frames.items next (world m.new b)
         (resumed p m.old.frames.items (done_goes p frame.entry (done (world m.old b))))) }
+    ensures falls { Within (done_cost frame.entry) m.old m.new result }
 {
     match frame {
         OnDone::After(commands, env) => Ok(Next::InOrder(commands, None, env)),
@@ -236,9 +242,10 @@ fn with_exit<'a>(
     frame: OnDone<'a>,
     exit: Exit<'a>,
 ) -> Result<Next<'a>, AllocError>
-    ensures { IfOk result (λ next. (p : Program) (b : Bytes) →
+    ensures comes { IfOk result (λ next. (p : Program) (b : Bytes) →
         Comes p m.new.frames.items next (world m.new b)
         (resumed p m.old.frames.items (done_left p frame.entry (exit_in exit.entry) (world m.old b)))) }
+    ensures falls { LeftWithin exit.entry (done_cost frame.entry) m.old m.new result }
 {
     match frame {
         OnDone::After(_, _) => Ok(Next::Leaves(exit)),
@@ -308,9 +315,10 @@ fn lands<'a>(
     env: Env<'a>,
     label: &'a [u8],
 ) -> Result<Next<'a>, AllocError>
-    ensures { IfOk result (λ next. (p : Program) (b : Bytes) →
+    ensures comes { IfOk result (λ next. (p : Program) (b : Bytes) →
         Comes p m.new.frames.items next (world m.new b)
         (resumed p m.old.frames.items (tag done_tag (landing_in p (commands_in commands.now) (env_in env.entry) (goto label.now) (world m.old b))))) }
+    ensures falls { LeftWithin (Exit.Goto label.entry) (order_cost commands.now + 2) m.old m.new result }
 {
     if one_has_place(Sought::Label(label), &env, commands) {
         scope(m, commands, Some(Sought::Label(label)), env)
@@ -326,9 +334,10 @@ fn lands_alone<'a>(
     env: Env<'a>,
     label: &'a [u8],
 ) -> Result<Next<'a>, AllocError>
-    ensures { IfOk result (λ next. (p : Program) (b : Bytes) →
+    ensures comes { IfOk result (λ next. (p : Program) (b : Bytes) →
         Comes p m.new.frames.items next (world m.new b)
         (resumed p m.old.frames.items (tag done_tag (landing_in p (alone (command_in command.now)) (env_in env.entry) (goto label.now) (world m.old b))))) }
+    ensures falls { LeftWithin (Exit.Goto label.entry) 2 m.old m.new result }
 {
     if has_place(Sought::Label(label), &env, command) {
         m.alone(command, Some(Sought::Label(label)), env)
@@ -340,7 +349,8 @@ fn lands_alone<'a>(
 /// What a frame does not go on with.
 #[inline(never)]
 fn wrong<'a>() -> Result<Next<'a>, AllocError>
-    ensures { IfOk result (λ next. (p : Program) (fs : List Continuation) (w : World) → Comes p fs next w (resumed p fs (undefined nowhere w))) }
+    ensures comes { IfOk result (λ next. (p : Program) (fs : List Continuation) (w : World) → Comes p fs next w (resumed p fs (undefined nowhere w))) }
+    ensures falls { Adds 0 result }
 {
     Ok(Next::Undefined(Subject::Nothing(Position::first()), Reason::NoPlace))
 }
@@ -352,9 +362,10 @@ fn frame_with_value<'a>(
     frame: Continuation<'a>,
     x: Worth,
 ) -> Result<Next<'a>, AllocError>
-    ensures { IfOk result (λ next. (b : Bytes) →
+    ensures comes { IfOk result (λ next. (b : Bytes) →
         Comes (program_in program.now) m.new.frames.items next (world m.new b)
         (resumed (program_in program.now) m.old.frames.items (resume_value (program_in program.now) frame.entry (gives (value_in x) (world m.old b))))) }
+    ensures falls { Within (cost_of frame.entry) m.old m.new result }
 {
     match frame {
         Continuation::Value(inside) => with_value(m, program, inside, x),
@@ -378,9 +389,10 @@ fn frame_with_truth<'a>(
     frame: Continuation<'a>,
     x: bool,
 ) -> Result<Next<'a>, AllocError>
-    ensures { IfOk result (λ next. (p : Program) (b : Bytes) →
+    ensures comes { IfOk result (λ next. (p : Program) (b : Bytes) →
         Comes p m.new.frames.items next (world m.new b)
         (resumed p m.old.frames.items (resume_truth p frame.entry (gives x (world m.old b))))) }
+    ensures falls { Within (cost_of frame.entry) m.old m.new result }
 {
     match frame {
         Continuation::Truth(inside) => with_truth(m, inside, x),
@@ -398,9 +410,10 @@ fn frame_with_target<'a>(
     frame: Continuation<'a>,
     x: Location,
 ) -> Result<Next<'a>, AllocError>
-    ensures { IfOk result (λ next. (p : Program) (b : Bytes) →
+    ensures comes { IfOk result (λ next. (p : Program) (b : Bytes) →
         Comes p m.new.frames.items next (world m.new b)
         (resumed p m.old.frames.items (resume_target p frame.entry (gives (place_in x) (world m.old b))))) }
+    ensures falls { Within (cost_of frame.entry) m.old m.new result }
 {
     match frame {
         Continuation::Target(inside) => with_target(m, inside, x),
@@ -417,9 +430,10 @@ fn frame_with_done<'a>(
     m: &mut Evaluator<'a>,
     frame: Continuation<'a>,
 ) -> Result<Next<'a>, AllocError>
-    ensures { IfOk result (λ next. (p : Program) (b : Bytes) →
+    ensures comes { IfOk result (λ next. (p : Program) (b : Bytes) →
         Comes p m.new.frames.items next (world m.new b)
         (resumed p m.old.frames.items (resume_done p frame.entry (done (world m.old b))))) }
+    ensures falls { Within (cost_of frame.entry) m.old m.new result }
 {
     match frame {
         Continuation::Done(inside) => with_done(m, inside),
@@ -441,9 +455,10 @@ fn frame_with<'a>(
     frame: Continuation<'a>,
     thing: Thing,
 ) -> Result<Next<'a>, AllocError>
-    ensures { IfOk result (λ next. (b : Bytes) →
+    ensures comes { IfOk result (λ next. (b : Bytes) →
         Comes (program_in program.now) m.new.frames.items next (world m.new b)
         (resumed (program_in program.now) m.old.frames.items (resume_given (program_in program.now) frame.entry (thing_in thing) (world m.old b)))) }
+    ensures falls { Within (cost_of frame.entry) m.old m.new result }
 {
     match thing {
         Thing::Value(x) => frame_with_value(m, program, frame, x),
@@ -460,9 +475,10 @@ fn frame_left<'a>(
     frame: Continuation<'a>,
     exit: Exit<'a>,
 ) -> Result<Next<'a>, AllocError>
-    ensures { IfOk result (λ next. (p : Program) (b : Bytes) →
+    ensures comes { IfOk result (λ next. (p : Program) (b : Bytes) →
         Comes p m.new.frames.items next (world m.new b)
         (resumed p m.old.frames.items (resume_left p frame.entry (exit_in exit.entry) (world m.old b)))) }
+    ensures falls { LeftWithin exit.entry (cost_of frame.entry) m.old m.new result }
 {
     match frame {
         Continuation::Done(inside) => with_exit(m, inside, exit),
@@ -487,9 +503,10 @@ pub fn given<'a>(
     program: &[Lasting<'a>],
     thing: Thing,
 ) -> Result<Next<'a>, AllocError>
-    ensures { IfOk result (λ next. (b : Bytes) →
+    ensures comes { IfOk result (λ next. (b : Bytes) →
         Comes (program_in program.now) m.new.frames.items next (world m.new b)
         (resumed (program_in program.now) m.old.frames.items (gives (thing_in thing) (world m.old b)))) }
+    ensures falls { Falls m.old (Next.Gives thing) m.new result }
 {
     match m.frames.pop() {
         Some(frame) => frame_with(m, program, frame, thing),
@@ -500,9 +517,10 @@ pub fn given<'a>(
 /// An exit goes to the innermost frame.
 #[inline(never)]
 pub fn left<'a>(m: &mut Evaluator<'a>, exit: Exit<'a>) -> Result<Next<'a>, AllocError>
-    ensures { IfOk result (λ next. (p : Program) (b : Bytes) →
+    ensures comes { IfOk result (λ next. (p : Program) (b : Bytes) →
         Comes p m.new.frames.items next (world m.new b)
         (resumed p m.old.frames.items (leaves (exit_in exit.entry) (world m.old b)))) }
+    ensures falls { Falls m.old (Next.Leaves exit.entry) m.new result }
 {
     match m.frames.pop() {
         Some(frame) => frame_left(m, frame, exit),

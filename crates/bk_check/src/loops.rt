@@ -11,6 +11,7 @@ ghost use Rattle.bk_check.specs.Views.{mode_in};
 ghost use Rattle.bk_lasting.specs.Views.{env_in};
 ghost use Rattle.bk_check.specs.Worlds.{Bytes, world};
 ghost use Rattle.bk_check.specs.Resume.{tag, done_tag, Comes, resumed, next_round as after_round};
+ghost use Rattle.bk_check.specs.Progress.{Within};
 
 use crate::frame::{Next, OnDone, OnTruth, Sought, Thing};
 use crate::machine::Evaluator;
@@ -26,9 +27,10 @@ pub fn round<'a>(
     mode: Option<Sought<'a>>,
     env: Env<'a>,
 ) -> Result<Next<'a>, AllocError>
-    ensures { IfOk result (λ next. (p : Program) (b : Bytes) →
+    ensures comes { IfOk result (λ next. (p : Program) (b : Bytes) →
         Comes p m.new.frames.items next (world m.new b)
         (resumed p m.old.frames.items (tag done_tag (rounds_of (full p) (command_in command.now) (mode_in mode.entry) (env_in env.entry) (world m.old b))))) }
+    ensures falls { Within 4 m.old m.new result }
 {
     match command {
         Command::While {
@@ -64,11 +66,12 @@ fn while_round<'a>(
     mode: Option<Sought<'a>>,
     env: Env<'a>,
 ) -> Result<Next<'a>, AllocError>
-    ensures { IfOk result (λ next. (p : Program) (b : Bytes) →
+    ensures comes { IfOk result (λ next. (p : Program) (b : Bytes) →
         Comes p m.new.frames.items next (world m.new b)
         (resumed p m.old.frames.items (tag done_tag (again ((full p).act (command_in inside.now) (mode_in mode.entry)
         (past (expression condition.now) (env_in env.entry)) (world m.old b))
         (after_round p (command_in command.now) (env_in env.entry)))))) }
+    ensures falls { Within 4 m.old m.new result }
 {
     let following = env.again()?.following(count(condition)?)?;
     m.first_act(OnDone::Round(command, env), inside, mode, following)
@@ -82,10 +85,11 @@ fn repeat_round<'a>(
     mode: Option<Sought<'a>>,
     env: Env<'a>,
 ) -> Result<Next<'a>, AllocError>
-    ensures { IfOk result (λ next. (p : Program) (b : Bytes) →
+    ensures comes { IfOk result (λ next. (p : Program) (b : Bytes) →
         Comes p m.new.frames.items next (world m.new b)
         (resumed p m.old.frames.items (tag done_tag (again ((full p).act (command_in inside.now) (mode_in mode.entry) (env_in env.entry)
         (world m.old b)) (after_round p (command_in command.now) (env_in env.entry)))))) }
+    ensures falls { Within 4 m.old m.new result }
 {
     let outside = env.again()?;
     m.first_act(OnDone::Round(command, outside), inside, mode, env)
@@ -98,9 +102,10 @@ pub fn further_round<'a>(
     command: &'a Command,
     env: Env<'a>,
 ) -> Result<Next<'a>, AllocError>
-    ensures { IfOk result (λ next. (p : Program) (b : Bytes) →
+    ensures comes { IfOk result (λ next. (p : Program) (b : Bytes) →
         Comes p m.new.frames.items next (world m.new b)
         (resumed p m.old.frames.items (tag done_tag (turn (world m.old b) (λ w. (full p).rounds (command_in command.now) forwards (env_in env.entry) w))))) }
+    ensures falls { Within 0 m.old m.new result }
 {
     if m.turns == 0 {
         return Ok(Next::Going(command.at()));
@@ -117,10 +122,11 @@ fn next_while<'a>(
     condition: &'a Expr,
     env: Env<'a>,
 ) -> Result<Next<'a>, AllocError>
-    ensures { IfOk result (λ next. (p : Program) (b : Bytes) →
+    ensures comes { IfOk result (λ next. (p : Program) (b : Bytes) →
         Comes p m.new.frames.items next (world m.new b)
         (resumed p m.old.frames.items (tag done_tag (where_truth (full p) truth (expression condition.now) (env_in env.entry)
         (λ w. turn w (λ w. (full p).rounds (command_in command.now) forwards (env_in env.entry) w)) (world m.old b))))) }
+    ensures falls { Within 2 m.old m.new result }
 {
     let outside = env.again()?;
     m.first_truth(OnTruth::Further(truth, command, outside), condition, env)
@@ -135,11 +141,12 @@ fn next_repeat_while<'a>(
     condition: &'a Expr,
     env: Env<'a>,
 ) -> Result<Next<'a>, AllocError>
-    ensures { IfOk result (λ next. (p : Program) (b : Bytes) →
+    ensures comes { IfOk result (λ next. (p : Program) (b : Bytes) →
         Comes p m.new.frames.items next (world m.new b)
         (resumed p m.old.frames.items (tag done_tag (where_truth (full p) truth (expression condition.now)
         (past_command (command_in inside.now) (env_in env.entry))
         (λ w. turn w (λ w. (full p).rounds (command_in command.now) forwards (env_in env.entry) w)) (world m.old b))))) }
+    ensures falls { Within 2 m.old m.new result }
 {
     let following = env.again()?.following(count_command(inside)?)?;
     m.first_truth(OnTruth::Further(truth, command, env), condition, following)
@@ -152,9 +159,10 @@ pub fn next_round<'a>(
     command: &'a Command,
     env: Env<'a>,
 ) -> Result<Next<'a>, AllocError>
-    ensures { IfOk result (λ next. (p : Program) (b : Bytes) →
+    ensures comes { IfOk result (λ next. (p : Program) (b : Bytes) →
         Comes p m.new.frames.items next (world m.new b)
         (resumed p m.old.frames.items (tag done_tag (after_round p (command_in command.now) (env_in env.entry) (world m.old b))))) }
+    ensures falls { Within 2 m.old m.new result }
 {
     match command {
         Command::While {

@@ -1,5 +1,5 @@
 //! Expressions: what a machine does for a value, a truth or a place.
-ghost use Rattle.std.specs.Prelude.{◌≡◌, ℕ, IfOk, IfSome, ◌<◌, ◌-◌, List};
+ghost use Rattle.std.specs.Prelude.{◌≡◌, ℕ, IfOk, IfSome, ◌<◌, ◌-◌, List, ◌+◌, ◌≤◌};
 ghost use Rattle.std.specs.Option.{option_map};
 ghost use Rattle.bk_tree.specs.Tree.{expression, expressions_in, command_in};
 ghost use Rattle.bk_meaning.specs.World.{World, gives, given, with};
@@ -19,6 +19,7 @@ ghost use Rattle.bk_lasting.specs.Views.{env_in, sense_in};
 ghost use Rattle.bk_check.specs.Worlds.{Bytes, world};
 ghost use Rattle.bk_check.specs.Resume.{tag, done_tag, a_value, a_truth, a_target, Comes, resumed, value_goes, truth_goes, target_goes, done_goes, list_value, applied_after};
 ghost use Rattle.bk_objects.specs.Views.{outcome_of};
+ghost use Rattle.bk_check.specs.Progress.{Within, Adds, arguments_cost, value_cost, truth_cost, target_cost, done_cost};
 
 use crate::frame::{
     Continuation, Next, OnDone, OnTarget, OnTruth, OnValue, Operands, Sought, Subject, Thing,
@@ -45,8 +46,9 @@ pub struct Evaluator<'a> {
 
 /// What an operation gave, as what comes next.
 pub fn came<'a>(expr: &'a Expr, operands: Operands, came: Computed) -> Next<'a>
-    ensures { (p : Program) (m : Evaluator) (b : Bytes) → Comes p m.frames.items result (world m b)
+    ensures comes { (p : Program) (m : Evaluator) (b : Bytes) → Comes p m.frames.items result (world m b)
         (resumed p m.frames.items (tag a_value (outcome_of (acting (expression expr.now)) came (world m b)))) }
+    ensures falls { Adds 0 (Ok result) }
 {
     match came {
         Computed::Value(worth) => Next::Gives(Thing::Value(worth)),
@@ -108,11 +110,12 @@ impl<'a> Evaluator<'a> {
         b: &'a Expr,
         env: Env<'a>,
     ) -> Result<Next<'a>, AllocError>
-        ensures { IfOk result (λ next. (p : Program) (bytes : Bytes) →
+        ensures comes { IfOk result (λ next. (p : Program) (bytes : Bytes) →
             Comes p self.new.frames.items next (world self.new bytes)
             (resumed p self.old.frames.items (tag a_value (with ((full p).value (expression a.now) (env_in env.entry) (world self.old bytes))
             (λ x w. with ((full p).value (expression b.now) (past (expression a.now) (env_in env.entry)) w)
             (combination (acting (expression expr.now)) operator x)))))) }
+        ensures turns { self.new.turns ≤ self.old.turns }
     {
         match self.leaf(a, &env) {
             Some(x) => {
@@ -132,11 +135,12 @@ impl<'a> Evaluator<'a> {
         b: &'a Expr,
         env: Env<'a>,
     ) -> Result<Next<'a>, AllocError>
-        ensures { IfOk result (λ next. (p : Program) (bytes : Bytes) →
+        ensures comes { IfOk result (λ next. (p : Program) (bytes : Bytes) →
             Comes p self.new.frames.items next (world self.new bytes)
             (resumed p self.old.frames.items (tag a_value (with ((full p).value (expression a.now) (env_in env.entry) (world self.old bytes))
             (λ x w. with ((full p).value (expression b.now) (past (expression a.now) (env_in env.entry)) w)
             (combination (acting (expression expr.now)) operator x)))))) }
+        ensures turns { self.new.turns ≤ self.old.turns }
     {
         let following = env.again()?.following(count(a)?)?;
         self.first_value(OnValue::Left(expr, operator, b, following), a, env)
@@ -151,11 +155,12 @@ impl<'a> Evaluator<'a> {
         b: &'a Expr,
         env: Env<'a>,
     ) -> Result<Next<'a>, AllocError>
-        ensures { IfOk result (λ next. (p : Program) (bytes : Bytes) →
+        ensures comes { IfOk result (λ next. (p : Program) (bytes : Bytes) →
             Comes p self.new.frames.items next (world self.new bytes)
             (resumed p self.old.frames.items (tag a_value (with
             ((full p).value (expression b.now) (env_in env.entry) (world self.old bytes))
             (combination (acting (expression expr.now)) operator (value_in x)))))) }
+        ensures falls { Within 2 self.old self.new result }
     {
         match self.leaf(b, &env) {
             Some(y) => {
@@ -173,9 +178,10 @@ impl<'a> Evaluator<'a> {
         expr: &'a Expr,
         env: Env<'a>,
     ) -> Result<Next<'a>, AllocError>
-        ensures { IfOk result (λ next. (p : Program) (b : Bytes) →
+        ensures comes { IfOk result (λ next. (p : Program) (b : Bytes) →
             Comes p self.new.frames.items next (world self.new b)
             (resumed p self.old.frames.items (value_goes p frame.entry ((full p).value (expression expr.now) (env_in env.entry) (world self.old b))))) }
+        ensures falls { Within (value_cost frame.entry + 2) self.old self.new result }
     {
         self.frames.push(Continuation::Value(frame))?;
         Ok(Next::Value(expr, env))
@@ -188,9 +194,10 @@ impl<'a> Evaluator<'a> {
         expr: &'a Expr,
         env: Env<'a>,
     ) -> Result<Next<'a>, AllocError>
-        ensures { IfOk result (λ next. (p : Program) (b : Bytes) →
+        ensures comes { IfOk result (λ next. (p : Program) (b : Bytes) →
             Comes p self.new.frames.items next (world self.new b)
             (resumed p self.old.frames.items (truth_goes p frame.entry ((full p).truth (expression expr.now) (env_in env.entry) (world self.old b))))) }
+        ensures falls { Within (truth_cost frame.entry + 2) self.old self.new result }
     {
         self.frames.push(Continuation::Truth(frame))?;
         Ok(Next::Truth(expr, env))
@@ -203,9 +210,10 @@ impl<'a> Evaluator<'a> {
         expr: &'a Expr,
         env: Env<'a>,
     ) -> Result<Next<'a>, AllocError>
-        ensures { IfOk result (λ next. (p : Program) (b : Bytes) →
+        ensures comes { IfOk result (λ next. (p : Program) (b : Bytes) →
             Comes p self.new.frames.items next (world self.new b)
             (resumed p self.old.frames.items (target_goes p frame.entry ((full p).target (expression expr.now) (env_in env.entry) (world self.old b))))) }
+        ensures falls { Within (target_cost frame.entry + 2) self.old self.new result }
     {
         self.frames.push(Continuation::Target(frame))?;
         Ok(Next::Target(expr, env))
@@ -219,10 +227,11 @@ impl<'a> Evaluator<'a> {
         mode: Option<Sought<'a>>,
         env: Env<'a>,
     ) -> Result<Next<'a>, AllocError>
-        ensures { IfOk result (λ next. (p : Program) (b : Bytes) →
+        ensures comes { IfOk result (λ next. (p : Program) (b : Bytes) →
             Comes p self.new.frames.items next (world self.new b)
             (resumed p self.old.frames.items (done_goes p frame.entry
             ((full p).act (command_in command.now) (mode_in mode.entry) (env_in env.entry) (world self.old b))))) }
+        ensures falls { Within (done_cost frame.entry + 2) self.old self.new result }
     {
         self.frames.push(Continuation::Done(frame))?;
         Ok(Next::Act(command, mode, env))
@@ -230,9 +239,10 @@ impl<'a> Evaluator<'a> {
 
     /// An expression whose value is asked for, its turn taken.
     fn value_inside(&mut self, expr: &'a Expr, env: Env<'a>) -> Result<Next<'a>, AllocError>
-        ensures { IfOk result (λ next. (p : Program) (b : Bytes) →
+        ensures comes { IfOk result (λ next. (p : Program) (b : Bytes) →
             Comes p self.new.frames.items next (world self.new b)
             (resumed p self.old.frames.items (tag a_value (value_of p (full p) (expression expr.now) (env_in env.entry) (world self.old b))))) }
+        ensures turns { self.new.turns ≤ self.old.turns }
     {
         match expr {
             Expr::Name { letters: name, .. } => Ok(self.named(expr, env.sense(name))),
@@ -291,8 +301,9 @@ impl<'a> Evaluator<'a> {
 
     /// What is at an address.
     pub fn fetched(&self, expr: &'a Expr, operands: Operands, at: Worth) -> Next<'a>
-        ensures { (p : Program) (b : Bytes) → Comes p self.now.frames.items result (world self.now b)
+        ensures comes { (p : Program) (b : Bytes) → Comes p self.now.frames.items result (world self.now b)
             (resumed p self.now.frames.items (tag a_value (Parts.fetch (acting (expression expr.now)) (value_in at) (world self.now b)))) }
+        ensures falls { Adds 0 (Ok result) }
     {
         came(expr, operands, read(&self.store, at))
     }
@@ -300,9 +311,10 @@ impl<'a> Evaluator<'a> {
     /// An operator between two values.
     #[inline(never)]
     pub fn combined(&self, expr: &'a Expr, operator: Operator, x: Worth, y: Worth) -> Next<'a>
-        ensures { (p : Program) (b : Bytes) → Comes p self.now.frames.items result (world self.now b)
+        ensures comes { (p : Program) (b : Bytes) → Comes p self.now.frames.items result (world self.now b)
             (resumed p self.now.frames.items (tag a_value
             (combination (acting (expression expr.now)) operator (value_in x) (value_in y) (world self.now b)))) }
+        ensures falls { Adds 0 (Ok result) }
     {
         came(
             expr,
@@ -313,8 +325,9 @@ impl<'a> Evaluator<'a> {
 
     /// The truth of a value.
     pub fn truth_given(&self, expr: &'a Expr, x: Worth) -> Next<'a>
-        ensures { (p : Program) (b : Bytes) → Comes p self.now.frames.items result (world self.now b)
+        ensures comes { (p : Program) (b : Bytes) → Comes p self.now.frames.items result (world self.now b)
             (resumed p self.now.frames.items (tag a_truth (judged (acting (expression expr.now)) (value_in x) (world self.now b)))) }
+        ensures falls { Adds 0 (Ok result) }
     {
         match truth_of(&self.store, x) {
             Ok(truth) => Next::Gives(Thing::Truth(truth)),
@@ -324,10 +337,11 @@ impl<'a> Evaluator<'a> {
 
     /// The place that a vector and an offset are.
     pub fn place_given(&self, expr: &'a Expr, x: Worth, y: Worth) -> Next<'a>
-        ensures { (p : Program) (b : Bytes) → Comes p self.now.frames.items result (world self.now b)
+        ensures comes { (p : Program) (b : Bytes) → Comes p self.now.frames.items result (world self.now b)
             (resumed p self.now.frames.items (tag a_target (with
             (given (acting (expression expr.now)) (sum_of (world self.now b).memory (value_in x) (value_in y)) (world self.now b))
             (λ a w. gives (Parts.at a) w)))) }
+        ensures falls { Adds 0 (Ok result) }
     {
         match sum(&self.store, x, y) {
             Ok(at) => Next::Gives(Thing::Target(Location::Cell(at))),
@@ -364,10 +378,11 @@ impl<'a> Evaluator<'a> {
         items: &'a [Expr],
         env: Env<'a>,
     ) -> Result<Next<'a>, AllocError>
-        ensures { IfOk result (λ next. (p : Program) (b : Bytes) →
+        ensures comes { IfOk result (λ next. (p : Program) (b : Bytes) →
             Comes p self.new.frames.items next (world self.new b)
             (resumed p self.old.frames.items (tag a_value (applied p (full p) at (expression callee.now) (expressions_in items.now)
             (env_in env.entry) (world self.old b))))) }
+        ensures turns { self.new.turns ≤ self.old.turns }
     {
         let here = env.again()?.following(count(callee)?)?;
         self.arguments(at, items, here, Vec::new(self.alloc), callee, env)
@@ -384,10 +399,11 @@ impl<'a> Evaluator<'a> {
         callee: &'a Expr,
         env: Env<'a>,
     ) -> Result<Next<'a>, AllocError>
-        ensures { IfOk result (λ next. (p : Program) (b : Bytes) →
+        ensures comes { IfOk result (λ next. (p : Program) (b : Bytes) →
             Comes p self.new.frames.items next (world self.new b)
             (resumed p self.old.frames.items (tag a_value (applied_after p at (list_value before.items) (expressions_in items.now)
             (env_in here.entry) (expression callee.now) (env_in env.entry) (world self.old b))))) }
+        ensures falls { Within (arguments_cost items.now) self.old self.new result }
     {
         match items.split_first() {
             Some((first, rest)) => {
@@ -410,10 +426,11 @@ impl<'a> Evaluator<'a> {
         command: &'a Command,
         env: Env<'a>,
     ) -> Result<Next<'a>, AllocError>
-        ensures { IfOk result (λ next. (p : Program) (b : Bytes) →
+        ensures comes { IfOk result (λ next. (p : Program) (b : Bytes) →
             Comes p self.new.frames.items next (world self.new b)
             (resumed p self.old.frames.items (tag a_value (result_of
             (scope_of (full p) (alone (command_in command.now)) forwards (env_in env.entry) (world self.old b)))))) }
+        ensures turns { self.new.turns ≤ self.old.turns }
     {
         self.frames
             .push(Continuation::Done(OnDone::Valof(at.line().number())))?;
@@ -428,10 +445,11 @@ impl<'a> Evaluator<'a> {
         mode: Option<Sought<'a>>,
         env: Env<'a>,
     ) -> Result<Next<'a>, AllocError>
-        ensures { IfOk result (λ next. (p : Program) (b : Bytes) →
+        ensures comes { IfOk result (λ next. (p : Program) (b : Bytes) →
             Comes p self.new.frames.items next (world self.new b)
             (resumed p self.old.frames.items (tag done_tag (scope_of (full p) (alone (command_in command.now)) (mode_in mode.entry)
             (env_in env.entry) (world self.old b))))) }
+        ensures falls { Within 4 self.old self.new result }
     {
         self.frames
             .push(Continuation::Done(OnDone::Alone(command, env.again()?)))?;
@@ -442,10 +460,11 @@ impl<'a> Evaluator<'a> {
     /// An expression that is judged by its value.
     #[inline(never)]
     fn judged(&mut self, expr: &'a Expr, env: Env<'a>) -> Result<Next<'a>, AllocError>
-        ensures { IfOk result (λ next. (p : Program) (b : Bytes) →
+        ensures comes { IfOk result (λ next. (p : Program) (b : Bytes) →
             Comes p self.new.frames.items next (world self.new b)
             (resumed p self.old.frames.items (tag a_truth (with (value_of p (full p) (expression expr.now) (env_in env.entry) (world self.old b))
             (judged (acting (expression expr.now))))))) }
+        ensures turns { self.new.turns ≤ self.old.turns }
     {
         self.frames.push(Continuation::Value(OnValue::Judge(expr)))?;
         self.value_inside(expr, env)
@@ -454,9 +473,10 @@ impl<'a> Evaluator<'a> {
     /// An expression whose value is asked for.
     #[inline(never)]
     pub fn value(&mut self, expr: &'a Expr, env: Env<'a>) -> Result<Next<'a>, AllocError>
-        ensures { IfOk result (λ next. (p : Program) (b : Bytes) →
+        ensures comes { IfOk result (λ next. (p : Program) (b : Bytes) →
             Comes p self.new.frames.items next (world self.new b)
             (resumed p self.old.frames.items (tag a_value ((full p).value (expression expr.now) (env_in env.entry) (world self.old b))))) }
+        ensures falls { Within 0 self.old self.new result }
     {
         if self.turns == 0 {
             return Ok(Next::Going(acts_at(expr)));
@@ -468,9 +488,10 @@ impl<'a> Evaluator<'a> {
     /// An expression whose truth is asked for.
     #[inline(never)]
     pub fn truth(&mut self, expr: &'a Expr, env: Env<'a>) -> Result<Next<'a>, AllocError>
-        ensures { IfOk result (λ next. (p : Program) (b : Bytes) →
+        ensures comes { IfOk result (λ next. (p : Program) (b : Bytes) →
             Comes p self.new.frames.items next (world self.new b)
             (resumed p self.old.frames.items (tag a_truth ((full p).truth (expression expr.now) (env_in env.entry) (world self.old b))))) }
+        ensures falls { Within 0 self.old self.new result }
     {
         if self.turns == 0 {
             return Ok(Next::Going(acts_at(expr)));
@@ -482,9 +503,10 @@ impl<'a> Evaluator<'a> {
     /// A destination.
     #[inline(never)]
     pub fn target(&mut self, expr: &'a Expr, env: Env<'a>) -> Result<Next<'a>, AllocError>
-        ensures { IfOk result (λ next. (p : Program) (b : Bytes) →
+        ensures comes { IfOk result (λ next. (p : Program) (b : Bytes) →
             Comes p self.new.frames.items next (world self.new b)
             (resumed p self.old.frames.items (tag a_target ((full p).target (expression expr.now) (env_in env.entry) (world self.old b))))) }
+        ensures falls { Within 0 self.old self.new result }
     {
         if self.turns == 0 {
             return Ok(Next::Going(acts_at(expr)));
@@ -495,9 +517,10 @@ impl<'a> Evaluator<'a> {
 
     /// An expression whose truth is asked for, its turn taken.
     fn truth_inside(&mut self, expr: &'a Expr, env: Env<'a>) -> Result<Next<'a>, AllocError>
-        ensures { IfOk result (λ next. (p : Program) (b : Bytes) →
+        ensures comes { IfOk result (λ next. (p : Program) (b : Bytes) →
             Comes p self.new.frames.items next (world self.new b)
             (resumed p self.old.frames.items (tag a_truth (truth_of p (full p) (expression expr.now) (env_in env.entry) (world self.old b))))) }
+        ensures turns { self.new.turns ≤ self.old.turns }
     {
         match expr {
             Expr::Parens { inside, .. } => Ok(Next::Truth(inside, env)),
@@ -533,9 +556,10 @@ impl<'a> Evaluator<'a> {
 
     /// A destination, its turn taken.
     fn target_inside(&mut self, expr: &'a Expr, env: Env<'a>) -> Result<Next<'a>, AllocError>
-        ensures { IfOk result (λ next. (p : Program) (b : Bytes) →
+        ensures comes { IfOk result (λ next. (p : Program) (b : Bytes) →
             Comes p self.new.frames.items next (world self.new b)
             (resumed p self.old.frames.items (tag a_target (target_of (full p) (expression expr.now) (env_in env.entry) (world self.old b))))) }
+        ensures turns { self.new.turns ≤ self.old.turns }
     {
         match expr {
             Expr::Name { letters: name, .. } => match env.sense(name) {
@@ -575,9 +599,10 @@ impl<'a> Evaluator<'a> {
 
 /// A command in its scope, or nothing where the place that is sought is not in it.
 fn from_place<'a>(command: &'a Command, mode: Option<Sought<'a>>, env: Env<'a>) -> Next<'a>
-    ensures { (p : Program) (fs : List Continuation) (w : World)
+    ensures comes { (p : Program) (fs : List Continuation) (w : World)
         → Comes p fs result w (resumed p fs (tag done_tag (in_order (full p) (alone (command_in command.now)) (mode_in mode.entry)
         (env_in env.entry) w))) }
+    ensures falls { Adds 1 (Ok result) }
 {
     match mode {
         None => Next::Act(command, None, env),

@@ -3,6 +3,7 @@ ghost use Rattle.std.specs.Prelude.{◌≡◌, IfOk};
 ghost use Rattle.bk_check.specs.Views.{program_in};
 ghost use Rattle.bk_check.specs.Worlds.{Bytes, world};
 ghost use Rattle.bk_check.specs.Resume.{Comes, resumed, outcome_next};
+ghost use Rattle.bk_check.specs.Progress.{Falls};
 
 use crate::blocks::{declare, define, starts};
 use crate::commands::{act, in_order};
@@ -18,9 +19,10 @@ pub fn step<'a>(
     program: &[Lasting<'a>],
     next: Next<'a>,
 ) -> Result<Next<'a>, AllocError>
-    ensures { IfOk result (λ after. (b : Bytes) →
+    ensures comes { IfOk result (λ after. (b : Bytes) →
         Comes (program_in program.now) m.new.frames.items after (world m.new b)
         (resumed (program_in program.now) m.old.frames.items (outcome_next (program_in program.now) next.entry (world m.old b)))) }
+    ensures falls { Falls m.old next.entry m.new result }
 {
     match next {
         Next::Value(expr, env) => m.value(expr, env),

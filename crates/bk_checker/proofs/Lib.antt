@@ -1,3 +1,4 @@
 mod Terms
 mod Growth
 mod Running
+mod Progress

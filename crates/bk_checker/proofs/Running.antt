@@ -1,6 +1,7 @@
 -- Runs over devices: steps one after another, and what the whole comes to.
-use Rattle.std.specs.Prelude.{IsErr}
-use Rattle.bk_checker.proofs.Terms.{◌≡◌, ℕ, ◌^◌, ◌-◌, Vec, map, Bool, true, false, IsTrue, Result, Ok, Err, IfOk, IfErr, OnOk, OnErr, is_err, arith, List, [], ◌∷◌, ◌++◌, Option, None, Some, refl, sym, ap, subst, ◌∙◌, append_assoc, append-nil, Consumes-nil, Consumes-kept, Consumes-trans, Appends-nil, Appends-trans, Appends-kept, Declarations, Value, address, number, World, End, Outcome, gives, leaves, ends, undefined, going, divide_by_zero, given, globals_object, remembering, Effect, fetch, value_in, routine_in, outcome_of, outcome_in, Program, program_of, first_memory, call, full, History, history, Grows, After, reads_from_the_front, full_call, Continuation, Next, CheckFault, Given, a_value, tag, resume, resumed, outcome_next, Comes, Devices, Exchanged, Follows, Shows, Checks, over, verdict_of, place_of, run_given, Answered, Moves, Begun, Runs, ChecksPart, RunsPart, Reaches, Flushed, Worth, Worth as w, Effect as t, Computed, Computed as k, Thing as g, Next as n, Verdict, Verdict as v, CheckFault as x}
+use Rattle.std.specs.Prelude.{IsErr, ◌⊎◌}
+use Rattle.std.proofs.Common.{inl, inr}
+use Rattle.bk_checker.proofs.Terms.{Blames, ◌≡◌, ℕ, ◌^◌, ◌-◌, Vec, map, Bool, true, false, IsTrue, Result, Ok, Err, IfOk, IfErr, OnOk, OnErr, is_err, arith, List, [], ◌∷◌, ◌++◌, Option, None, Some, refl, sym, ap, subst, ◌∙◌, append_assoc, append-nil, Consumes-nil, Consumes-kept, Consumes-trans, Appends-nil, Appends-trans, Appends-kept, Declarations, Value, address, number, World, End, Outcome, gives, leaves, ends, undefined, going, divide_by_zero, given, globals_object, remembering, Effect, fetch, value_in, routine_in, outcome_of, outcome_in, Program, program_of, first_memory, call, full, History, history, Grows, After, reads_from_the_front, full_call, Continuation, Next, CheckFault, Given, a_value, tag, resume, resumed, outcome_next, Comes, Devices, Exchanged, Follows, Shows, Checks, over, verdict_of, place_of, run_given, Answered, Moves, Begun, Runs, ChecksPart, RunsPart, Reaches, Flushed, Worth, Worth as w, Effect as t, Computed, Computed as k, Thing as g, Next as n, Verdict, Verdict as v, CheckFault as x}
 use Rattle.std.specs.Io.KnownBytes.{Consumes, Appends, Keeps}
 use Rattle.bk_meaning.specs.Memory.{Memory, read}
 use Rattle.std.specs.Global.{Global}
@@ -426,6 +427,14 @@ flushed_all x.Read passed taken is = is
 flushed_all x.TooDeep passed taken is = is
 flushed_all x.Write passed taken is = tt
 flushed_all x.Memory passed taken is = tt
+
+-- how often the input has failed by the end of a run, whether it went on to it or not
+pub read_failures : (r : Result Next CheckFault) (reads reads' writes writes' : ℕ) → OnOk r ((reads' ≡ reads) × (writes' ≡ writes)) → IfErr r (λ fault. Blames fault reads reads' writes writes') → (reads' ≡ reads) ⊎ (reads' ≡ 1)
+read_failures (Ok v) reads reads' writes writes' sound cause = inl sound.0
+read_failures (Err x.Read) reads reads' writes writes' sound cause = inr cause.0
+read_failures (Err x.Write) reads reads' writes writes' sound cause = cause.0
+read_failures (Err x.Memory) reads reads' writes writes' sound cause = inl cause.0
+read_failures (Err x.TooDeep) reads reads' writes writes' sound cause = inl cause.0
 
 pub ok_map : {T E : Type 0} (P Q : T → Type 0) (r : Result T E) → ((v : T) → P v → Q v) → IfOk r P → IfOk r Q
 ok_map P Q (Ok v) f h = f v h

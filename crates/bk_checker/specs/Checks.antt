@@ -1,5 +1,5 @@
 -- What a check answers: the verdict of the meaning, with the bytes that it reads and writes.
-use Rattle.std.specs.Prelude.{◌≡◌, ℕ, ⊤, Bool, true, false, IsTrue, List, [], ◌++◌, Option}
+use Rattle.std.specs.Prelude.{◌≡◌, ◌⊎◌, ℕ, ⊤, Bool, true, false, IsTrue, List, [], ◌++◌, Option}
 use Rattle.std.specs.Io.KnownBytes.{Consumes, Appends}
 use Rattle.bk_base.specs.declared.device.ByteIn as reader
 use Rattle.bk_base.specs.declared.device.ByteOut as writer
@@ -19,6 +19,7 @@ use Rattle.bk_check.specs.declared.frame.Thing.TheVariants as g
 use Rattle.bk_check.specs.declared.frame.Next.{Next}
 use Rattle.bk_check.specs.declared.frame.Next.TheVariants as n
 use Rattle.bk_check.specs.declared.machine.Evaluator.{Evaluator}
+use Rattle.bk_checker.specs.Limits.{IsTooDeep}
 use Rattle.bk_checker.specs.declared.report.Verdict.{Verdict}
 use Rattle.bk_checker.specs.declared.report.Verdict.TheVariants as v
 use Rattle.bk_checker.specs.declared.report.CheckFault.{CheckFault}
@@ -63,10 +64,10 @@ pub record Checks (sections : List Declarations) (turns : ℕ) (verdict : Verdic
   pub shows : (rest : List ℕ) → Follows new rest → Shows verdict place (meaning sections (read ++ rest) turns) rest written
 
 -- How often the devices have failed, before and after a check that was given up: the input failed, and the output did not; or the output
--- failed; or neither failed, where memory was refused or the limit of frames and cells was reached.
+-- failed, after the input had failed or not; or neither failed, where memory was refused or the limit of frames and cells was reached.
 abbrev pub Blames : CheckFault → (reads reads' writes writes' : ℕ) → Type 0
 Blames x.Read reads reads' writes writes' = (reads' ≡ 1) × (writes' ≡ writes)
-Blames x.Write reads reads' writes writes' = writes' ≡ 1
+Blames x.Write reads reads' writes writes' = ((reads' ≡ reads) ⊎ (reads' ≡ 1)) × (writes' ≡ 1)
 Blames x.Memory reads reads' writes writes' = (reads' ≡ reads) × (writes' ≡ writes)
 Blames x.TooDeep reads reads' writes writes' = (reads' ≡ reads) × (writes' ≡ writes)
 
@@ -127,6 +128,12 @@ pub record Moves (p : Program) (m : Evaluator) (next : Next) (m' : Evaluator) (n
   pub comes : (rest before : List ℕ) → Follows new rest →
       Comes p m'.frames.items next' (world m' (record { input = rest; output = before ++ written }))
       (resumed p m.frames.items (outcome_next p next (world m (record { input = read ++ rest; output = before }))))
+
+-- The run came to this machine, at a limit.
+pub record ComesToLimit (p : Program) (m : Evaluator) (next : Next) (m' : Evaluator) (old new : Devices) : Type 0 where
+  pub last : Next
+  pub moves : Moves p m next m' last old new
+  pub is_deep : IsTooDeep m' last
 
 -- a machine before the run of a program
 pub record Begun (p : Program) (turns : ℕ) (m : Evaluator) : Type 0 where

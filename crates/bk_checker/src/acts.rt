@@ -1,15 +1,19 @@
 //! Why an act is undefined, in the words of the source.
 
+use crate::made::{loop_at, vector_at};
 use crate::misuse::say_library;
-use crate::operands::{Operand, bare, say_fault_of, say_no_value, say_operand, written};
+use crate::operands::{
+    Operand, bare, say_fault_of, say_no_value, say_operand, say_shared, say_uncalled, written,
+};
 use crate::operations::{say_beyond, say_index, say_names, say_operation, say_subscript};
-use crate::spelling::{add_number, add_ordinal, add_word, prefix_symbol};
+use crate::spelling::{add_number, add_ordinal, add_word, operator_symbol, prefix_symbol};
 use crate::values::Page;
 use crate::words::{say_byte, say_cell, say_partly};
+use bk_base::word;
 use bk_check::Subject;
 use bk_lasting::GLOBALS_OBJECT;
 use bk_objects::{Cell, Origin, Reason, Worth};
-use bk_tree::{Expr, Operator, Prefix};
+use bk_tree::{Command, Expr, Name, Operator, Position, Prefix};
 use std::alloc::AllocError;
 
 /// Adds why the value of a name is undefined.
@@ -29,7 +33,14 @@ fn say_name(page: &mut Page, name: &[u8], reason: Reason) -> Result<(), AllocErr
                 add_word(&mut page.text, offset)?;
                 page.say(&[
                     b", was never set: no section defines it, and nothing was assigned to it",
-                ])
+                ])?;
+                match page.other_number(name, offset) {
+                    Some(number) => {
+                        page.say(&[b"; elsewhere ", name, b" is the global "])?;
+                        add_word(&mut page.text, number)
+                    }
+                    None => Ok(()),
+                }
             }
             Origin::Query(line) => {
                 page.say(&[name, b" was never set: it is the `?` of line "])?;
@@ -63,6 +74,47 @@ fn say_argument(page: &mut Page, name: &[u8], object: u64, offset: u32) -> Resul
     page.say(&[name, b" has no value: its argument is missing"])
 }
 
+/// A destination with `!` or `%`, or with `!` before one operand.
+#[derive(Clone, Copy)]
+struct Destination<'e> {
+    /// The whole.
+    expr: &'e Expr,
+    symbol: &'e [u8],
+    /// What is meant to be the address.
+    base: &'e Expr,
+    /// The other operand, if there is one.
+    index: Option<&'e Expr>,
+}
+
+/// A destination with two operands. Of `!` either may be the address: the one that is, and not the one that is a constant.
+fn with_two<'e>(
+    page: &Page,
+    expr: &'e Expr,
+    operator: Operator,
+    left: &'e Expr,
+    right: &'e Expr,
+) -> Destination<'e> {
+    let is_swapped = matches!(operator, Operator::Subscript)
+        && (is_known_address(page, right) && !is_known_address(page, left)
+            || page.is_constant(left) && !page.is_constant(right));
+    let (base, index) = if is_swapped {
+        (right, left)
+    } else {
+        (left, right)
+    };
+    Destination {
+        expr,
+        symbol: operator_symbol(operator),
+        base,
+        index: Some(index),
+    }
+}
+
+/// Whether the value of an expression is known, and an address.
+fn is_known_address(page: &Page, expr: &Expr) -> bool {
+    matches!(page.known(expr), Some(Worth::Address(_, _)))
+}
+
 /// A part of a destination, if its value is known and an address in this object.
 fn known_in<'e>(page: &Page, expr: &'e Expr, object: u64) -> Option<Operand<'e>> {
     let value = page.known(expr)?;
@@ -72,49 +124,93 @@ fn known_in<'e>(page: &Page, expr: &'e Expr, object: u64) -> Option<Operand<'e>>
     }
 }
 
+/// The value of what is meant to be the address of a destination, of which the place is no address but this; where it is a sum, a
+/// part of it has to be known.
+fn base_value(page: &Page, destination: Destination, place: Worth) -> Option<Worth> {
+    let Some(index) = destination.index else {
+        return Some(place);
+    };
+    if destination.symbol == b"%".as_slice() {
+        return Some(place);
+    }
+    if let Some(value) = page.known(destination.base) {
+        return Some(value);
+    }
+    match (place, page.known(index)) {
+        (Worth::Number(sum), Some(Worth::Number(part))) => {
+            Some(Worth::Number(word::difference(sum, part)))
+        }
+        _ => None,
+    }
+}
+
+/// Adds that the place of a destination is no address.
+fn say_no_place(page: &mut Page, destination: Destination, place: Worth) -> Result<(), AllocError> {
+    match base_value(page, destination, place) {
+        Some(value) => {
+            let operand = written(destination.base, value);
+            if say_fault_of(page, operand)? {
+                return Ok(());
+            }
+            say_operand(page, operand)?;
+            page.say(&[b", and `", destination.symbol, b"` wants an address"])?;
+            say_shared(page, operand)
+        }
+        None => {
+            page.say(&[b"the operands of "])?;
+            page.say_expr(destination.expr)?;
+            page.say(&[b" are numbers, whose sum is "])?;
+            page.say_value(place)?;
+            page.say(&[b", and `", destination.symbol, b"` wants an address"])
+        }
+    }
+}
+
+/// Adds that the number of a byte is no number.
+fn say_no_byte_number(
+    page: &mut Page,
+    destination: Destination,
+    x: Worth,
+) -> Result<(), AllocError> {
+    let index = written(destination.index.unwrap_or(destination.base), x);
+    if say_fault_of(page, index)? {
+        return Ok(());
+    }
+    say_operand(page, index)?;
+    page.say(&[b", and the number of a byte is wanted"])?;
+    if matches!(x, Worth::Address(_, _)) {
+        return page.say(&[b" after `%`; the address is before it"]);
+    }
+    Ok(())
+}
+
 /// Adds why a destination is undefined.
 fn say_destination(
     page: &mut Page,
-    expr: &Expr,
-    left: &Expr,
-    right: Option<&Expr>,
+    destination: Destination,
     reason: Reason,
 ) -> Result<(), AllocError> {
-    let symbol: &[u8] = if matches!(reason, Reason::Byte(_, _) | Reason::NoByte(_)) {
-        b"%"
-    } else {
-        b"!"
-    };
+    let Destination { expr, base, .. } = destination;
     match reason {
         Reason::Cell(Worth::Address(object, offset)) => {
-            let base = known_in(page, left, object);
+            let base = known_in(page, base, object);
             say_cell(page, expr, base, object, offset)?;
         }
-        Reason::Byte(at, number) => say_byte(page, expr, written(left, at), at, number)?,
-        Reason::NoAddress(x) => {
-            if !say_fault_of(page, written(left, x))? {
-                say_operand(page, written(left, x))?;
-                page.say(&[b", and `", symbol, b"` wants an address"])?;
-            }
-        }
-        Reason::NoNumber(x) => {
-            let index = written(right.unwrap_or(left), x);
-            if !say_fault_of(page, index)? {
-                say_operand(page, index)?;
-                page.say(&[b", and the number of a byte is wanted"])?;
-            }
-        }
+        Reason::Byte(at, number) => say_byte(page, Some(expr), written(base, at), at, number)?,
+        Reason::NoAddress(place) => say_no_place(page, destination, place)?,
+        Reason::NoNumber(x) => say_no_byte_number(page, destination, x)?,
         Reason::NoByte(x) => {
             page.say_expr(expr)?;
             page.say(&[b" is set to the lowest byte of a number, and the value is "])?;
             page.say_value(x)?;
+            page.say_character(x)?;
         }
         _ => page.say(&[b"what has no place"])?,
     }
-    match right {
-        Some(right) => match page.known(right) {
-            Some(value) => say_index(page, written(right, value)),
-            None => say_names(page, right),
+    match destination.index {
+        Some(index) => match page.known(index) {
+            Some(value) => say_index(page, written(index, value)),
+            None => say_names(page, index),
         },
         None => Ok(()),
     }
@@ -128,13 +224,25 @@ fn say_expr(page: &mut Page, expr: &Expr, reason: Reason) -> Result<(), AllocErr
             prefix: Prefix::Contents,
             operand,
             ..
-        } => say_destination(page, expr, operand, None, reason),
+        } => {
+            let destination = Destination {
+                expr,
+                symbol: b"!",
+                base: operand,
+                index: None,
+            };
+            say_destination(page, destination, reason)
+        }
         Expr::Binary {
-            operator: Operator::Subscript | Operator::Byte,
+            operator,
             left,
             right,
             ..
-        } => say_destination(page, expr, left, Some(right), reason),
+        } if matches!(operator, Operator::Subscript | Operator::Byte) => say_destination(
+            page,
+            with_two(page, expr, *operator, left, right),
+            reason,
+        ),
         _ => {
             page.say_expr(expr)?;
             match reason {
@@ -168,7 +276,12 @@ fn say_prefix(page: &mut Page, expr: &Expr, x: Worth, reason: Reason) -> Result<
         _ => b"` wants a number",
     };
     let symbol = prefix_symbol(*prefix).trim_ascii();
-    page.say(&[b", and `", symbol, wanted])
+    page.say(&[b", and `", symbol, wanted])?;
+    say_shared(page, base)?;
+    match prefix {
+        Prefix::Contents => Ok(()),
+        _ => say_uncalled(page, base),
+    }
 }
 
 /// Adds why an operator is undefined.
@@ -231,13 +344,52 @@ fn say_switch(page: &mut Page, expr: &Expr, reason: Reason) -> Result<(), AllocE
         return Ok(());
     }
     say_operand(page, written(expr, value))?;
-    page.say(&[b", and `SWITCHON` wants a number"])
+    page.say(&[b", and `SWITCHON` wants a number"])?;
+    page.say_character(value)?;
+    say_uncalled(page, written(expr, value))
+}
+
+/// The limit of a FOR, and what compares its variable with the limit.
+fn limit_of<'e>(found: Option<&'e Command>, value: Worth) -> (Operand<'e>, Operator) {
+    let Some(Command::For { to, by, .. }) = found else {
+        let limit = Operand {
+            expr: None,
+            words: b"the limit",
+            value,
+        };
+        return (limit, Operator::AtMost);
+    };
+    let limit = Operand {
+        expr: Some(to),
+        words: b"the limit ",
+        value,
+    };
+    let operator = if is_negative(by) {
+        Operator::AtLeast
+    } else {
+        Operator::AtMost
+    };
+    (limit, operator)
+}
+
+/// Whether the step of a FOR is written with a `-`.
+fn is_negative(by: &Option<Box<Expr>>) -> bool {
+    match by {
+        Some(step) => matches!(
+            bare(step),
+            Expr::Unary {
+                prefix: Prefix::Minus,
+                ..
+            }
+        ),
+        None => false,
+    }
 }
 
 /// Adds why the test or the step of a FOR is undefined.
 fn say_for(
     page: &mut Page,
-    name: &[u8],
+    name: &Name,
     object: u64,
     limit: Worth,
     reason: Reason,
@@ -246,23 +398,24 @@ fn say_for(
         Some(Cell::Holds(x)) if !matches!(x, Worth::Unset(_)) => {
             let variable = Operand {
                 expr: None,
-                words: name,
+                words: &name.letters,
                 value: x,
             };
-            let last = Operand {
-                expr: None,
-                words: b"the limit",
-                value: limit,
-            };
+            let (last, operator) = limit_of(loop_at(page.program, name.at), limit);
             page.say(&[b"`FOR`: "])?;
-            say_operation(page, Operator::AtMost, variable, last)
+            say_operation(page, operator, variable, last)
         }
-        _ => say_name(page, name, reason),
+        _ => say_name(page, &name.letters, reason),
     }
 }
 
 /// Adds that something is called that is no procedure.
-fn say_call(page: &mut Page, callee: &Expr, reason: Reason) -> Result<(), AllocError> {
+fn say_call(
+    page: &mut Page,
+    at: Position,
+    callee: &Expr,
+    reason: Reason,
+) -> Result<(), AllocError> {
     let Reason::NoProcedure(x) = reason else {
         return page.say_expr(callee);
     };
@@ -270,7 +423,15 @@ fn say_call(page: &mut Page, callee: &Expr, reason: Reason) -> Result<(), AllocE
         return Ok(());
     }
     say_operand(page, written(callee, x))?;
-    page.say(&[b", and no procedure: it is called"])
+    page.say(&[b", and no procedure: it is called"])?;
+    if let Some(vector) = vector_at(page.program, at) {
+        page.say(&[b"; `("])?;
+        page.say_expr(vector)?;
+        page.say(&[b"!"])?;
+        page.say_expr(callee)?;
+        page.say(&[b")(..)` calls a word of the vector"])?;
+    }
+    say_shared(page, written(callee, x))
 }
 
 /// Adds why an act is undefined.
@@ -281,10 +442,8 @@ pub fn say_act(page: &mut Page, subject: &Subject, reason: Reason) -> Result<(),
         Subject::Operation(expr, x, y) => say_infix(page, expr, *x, *y, reason),
         Subject::Condition(expr) => say_condition(page, expr, reason),
         Subject::Switch(expr) => say_switch(page, expr, reason),
-        Subject::Variable(name, object, limit) => {
-            say_for(page, &name.letters, *object, *limit, reason)
-        }
-        Subject::Call(_, callee) => say_call(page, callee, reason),
+        Subject::Variable(name, object, limit) => { say_for(page, name, *object, *limit, reason) }
+        Subject::Call(at, callee) => say_call(page, *at, callee, reason),
         Subject::Library(at, routine, argument, directive) => {
             say_library(page, *at, *routine, *argument, *directive, reason)
         }

@@ -7,6 +7,7 @@ ghost use Rattle.bk_checker.specs.Checks.{verdict_of, place_of};
 use crate::acts::{say_act, say_division};
 use crate::calls::{add_calls, innermost};
 use crate::report::{CheckFault, GivenUp, Notice, Report};
+use crate::rounds::{MANY, say_turns};
 use crate::run::{FRAMES, verdict};
 use crate::values::Page;
 use bk_check::{Evaluator, Next, Subject, acts_at};
@@ -38,6 +39,9 @@ fn too_deep<'a>(m: &Evaluator<'a>, program: &[Lasting<'a>]) -> Result<Notice, Al
         b"the words of the vectors and variables that are in use are more than a check can hold"
     };
     page.say(&[b"too deep: ", what])?;
+    if m.frames.len() <= FRAMES && m.calls > MANY {
+        page.say(&[b"; does the recursion end?"])?;
+    }
     let mut calls = Vec::new(m.alloc);
     add_calls(&mut calls, m, program)?;
     let Page { text, .. } = page;
@@ -80,9 +84,7 @@ pub fn explain<'a>(
             place_of_subject(subject)
         }
         Next::Going(at) => {
-            page.say(&[
-                b"the turns are used up; `-t 1000000000` gives as many as `run` has steps",
-            ])?;
+            say_turns(&mut page, *at)?;
             *at
         }
         _ => Position::first(),

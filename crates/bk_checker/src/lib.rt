@@ -14,6 +14,7 @@ mod operands;
 mod operations;
 mod remarks;
 mod report;
+mod rounds;
 mod run;
 mod source;
 mod spelling;

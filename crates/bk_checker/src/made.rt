@@ -1,7 +1,7 @@
 //! What a position of the source declares or calls. It is sought in the bodies of the procedures of a program.
 
 use bk_lasting::{Body, Lasting, Procedure};
-use bk_tree::{Command, Decl, Def, Expr, Init, Name, Position};
+use bk_tree::{Command, Decl, Def, Expr, Init, Name, Operator, Position};
 
 /// What the source makes an object by.
 #[derive(Clone, Copy)]
@@ -33,6 +33,10 @@ struct Search<'a> {
     at: Position,
     made: Option<(&'a [u8], Kind)>,
     arguments: Option<&'a [Expr]>,
+    /// A loop that is there.
+    looping: Option<&'a Command>,
+    /// What is before the `!` before a call that is there.
+    vector: Option<&'a Expr>,
 }
 
 /// A name that is declared.
@@ -49,6 +53,29 @@ fn in_call<'a>(search: &mut Search<'a>, at: Position, arguments: &'a [Expr]) {
     }
 }
 
+/// A call after `!`.
+fn in_index<'a>(search: &mut Search<'a>, operator: Operator, left: &'a Expr, right: &'a Expr) {
+    if let Expr::Apply { sign, .. } = right
+        && matches!(operator, Operator::Subscript)
+        && *sign == search.at
+    {
+        search.vector = Some(left);
+    }
+}
+
+/// A loop at a position: a FOR is at the name of its variable, and another at its first symbol.
+fn in_loop<'a>(search: &mut Search<'a>, command: &'a Command) {
+    let at = match command {
+        Command::For { name, .. } => Some(name.at),
+        Command::While { at, .. } | Command::Repeat { at, .. } | Command::RepeatWhile { at, .. } =>
+            Some(*at),
+        _ => None,
+    };
+    if at == Some(search.at) {
+        search.looping = Some(command);
+    }
+}
+
 /// Seeks in an expression.
 #[cycle(made)]
 fn in_expr<'a>(search: &mut Search<'a>, expr: &'a Expr) {
@@ -62,10 +89,12 @@ fn in_expr<'a>(search: &mut Search<'a>, expr: &'a Expr) {
         Expr::Parens { inside, .. } => in_expr(search, inside),
         Expr::Unary { operand, .. } => in_expr(search, operand),
         Expr::Binary {
+            operator,
             left: a,
             right: b,
             ..
         } => {
+            in_index(search, *operator, a, b);
             in_expr(search, a);
             in_expr(search, b);
         }
@@ -104,6 +133,7 @@ fn in_exprs<'a>(search: &mut Search<'a>, exprs: &'a [Expr]) {
 /// Seeks in a command.
 #[cycle(made)]
 fn in_command<'a>(search: &mut Search<'a>, command: &'a Command) {
+    in_loop(search, command);
     match command {
         Command::Empty | Command::Goto { .. } | Command::Simple { .. } => {}
         Command::Assign {
@@ -234,6 +264,8 @@ fn in_procedure<'a>(procedure: &Procedure<'a>, at: Position) -> Search<'a> {
         at,
         made: None,
         arguments: None,
+        looping: None,
+        vector: None,
     };
     if let Some(first) = procedure.formals.first()
         && first.at == at
@@ -284,6 +316,30 @@ pub fn formals_at<'a>(program: &[Lasting<'a>], at: Position) -> Option<&'a [Name
             && first.at == at
         {
             return Some(procedure.formals);
+        }
+    }
+    None
+}
+
+/// The loop at a position: a FOR is at the name of its variable, and another at its first symbol.
+pub fn loop_at<'a>(program: &[Lasting<'a>], at: Position) -> Option<&'a Command> {
+    for lasting in program {
+        if let Lasting::Code(procedure) = lasting
+            && let Some(command) = in_procedure(procedure, at).looping
+        {
+            return Some(command);
+        }
+    }
+    None
+}
+
+/// What is before the `!`, where the call at a position is after one.
+pub fn vector_at<'a>(program: &[Lasting<'a>], at: Position) -> Option<&'a Expr> {
+    for lasting in program {
+        if let Lasting::Code(procedure) = lasting
+            && let Some(vector) = in_procedure(procedure, at).vector
+        {
+            return Some(vector);
         }
     }
     None

@@ -1,52 +1,142 @@
 //! Why a call of a routine of the library is undefined.
 
 use crate::made::arguments_at;
-use crate::operands::{Operand, say_fault_of, say_operand};
+use crate::operands::{Operand, say_fault_of, say_operand, say_uncalled, written};
+use crate::operations::say_index;
 use crate::spelling::{add_directive, add_number, routine_name};
-use crate::values::{Object, Page};
-use crate::words::say_byte;
+use crate::values::Page;
+use crate::words::{say_byte, say_length};
 use bk_objects::{FormatPart, Origin, Reason, Routine, Worth};
-use bk_tree::Position;
+use bk_tree::{Expr, Position};
 use std::alloc::AllocError;
 
-/// Adds which argument of a routine it is.
-fn say_which(
-    page: &mut Page,
+/// An argument of a routine of the library: its number, from 1, and the directive that takes it, if one does.
+#[derive(Clone, Copy)]
+struct Wanted {
     routine: Routine,
     argument: usize,
     directive: Option<FormatPart>,
-) -> Result<(), AllocError> {
+}
+
+/// Adds which argument it is.
+fn say_which(page: &mut Page, wanted: Wanted) -> Result<(), AllocError> {
     page.say(&[b"argument "])?;
-    add_number(&mut page.text, argument)?;
-    page.say(&[b" of ", routine_name(routine)])?;
-    match directive {
+    add_number(&mut page.text, wanted.argument)?;
+    page.say(&[b" of ", routine_name(wanted.routine)])?;
+    match wanted.directive {
         Some(part) => {
             page.say(&[b", for "])?;
-            add_directive(&mut page.text, part)?;
-            page.say(&[b","])
+            add_directive(&mut page.text, part)
         }
         None => Ok(()),
     }
 }
 
+/// Adds what a sentence goes on with after the argument.
+fn say_of_it(page: &mut Page, wanted: Wanted, what: &[u8]) -> Result<(), AllocError> {
+    let comma: &[u8] = if wanted.directive.is_some() {
+        b","
+    } else {
+        b""
+    };
+    page.say(&[comma, what])
+}
+
 /// Adds what helps where a routine has a value of another kind.
-fn say_other_routine(page: &mut Page, routine: Routine, x: Worth) -> Result<(), AllocError> {
-    match routine {
-        Routine::Writes if matches!(x, Worth::Number(_)) => {
-            page.say(&[b"; `WRCH` writes a byte, and `WRITEN` a number"])
+fn say_other_routine(page: &mut Page, wanted: Wanted, x: Worth) -> Result<(), AllocError> {
+    let is_number = matches!(x, Worth::Number(_));
+    let is_string = page.is_text(x);
+    page.say(&[match (wanted.routine, wanted.directive) {
+        (Routine::Writes, _) if is_number => {
+            b"; `WRCH` writes a byte, and `WRITEN` a number".as_slice()
         }
-        Routine::Writen | Routine::Wrch if is_string(page, x) => {
-            page.say(&[b"; `WRITES` writes a string"])
+        (Routine::Writef, None) if is_number => b"; `WRITEN` writes a number",
+        (Routine::Writef, Some(_)) if is_number => b"; `%N` writes a number, and `%C` a byte",
+        (Routine::Writen | Routine::Wrch, _) if is_string => b"; `WRITES` writes a string",
+        (Routine::Writef, Some(_)) if is_string => b"; `%S` writes a string",
+        _ => b"",
+    }])
+}
+
+/// Adds what a string has to do with its byte that is not there.
+fn say_missing_length(
+    page: &mut Page,
+    routine: Routine,
+    at: Worth,
+    number: u32,
+) -> Result<(), AllocError> {
+    if !matches!(routine, Routine::Writes | Routine::Writef) || page.is_text(at) {
+        return Ok(());
+    }
+    if number == 0 {
+        return page.say(&[b"; byte 0 is the length of the string"]);
+    }
+    say_length(page, at)
+}
+
+/// Adds what is wrong with the byte with this number of the words from an address on, which an argument leads to.
+fn say_missing_byte(
+    page: &mut Page,
+    wanted: Wanted,
+    operand: Operand,
+    at: Worth,
+    number: u32,
+) -> Result<(), AllocError> {
+    say_which(page, wanted)?;
+    page.say(&[b": "])?;
+    if say_fault_of(page, operand)? {
+        return Ok(());
+    }
+    if operand.expr.is_none() {
+        return Ok(());
+    }
+    say_byte(page, None, operand, at, number)?;
+    say_missing_length(page, wanted.routine, at, number)
+}
+
+/// Adds that an argument has a value of another kind.
+fn say_other_kind(
+    page: &mut Page,
+    wanted: Wanted,
+    operand: Operand,
+    reason: Reason,
+) -> Result<(), AllocError> {
+    say_which(page, wanted)?;
+    let kind: &[u8] = match reason {
+        Reason::NoAddress(_) => match wanted.routine {
+            Routine::Getbyte | Routine::Putbyte => b" is to be an address: ",
+            _ => b" is to be a string: ",
+        },
+        _ => b" is to be a number: ",
+    };
+    say_of_it(page, wanted, kind)?;
+    if say_fault_of(page, operand)? {
+        return Ok(());
+    }
+    say_operand(page, operand)?;
+    if matches!(reason, Reason::NoNumber(_)) {
+        say_uncalled(page, operand)?;
+    }
+    say_other_routine(page, wanted, operand.value)?;
+    match (wanted.routine, wanted.directive) {
+        (Routine::Wrch | Routine::Putbyte, _) | (_, Some(FormatPart::Character)) => {
+            page.say_character(operand.value)
         }
         _ => Ok(()),
     }
 }
 
-/// Whether a value is a string.
-fn is_string(page: &Page, x: Worth) -> bool {
-    match x {
-        Worth::Address(object, _) => matches!(page.object(object), Object::String(_)),
-        _ => false,
+/// Adds the format, where it is not written in the call.
+fn say_format(page: &mut Page, arguments: &[Expr]) -> Result<(), AllocError> {
+    match arguments {
+        [format @ Expr::Name { .. }, ..] => match page.known(format) {
+            Some(value) if page.is_text(value) => {
+                page.say(&[b"; "])?;
+                page.say_is(format, value)
+            }
+            _ => Ok(()),
+        },
+        _ => Ok(()),
     }
 }
 
@@ -59,42 +149,38 @@ pub fn say_library(
     directive: Option<FormatPart>,
     reason: Reason,
 ) -> Result<(), AllocError> {
+    let wanted = Wanted {
+        routine,
+        argument,
+        directive,
+    };
     let arguments = arguments_at(page.program, at).unwrap_or(&[]);
-    let expr = arguments.get(argument.saturating_sub(1));
     let value = match reason {
         Reason::Argument => {
-            say_which(page, routine, argument, directive)?;
-            return page.say(&[b" is missing"]);
+            say_which(page, wanted)?;
+            say_of_it(page, wanted, b" is missing")?;
+            return match directive {
+                Some(_) => say_format(page, arguments),
+                None => Ok(()),
+            };
         }
         Reason::NoNumber(x) | Reason::NoAddress(x) | Reason::NoByte(x) => x,
         Reason::Byte(at, _) => at,
         _ => Worth::Unset(Origin::Never),
     };
-    let operand = Operand {
-        expr,
-        words: b"it",
-        value,
-    };
+    let expr = arguments.get(argument.saturating_sub(1));
+    let words: &[u8] = if expr.is_some() { b"" } else { b"it" };
+    let operand = Operand { expr, words, value };
     match reason {
         Reason::Byte(at, number) => {
-            say_which(page, routine, argument, directive)?;
-            page.say(&[b": "])?;
-            match expr {
-                Some(expr) => say_byte(page, expr, operand, at, number),
-                None => Ok(()),
+            say_missing_byte(page, wanted, operand, at, number)?;
+            match (routine, arguments.get(1)) {
+                (Routine::Getbyte | Routine::Putbyte, Some(index)) => {
+                    say_index(page, written(index, Worth::Number(number)))
+                }
+                _ => Ok(()),
             }
         }
-        _ => {
-            say_which(page, routine, argument, directive)?;
-            page.say(&[match reason {
-                Reason::NoAddress(_) => b" is to be a string: ",
-                _ => b" is to be a number: ",
-            }])?;
-            if say_fault_of(page, operand)? {
-                return Ok(());
-            }
-            say_operand(page, operand)?;
-            say_other_routine(page, routine, value)
-        }
+        _ => say_other_kind(page, wanted, operand, reason),
     }
 }

@@ -60,7 +60,7 @@ fn env_of_done<'m, 'a>(frame: &'m OnDone<'a>) -> Option<&'m Env<'a>> {
 }
 
 /// A frame has these names.
-fn env_of<'m, 'a>(frame: &'m Continuation<'a>) -> Option<&'m Env<'a>> {
+pub fn env_of<'m, 'a>(frame: &'m Continuation<'a>) -> Option<&'m Env<'a>> {
     match frame {
         Continuation::Value(frame) => env_of_value(frame),
         Continuation::Truth(frame) => env_of_truth(frame),
@@ -87,6 +87,21 @@ fn innermost(frames: &[Continuation]) -> Option<(usize, Call, u64)> {
         {
             return Some((i, *call, number));
         }
+    }
+    None
+}
+
+/// The name of a cell among these names.
+pub fn name_in<'a>(env: &Env<'a>, object: u64, offset: u32) -> Option<&'a [u8]> {
+    let mut names = &env.names;
+    while let Some(node) = names {
+        if let Sense::Cell(o, i) = node.sense
+            && o == object
+            && i == offset
+        {
+            return Some(node.name);
+        }
+        names = &node.outer;
     }
     None
 }
@@ -134,16 +149,6 @@ impl<'m, 'a> Names<'m, 'a> {
 
     /// The name of a cell, if one is visible.
     pub fn name_of(&self, object: u64, offset: u32) -> Option<&'a [u8]> {
-        let mut names = &self.env.names;
-        while let Some(node) = names {
-            if let Sense::Cell(o, i) = node.sense
-                && o == object
-                && i == offset
-            {
-                return Some(node.name);
-            }
-            names = &node.outer;
-        }
-        None
+        name_in(self.env, object, offset)
     }
 }

@@ -1,7 +1,9 @@
 //! The operands of an act: how they are written, their values, and what is wrong with one by itself.
 
-use crate::values::Page;
-use bk_objects::{Origin, Worth};
+use crate::spelling::add_word;
+use crate::values::{Page, callee_name};
+use bk_lasting::{GLOBALS_OBJECT, Lasting, Sense};
+use bk_objects::{Origin, Routine, Worth};
 use bk_tree::Expr;
 use std::alloc::AllocError;
 
@@ -9,7 +11,7 @@ use std::alloc::AllocError;
 #[derive(Clone, Copy)]
 pub struct Operand<'e> {
     pub expr: Option<&'e Expr>,
-    /// What it is called where no expression is at hand.
+    /// What it is called where no expression is at hand; else what is before the expression, as `the limit`.
     pub words: &'e [u8],
     pub value: Worth,
 }
@@ -25,18 +27,20 @@ pub fn bare(expr: &Expr) -> &Expr {
 
 /// Adds how an operand is written.
 pub fn say_written(page: &mut Page, operand: Operand) -> Result<(), AllocError> {
+    page.say(&[operand.words])?;
     match operand.expr {
         Some(expr) => page.say_expr(expr),
-        None => page.say(&[operand.words]),
+        None => Ok(()),
     }
 }
 
 /// Adds an operand with its value.
 pub fn say_operand(page: &mut Page, operand: Operand) -> Result<(), AllocError> {
+    page.say(&[operand.words])?;
     match operand.expr {
         Some(expr) => page.say_is(expr, operand.value),
         None => {
-            page.say(&[operand.words, b" is "])?;
+            page.say(&[b" is "])?;
             page.say_value(operand.value)
         }
     }
@@ -61,8 +65,8 @@ pub fn say_fault_of(page: &mut Page, operand: Operand) -> Result<bool, AllocErro
             say_no_value(page, operand, origin)?;
             Ok(true)
         }
-        Worth::Address(object, _) if page.is_dead(object) => {
-            page.say_gone(object)?;
+        Worth::Address(object, offset) if page.is_dead(object) => {
+            page.say_gone(object, offset)?;
             page.say(&[b", and "])?;
             say_written(page, operand)?;
             page.say(&[b" is its address"])?;
@@ -79,4 +83,59 @@ pub fn written(expr: &Expr, value: Worth) -> Operand<'_> {
         words: b"",
         value,
     }
+}
+
+/// Whether what is called takes arguments.
+fn takes_arguments(program: &[Lasting], callee: Worth) -> bool {
+    match callee {
+        Worth::Procedure(number) => match program.get(number as usize) {
+            Some(Lasting::Code(procedure)) => !procedure.formals.is_empty(),
+            _ => false,
+        },
+        Worth::Routine(routine) => !matches!(routine, Routine::Rdch | Routine::Newline),
+        Worth::Number(_) | Worth::Address(_, _) | Worth::Unset(_) => false,
+    }
+}
+
+/// The name that an operand is, if it is written as one.
+fn name_of<'e>(operand: Operand<'e>) -> Option<&'e [u8]> {
+    match bare(operand.expr?) {
+        Expr::Name { letters, .. } => Some(letters.as_slice()),
+        _ => None,
+    }
+}
+
+/// Adds how a procedure is called, where an operand is its name alone.
+pub fn say_uncalled(page: &mut Page, operand: Operand) -> Result<(), AllocError> {
+    let name = callee_name(page.program, operand.value);
+    if name_of(operand) != Some(name) {
+        return Ok(());
+    }
+    let arguments: &[u8] = if takes_arguments(page.program, operand.value) {
+        b"(..)"
+    } else {
+        b"()"
+    };
+    page.say(&[b"; `", name, arguments, b"` calls it"])
+}
+
+/// The number of the global that a name means, if it means one.
+fn global_of(page: &Page, name: &[u8]) -> Option<u32> {
+    match page.names?.sense(name)? {
+        Sense::Cell(object, number) if object == GLOBALS_OBJECT => Some(number),
+        _ => None,
+    }
+}
+
+/// Adds another name of the global that an operand is, if it has one: perhaps its number is used twice.
+pub fn say_shared(page: &mut Page, operand: Operand) -> Result<(), AllocError> {
+    if let Some(name) = name_of(operand)
+        && let Some(number) = global_of(page, name)
+        && let Some(other) = page.other_name(name, number)
+    {
+        page.say(&[b"; the global "])?;
+        add_word(&mut page.text, number)?;
+        return page.say(&[b" is also called ", other]);
+    }
+    Ok(())
 }

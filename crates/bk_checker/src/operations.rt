@@ -1,6 +1,6 @@
 //! Why an operator has no value of its operands.
 
-use crate::operands::{Operand, bare, say_fault_of, say_operand};
+use crate::operands::{Operand, bare, say_fault_of, say_operand, say_shared, say_uncalled};
 use crate::spelling::{add_word, operator_symbol};
 use crate::values::Page;
 use crate::words::{say_byte, say_cell, say_extent};
@@ -8,16 +8,17 @@ use bk_objects::{Reason, Worth};
 use bk_tree::{Expr, Operator};
 use std::alloc::AllocError;
 
-/// The operand that is meant to be the address, and the other.
-fn base_first<'e>(a: Operand<'e>, b: Operand<'e>) -> (Operand<'e>, Operand<'e>) {
-    match (a.value, b.value) {
-        (Worth::Number(_), Worth::Address(_, _)) => (b, a),
+/// The operand that is meant to be the address, and the other. Of two numbers it is not the one that is a constant.
+fn base_first<'e>(page: &Page, a: Operand<'e>, b: Operand<'e>) -> (Operand<'e>, Operand<'e>) {
+    let is_swapped = match (a.value, b.value) {
+        (Worth::Number(_), Worth::Address(_, _)) => true,
         (Worth::Number(_), Worth::Number(_)) => match (a.expr, b.expr) {
-            (Some(Expr::Number { .. }), Some(Expr::Name { .. })) => (b, a),
-            _ => (a, b),
+            (Some(left), Some(right)) => page.is_constant(left) && !page.is_constant(right),
+            _ => false,
         },
-        _ => (a, b),
-    }
+        _ => false,
+    };
+    if is_swapped { (b, a) } else { (a, b) }
 }
 
 /// Adds why `!` or `%` has no use for these operands.
@@ -35,7 +36,11 @@ fn say_no_base(
         return page.say(&[b", and `", symbol, b"` wants a number after the address"]);
     }
     say_operand(page, base)?;
-    page.say(&[b", and `", symbol, b"` wants an address"])
+    page.say(&[b", and `", symbol, b"` wants an address"])?;
+    if matches!(index.value, Worth::Address(_, _)) {
+        page.say(&[b" before it"])?;
+    }
+    say_shared(page, base)
 }
 
 /// Adds why `!` or `%` between these operands is undefined.
@@ -48,13 +53,13 @@ pub fn say_subscript(
 ) -> Result<(), AllocError> {
     let (base, index) = match operator {
         Operator::Byte => operands,
-        _ => base_first(operands.0, operands.1),
+        _ => base_first(page, operands.0, operands.1),
     };
     match reason {
         Reason::Cell(Worth::Address(object, offset)) => {
             say_cell(page, expr, Some(base), object, offset)?;
         }
-        Reason::Byte(at, number) => say_byte(page, expr, base, at, number)?,
+        Reason::Byte(at, number) => say_byte(page, Some(expr), base, at, number)?,
         _ => say_no_base(page, operator_symbol(operator), base, index)?,
     }
     say_index(page, index)
@@ -75,15 +80,38 @@ pub fn say_index(page: &mut Page, index: Operand) -> Result<(), AllocError> {
     say_names(page, expr)
 }
 
+/// Adds the value of a name, unless it is there already.
+fn say_once(page: &mut Page, name: &[u8], number: u32) -> Result<(), AllocError> {
+    let before = page.text.len();
+    page.say(&[b"; ", name, b" is "])?;
+    add_word(&mut page.text, number)?;
+    if is_twice(&page.text, before) {
+        page.text.truncate(before);
+    }
+    Ok(())
+}
+
+/// Whether what a text has from a place on is in it before that place, too.
+fn is_twice(text: &[u8], place: usize) -> bool {
+    let (Some(before), Some(piece)) = (text.get(..place), text.get(place..)) else {
+        return false;
+    };
+    for i in 0..before.len() {
+        if let Some(rest) = before.get(i..)
+            && rest.starts_with(piece)
+        {
+            return true;
+        }
+    }
+    false
+}
+
 /// Adds the values of the names in an expression.
 #[cycle(names)]
 pub fn say_names(page: &mut Page, expr: &Expr) -> Result<(), AllocError> {
     match expr {
         Expr::Name { letters, .. } => match page.value_of(letters) {
-            Some(Worth::Number(number)) => {
-                page.say(&[b"; ", letters, b" is "])?;
-                add_word(&mut page.text, number)
-            }
+            Some(Worth::Number(number)) => say_once(page, letters, number),
             _ => Ok(()),
         },
         Expr::Parens { inside, .. } => say_names(page, inside),
@@ -143,7 +171,11 @@ fn say_unfit(
     match (a.value, b.value) {
         (Worth::Address(_, _), Worth::Address(_, _)) if compares(operator) => {
             page.say(&[b"`", symbol, b"` of addresses in two objects: "])?;
-            say_both(page, a, b)
+            say_both(page, a, b)?;
+            if page.is_text(a.value) && page.is_text(b.value) {
+                page.say(&[b"; strings are compared byte by byte, by a procedure"])?;
+            }
+            Ok(())
         }
         (Worth::Address(_, _), Worth::Address(_, _)) if matches!(operator, Operator::Subtract) => {
             page.say(&[b"`-` of addresses in two objects: "])?;
@@ -155,11 +187,13 @@ fn say_unfit(
         }
         (Worth::Number(_), _) => {
             say_operand(page, b)?;
-            say_wants(page, operator, a)
+            say_wants(page, operator, a)?;
+            page.say_character(b.value)
         }
         (_, Worth::Number(_)) => {
             say_operand(page, a)?;
-            say_wants(page, operator, b)
+            say_wants(page, operator, b)?;
+            page.say_character(a.value)
         }
         _ => {
             page.say(&[b"`", symbol, b"` wants numbers: "])?;
@@ -208,7 +242,12 @@ pub fn say_operation(
     {
         return Ok(());
     }
-    say_unfit(page, operator, a, b)
+    say_unfit(page, operator, a, b)?;
+    for operand in [a, b] {
+        say_shared(page, operand)?;
+        say_uncalled(page, operand)?;
+    }
+    Ok(())
 }
 
 /// Whether two values are addresses in one object.

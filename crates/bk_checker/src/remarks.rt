@@ -3,7 +3,7 @@
 use crate::falls::falls;
 use crate::mentions::Names;
 use crate::report::Notice;
-use crate::spelling::add;
+use crate::spelling::{add, add_expr};
 use bk_base::word_text;
 use bk_tree::{
     Command, ConstItem, Decl, Def, Expr, Init, Operator, Position, Prefix, Section, Sort,
@@ -17,6 +17,9 @@ const REMARKS: usize = 10;
 
 /// Among how many definitions before a procedure its name is sought.
 const NEAR: usize = 256;
+
+/// How many declarations of globals are compared with one another at most.
+const GLOBALS: usize = 4000;
 
 /// Something suspicious.
 #[derive(Debug, Drop)]
@@ -33,8 +36,107 @@ struct Found {
     remarks: Vec<Remark>,
     /// The names of the section.
     names: Names,
-    /// Whether WRITEF is a procedure of the program itself, of which nothing is known.
-    own_writef: bool,
+    /// The routines of the library that the program defines itself, of which nothing is known.
+    own_routines: Vec<&'static [u8]>,
+}
+
+/// Whether the program defines this routine itself.
+fn is_own(found: &Found, name: &[u8]) -> bool {
+    for own in &found.own_routines {
+        if *own == name {
+            return true;
+        }
+    }
+    false
+}
+
+/// Whether a section defines a procedure of this name.
+fn is_defined(sections: &[Section], name: &[u8]) -> bool {
+    sections
+        .iter()
+        .any(|section| defined_in(section.decls(), name).is_some())
+}
+
+/// Whether a declaration of globals gives this name another number.
+fn has_other_number(items: &[ConstItem], name: &[u8], standard: i32) -> bool {
+    for item in items {
+        let ConstItem::Item { letters, expr, .. } = item;
+        if letters.as_slice() == name && number(expr) != Some(standard) {
+            return true;
+        }
+    }
+    false
+}
+
+/// Whether a section declares a global of this name, and not with this number.
+fn is_renumbered(section: &Section, name: &[u8], standard: i32) -> bool {
+    for decl in section.decls() {
+        if let Decl::Constants {
+            sort: Sort::Global,
+            items,
+            ..
+        } = decl
+            && has_other_number(items, name, standard)
+        {
+            return true;
+        }
+    }
+    false
+}
+
+/// The routines of the library that the sections define themselves, or whose names they give to other globals.
+fn own_routines(alloc: Global, sections: &[Section]) -> Result<Vec<&'static [u8]>, AllocError> {
+    let mut own = Vec::new(alloc);
+    for (name, standard) in [
+        (b"STOP".as_slice(), 2),
+        (b"RDCH".as_slice(), 3),
+        (b"WRCH".as_slice(), 4),
+        (b"NEWLINE".as_slice(), 5),
+        (b"WRITES".as_slice(), 6),
+        (b"WRITEN".as_slice(), 7),
+        (b"WRITED".as_slice(), 8),
+        (b"GETBYTE".as_slice(), 9),
+        (b"PUTBYTE".as_slice(), 10),
+        (b"WRITEF".as_slice(), 11),
+    ] {
+        let is_other = sections
+            .iter()
+            .any(|section| is_renumbered(section, name, standard));
+        if is_defined(sections, name) || is_other {
+            own.push(name)?;
+        }
+    }
+    Ok(own)
+}
+
+/// How many arguments a routine of the library takes, if this is the name of one that has a number.
+fn wanted_arguments(name: &[u8]) -> Option<usize> {
+    match name {
+        b"RDCH" | b"NEWLINE" => Some(0),
+        b"STOP" | b"WRCH" | b"WRITES" | b"WRITEN" => Some(1),
+        b"WRITED" | b"GETBYTE" => Some(2),
+        b"PUTBYTE" => Some(3),
+        _ => None,
+    }
+}
+
+/// A call of a routine of the library with more arguments than it takes.
+fn in_library_call(
+    alloc: Global,
+    found: &mut Found,
+    at: Position,
+    callee: &Expr,
+    given: usize,
+) -> Result<(), AllocError> {
+    let Expr::Name { letters: name, .. } = callee else {
+        return Ok(());
+    };
+    match wanted_arguments(name) {
+        Some(wanted) if given > wanted && !is_own(found, name) => {
+            remark_arguments(alloc, found, at, name, (given, wanted))
+        }
+        _ => Ok(()),
+    }
 }
 
 /// Adds a remark, if there is room for it.
@@ -91,6 +193,49 @@ fn number(expr: &Expr) -> Option<i32> {
     }
 }
 
+/// Whether a FOR begins at what may be a length or the last number of something: a name, or a part of a vector or string.
+fn is_length(expr: &Expr) -> bool {
+    match expr {
+        Expr::Name { .. } => true,
+        Expr::Binary { operator, .. } => matches!(
+            operator,
+            Operator::Byte | Operator::Subscript | Operator::Subtract
+        ),
+        _ => false,
+    }
+}
+
+/// A FOR without a step, from a length to 0 or 1: it is perhaps meant to count down.
+fn in_upward(
+    alloc: Global,
+    found: &mut Found,
+    at: Position,
+    from: &Expr,
+    to: &Expr,
+) -> Result<(), AllocError> {
+    let Some(last) = number(to) else {
+        return Ok(());
+    };
+    if last < 0 || last > 1 || !is_length(from) {
+        return Ok(());
+    }
+    let limit = word_text(last);
+    let mut first = Vec::new(alloc);
+    add_expr(&mut first, from)?;
+    make_remark(
+        alloc,
+        found,
+        at,
+        &[
+            b"this `FOR` counts up, and does nothing where ",
+            &first,
+            b" is greater than ",
+            limit.as_bytes(),
+            b"; perhaps `BY -1` is missing",
+        ],
+    )
+}
+
 /// A FOR whose command is never done.
 fn in_for(
     alloc: Global,
@@ -104,6 +249,9 @@ fn in_for(
         None => Some(1),
         Some(by) => number(by),
     };
+    if by.is_none() {
+        in_upward(alloc, found, at, from, to)?;
+    }
     let (Some(from), Some(to), Some(step)) = (number(from), number(to), step) else {
         return Ok(());
     };
@@ -167,7 +315,64 @@ fn plain_percent(format: &[u8]) -> Option<u8> {
     None
 }
 
-/// A call of WRITEF with a `%` that it writes as it is.
+/// How many arguments the directives of a format take.
+fn directives(format: &[u8]) -> usize {
+    let mut count: usize = 0;
+    let mut skipped = 0;
+    for (i, byte) in format.iter().enumerate() {
+        if skipped > 0 {
+            skipped -= 1;
+        } else if *byte == b'%' {
+            let after = format.get(i + 1..).unwrap_or(&[]);
+            if let Some(bytes) = directive(after) {
+                skipped = bytes;
+                if !matches!(after, [b'%', ..]) {
+                    count = count.saturating_add(1);
+                }
+            }
+        }
+    }
+    count
+}
+
+/// A call of WRITEF with more arguments than its format has directives.
+fn in_arguments(
+    alloc: Global,
+    found: &mut Found,
+    at: Position,
+    format: &[u8],
+    given: usize,
+) -> Result<(), AllocError> {
+    let wanted = directives(format);
+    if given <= wanted {
+        return Ok(());
+    }
+    let mut first = Buffer::new();
+    let mut second = Buffer::new();
+    make_remark(
+        alloc,
+        found,
+        at,
+        &[
+            b"the directives of this format take ",
+            first.format(wanted).as_bytes(),
+            if wanted == 1 {
+                b" argument"
+            } else {
+                b" arguments"
+            },
+            b", and ",
+            second.format(given).as_bytes(),
+            if given == 1 {
+                b" follows it"
+            } else {
+                b" follow it"
+            },
+        ],
+    )
+}
+
+/// A call of WRITEF with a `%` that it writes as it is, or with too many arguments.
 fn in_format(
     alloc: Global,
     found: &mut Found,
@@ -178,13 +383,14 @@ fn in_format(
     let Expr::Name { letters: name, .. } = callee else {
         return Ok(());
     };
-    let [Expr::Text { bytes: format, .. }, ..] = arguments else {
+    let [Expr::Text { bytes: format, .. }, given @ ..] = arguments else {
         return Ok(());
     };
-    if found.own_writef || name.as_slice() != b"WRITEF".as_slice() {
+    if name.as_slice() != b"WRITEF".as_slice() || is_own(found, name) {
         return Ok(());
     }
     match plain_percent(format) {
+        None => in_arguments(alloc, found, at, format, given.len()),
         Some(letter) if letter.is_ascii_graphic() => make_remark(
             alloc,
             found,
@@ -332,6 +538,7 @@ fn in_call(
     arguments: &[Expr],
 ) -> Result<(), AllocError> {
     in_format(alloc, found, at, callee, arguments)?;
+    in_library_call(alloc, found, at, callee, arguments.len())?;
     match callee {
         Expr::Name { at, letters } => found.names.note(letters, *at, Some(arguments.len())),
         _ => in_expr(alloc, found, callee),
@@ -690,6 +897,7 @@ fn remark_arguments<'a>(
     counts: (usize, usize),
 ) -> Result<(), AllocError> {
     let (arguments, formals) = counts;
+    let formats = name == b"WRITES".as_slice();
     let mut given = Buffer::new();
     let mut taken = Buffer::new();
     make_remark(
@@ -701,8 +909,18 @@ fn remark_arguments<'a>(
             name,
             b"` is called with ",
             given.format(arguments).as_bytes(),
-            b" arguments, and takes ",
+            if arguments == 1 {
+                b" argument"
+            } else {
+                b" arguments"
+            },
+            b", and takes ",
             taken.format(formals).as_bytes(),
+            if formats {
+                b"; `WRITEF` takes a format"
+            } else {
+                b""
+            },
         ],
     )
 }
@@ -742,15 +960,112 @@ fn on_procedures(alloc: Global, found: &mut Found, names: &Names) -> Result<(), 
     Ok(())
 }
 
+/// The first global before a position that has this number, where it has another name.
+fn first_with<'a>(
+    decls: &'a [Decl],
+    before: Position,
+    name: &[u8],
+    wanted: i32,
+) -> Option<&'a ConstItem> {
+    for decl in decls {
+        if let Decl::Constants {
+            sort: Sort::Global,
+            items,
+            ..
+        } = decl
+        {
+            for item in items {
+                let ConstItem::Item { at, letters, expr } = item;
+                let other: &[u8] = letters;
+                if *at == before {
+                    return None;
+                }
+                if number(expr) == Some(wanted) {
+                    return if other == name { None } else { Some(item) };
+                }
+            }
+        }
+    }
+    None
+}
+
+/// A remark on a global that has the number of another.
+fn remark_shared(
+    alloc: Global,
+    found: &mut Found,
+    global: &ConstItem,
+    first: &ConstItem,
+    number: i32,
+) -> Result<(), AllocError> {
+    let ConstItem::Item { at, letters, .. } = global;
+    let ConstItem::Item {
+        at: first_at,
+        letters: first_letters,
+        ..
+    } = first;
+    let number = word_text(number);
+    let mut line = Buffer::new();
+    make_remark(
+        alloc,
+        found,
+        *at,
+        &[
+            b"`",
+            letters,
+            b"` is the global ",
+            number.as_bytes(),
+            b", and so is `",
+            first_letters,
+            b"` of line ",
+            line.format(first_at.line().number()).as_bytes(),
+        ],
+    )
+}
+
+/// Remarks on globals of a declaration that have the number of one before them, and another name.
+fn on_items(
+    alloc: Global,
+    found: &mut Found,
+    decls: &[Decl],
+    items: &[ConstItem],
+) -> Result<(), AllocError> {
+    for item in items {
+        let ConstItem::Item { at, letters, expr } = item;
+        if let Some(number) = number(expr)
+            && let Some(first) = first_with(decls, *at, letters, number)
+        {
+            remark_shared(alloc, found, item, first, number)?;
+        }
+    }
+    Ok(())
+}
+
+/// Remarks on globals of a section that have one number and two names. What another section calls a global may be meant, as where a
+/// program puts a routine of its own in the place of one of the library.
+fn on_globals(alloc: Global, found: &mut Found, decls: &[Decl]) -> Result<(), AllocError> {
+    let mut count: usize = 0;
+    for decl in decls {
+        if let Decl::Constants {
+            sort: Sort::Global,
+            items,
+            ..
+        } = decl
+        {
+            count = count.saturating_add(items.len());
+            if count <= GLOBALS {
+                on_items(alloc, found, decls, items)?;
+            }
+        }
+    }
+    Ok(())
+}
+
 /// What is suspicious in the sections of a program, in the order of the source within each kind: ten remarks at most.
 pub fn remarks_on(alloc: Global, sections: &[Section]) -> Result<Vec<Remark>, AllocError> {
-    let own_writef = sections
-        .iter()
-        .any(|section| defined_in(section.decls(), b"WRITEF").is_some());
     let mut found = Found {
         remarks: Vec::new(alloc),
         names: Names::new(alloc),
-        own_writef,
+        own_routines: own_routines(alloc, sections)?,
     };
     let has_start = sections.iter().any(begins);
     for section in sections {
@@ -760,6 +1075,7 @@ pub fn remarks_on(alloc: Global, sections: &[Section]) -> Result<Vec<Remark>, Al
         in_decls(alloc, &mut found, section.decls())?;
         let names = replace(&mut found.names, Names::new(alloc));
         on_procedures(alloc, &mut found, &names)?;
+        on_globals(alloc, &mut found, section.decls())?;
     }
     Ok(found.remarks)
 }

@@ -1,5 +1,6 @@
 //! Runs of the meaning over devices.
-ghost use Rattle.std.specs.Prelude.{◌≡◌, ℕ, true, false, IfOk, IfErr, OnOk, OnErr, List, []};
+ghost use Rattle.std.specs.Prelude.{◌≡◌, ◌≢◌, ℕ, true, false, IfOk, IfErr, OnOk, OnErr, List, []};
+ghost use Rattle.std.specs.Bool.{OnTrue};
 ghost use Rattle.std.specs.Io.KnownBytes.{Keeps};
 ghost use Rattle.bk_base.specs.Devices.{Begins};
 ghost use Rattle.bk_meaning.specs.World.{World};
@@ -8,8 +9,9 @@ ghost use Rattle.bk_check.specs.declared.frame.Continuation.{Continuation};
 ghost use Rattle.bk_check.specs.declared.frame.Next.TheVariants as n;
 ghost use Rattle.bk_check.specs.Views.{program_in};
 ghost use Rattle.bk_check.specs.Resume.{outcome_next};
-ghost use Rattle.bk_checker.specs.declared.report.CheckFault.TheVariants.{Write};
-ghost use Rattle.bk_checker.specs.Checks.{Blames, over, verdict_of, Answered, Moves, Reaches, devices};
+ghost use Rattle.bk_checker.specs.declared.report.CheckFault.TheVariants.{Write, TooDeep};
+ghost use Rattle.bk_checker.specs.Checks.{Blames, over, verdict_of, Answered, Moves, Reaches, ComesToLimit, devices};
+ghost use Rattle.bk_checker.specs.Limits.{Progresses, asked, IsTooDeep};
 
 use crate::report::{CheckFault, Verdict};
 use bk_base::{ByteIn, ByteOut, put_all};
@@ -50,6 +52,7 @@ fn ask<I: ByteIn, O: ByteOut>(input: &mut I, out: &mut O) -> Result<u32, CheckFa
     ensures flushed_first { I.held input.old ≡ [] → I.ended input.old ≡ false → OnOk result (O.passed out.new ≡ O.taken out.new) }
     ensures sound { OnOk result ((I.faults input.new ≡ I.faults input.old) × (O.faults out.new ≡ O.faults out.old)) }
     ensures cause { IfErr result (λ fault. Blames fault (I.faults input.old) (I.faults input.new) (O.faults out.old) (O.faults out.new)) }
+    ensures within { IfErr result (λ fault. fault ≢ TooDeep) }
 {
     if !input.ready() {
         flush(out)?;
@@ -72,11 +75,13 @@ fn library<'a, I: ByteIn, O: ByteOut>(
 ) -> Result<Next<'a>, CheckFault>
     ensures moves { IfOk result (λ after. (p : Program) → Moves p m.old (n.Library at routine values.now) m.new after
         (devices I.ByteIn O.ByteOut input.old out.old) (devices I.ByteIn O.ByteOut input.new out.new)) }
+    ensures falls { IfOk result (λ after. Progresses m.old (n.Library at routine values.now) m.new after) }
     ensures part { IfErr result (λ _. (p : Program) → Reaches p m.old (n.Library at routine values.now)
         (devices I.ByteIn O.ByteOut input.old out.old) (devices I.ByteIn O.ByteOut input.new out.new)) }
     ensures passes { Begins (O.passed out.old) (O.passed out.new) }
     ensures sound { OnOk result ((I.faults input.new ≡ I.faults input.old) × (O.faults out.new ≡ O.faults out.old)) }
     ensures cause { IfErr result (λ fault. Blames fault (I.faults input.old) (I.faults input.new) (O.faults out.old) (O.faults out.new)) }
+    ensures within { IfErr result (λ fault. fault ≢ TooDeep) }
 {
     match perform(m.alloc, &mut m.store, routine, values)? {
         Effect::Stops(status) => Ok(Next::Status(status)),
@@ -108,11 +113,13 @@ fn turn<'a, I: ByteIn, O: ByteOut>(
 ) -> Result<Next<'a>, CheckFault>
     ensures moves { IfOk result (λ after. Moves (program_in program.now) m.old next.entry m.new after
         (devices I.ByteIn O.ByteOut input.old out.old) (devices I.ByteIn O.ByteOut input.new out.new)) }
+    ensures falls { over m.old.frames.items next.entry ≡ false → IfOk result (λ after. Progresses m.old next.entry m.new after) }
     ensures part { IfErr result (λ _. Reaches (program_in program.now) m.old next.entry
         (devices I.ByteIn O.ByteOut input.old out.old) (devices I.ByteIn O.ByteOut input.new out.new)) }
     ensures passes { Begins (O.passed out.old) (O.passed out.new) }
     ensures sound { OnOk result ((I.faults input.new ≡ I.faults input.old) × (O.faults out.new ≡ O.faults out.old)) }
     ensures cause { IfErr result (λ fault. Blames fault (I.faults input.old) (I.faults input.new) (O.faults out.old) (O.faults out.new)) }
+    ensures within { IfErr result (λ fault. fault ≢ TooDeep) }
 {
     match next {
         Next::Library(at, routine, values) => library(m, at, routine, &values, input, out),
@@ -144,21 +151,27 @@ pub fn verdict(next: &Next) -> Verdict
     }
 }
 
-/// Whether a step would come to more frames or cells than the limits of a check.
-fn is_too_deep(m: &Evaluator, next: &Next) -> bool {
-    if m.frames.len() > FRAMES || m.store.cells_in_use() > CELLS {
-        return true;
-    }
+/// How many cells a vector has that comes next; none where no vector does.
+fn cells_asked(next: &Next) -> usize
+    ensures { result ≡ asked next.now }
+{
     match next {
         Next::Starts([Init::Vector { size, .. }, ..], here, _, _) => match constant(here, size) {
-            Some(last) => last as usize > CELLS.saturating_sub(m.store.cells_in_use()),
-            None => false,
+            Some(last) => last as usize + 1,
+            None => 0,
         },
-        _ => false,
+        _ => 0,
     }
 }
 
-/// Steps up to the end of a run: what ends it. A check takes fewer than 2^64 of them.
+/// Whether there are more frames or cells than the limits of a check, or would be with a vector that comes next.
+fn is_too_deep(m: &Evaluator, next: &Next) -> bool
+    ensures { OnTrue result (IsTooDeep m.now next.now) }
+{
+    m.frames.len() > FRAMES || m.store.cells_in_use().saturating_add(cells_asked(next)) > CELLS
+}
+
+/// Steps up to the end of a run: what ends it.
 pub fn go<'a, I: ByteIn, O: ByteOut>(
     m: &mut Evaluator<'a>,
     program: &[Lasting<'a>],
@@ -169,6 +182,8 @@ pub fn go<'a, I: ByteIn, O: ByteOut>(
     ensures moves { IfOk result (λ last. Moves (program_in program.now) m.old first.entry m.new last
         (devices I.ByteIn O.ByteOut input.old out.old) (devices I.ByteIn O.ByteOut input.new out.new)) }
     ensures ended { IfOk result (λ last. over m.new.frames.items last ≡ true) }
+    ensures limits { IfErr result (λ fault. fault ≡ TooDeep → ComesToLimit (program_in program.now) m.old first.entry m.new
+        (devices I.ByteIn O.ByteOut input.old out.old) (devices I.ByteIn O.ByteOut input.new out.new)) }
     ensures part { IfErr result (λ _. Reaches (program_in program.now) m.old first.entry
         (devices I.ByteIn O.ByteOut input.old out.old) (devices I.ByteIn O.ByteOut input.new out.new)) }
     ensures passes { Begins (O.passed out.old) (O.passed out.new) }
@@ -176,14 +191,16 @@ pub fn go<'a, I: ByteIn, O: ByteOut>(
     ensures cause { IfErr result (λ fault. Blames fault (I.faults input.old) (I.faults input.new) (O.faults out.old) (O.faults out.new)) }
 {
     let mut next = first;
-    for i in 0..u64::MAX {
-        if is_over(m, &next) {
-            return Ok(next);
+    'turns: loop {
+        let left = m.turns;
+        'steps: while m.turns == left {
+            if is_over(m, &next) {
+                return Ok(next);
+            }
+            if is_too_deep(m, &next) {
+                return Err(CheckFault::TooDeep);
+            }
+            next = turn(m, program, next, input, out)?;
         }
-        if is_too_deep(m, &next) {
-            return Err(CheckFault::TooDeep);
-        }
-        next = turn(m, program, next, input, out)?;
     }
-    Err(CheckFault::TooDeep)
 }

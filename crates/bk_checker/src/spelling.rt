@@ -100,18 +100,36 @@ pub fn add_ordinal(text: &mut Vec<u8>, number: usize) -> Result<(), AllocError> 
     add(text, &[ordinal_ending(number)])
 }
 
+/// Adds a byte of a string.
+fn add_string_byte(text: &mut Vec<u8>, byte: u8) -> Result<(), AllocError> {
+    match byte {
+        b'\n' => add(text, &[b"*N"]),
+        b'\t' => add(text, &[b"*T"]),
+        8 => add(text, &[b"*B"]),
+        12 => add(text, &[b"*P"]),
+        b'\r' => add(text, &[b"*C"]),
+        b'"' => add(text, &[b"*\""]),
+        b'*' => add(text, &[b"**"]),
+        0..=31 | 127..=255 => add(text, &[b"?"]),
+        _ => add(text, &[&[byte]]),
+    }
+}
+
+/// Adds a byte as a character constant.
+pub fn add_character(text: &mut Vec<u8>, byte: u8) -> Result<(), AllocError> {
+    add(text, &[b"'"])?;
+    match byte {
+        b'\'' => add(text, &[b"*'"])?,
+        _ => add_string_byte(text, byte)?,
+    }
+    add(text, &[b"'"])
+}
+
 /// Adds a string between quotes: its beginning where it is long.
 pub fn add_string(text: &mut Vec<u8>, bytes: &[u8]) -> Result<(), AllocError> {
     text.push(b'"')?;
     for byte in bytes.iter().take(LONGEST) {
-        match *byte {
-            b'\n' => add(text, &[b"*N"])?,
-            b'\t' => add(text, &[b"*T"])?,
-            b'"' => add(text, &[b"*\""])?,
-            b'*' => add(text, &[b"**"])?,
-            0..=31 | 127..=255 => text.push(b'?')?,
-            _ => text.push(*byte)?,
-        }
+        add_string_byte(text, *byte)?;
     }
     if bytes.len() > LONGEST {
         add(text, &[b".."])?;

@@ -1,14 +1,20 @@
 //! Values and objects, as a person knows them: by the names of the source.
 
 use crate::made::{Kind, Made, formals_at, made_at};
-use crate::names::{Names, names_in};
-use crate::spelling::{add, add_expr, add_number, add_string, add_word, routine_name};
+use crate::names::{Names, env_of, name_in, names_in};
+use crate::operands::bare;
+use crate::spelling::{
+    add, add_character, add_expr, add_number, add_string, add_word, routine_name,
+};
 use bk_base::word;
 use bk_check::Evaluator;
-use bk_lasting::{GLOBALS_OBJECT, Lasting, Sense};
+use bk_lasting::{Env, GLOBALS_OBJECT, Lasting, Sense};
 use bk_objects::{Cell, Origin, Worth};
-use bk_tree::Expr;
+use bk_tree::{Expr, Position};
 use std::alloc::AllocError;
+
+/// In how many frames the name of a static word is sought at most.
+const NEAR: usize = 1000;
 
 /// What is written, and what it is written of.
 #[derive(Drop)]
@@ -37,6 +43,54 @@ pub fn callee_name<'a>(program: &[Lasting<'a>], callee: Worth) -> &'a [u8] {
     }
 }
 
+/// The name of the formal that is at an offset, if the object is that of a call's formals and has it.
+fn formal_name<'a>(
+    program: &[Lasting<'a>],
+    kind: Kind,
+    at: Position,
+    offset: u32,
+) -> Option<&'a [u8]> {
+    match kind {
+        Kind::Formals => match formals_at(program, at)?.get(offset as usize) {
+            Some(formal) => Some(&formal.letters),
+            None => None,
+        },
+        Kind::Variable | Kind::Vector => None,
+    }
+}
+
+/// Another name of a global, among those of a procedure.
+fn other_name_in<'a>(env: &Env<'a>, name: &[u8], number: u32) -> Option<&'a [u8]> {
+    let mut names = &env.names;
+    while let Some(node) = names {
+        if let Sense::Cell(object, other) = node.sense
+            && object == GLOBALS_OBJECT
+            && other == number
+            && node.name != name
+        {
+            return Some(node.name);
+        }
+        names = &node.outer;
+    }
+    None
+}
+
+/// The number of another global that has this name, among those of a procedure.
+fn other_number_in(env: &Env, name: &[u8], number: u32) -> Option<u32> {
+    let mut names = &env.names;
+    while let Some(node) = names {
+        if let Sense::Cell(object, other) = node.sense
+            && object == GLOBALS_OBJECT
+            && other != number
+            && node.name == name
+        {
+            return Some(other);
+        }
+        names = &node.outer;
+    }
+    None
+}
+
 /// The byte at a place of words.
 fn byte_of(words: &[u32], place: u32) -> u8 {
     match words.get(word::distance_of_byte(place) as usize) {
@@ -48,13 +102,13 @@ fn byte_of(words: &[u32], place: u32) -> u8 {
 /// Whether words are those of a string that can be printed.
 fn is_string(words: &[u32]) -> bool {
     let length = u32::from(byte_of(words, 0));
-    if length == 0 || words.len() != (length / 4) as usize + 1 {
+    if words.len() != (length / 4) as usize + 1 {
         return false;
     }
     for i in 1..1024 {
         let byte = byte_of(words, i);
         let fits = if i <= length {
-            byte == b'\n' || byte >= 32 && byte != 127
+            matches!(byte, 8..=10 | 12..=13) || byte >= 32 && byte != 127
         } else {
             byte == 0
         };
@@ -104,8 +158,8 @@ impl<'m, 'a> Page<'m, 'a> {
             Some(Lasting::Globals) => Object::Globals,
             Some(Lasting::Code(procedure)) => Object::Entry(procedure.name),
             Some(Lasting::Words(words)) => {
-                if let Some(names) = self.names
-                    && let Some(name) = names.name_of(object, 0)
+                if words.len() == 1
+                    && let Some(name) = self.static_name(object)
                 {
                     Object::Static(name)
                 } else if is_string(words) {
@@ -122,6 +176,30 @@ impl<'m, 'a> Page<'m, 'a> {
                 None => Object::Unknown,
             },
         }
+    }
+
+    /// The name of a static word: one that is visible, or is in another procedure.
+    fn static_name(&self, object: u64) -> Option<&'a [u8]> {
+        if let Some(names) = self.names
+            && let Some(name) = names.name_of(object, 0)
+        {
+            return Some(name);
+        }
+        for lasting in self.program {
+            if let Lasting::Code(procedure) = lasting
+                && let Some(name) = name_in(&procedure.env, object, 0)
+            {
+                return Some(name);
+            }
+        }
+        for frame in self.m.frames.iter().rev().take(NEAR) {
+            if let Some(env) = env_of(frame)
+                && let Some(name) = name_in(env, object, 0)
+            {
+                return Some(name);
+            }
+        }
+        None
     }
 
     /// Whether an object is dead.
@@ -168,6 +246,21 @@ impl<'m, 'a> Page<'m, 'a> {
         }
     }
 
+    /// Adds the name of the formal that a cell is; false where it is none.
+    pub fn say_formal_name(&mut self, object: u64, offset: u32) -> Result<bool, AllocError> {
+        let program = self.program;
+        let Object::Made(made) = self.object(object) else {
+            return Ok(false);
+        };
+        let procedure = made.procedure;
+        let Some(name) = formal_name(program, made.kind, made.at, offset) else {
+            return Ok(false);
+        };
+        self.say(&[name])?;
+        self.say_of(procedure, object)?;
+        Ok(true)
+    }
+
     /// Adds a string of these words.
     fn say_string(&mut self, words: &[u32]) -> Result<(), AllocError> {
         let mut bytes = Vec::new(self.m.alloc);
@@ -177,17 +270,23 @@ impl<'m, 'a> Page<'m, 'a> {
         add_string(&mut self.text, &bytes)
     }
 
-    /// Adds that an object is gone.
-    pub fn say_gone(&mut self, object: u64) -> Result<(), AllocError> {
-        match self.object(object) {
-            Object::Made(made) => {
+    /// Adds that the object of an address is gone; of formals, the one at this offset.
+    pub fn say_gone(&mut self, object: u64, offset: u32) -> Result<(), AllocError> {
+        let program = self.program;
+        let Object::Made(made) = self.object(object) else {
+            return self.say(&[b"a variable or vector is gone"]);
+        };
+        let procedure = made.procedure;
+        let line = made.at.line().number();
+        match formal_name(program, made.kind, made.at, offset) {
+            Some(name) => self.say(&[name, b", a formal of ", procedure])?,
+            None => {
                 self.say_object(object)?;
                 self.say(&[b", made on line "])?;
-                add_number(&mut self.text, made.at.line().number() as usize)?;
-                self.say(&[b", is gone"])
+                add_number(&mut self.text, line as usize)?;
             }
-            _ => self.say(&[b"a variable or vector is gone"]),
         }
+        self.say(&[b", is gone"])
     }
 
     /// Adds a distance in words.
@@ -201,30 +300,36 @@ impl<'m, 'a> Page<'m, 'a> {
     }
 
     /// Adds the address of a formal, or of a word after them.
-    fn say_formal(&mut self, made: Made<'a>, offset: u32) -> Result<(), AllocError> {
-        let procedure = made.procedure;
+    fn say_formal(
+        &mut self,
+        procedure: &[u8],
+        owner: &[u8],
+        at: Position,
+        offset: u32,
+    ) -> Result<(), AllocError> {
         let is_here = self.is_here(procedure);
-        let program = self.program;
-        if let Some(formals) = formals_at(program, made.at)
-            && let Some(formal) = formals.get(offset as usize)
-        {
-            self.say(&[b"@", &formal.letters])?;
-            return if is_here {
-                Ok(())
-            } else {
-                self.say(&[b" of ", procedure])
-            };
+        match formal_name(self.program, Kind::Formals, at, offset) {
+            Some(name) => {
+                self.say(&[b"@", name])?;
+                if is_here {
+                    Ok(())
+                } else {
+                    self.say(&[b" of ", procedure])
+                }
+            }
+            None => {
+                self.say(&[b"the address of word "])?;
+                add_word(&mut self.text, offset)?;
+                self.say(&[b" of the formals of ", owner])
+            }
         }
-        self.say(&[b"the address of word "])?;
-        add_word(&mut self.text, offset)?;
-        self.say(&[b" of the formals of ", made.name])
     }
 
     /// Adds an address.
     fn say_address(&mut self, object: u64, offset: u32) -> Result<(), AllocError> {
         match self.object(object) {
             Object::Made(made) => match made.kind {
-                Kind::Formals => self.say_formal(made, offset),
+                Kind::Formals => self.say_formal(made.procedure, made.name, made.at, offset),
                 Kind::Variable => {
                     self.say(&[b"@"])?;
                     self.say_object(object)?;
@@ -264,6 +369,44 @@ impl<'m, 'a> Page<'m, 'a> {
             Some(names) => names.name_of(GLOBALS_OBJECT, number),
             None => None,
         }
+    }
+
+    /// Another name of a global, in any section.
+    pub fn other_name(&self, name: &[u8], number: u32) -> Option<&'a [u8]> {
+        if let Some(names) = self.names
+            && let Some(other) = other_name_in(names.env, name, number)
+        {
+            return Some(other);
+        }
+        for lasting in self.program {
+            if let Lasting::Code(procedure) = lasting
+                && let Some(other) = other_name_in(&procedure.env, name, number)
+            {
+                return Some(other);
+            }
+        }
+        None
+    }
+
+    /// The number of another global that has this name, in any section.
+    pub fn other_number(&self, name: &[u8], number: u32) -> Option<u32> {
+        for lasting in self.program {
+            if let Lasting::Code(procedure) = lasting
+                && let Some(other) = other_number_in(&procedure.env, name, number)
+            {
+                return Some(other);
+            }
+        }
+        None
+    }
+
+    /// Adds a global, by its name if it has one.
+    pub fn say_global(&mut self, number: u32) -> Result<(), AllocError> {
+        self.say(&[b"the global "])?;
+        if let Some(name) = self.other_name(b"", number) {
+            self.say(&[name, b", "])?;
+        }
+        add_word(&mut self.text, number)
     }
 
     /// Adds a value.
@@ -362,6 +505,39 @@ impl<'m, 'a> Page<'m, 'a> {
             },
             Sense::Label | Sense::Foreign => None,
         }
+    }
+
+    /// Whether an expression is a number, or a name of MANIFEST.
+    pub fn is_constant(&self, expr: &Expr) -> bool {
+        match bare(expr) {
+            Expr::Number { .. } => true,
+            Expr::Name { letters, .. } => match self.names {
+                Some(names) => matches!(names.sense(letters), Some(Sense::Constant(_))),
+                None => false,
+            },
+            _ => false,
+        }
+    }
+
+    /// Whether a value is the address of a string.
+    pub fn is_text(&self, x: Worth) -> bool {
+        match x {
+            Worth::Address(object, _) => matches!(self.object(object), Object::String(_)),
+            _ => false,
+        }
+    }
+
+    /// Adds how the byte of a string of one byte is written.
+    pub fn say_character(&mut self, x: Worth) -> Result<(), AllocError> {
+        if let Worth::Address(object, _) = x
+            && let Object::String(words) = self.object(object)
+            && byte_of(words, 0) == 1
+        {
+            self.say(&[b"; `"])?;
+            add_character(&mut self.text, byte_of(words, 1))?;
+            return self.say(&[b"` is its byte"]);
+        }
+        Ok(())
     }
 
     /// The value of an expression that is a name or a number.

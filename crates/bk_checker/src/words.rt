@@ -5,7 +5,8 @@ use crate::operands::{Operand, bare, say_fault_of, say_written};
 use crate::spelling::{add_number, add_word};
 use crate::values::{Object, Page};
 use bk_base::word;
-use bk_objects::{Cell, Origin, Worth};
+use bk_lasting::GLOBALS_OBJECT;
+use bk_objects::{Cell, Origin, Worth, read_byte};
 use bk_tree::{Expr, Prefix};
 use std::alloc::AllocError;
 
@@ -89,9 +90,8 @@ fn is_address(expr: &Expr) -> bool {
     )
 }
 
-/// Adds what leads from the operand that is an address to a part of its object. True says that the object is called by the
-/// operand's expression.
-fn say_way(page: &mut Page, expr: &Expr, base: Option<Operand>) -> Result<bool, AllocError> {
+/// Adds which address an operand is, unless its expression says it. True says that the object is called by that expression.
+fn say_base(page: &mut Page, base: Option<Operand>) -> Result<bool, AllocError> {
     if let Some(operand) = base
         && let Some(written) = operand.expr
         && let Worth::Address(object, offset) = operand.value
@@ -104,9 +104,24 @@ fn say_way(page: &mut Page, expr: &Expr, base: Option<Operand>) -> Result<bool, 
             page.say(&[b", and "])?;
         }
     }
-    page.say_expr(expr)?;
-    page.say(&[b" is "])?;
     Ok(false)
+}
+
+/// Adds how a byte is written: as an expression, or as the byte with this number of an operand.
+fn say_byte_of(
+    page: &mut Page,
+    expr: Option<&Expr>,
+    base: Operand,
+    number: u32,
+) -> Result<(), AllocError> {
+    if let Some(expr) = expr {
+        return page.say_expr(expr);
+    }
+    match base.expr {
+        Some(Expr::Name { letters, .. }) => page.say(&[letters, b"%"])?,
+        _ => page.say(&[b"its byte "])?,
+    }
+    add_word(&mut page.text, number)
 }
 
 /// Adds the name of an object, or the expression that it is called by.
@@ -125,6 +140,52 @@ fn say_owner(
     page.say_object(object)
 }
 
+/// Adds that the object of a cell is gone, to which an expression leads.
+fn say_dead_cell(
+    page: &mut Page,
+    expr: &Expr,
+    base: Option<Operand>,
+    object: u64,
+    offset: u32,
+) -> Result<(), AllocError> {
+    let Some(operand) = base else {
+        page.say_gone(object, offset)?;
+        page.say(&[b", and "])?;
+        page.say_expr(expr)?;
+        return page.say(&[b" is in it"]);
+    };
+    let place = match operand.value {
+        Worth::Address(_, place) => place,
+        _ => offset,
+    };
+    page.say_gone(object, place)?;
+    page.say(&[b", and "])?;
+    say_written(page, operand)?;
+    page.say(&[b" is its address"])
+}
+
+/// Adds which word of an object a cell is; nothing where the object is a variable of one word.
+fn say_place(
+    page: &mut Page,
+    base: Option<Operand>,
+    object: u64,
+    offset: u32,
+    is_called: bool,
+) -> Result<(), AllocError> {
+    if page.say_formal_name(object, offset)? {
+        return Ok(());
+    }
+    if object == GLOBALS_OBJECT && page.m.store.cell(object, offset).is_some() {
+        return page.say_global(offset);
+    }
+    if offset != 0 || !is_variable(page, object) {
+        page.say(&[b"word "])?;
+        add_word(&mut page.text, offset)?;
+        page.say(&[b" of "])?;
+    }
+    say_owner(page, base, object, is_called)
+}
+
 /// Adds what is wrong with the cell at an address, to which an expression leads.
 pub fn say_cell(
     page: &mut Page,
@@ -134,27 +195,19 @@ pub fn say_cell(
     offset: u32,
 ) -> Result<(), AllocError> {
     if page.is_dead(object) {
-        page.say_gone(object)?;
-        page.say(&[b", and "])?;
-        return match base {
-            Some(operand) => {
-                say_written(page, operand)?;
-                page.say(&[b" is its address"])
-            }
-            None => {
-                page.say_expr(expr)?;
-                page.say(&[b" is in it"])
-            }
-        };
+        return say_dead_cell(page, expr, base, object, offset);
     }
-    let is_called = say_way(page, expr, base)?;
-    if offset != 0 || !is_variable(page, object) {
-        page.say(&[b"word "])?;
-        add_word(&mut page.text, offset)?;
-        page.say(&[b" of "])?;
+    let is_called = say_base(page, base)?;
+    if !is_called {
+        page.say_expr(expr)?;
+        page.say(&[b" is "])?;
     }
-    say_owner(page, base, object, is_called)?;
-    say_state(page, object, offset, relative(is_called))
+    say_place(page, base, object, offset, is_called)?;
+    say_state(page, object, offset, relative(is_called))?;
+    if matches!(page.object(object), Object::String(_)) {
+        page.say(&[b"; `!` gives words, and `%` the bytes of a string"])?;
+    }
+    Ok(())
 }
 
 /// Whether an object is a variable.
@@ -166,10 +219,31 @@ fn is_variable(page: &Page, object: u64) -> bool {
     }
 }
 
-/// Adds what is wrong with a byte of the words from an address on, to which an expression leads.
+/// Adds the length of the string that is at an address, if its byte 0 is set.
+pub fn say_length(page: &mut Page, at: Worth) -> Result<(), AllocError> {
+    match read_byte(&page.m.store, at, Worth::Number(0)) {
+        Ok(length) => {
+            page.say(&[b"; byte 0, the length of the string, is "])?;
+            add_number(&mut page.text, usize::from(length))
+        }
+        Err(_) => Ok(()),
+    }
+}
+
+/// Adds which bytes an object has, and the length of a string.
+fn say_beyond_bytes(page: &mut Page, at: Worth, object: u64) -> Result<(), AllocError> {
+    let size = page.m.store.size(object).unwrap_or(0).saturating_mul(4);
+    say_extent(page, b"byte", size)?;
+    if page.is_text(at) {
+        return say_length(page, Worth::Address(object, 0));
+    }
+    Ok(())
+}
+
+/// Adds what is wrong with a byte of the words from an address on, to which an expression leads, or the operand alone.
 pub fn say_byte(
     page: &mut Page,
-    expr: &Expr,
+    expr: Option<&Expr>,
     base: Operand,
     at: Worth,
     number: u32,
@@ -180,18 +254,18 @@ pub fn say_byte(
     if say_fault_of(page, base)? {
         return Ok(());
     }
-    let is_called = say_way(page, expr, Some(base))?;
+    let is_called = say_base(page, Some(base))?;
+    if !is_called {
+        say_byte_of(page, expr, base, number)?;
+        page.say(&[b" is "])?;
+    }
     page.say(&[b"byte "])?;
     add_word(&mut page.text, word::sum(word::product(4, offset), number))?;
     page.say(&[b" of "])?;
     say_owner(page, Some(base), object, is_called)?;
     let cell = word::sum(offset, word::distance_of_byte(number));
     match page.m.store.cell(object, cell) {
-        None => say_extent(
-            page,
-            b"byte",
-            page.m.store.size(object).unwrap_or(0).saturating_mul(4),
-        ),
+        None => say_beyond_bytes(page, at, object),
         Some(Cell::Places(_, _, _, _)) => say_unset(page, relative(is_called), Origin::Never),
         Some(Cell::Holds(x)) => match x {
             Worth::Unset(origin) => say_unset(page, relative(is_called), origin),

@@ -1,5 +1,5 @@
 -- The objects that live, and the memory of them.
-use Rattle.bk_objects.proofs.Terms.{◌≡◌, ◌≢◌, ℕ, zero, suc, ◌+◌, ◌-◌, ◌<◌, ◌≤◌, ◌==◌, cond, inl, inr, Some, None, Result, Ok, Err, IfSome, IfNone, OnErr, List, [], ◌∷◌, ◌++◌, length, map, set, get_or, take, drop, replicate, refl, ap, ap₂, sym, ◌∙◌, subst, arith, map-set, length-map, length-set, length-drop, length-take, get_or_past, get_or-set_same, get_or-set_other, set_past, drop-append-le, take-append-le, drop-take, take-take, drop-set-lt, drop-set-add, drop_at, take_all, length-take-le, slice_get_past, slice_get-get_or, All, AllWithin, HoldsAt, address, Object, living, dead, Memory, cells_of, cells_at, made, dead_from, with_cell, Life, cell_in, object_in, found, memory_of, Laid}
+use Rattle.bk_objects.proofs.Terms.{◌≡◌, ◌≢◌, ℕ, zero, suc, ◌+◌, ◌-◌, ◌<◌, ◌≤◌, ◌==◌, cond, inl, inr, Some, None, Result, Ok, Err, IfSome, IfNone, OnErr, List, [], ◌∷◌, ◌++◌, length, map, set, get_or, take, drop, replicate, refl, ap, ap₂, sym, ◌∙◌, subst, arith, map-set, length-map, length-set, length-drop, length-take, get_or_past, get_or-set_same, get_or-set_other, set_past, drop-append-le, take-append-le, drop-take, take-take, drop-set-lt, drop-set-add, drop_at, take_all, length-take-le, slice_get_past, slice_get-get_or, All, AllWithin, HoldsAt, address, Object, living, dead, Memory, cells_of, cells_at, made, dead_from, with_cell, Life, cell_in, object_in, found, memory_of, Laid, cells_living, range_with_len}
 use Rattle.std.proofs.lemmas.List.FromFn.{length-map-range_with_len, get_or-map-range_with_len, map-range_with_len_more, fill_by_all}
 use Rattle.std.proofs.lemmas.Bool.{cases_lt, cases_eq}
 use Rattle.std.proofs.lemmas.Bool.Decides.{nat_tests}
@@ -16,24 +16,19 @@ Laid-order n s [] m e h = h.0
 Laid-order n s (l ∷ ls) m e h = omega (arith, h.0, Laid-order (l.number + 1) (l.start + l.len) ls m e h.2)
 
 pub Laid-end : (n s : ℕ) (ls : List Life) (m e : ℕ) → Laid n s ls m e → s ≤ e
-Laid-end n s [] m e h = h.1
+Laid-end n s [] m e h = omega (arith, h.1)
 Laid-end n s (l ∷ ls) m e h = omega (arith, h.1, Laid-end (l.number + 1) (l.start + l.len) ls m e h.2)
 
-pub Laid-wider : (n s : ℕ) (ls : List Life) (m e f : ℕ) → Laid n s ls m e → e ≤ f → Laid n s ls m f
-Laid-wider n s [] m e f h le = (h.0, omega (arith, h.1))
-Laid-wider n s (l ∷ ls) m e f h le = (h.0, h.1, Laid-wider (l.number + 1) (l.start + l.len) ls m e f h.2 le)
-
-pub Laid-push : (n s : ℕ) (ls : List Life) (m e : ℕ) (l : Life) (k f : ℕ) → Laid n s ls m e → m ≤ l.number → l.number < k → e ≤ l.start → l.start + l.len ≤ f → Laid n s (ls ++ l ∷ []) k f
-Laid-push n s [] m e l k f h le lt from to = (omega (arith, h.0), omega (arith, h.1), (omega arith, to))
+pub Laid-push : (n s : ℕ) (ls : List Life) (m e : ℕ) (l : Life) (k f : ℕ) → Laid n s ls m e → m ≤ l.number → l.number < k → l.start ≡ e → l.start + l.len ≡ f → Laid n s (ls ++ l ∷ []) k f
+Laid-push n s [] m e l k f h le lt from to = (omega (arith, h.0), from ∙ sym h.1, (omega arith, to))
 Laid-push n s (j ∷ ls) m e l k f h le lt from to = (h.0, h.1, Laid-push (j.number + 1) (j.start + j.len) ls m e l k f h.2 le lt from to)
 
--- those before a place, where they are below bounds
-pub Laid-take : (n s : ℕ) (ls : List Life) (m e k from f : ℕ) → Laid n s ls m e → n ≤ from → s ≤ f → ((i : ℕ) (d : Life) → i < k → i < length ls → ((get_or ls i d).number < from) × ((get_or ls i d).start + (get_or ls i d).len ≤ f)) → Laid n s (take k ls) from f
-Laid-take n s ls m e zero from f h le to below = (le, to)
-Laid-take n s [] m e (suc k) from f h le to below = (le, to)
-Laid-take n s (l ∷ ls) m e (suc k) from f h le to below =
-    let first = below 0 l (omega arith) (omega arith) in
-    (h.0, h.1, Laid-take (l.number + 1) (l.start + l.len) ls m e k from f h.2 (omega (arith, first.0)) first.1 (λ i d at within. below (suc i) d (omega (arith, at)) (omega (arith, within))))
+-- those before a place, whose numbers are below a bound
+pub Laid-take : (n s : ℕ) (ls : List Life) (m e k from f : ℕ) → Laid n s ls m e → k < length ls → n ≤ from → HoldsAt (λ (l : Life). l.start ≡ f) ls k → ((i : ℕ) (d : Life) → i < k → i < length ls → (get_or ls i d).number < from) → Laid n s (take k ls) from f
+Laid-take n s [] m e k from f h lt le start below = absurd (omega (arith, lt))
+Laid-take n s (l ∷ ls) m e zero from f h lt le start below = (le, sym h.1 ∙ start l)
+Laid-take n s (l ∷ ls) m e (suc k) from f h lt le start below =
+    (h.0, h.1, Laid-take (l.number + 1) (l.start + l.len) ls m e k from f h.2 (omega (arith, lt)) (omega (arith, below 0 l (omega arith) (omega arith))) start (λ i d at within. below (suc i) d (omega (arith, at)) (omega (arith, within))))
 
 numbers_from : (n s : ℕ) (ls : List Life) (m e i : ℕ) (d : Life) → Laid n s ls m e → i < length ls → n ≤ (get_or ls i d).number
 numbers_from n s [] m e i d h lt = absurd (omega (arith, lt))
@@ -54,7 +49,7 @@ numbers_grow n s (l ∷ ls) m e h (suc i) (suc j) d le lt = numbers_grow (l.numb
 
 starts_from : (n s : ℕ) (ls : List Life) (m e i : ℕ) (d : Life) → Laid n s ls m e → i < length ls → s ≤ (get_or ls i d).start
 starts_from n s [] m e i d h lt = absurd (omega (arith, lt))
-starts_from n s (l ∷ ls) m e zero d h lt = h.1
+starts_from n s (l ∷ ls) m e zero d h lt = omega (arith, h.1)
 starts_from n s (l ∷ ls) m e (suc i) d h lt = omega (arith, h.1, starts_from (l.number + 1) (l.start + l.len) ls m e i d h.2 (omega (arith, lt)))
 
 pub cells_end : (n s : ℕ) (ls : List Life) (m e i : ℕ) (d : Life) → Laid n s ls m e → i < length ls → (get_or ls i d).start + (get_or ls i d).len ≤ e
@@ -62,18 +57,16 @@ cells_end n s [] m e i d h lt = absurd (omega (arith, lt))
 cells_end n s (l ∷ ls) m e zero d h lt = Laid-end (l.number + 1) (l.start + l.len) ls m e h.2
 cells_end n s (l ∷ ls) m e (suc i) d h lt = cells_end (l.number + 1) (l.start + l.len) ls m e i d h.2 (omega (arith, lt))
 
-cells_apart : (n s : ℕ) (ls : List Life) (m e i k : ℕ) (d : Life) → Laid n s ls m e → i < k → k < length ls → (get_or ls i d).start + (get_or ls i d).len ≤ (get_or ls k d).start
-cells_apart n s [] m e i k d h lt within = absurd (omega (arith, within))
-cells_apart n s (l ∷ ls) m e i zero d h lt within = absurd (omega (arith, lt))
-cells_apart n s (l ∷ ls) m e zero (suc k) d h lt within = starts_from (l.number + 1) (l.start + l.len) ls m e k d h.2 (omega (arith, within))
-cells_apart n s (l ∷ ls) m e (suc i) (suc k) d h lt within = cells_apart (l.number + 1) (l.start + l.len) ls m e i k d h.2 (omega (arith, lt)) (omega (arith, within))
-
 -- Some cells of all.
 part-append : (cells new : List Cell) (start len : ℕ) → start + len ≤ length cells → take len (drop start (cells ++ new)) ≡ take len (drop start cells)
 part-append cells new start len le =
     let within : start ≤ length cells = omega arith in
     let some : len ≤ length (drop start cells) = rw length-drop (omega arith) in
     rw (drop-append-le start cells new within, take-append-le len (drop start cells) new some) refl
+
+-- new cells that go again
+pub cells_back : (cells new : List Cell) (k : ℕ) → k ≡ length cells → take k (cells ++ new) ≡ cells
+cells_back cells new k is = take-append-le k cells new (omega (arith, is)) ∙ take_all k cells (omega (arith, is))
 
 part-take : (cells : List Cell) (k start len : ℕ) → start + len ≤ k → take len (drop start (take k cells)) ≡ take len (drop start cells)
 part-take cells k start len le =
@@ -144,7 +137,7 @@ found-cells : (cells new : List Cell) (n s : ℕ) (ls : List Life) (m e o : ℕ)
 found-cells cells new n s [] m e o h same = refl
 found-cells cells new n s (l ∷ ls) m e o h same =
     let to : l.start + l.len ≤ e = Laid-end (l.number + 1) (l.start + l.len) ls m e h.2 in
-    ap₂ (λ x y. cond (l.number == o) x y) (same l h.1 to)
+    ap₂ (λ x y. cond (l.number == o) x y) (same l (omega (arith, h.1)) to)
     (found-cells cells new (l.number + 1) (l.start + l.len) ls m e o h.2 (λ k from till. same k (omega (arith, h.1, from)) till))
 
 -- a cell of one object is replaced
@@ -260,11 +253,6 @@ dead_from-above (suc from) (x ∷ m) zero le = absurd (omega arith)
 dead_from-above (suc from) (x ∷ m) (suc o) le = dead_from-above from m o (omega arith)
 
 -- Those from a place on die, and their cells, from place f on, go.
-left : (ls : List Life) (n e k from f : ℕ) → Laid 0 0 ls n e → k < length ls → HoldsAt (λ (l : Life). l.start ≡ f) ls k → ((i : ℕ) (d : Life) → i < k → i < length ls → (get_or ls i d).number < from) → Laid 0 0 (take k ls) from f
-left ls n e k from f h lt start below =
-    Laid-take 0 0 ls n e k from f h (omega arith) (omega arith)
-    (λ i d at within. (below i d at within, omega (arith, cells_apart 0 0 ls n e i k d h at lt, start d)))
-
 f_within : (ls : List Life) (e n k f : ℕ) → Laid 0 0 ls n e → k < length ls → HoldsAt (λ (l : Life). l.start ≡ f) ls k → f ≤ e
 f_within [] e n k f h lt start = absurd (omega (arith, lt))
 f_within (l ∷ ls) e n k f h lt start = omega (arith, cells_end 0 0 (l ∷ ls) n e k l h lt, start l)
@@ -272,14 +260,14 @@ f_within (l ∷ ls) e n k f h lt start = omega (arith, cells_end 0 0 (l ∷ ls) 
 pub Laid-left : (ls : List Life) (cells : List Cell) (n k f : ℕ) → Laid 0 0 ls n (length cells) → k < length ls → HoldsAt (λ (l : Life). l.start ≡ f) ls k → Laid 0 0 (take k ls) n (length (take f cells))
 Laid-left ls cells n k f h lt start =
     let within : f ≤ length cells = f_within ls (length cells) n k f h lt start in
-    rw (length-take-le f cells within) (left ls n (length cells) k n f h lt start (λ i d at some. numbers_below 0 0 ls n (length cells) i d h some))
+    rw (length-take-le f cells within) (Laid-take 0 0 ls n (length cells) k n f h lt (omega arith) start (λ i d at some. numbers_below 0 0 ls n (length cells) i d h some))
 
 all_below : (ls : List Life) (n e k from : ℕ) → Laid 0 0 ls n e → k ≤ length ls → (0 < k → HoldsAt (λ (l : Life). l.number < from) ls (k - 1)) → (i : ℕ) (d : Life) → i < k → i < length ls → (get_or ls i d).number < from
 all_below ls n e k from h le below i d lt within = omega (arith, numbers_grow 0 0 ls n e h i (k - 1) d (omega arith) (omega arith), below (omega arith) d)
 
 pub memory_of-left : (cells : List Cell) (ls : List Life) (n k from f : ℕ) → Laid 0 0 ls n (length cells) → k < length ls → HoldsAt (λ (l : Life). l.start ≡ f) ls k → AllWithin (λ (l : Life). from ≤ l.number) ls k (length ls) → (0 < k → HoldsAt (λ (l : Life). l.number < from) ls (k - 1)) → memory_of (take f cells) (take k ls) n ≡ dead_from from (memory_of cells ls n)
 memory_of-left cells ls n k from f h lt start above below =
-    let laid = left ls n (length cells) k from f h lt start (all_below ls n (length cells) k from h (omega arith) below) in
+    let laid = Laid-take 0 0 ls n (length cells) k from f h lt (omega arith) start (all_below ls n (length cells) k from h (omega arith) below) in
     sym (memory_of_each (take f cells) (take k ls) (dead_from from (memory_of cells ls n)) n (length-dead_from from (memory_of cells ls n) ∙ length-memory_of cells ls n)
     (λ o within. elim (cases_lt o from) [
       | inl lives ↦ dead_from-below from (memory_of cells ls n) o lives ∙ get_or-memory_of cells ls n (length cells) o h
@@ -296,6 +284,31 @@ memory_of-kept cells ls n from h below = sym
       | inr dies ↦ dead_from-above from (memory_of cells ls n) o dies
           ∙ sym (found-none cells ls o (λ k d lt is. absurd (omega (arith, all_below ls n (length cells) (length ls) from h (omega arith) below k d lt lt, is, dies))))
     ]))
+
+-- how many cells live
+beyond : (cells : List Cell) (l : Life) (ls : List Life) (a k : ℕ) → l.number < a → map (found cells (l ∷ ls)) (range_with_len a k) ≡ map (found cells ls) (range_with_len a k)
+beyond cells l ls a zero lt = refl
+beyond cells l ls a (suc k) lt = ap₂ (λ (x : Object) (xs : Memory). x ∷ xs) (found_behind cells l ls a (λ is. absurd (omega (arith, is, lt)))) (beyond cells l ls (a + 1) k (omega (arith, lt)))
+
+living_in : (cells : List Cell) (n s : ℕ) (ls : List Life) (k m e : ℕ) → n + k ≡ m → Laid n s ls m e → e ≤ length cells → s + cells_living (map (found cells ls) (range_with_len n k)) ≡ e
+living_in cells n s [] zero m e at h le = omega (arith, h.1)
+living_in cells n s (l ∷ ls) zero m e at h le = absurd (omega (arith, at, h.0, Laid-order (l.number + 1) (l.start + l.len) ls m e h.2))
+living_in cells n s [] (suc k) m e at h le = living_in cells (n + 1) s [] k m e (omega (arith, at)) (omega (arith, at), h.1) le
+living_in cells n s (l ∷ ls) (suc k) m e at h le = elim (cases_eq l.number n) [
+  | inl here ↦
+      let some : l.len ≤ length (drop l.start cells) = rw length-drop (omega (arith, le, Laid-end (l.number + 1) (l.start + l.len) ls m e h.2)) in
+      let size : length (map cell_in (take l.len (drop l.start cells))) ≡ l.len = length-map (take l.len (drop l.start cells)) cell_in ∙ length-take-le l.len (drop l.start cells) some in
+      let others = living_in cells (n + 1) (l.start + l.len) ls k m e (omega (arith, at)) (subst (λ o. Laid (o + 1) (l.start + l.len) ls m e) here h.2) le in
+      ap₂ (λ (x : Object) (xs : Memory). s + cells_living (x ∷ xs)) (found_here cells l ls n here) (beyond cells l ls (n + 1) k (omega (arith, here)))
+      ∙ omega (arith, size, others, h.1)
+  | inr other ↦
+      let above : Laid (n + 1) s (l ∷ ls) m e = (omega (arith, h.0, other), h.1, h.2) in
+      ap (λ (x : Object). s + cells_living (x ∷ map (found cells (l ∷ ls)) (range_with_len (n + 1) k))) (found-none cells (l ∷ ls) n (λ i d lt is. absurd (omega (arith, is, numbers_from (n + 1) s (l ∷ ls) m e i d above lt))))
+      ∙ living_in cells (n + 1) s (l ∷ ls) k m e (omega (arith, at)) above le
+]
+
+pub cells_living-memory_of : (cells : List Cell) (ls : List Life) (n : ℕ) → Laid 0 0 ls n (length cells) → cells_living (memory_of cells ls n) ≡ length cells
+cells_living-memory_of cells ls n h = omega (arith, living_in cells 0 0 ls n n (length cells) (omega arith) h (omega arith))
 
 -- a cell is replaced
 pub replaced_none : (cells : List Cell) (ls : List Life) (n e o i : ℕ) (c : v.Cell) → Laid 0 0 ls n e → All (λ (l : Life). l.number ≢ o) ls → None ≡ with_cell (memory_of cells ls n) (address o i) c

@@ -3,12 +3,12 @@ pub use Rattle.std.proofs.Common.{◌≡◌, ◌+◌, ◌-◌, ◌++◌, ◌<◌
 pub use Rattle.std.proofs.lemmas.Grind.{common_steps}
 pub use Rattle.std.proofs.lemmas.List.{length-replicate, map-set, length-map, length-set, length-drop, length-take, get_or_past, get_or-set_same, get_or-set_other, set_past, drop-append-le, take-append-le, drop-take, take-take, drop-set-lt, drop-set-add, drop_at, take_all, length-take-le, take_rest, drop_min}
 pub use Rattle.std.proofs.lemmas.Option.{slice_get-map, gets, slice_get_past, slice_get-get_or}
-pub use Rattle.std.specs.List.{HoldsAt, All, AllWithin}
+pub use Rattle.std.specs.List.{HoldsAt, All, AllWithin, range_with_len}
 pub use Rattle.std.specs.Option.{option_map}
 pub use Rattle.bk_base.specs.Format.{parts, FormatPart, further, part_at, parts_after}
 pub use Rattle.bk_meaning.specs.Library.{bytes_from, written}
 pub use Rattle.bk_meaning.specs.Memory.{cells_of, Object, living, dead, Memory, cells_at, made, dead_from, with_cell, read_byte}
 pub use Rattle.bk_meaning.specs.Values.{address, Value, number}
-pub use Rattle.bk_objects.specs.Memories.{memory_of, object_in, found, Laid}
+pub use Rattle.bk_objects.specs.Memories.{memory_of, object_in, found, Laid, cells_living}
 pub use Rattle.bk_objects.specs.Views.{value_in, cell_in}
 pub use Rattle.bk_objects.specs.declared.store.Life.{Life}

@@ -1,5 +1,5 @@
 -- Memory by the objects that live, and their cells.
-use Rattle.std.specs.Prelude.{ℕ, ◌+◌, ◌≤◌, ◌==◌, cond, List, [], ◌∷◌, length, map, take, drop}
+use Rattle.std.specs.Prelude.{◌≡◌, ℕ, ◌+◌, ◌≤◌, ◌==◌, cond, List, [], ◌∷◌, length, map, take, drop}
 use Rattle.std.specs.List.{range_with_len}
 use Rattle.bk_meaning.specs.Memory.{Object, living, dead, Memory}
 use Rattle.bk_objects.specs.declared.store.Life.{Life}
@@ -18,10 +18,16 @@ found cells (l ∷ ls) o = cond (l.number == o) (object_in cells l) (found cells
 abbrev pub memory_of : List Cell → List Life → ℕ → Memory
 memory_of cells ls n = map (found cells ls) (range_with_len 0 n)
 
--- The numbers grow, from n on, and are below m. The cells are one after another, from place s on, and end before place e.
+-- how many cells the objects have that live
+abbrev pub cells_living : Memory → ℕ
+cells_living [] = 0
+cells_living (living cells ∷ m) = length cells + cells_living m
+cells_living (dead ∷ m) = cells_living m
+
+-- The numbers grow, from n on, and are below m. The cells are one after another, from place s up to place e, with none between.
 abbrev pub Laid : ℕ → ℕ → List Life → ℕ → ℕ → Type 0
-Laid n s [] m e = (n ≤ m) × (s ≤ e)
-Laid n s (l ∷ ls) m e = (n ≤ l.number) × (s ≤ l.start) × Laid (l.number + 1) (l.start + l.len) ls m e
+Laid n s [] m e = (n ≤ m) × (s ≡ e)
+Laid n s (l ∷ ls) m e = (n ≤ l.number) × (l.start ≡ s) × Laid (l.number + 1) (l.start + l.len) ls m e
 
 -- the same with any bounds, and within these cells
 abbrev pub Grow : List Life → Type 0

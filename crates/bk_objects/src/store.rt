@@ -1,12 +1,12 @@
 //! Memory.
-ghost use Rattle.std.specs.Prelude.{◌≡◌, ◌≢◌, ◌-◌, ◌<◌, ◌≤◌, Some, None, IfSome, IfNone, IfOk, OnOk, OnErr, All, length, map, replicate, [], if◌then◌else◌};
+ghost use Rattle.std.specs.Prelude.{◌≡◌, ◌≢◌, ◌-◌, ◌<◌, ◌≤◌, ◌++◌, ◌∷◌, take, Some, None, IfSome, IfNone, IfOk, OnOk, OnErr, All, length, map, replicate, [], if◌then◌else◌};
 ghost use Rattle.std.specs.Bool.{OnFalse};
 ghost use Rattle.std.specs.List.{HoldsAt, AllWithin};
 ghost use Rattle.std.specs.Option.{option_map};
 ghost use Rattle.bk_meaning.specs.Values.{address, holds, unset};
 ghost use Rattle.bk_meaning.specs.Memory as m;
 ghost use Rattle.bk_objects.specs.Views.{cell_in};
-ghost use Rattle.bk_objects.specs.Memories.{Grow, Within, found};
+ghost use Rattle.bk_objects.specs.Memories.{Grow, Within, found, cells_living};
 
 use crate::worth::{Cell, Origin, Worth};
 use bk_tree::Position;
@@ -68,6 +68,21 @@ fn placed(number: u64, start: usize, len: usize, at: Position) -> Result<Life, A
         len: u32::try_from(len).map_err(|_| AllocError)?,
         at,
     })
+}
+
+/// Adds an object whose cells are the last ones. Where memory is refused, they go.
+fn add_life(lives: &mut Vec<Life>, cells: &mut Vec<Cell>, life: Life) -> Result<(), AllocError>
+    ensures added { OnOk result (lives.new.items ≡ lives.old.items ++ life ∷ []) }
+    ensures kept { OnOk result (cells.new.items ≡ cells.old.items) }
+    ensures without { OnErr result (lives.new.items ≡ lives.old.items) }
+    ensures gone { OnErr result (cells.new.items ≡ take life.start cells.old.items) }
+{
+    let start = whole(life.start);
+    if lives.push(life).is_err() {
+        cells.truncate(start);
+        return Err(AllocError);
+    }
+    Ok(())
 }
 
 /// Where an object is among those that live.
@@ -180,7 +195,7 @@ impl Store {
         let start = self.cells.len();
         let life = placed(self.made, start, cells.len(), at)?;
         self.cells.extend_from_slice(cells)?;
-        self.lives.push(life)?;
+        add_life(&mut self.lives, &mut self.cells, life)?;
         self.made = next;
         Ok(())
     }
@@ -196,7 +211,7 @@ impl Store {
         let life = placed(self.made, start, count, at)?;
         self.cells
             .resize(end, Cell::Holds(Worth::Unset(Origin::Never)))?;
-        self.lives.push(life)?;
+        add_life(&mut self.lives, &mut self.cells, life)?;
         self.made = next;
         Ok(())
     }
@@ -216,8 +231,10 @@ impl Store {
         None
     }
 
-    /// How many cells take memory. The meaning does not know this number.
-    pub fn cells_in_use(&self) -> usize {
+    /// How many cells the objects have that live.
+    pub fn cells_in_use(&self) -> usize
+        ensures { result ≡ cells_living self.now }
+    {
         self.cells.len()
     }
 

@@ -1,3 +1,4 @@
+use Rattle.std.proofs.Common.{inl}
 use Rattle.bk_checker.proofs.Terms.{refl, sym, subst, Keeps-refl, value_in, program_in, CheckFault, Blames, Flushed}
 use Rattle.bk_checker.proofs.Running.{nothing_yet, exchanged_none, exchanged_still, checks_start, checks_part, checks_none, start_found, no_start_found, ok_map, err_map, if_err, on_ok_map}
 use Rattle.bk_checker.proofs.checker.check_program.Goals as goal
@@ -29,5 +30,5 @@ returns g c =
       part = if_err c.no_start.result (λ sections is. nothing_yet sections c.args.turns _ _ same);
       passes = c.no_start.ensures.passes;
       sound = on_ok_map c.no_start.result (λ same. (refl, same)) c.no_start.ensures.sound;
-      cause = err_map _ _ c.no_start.result (λ stop failed. subst (λ (f : CheckFault). Blames f (g.I.ByteIn.faults c.args.input.now) (g.I.ByteIn.faults c.args.input.now) (g.O.ByteOut.faults c.args.out.now) (g.O.ByteOut.faults c.no_start.new.out)) (sym failed.0) failed.1) c.no_start.ensures.failed;
+      cause = err_map _ _ c.no_start.result (λ stop failed. subst (λ (f : CheckFault). Blames f (g.I.ByteIn.faults c.args.input.now) (g.I.ByteIn.faults c.args.input.now) (g.O.ByteOut.faults c.args.out.now) (g.O.ByteOut.faults c.no_start.new.out)) (sym failed.0) (inl refl, failed.1)) c.no_start.ensures.failed;
     }

@@ -2,12 +2,12 @@ use Rattle.bk_check.proofs.Terms.{◌-◌, ap, sym, ◌∙◌, expression, Value
 use Rattle.bk_check.proofs.Resuming.{meets, past_none}
 use Rattle.bk_check.proofs.machine.Evaluator.operands.Goals as goal
 
-pub returns-in-Some : goal.returns-in-Some
-returns-in-Some c =
+pub returns-in-Some-clause-comes : goal.returns-in-Some-clause-comes
+returns-in-Some-clause-comes c =
     let a = expression c.args.a.now in
     let e = expression c.args.b.now in
     let env = env_in c.args.env in
     meets c.second.result _ (λ b. world c.second.new.self b) _ _
     (λ p b.
     ap (λ (there : Environment). resumed p c.args.self.now.frames.items (tag a_value (with ((full p).value e there (record (world c.args.self.now b) { turns = c.args.self.now.turns - 1 })) (combined (acts_at (expression c.args.expr.now)) c.args.operator (value_in c.in-Some.x))))) (sym (past_none a env c.in-Some.ensures.lasting))
-    ∙ ap (λ (u : Outcome Value). resumed p c.args.self.now.frames.items (tag a_value (with u (λ (x : Value) (w : World). with ((full p).value e (past a env) w) (combined (acts_at (expression c.args.expr.now)) c.args.operator x))))) (sym (c.in-Some.ensures.value p b))) c.second.ensures
+    ∙ ap (λ (u : Outcome Value). resumed p c.args.self.now.frames.items (tag a_value (with u (λ (x : Value) (w : World). with ((full p).value e (past a env) w) (combined (acts_at (expression c.args.expr.now)) c.args.operator x))))) (sym (c.in-Some.ensures.value p b))) c.second.ensures.comes
