@@ -1,5 +1,5 @@
 //! Devices of bytes, and what they report.
-ghost use Rattle.std.specs.Prelude.{◌≡◌, ℕ, List, [], ◌∷◌, ◌≤◌, Bool, false, None, Some, IfOk, OnOk, OnErr, IsTrue, IsErr, is_err, is_none, Option, if◌then◌else◌, ◌≢◌, ◌⊎◌};
+ghost use Rattle.std.specs.Prelude.{◌≡◌, ℕ, List, [], ◌∷◌, ◌≤◌, Bool, false, None, Some, IfOk, OnOk, OnErr, IsTrue, IsErr, is_err, is_none, Option, if◌then◌else◌, ◌≢◌, ◌⊎◌, length, take, drop};
 ghost use Rattle.std.specs.Io.KnownBytes.{Consumes, Appends, Keeps};
 ghost use Rattle.bk_base.specs.Devices.{byte_list, NothingLeft, Begins, AppendsPart};
 
@@ -48,6 +48,28 @@ pub trait ByteIn {
     /// How often the device failed: 0 or 1.
     fn failures(&self) -> u32
         ensures { result ≡ faults self.now };
+
+    /// Bytes that come next and for which no device is asked: a beginning of those that it holds. A reader that does not have
+    /// them in one piece answers none.
+    #[inline]
+    fn buffer(&self) -> &[u8]
+        ensures { Begins (Some result.now) (Some (held self.now)) }
+    {
+        &[]
+    }
+
+    /// Delivers the next bytes that it holds, so many.
+    #[inline]
+    fn consume(&mut self, count: usize)
+        requires held { count ≤ length (held self.old) }
+        ensures delivers { Consumes (left self.old) (left self.new) (take count (held self.old)) }
+        ensures rest { held self.new ≡ drop count (held self.old) }
+        ensures same { (ended self.new ≡ ended self.old) × (faults self.new ≡ faults self.old) }
+    {
+        for _ in 0..count {
+            let _byte = self.next();
+        }
+    }
 
     ghost one_failure: { (s : Self) → faults s ≤ 1 };
     // what is held comes first of what is left

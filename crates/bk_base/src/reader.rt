@@ -122,6 +122,16 @@ impl<R: Read> ByteIn for Reader512<R> {
         if self.failed { 1 } else { 0 }
     }
 
+    #[inline]
+    fn buffer(&self) -> &[u8] {
+        &self.buffer[self.from..self.to]
+    }
+
+    #[inline]
+    fn consume(&mut self, count: usize) {
+        self.from += count;
+    }
+
     ghost one_failure = { λ s. faults-le_one s.failed };
 
     ghost held_left = { λ s all is. Begins-prepend_known _ _ all is };

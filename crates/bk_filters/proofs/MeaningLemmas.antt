@@ -223,9 +223,9 @@ module _ (laws : RunLaws) (image_of : List Declarations → ℕ) (parts : List P
             → EndsWithin placed (image parts) first (16 * n + 16) calls bytes left end ⊎ RunsOut placed (image parts) first calls bytes
         ends_so n bytes left calls last end means is = subst (λ o. DoesEnd placed (image parts) n first bytes left calls o) is (subst (λ r. Does placed (image parts) n first r) means (does n))
 
-        goes_so : (n : ℕ) (bytes left : List ℕ) (calls : ℕ) → meaning trees input n ≡ program.Going bytes left calls
+        goes_so : (n : ℕ) (bytes left : List ℕ) (calls at : ℕ) → meaning trees input n ≡ program.Going bytes left calls at
             → ComesWithin placed (image parts) first (16 * n + 16) calls bytes left ⊎ RunsOut placed (image parts) first calls bytes
-        goes_so n bytes left calls means = subst (λ r. Does placed (image parts) n first r) means (does n)
+        goes_so n bytes left calls at means = subst (λ r. Does placed (image parts) n first r) means (does n)
 
         few : (q calls : ℕ) → HasFramesAtMost placed (image parts) FRAME_WORDS q first calls → HasFramesAtMost placed (image parts) (depth_of parts) q first calls
         few q calls frames = fewer_frames placed (image parts) (depth_of parts) FRAME_WORDS q first calls of_back.2.shallow frames
@@ -288,7 +288,7 @@ module _ (laws : RunLaws) (image_of : List Declarations → ℕ) (parts : List P
             (h.0 ++ more.0, more.1 ∙ ap (λ o. o ++ more.0) (y.wrote ∙ ap (λ b. b ++ h.0) same) ∙ append_assoc bytes h.0 more.0)
           where
             same : enough.bytes ≡ bytes
-            same = let z : program.Going enough.bytes enough.left enough.calls ≡ program.Going bytes goes.left goes.calls = sym enough.means ∙ goes.means in cc
+            same = let z : program.Going enough.bytes enough.left enough.calls enough.at ≡ program.Going bytes goes.left goes.calls goes.at = sym enough.means ∙ goes.means in cc
 
         enough_of : EnoughToEnd trees input (image_of trees) steps words → (end : End) × (left bytes : List ℕ) × (applies ≡ Over end left bytes) × (end ≢ StoreLimit)
         enough_of enough = by_case (ends_so enough.turns enough.bytes enough.left enough.calls enough.last enough.end enough.means enough.is)
@@ -305,10 +305,10 @@ module _ (laws : RunLaws) (image_of : List Declarations → ℕ) (parts : List P
             by_case (inr r) = absurd (not_out enough.calls enough.bytes enough.has_words r)
 
         written_of : (n : ℕ) (bytes : List ℕ) → MeaningGoesOn trees input n bytes → EnoughToGo trees input (image_of trees) n steps words → (more : List ℕ) × (output_of applies ≡ bytes ++ more)
-        written_of n bytes goes enough = by_case (goes_so n enough.bytes enough.left enough.calls enough.means)
+        written_of n bytes goes enough = by_case (goes_so n enough.bytes enough.left enough.calls enough.at enough.means)
           where
             same : enough.bytes ≡ bytes
-            same = let z : program.Going enough.bytes enough.left enough.calls ≡ program.Going bytes goes.left goes.calls = sym enough.means ∙ goes.means in cc
+            same = let z : program.Going enough.bytes enough.left enough.calls enough.at ≡ program.Going bytes goes.left goes.calls goes.at = sym enough.means ∙ goes.means in cc
 
             by_case : ComesWithin placed (image parts) first (16 * n + 16) enough.calls enough.bytes enough.left ⊎ RunsOut placed (image parts) first enough.calls enough.bytes → (more : List ℕ) × (output_of applies ≡ bytes ++ more)
             by_case (inl y) =
@@ -319,7 +319,7 @@ module _ (laws : RunLaws) (image_of : List Declarations → ℕ) (parts : List P
             by_case (inr r) = absurd (not_out enough.calls enough.bytes enough.has_words r)
 
         so_far_of : (n : ℕ) (bytes : List ℕ) → MeaningGoesOn trees input n bytes → BeginsOf bytes applies ⊎ ((more : List ℕ) × (output_of applies ≡ bytes ++ more))
-        so_far_of n bytes goes = by_case (goes_so n bytes goes.left goes.calls goes.means)
+        so_far_of n bytes goes = by_case (goes_so n bytes goes.left goes.calls goes.at goes.means)
           where
             by_case : ComesWithin placed (image parts) first (16 * n + 16) goes.calls bytes goes.left ⊎ RunsOut placed (image parts) first goes.calls bytes → BeginsOf bytes applies ⊎ ((more : List ℕ) × (output_of applies ≡ bytes ++ more))
             by_case (inl y) = by_machine (of_back.2.so_far y.steps steps y.now y.goes)
@@ -339,7 +339,7 @@ module _ (laws : RunLaws) (image_of : List Declarations → ℕ) (parts : List P
               written_either n bytes (subst (λ l. MeaningGoesOn l input n bytes) (same_trees goes.0 goes.1) goes.2)
               (subst (λ l. EnoughToGo l input (image_of l) n steps words ⊎ StepsToGo l input (image_of l) n steps words) (same_trees enough.0 enough.1) enough.2);
           so_far = λ n bytes goes. so_far_of n bytes (subst (λ l. MeaningGoesOn l input n bytes) (same_trees goes.0 goes.1) goes.2);
-          never = λ never. never_of (λ n. let goes = (never n).1 in let here : MeaningGoesOn trees input n (never n).0 = subst (λ l. MeaningGoesOn l input n (never n).0) (same_trees goes.0 goes.1) goes.2 in ((never n).0, here.left, here.calls, here.means));
+          never = λ never. never_of (λ n. let goes = (never n).1 in let here : MeaningGoesOn trees input n (never n).0 = subst (λ l. MeaningGoesOn l input n (never n).0) (same_trees goes.0 goes.1) goes.2 in ((never n).0, here.left, here.calls, here.at, here.means));
         }
           where
             enough_either : EnoughToEnd trees input (image_of trees) steps words ⊎ StepsToEnd trees input (image_of trees) steps words
@@ -357,8 +357,8 @@ module _ (laws : RunLaws) (image_of : List Declarations → ℕ) (parts : List P
               where
                 by_case : StillGoes placed (image parts) trees input first (of_back.3 steps).0 ⊎ RunsOutOnTheWay placed (image parts) trees input first
                     → (turns : ℕ) × (bytes : List ℕ) × language.GoesOn source input turns bytes × BeginsOf bytes applies
-                by_case (inl y) = (y.turns, y.bytes, (trees, taken.1, record { left = y.left; calls = y.calls; means = y.means }), partly_begins y.now applies y.bytes y.wrote ((of_back.3 steps).1 y.now y.goes))
-                by_case (inr y) = (y.turns, y.bytes, (trees, taken.1, record { left = y.left; calls = y.calls; means = y.means }), out_partly y.calls y.bytes y.runs_out)
+                by_case (inl y) = (y.turns, y.bytes, (trees, taken.1, record { left = y.left; calls = y.calls; at = y.at; means = y.means }), partly_begins y.now applies y.bytes y.wrote ((of_back.3 steps).1 y.now y.goes))
+                by_case (inr y) = (y.turns, y.bytes, (trees, taken.1, record { left = y.left; calls = y.calls; at = y.at; means = y.means }), out_partly y.calls y.bytes y.runs_out)
 
       -- a run of the machine is one of the source
       pub source_run : (store : List ℕ) (registers : Registers) (before after : Streams) (end : End)

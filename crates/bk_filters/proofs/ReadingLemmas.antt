@@ -1,11 +1,13 @@
 -- What is read of a section up to its end.
-use Rattle.bk_filters.proofs.Terms.{◌≡◌, ℕ, ◌+◌, ◌≤◌, Bool, true, false, cond, List, [], ◌∷◌, ◌++◌, length, Result, Ok, Err, Option, Some, None, ◌⊎◌, inl, inr, refl, sym, ap, subst, ◌∙◌, arith, length-append, append_assoc, SourceFault, Consumes, Consumes-trans, SECTION_BYTES, State, Step, start, step_of, finished, ◌>>=◌, cut_after, goes_on_from, then_on, state_after, cut_as, IsUndecided, Asked, Settles, IsDelivered, Act, Act as acts}
+use Rattle.bk_filters.proofs.Terms.{◌≡◌, ℕ, ◌+◌, ◌≤◌, Bool, true, false, cond, List, [], ◌∷◌, ◌++◌, length, Result, Ok, Err, Option, Some, None, ◌⊎◌, inl, inr, refl, sym, ap, subst, ◌∙◌, arith, length-append, append-nil, append_assoc, take, suc, ◌<◌, means_as, more_undecided, SectionBytes, SourceFault, Consumes, Consumes-trans, SECTION_BYTES, State, Step, start, step_of, finished, ◌>>=◌, cut_after, goes_on_from, then_on, state_after, cut_as, IsUndecided, Asked, Settles, IsDelivered, TakesHeld, Act, Act as acts}
 use Rattle.bk_lex.specs.declared.machine.Fault.{Fault}
 use Rattle.bk_lex.specs.declared.counting.PieceResult.{PieceResult}
 use Rattle.bk_lex.specs.declared.cutter.Cut.{Cut}
 use Rattle.bk_lex.specs.declared.cutter.Cut.TheVariants.{More, End}
+use Rattle.bk_lex.specs.Cutting.{Means}
+use Rattle.std.proofs.lemmas.List.{length-take}
 use Rattle.bk_lex.specs.Lexing.{Section, section, Reading, read, read_on, run, end_as, begin, is_dot, lexed}
-use Rattle.bk_lex.proofs.Lemmas.{following, read_state, behind_more, used_at_end, more_undecided, end_is_decided, lexed_is_section}
+use Rattle.bk_lex.proofs.Lemmas.{following, read_state, behind_more, used_at_end, end_is_decided, lexed_is_section}
 
 -- ---- the bytes that were asked for
 
@@ -143,3 +145,43 @@ goes_at_start = refl
 
 pub undecided_at_start : IsUndecided []
 undecided_at_start = more_undecided [] goes_at_start
+
+-- ---- bytes that were held are read
+
+asked_many : (part text : List ℕ) → Asked text → ((k : ℕ) → k < length part → cut_after (text ++ take k part) ≡ More) → Asked (text ++ part)
+asked_many [] text asked goes = subst Asked (sym (append-nil text)) asked
+asked_many (b ∷ bs) text asked goes =
+    subst Asked (append_assoc text (b ∷ []) bs)
+    (asked_many bs (text ++ b ∷ []) (asked_push text b asked (subst (λ (xs : List ℕ). cut_after xs ≡ More) (append-nil text) (goes 0 (omega arith))))
+    (λ k lt. subst (λ (xs : List ℕ). cut_after xs ≡ More) (sym (append_assoc text (b ∷ []) (take k bs))) (goes (suc k) (omega (arith, lt)))))
+
+pub means_more : (text : List ℕ) → cut_after text ≡ More → Means More text
+means_more text e = subst (λ (c : Cut). Means c text) e (means_as (state_after (Some start) text) text refl)
+
+pub few_more : (text : List ℕ) → cut_after text ≡ More → length text ≤ SECTION_BYTES
+few_more text e = (means_more text e).0
+
+few_part : (part text : List ℕ) → length text ≤ SECTION_BYTES → ((k : ℕ) → k < length part → cut_after (text ++ take k part) ≡ More) → length (text ++ part) ≤ SECTION_BYTES + 1
+few_part [] text few goes = omega (arith, few, length-append text [])
+few_part (b ∷ bs) text few goes =
+    let h = few_more (text ++ take (length bs) (b ∷ bs)) (goes (length bs) (omega arith)) in
+    omega (arith, h, length-append text (take (length bs) (b ∷ bs)), length-append text (b ∷ bs), length-take (length bs) (b ∷ bs))
+
+module _ (text : List ℕ) (old now new : Option (List ℕ)) (taken was after from : ℕ) (is : SectionBytes) (delivered : Consumes old now text) (asked : Asked text) (counted : taken ≡ was + length text) (within : length text ≤ SECTION_BYTES)
+    (h : TakesHeld now new (record { bytes = text; from = from }) is taken after) where
+  same_bytes : is.bytes ≡ text ++ h.part
+  same_bytes = ap (λ (v : SectionBytes). v.bytes) h.lexer
+
+  pub held_line : is.from ≡ from
+  held_line = ap (λ (v : SectionBytes). v.from) h.lexer
+
+  pub delivered_held : IsDelivered is.bytes old new was after
+  delivered_held = subst (λ (xs : List ℕ). IsDelivered xs old new was after) (sym same_bytes) record {
+    delivered = Consumes-trans old now new text h.part delivered h.delivered;
+    asked = asked_many h.part text asked h.goes;
+    counted = omega (arith, counted, h.counted, length-append text h.part);
+    few = few_part h.part text within h.goes;
+  }
+
+  pub held_longer : length text ≤ length is.bytes
+  held_longer = omega (arith, ap (λ (xs : List ℕ). length xs) same_bytes, length-append text h.part)

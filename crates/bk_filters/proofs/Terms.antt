@@ -63,7 +63,7 @@ pub use Rattle.bk_filters.specs.Headline.{Headline, Language, OneBegins, IsWhole
 pub use Rattle.bk_filters.specs.Interpreting.{AnyBytes, Streams, Interpreted, devices_of, first_registers, is_read_fault, is_read, TextRefused, CodeRefused}
 pub use Rattle.bk_filters.specs.OcodeRuns.{ReportsFrames, IsNotRefused, FindsNoFault, RunsAsSteps, OcodeRuns}
 pub use Rattle.bk_filters.specs.Pieces.{joined}
-pub use Rattle.bk_filters.specs.ReadingSource.{Asked, Follows, IsUndecided, Settles, IsDelivered, EachSource}
+pub use Rattle.bk_filters.specs.ReadingSource.{Asked, Follows, IsUndecided, Settles, IsDelivered, TakesHeld, EachSource}
 pub use Rattle.bk_filters.specs.RunningSource.{Assembled}
 pub use Rattle.bk_filters.specs.SectionNumbers.{stmts_of_parts}
 pub use Rattle.bk_filters.specs.Sizes.{sizes_line, Reports}

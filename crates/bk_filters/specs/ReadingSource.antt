@@ -1,9 +1,11 @@
 -- Reading a source up to the end of its next section.
-use Rattle.std.specs.Prelude.{◌≡◌, ℕ, ◌+◌, ◌<◌, ◌≤◌, Bool, IsTrue, List, [], ◌∷◌, ◌++◌, Option, length}
+use Rattle.std.specs.Prelude.{◌≡◌, ℕ, ◌+◌, ◌<◌, ◌≤◌, Bool, IsTrue, List, [], ◌∷◌, ◌++◌, Option, length, take}
 use Rattle.std.specs.Io.KnownBytes.{Consumes}
 use Rattle.bk_base.specs.declared.limit.TheConstants.{SECTION_BYTES, INPUT_BYTES}
 use Rattle.bk_lex.specs.Lexing.{lexed}
+use Rattle.bk_lex.specs.Found.{SectionBytes, bytes_of, cut_after}
 use Rattle.bk_lex.specs.Telling.{IsDecided}
+use Rattle.bk_lex.specs.declared.cutter.Cut.TheVariants.{More}
 
 -- It is not decided yet how a section ends that begins with these bytes.
 abbrev pub IsUndecided : List ℕ → Type 0
@@ -28,6 +30,14 @@ pub record IsDelivered (bytes : List ℕ) (old new : Option (List ℕ)) (before 
   pub asked : Asked bytes
   pub counted : after ≡ before + length bytes
   pub few : length bytes ≤ SECTION_BYTES + 1
+
+-- Bytes that a source held were delivered to a lexer, and counted. Each of them was asked for where the machine goes on.
+pub record TakesHeld (old new : Option (List ℕ)) (was is : SectionBytes) (before after : ℕ) : Type 0 where
+  pub part : List ℕ
+  pub delivered : Consumes old new part
+  pub lexer : is ≡ bytes_of (was.bytes ++ part) was.from
+  pub counted : after ≡ before + length part
+  pub goes : (k : ℕ) → k < length part → cut_after (was.bytes ++ take k part) ≡ More
 
 -- Some bytes were delivered, and this holds of each source that begins with them; where the source's end was reported, of just these.
 -- One call reads no more than so many bytes, and a source is taken to have less.

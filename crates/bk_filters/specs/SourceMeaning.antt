@@ -94,7 +94,8 @@ module _ (trees : List Declarations) (input : List ℕ) where
   pub record MeaningGoesOn (turns : ℕ) (bytes : List ℕ) : Type 0 where
     pub left : List ℕ
     pub calls : ℕ
-    pub means : meaning trees input turns ≡ program.Going bytes left calls
+    pub at : ℕ
+    pub means : meaning trees input turns ≡ program.Going bytes left calls at
 
   -- enough for the end, where so many words come before the stack
   pub record EnoughToEnd (image steps words : ℕ) : Type 0 where
@@ -114,7 +115,8 @@ module _ (trees : List Declarations) (input : List ℕ) where
     pub bytes : List ℕ
     pub left : List ℕ
     pub calls : ℕ
-    pub means : meaning trees input turns ≡ program.Going bytes left calls
+    pub at : ℕ
+    pub means : meaning trees input turns ≡ program.Going bytes left calls at
     pub has_steps : HasSteps turns steps
     pub has_words : HasWords image trees calls words
 
@@ -133,7 +135,8 @@ module _ (trees : List Declarations) (input : List ℕ) where
     pub bytes : List ℕ
     pub left : List ℕ
     pub calls : ℕ
-    pub means : meaning trees input turns ≡ program.Going bytes left calls
+    pub at : ℕ
+    pub means : meaning trees input turns ≡ program.Going bytes left calls at
     pub comes : (at : Placing trees input image) → (more following : List ℕ) × ComesWithin at.placed at.first at.state q d (bytes ++ more) following
     pub has_steps : HasStepsOf q steps
     pub has_words : HasFramesOf image trees d words

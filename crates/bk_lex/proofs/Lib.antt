@@ -38,4 +38,6 @@ mod Decided
 mod LeastRooms
 mod Letters
 mod WordsNamed
+mod SpanLemmas
+mod BlockLemmas
 pub mod Lemmas

@@ -1,10 +1,12 @@
 -- A lexer over bytes that come one after another: the invariant of its progress.
-use Rattle.std.specs.Prelude.{ℕ, ◌+◌, ◌≤◌, ◌≡◌, true, List, [], ◌∷◌, ◌++◌, length, slice_range, Some, None, Ok, Err}
+use Rattle.std.specs.Prelude.{ℕ, ◌+◌, ◌≤◌, ◌≡◌, ⊤, true, List, [], ◌∷◌, ◌++◌, length, slice_range, Some, None, Ok, Err}
 use Rattle.bk_lex.specs.Counting.{start}
 use Rattle.bk_lex.specs.Lexing.{section, reading, run, lexed, placed_fault, place_after}
 use Rattle.bk_lex.specs.Cutting.{state_after}
 use Rattle.bk_lex.specs.Found.{all_found, found_in, AreWithin}
 use Rattle.bk_lex.specs.declared.machine.Fault.{Fault}
+use Rattle.bk_lex.specs.declared.cutter.Cut.{Cut}
+use Rattle.bk_lex.specs.declared.cutter.Cut.TheVariants.{More, End}
 use Rattle.bk_lex.specs.declared.counting.State.{State}
 use Rattle.bk_lex.specs.declared.lexer.Progress.{Progress}
 use Rattle.bk_lex.specs.declared.lexer.Progress.TheVariants.{Going, Ended, Refused, Stuck}
@@ -51,20 +53,23 @@ pub record Goes (l : Parts) (s : State) : Type 0 where
   pub same : (rest : List ℕ) → run (reading (all_found (l.bytes ++ rest) l.marks.found) s (slice_range (l.bytes ++ rest) l.marks.piece (length l.bytes)) l.marks.place (length l.bytes)) rest
       ≡ lexed (l.bytes ++ rest) l.from
 
--- A `.` ended the section, or a fault. The state has room for no byte.
-pub record HasEnded (l : Parts) (s : State) : Type 0 where
+-- A `.` ended the section, or a fault.
+pub record HasEnded (l : Parts) : Type 0 where
   pub state : state_after (Some start) l.bytes ≡ None
-  pub full : s.bytes ≡ 0
   pub within : AreWithin (length l.bytes) l.marks.found
   pub same : lexed l.bytes l.from ≡ Ok (section (all_found l.bytes l.marks.found) (length l.bytes) true l.marks.place.line)
 
 pub record IsRefused (l : Parts) (s : State) (f : Fault) : Type 0 where
   pub state : state_after (Some start) l.bytes ≡ None
-  pub full : s.bytes ≡ 0
   pub same : lexed l.bytes l.from ≡ Err (placed_fault s l.marks.place f)
 
 abbrev pub Progresses : Progress → State → Parts → Type 0
 Progresses Going s l = Goes l s
-Progresses Ended s l = HasEnded l s
+Progresses Ended s l = HasEnded l
 Progresses (Refused f) s l = IsRefused l s f
-Progresses Stuck s l = s.bytes ≡ 0
+Progresses Stuck s l = ⊤
+
+-- the answer of a step that leaves this progress
+abbrev pub cut_at : Progress → Cut
+cut_at Going = More
+cut_at p = End

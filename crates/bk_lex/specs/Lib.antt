@@ -19,3 +19,4 @@ pub mod TextFault
 pub mod Telling
 pub mod FaultPlaces
 pub mod LexLaws
+pub mod Runs

@@ -423,6 +423,24 @@ fn goes_on_with_word(state: &mut State, byte: u8) -> bool
     false
 }
 
+/// The effect of a byte, whatever the number of bytes, without the short ways of `moved`.
+#[inline(always)]
+fn followed(state: &mut State, byte: u8) -> Result<Act, Fault>
+    ensures answers { step_as result state.new ≡ moved state.old byte (next state.old.mode byte) }
+    ensures keeps { OnErr result (state.new ≡ state.old) }
+    ensures bytes { state.new.bytes ≡ state.old.bytes }
+{
+    match follow(state.mode, byte) {
+        Effect::Goes(mode) => {
+            state.mode = mode;
+            Ok(Act::Goes)
+        }
+        Effect::Ends => opened(state, byte),
+        Effect::Names(header) => named(state, header),
+        Effect::Bad(fault) => Err(fault),
+    }
+}
+
 /// The effect of a byte, whatever the number of bytes.
 #[inline(always)]
 fn moved(state: &mut State, byte: u8) -> Result<Act, Fault>
@@ -439,15 +457,7 @@ fn moved(state: &mut State, byte: u8) -> Result<Act, Fault>
     if matches!(state.mode, Mode::Comment) && byte != b'\n' {
         return Ok(Act::Goes);
     }
-    match follow(state.mode, byte) {
-        Effect::Goes(mode) => {
-            state.mode = mode;
-            Ok(Act::Goes)
-        }
-        Effect::Ends => opened(state, byte),
-        Effect::Names(header) => named(state, header),
-        Effect::Bad(fault) => Err(fault),
-    }
+    followed(state, byte)
 }
 
 /// The fault of a byte that exceeds the section's bytes.
@@ -484,20 +494,8 @@ pub fn lacks_piece(state: State) -> bool
     end_fault(state.mode).is_none() && end_piece(state).is_ok()
 }
 
-/// The effect of a byte where the section may have one more. The state is changed in place, so that only the fields that the byte
-/// changes are written. A fault leaves it as it was.
-#[inline(always)]
-pub fn take_next(state: &mut State, byte: u8) -> Result<Act, Fault>
-    requires { 0 < state.old.bytes }
-    ensures answers { step_as result state.new ≡ step_of state.old byte }
-    ensures keeps { OnErr result (state.new ≡ state.old) }
-{
-    let act = moved(state, byte)?;
-    state.bytes -= 1;
-    Ok(act)
-}
-
-/// The effect of a byte. A fault leaves the state as it was.
+/// The effect of a byte. The state is changed in place, so that only the fields that the byte changes are written. A fault leaves it as it
+/// was.
 #[inline(always)]
 pub fn take_byte(state: &mut State, byte: u8) -> Result<Act, Fault>
     ensures answers { step_as result state.new ≡ step_of state.old byte }
@@ -506,7 +504,23 @@ pub fn take_byte(state: &mut State, byte: u8) -> Result<Act, Fault>
     if state.bytes == 0 {
         return Err(past(*state, byte));
     }
-    take_next(state, byte)
+    let act = moved(state, byte)?;
+    state.bytes -= 1;
+    Ok(act)
+}
+
+/// The same for a byte after a run, which mostly does not go on as the byte before it.
+#[inline(always)]
+pub fn take_after_run(state: &mut State, byte: u8) -> Result<Act, Fault>
+    ensures answers { step_as result state.new ≡ step_of state.old byte }
+    ensures keeps { OnErr result (state.new ≡ state.old) }
+{
+    if state.bytes == 0 {
+        return Err(past(*state, byte));
+    }
+    let act = followed(state, byte)?;
+    state.bytes -= 1;
+    Ok(act)
 }
 
 /// The result of the last piece of a text, or the fault that the text's end makes certain.

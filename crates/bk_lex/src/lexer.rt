@@ -1,5 +1,5 @@
 //! The lexer of a section whose bytes come one after another.
-ghost use Rattle.std.specs.Prelude.{◌≡◌, ◌<◌, ◌≤◌, ◌^◌, ◌++◌, ◌∷◌, [], length, OnOk, IfOk};
+ghost use Rattle.std.specs.Prelude.{ℕ, ◌≡◌, ◌<◌, ◌≤◌, ◌^◌, ◌++◌, ◌∷◌, [], length, take, OnOk, IfOk};
 ghost use Rattle.bk_lex.specs.declared.cutter.Cut.TheVariants.{More, End};
 ghost use Rattle.bk_lex.specs.declared.counting.PieceResult.TheVariants.{Symbol};
 ghost use Rattle.bk_lex.specs.declared.counting.Act.TheVariants.{Begins};
@@ -7,14 +7,15 @@ ghost use Rattle.bk_lex.specs.Symbol.{symbols_of};
 ghost use Rattle.bk_lex.specs.Cutting.{Means};
 ghost use Rattle.bk_lex.specs.Lexing.{Gives, lexed};
 ghost use Rattle.bk_lex.specs.Found.{symbols_found, all_found, found_in, AreWithin, bytes_of, cut_after};
-ghost use Rattle.bk_lex.specs.Lexers.{marks_of, marked};
+ghost use Rattle.bk_lex.specs.Lexers.{marks_of, marked, cut_at};
 
 use crate::adding::add;
-use crate::counting::{Act, PieceResult, State, finished, past, start, take_next};
+use crate::block::walk;
+use crate::counting::{Act, PieceResult, State, finished, start};
 use crate::cutter::Cut;
 use crate::header::put_header;
 use crate::machine::{Fault, Header};
-use crate::scan::{Lexed, Lines, is_dot, placed_fault, put};
+use crate::scan::{Lexed, Lines, placed_fault, put};
 use crate::token::{Kind, Token};
 use bk_base::limit::SECTION_SYMBOLS;
 use bk_base::{Line, Refused, SourceFault};
@@ -67,7 +68,7 @@ pub(crate) enum Progress {
 pub(crate) struct Pieces {
     found: Vec<Found>,
     /// The place where the incomplete piece begins.
-    piece: usize,
+    pub(crate) piece: usize,
     place: Lines,
 }
 
@@ -77,8 +78,7 @@ pub struct Lexer {
     bytes: Vec<u8>,
     from: Line,
     pieces: Pieces,
-    /// The state of the machine after the bytes that it took. A byte that is a fault is not taken. Once the section may not go on,
-    /// the state has room for no byte, so that a step looks at `progress` there alone.
+    /// The state of the machine after the bytes that it took. A byte that is a fault is not taken.
     state: State,
     progress: Progress,
 }
@@ -92,6 +92,25 @@ impl Model for Lexer {
     ghost view = { λ l. bytes_of l.bytes.items l.from };
 
     ghost invariant = { λ l. Progresses l.progress l.state (parts l.bytes.items l.from (marks_of l.pieces)) };
+}
+
+/// The bytes that a lexer took from the front of others.
+#[derive(Clone, Copy, Debug, PartialEq, Eq)]
+pub struct Front {
+    /// Their number.
+    pub count: usize,
+    /// The answer to the last of them, or where there is none, to the last byte before.
+    pub cut: Cut,
+}
+
+/// The answer of a step that leaves this progress.
+fn cut_at(progress: Progress) -> Cut
+    ensures { result ≡ cut_at progress }
+{
+    match progress {
+        Progress::Going => Cut::More,
+        _ => Cut::End,
+    }
 }
 
 /// Adds a symbol, with what is inserted before it.
@@ -172,16 +191,6 @@ fn tokens_of<'a>(
     Ok(tokens)
 }
 
-/// Adds a byte past the section's bytes.
-#[cold]
-#[inline(never)]
-fn push_last(bytes: &mut Vec<u8>, byte: u8) -> Result<(), AllocError>
-    ensures { OnOk result (bytes.new.items ≡ bytes.old.items ++ byte ∷ []) }
-{
-    bytes.push(byte)?;
-    Ok(())
-}
-
 impl Pieces {
     /// Records the result of the piece before a byte that begins one. The byte has this number of bytes before it.
     #[inline(always)]
@@ -211,7 +220,7 @@ impl Pieces {
 
     /// Records the effect of a byte that has this number of bytes before it.
     #[inline(always)]
-    fn take(&mut self, act: Act, byte: u8, before: usize) -> Result<(), AllocError>
+    pub(crate) fn take(&mut self, act: Act, byte: u8, before: usize) -> Result<(), AllocError>
         requires order { self.old.piece ≤ before }
         requires small { before < 2 ^ 32 }
         ensures { OnOk result (marks_of self.new ≡ marked (marks_of self.old) act byte before) }
@@ -245,6 +254,22 @@ impl Lexer {
         })
     }
 
+    /// Begins another section, whose first line has the number `from`. It keeps its room, and takes no memory.
+    pub fn again(&mut self, from: Line)
+        ensures { self.new ≡ bytes_of [] from }
+    {
+        self.bytes.clear();
+        self.from = from;
+        self.pieces.found.clear();
+        self.pieces.piece = 0;
+        self.pieces.place = Lines {
+            line: from,
+            get_line: from,
+        };
+        self.state = start();
+        self.progress = Progress::Going;
+    }
+
     /// The bytes so far.
     pub fn bytes(&self) -> &[u8]
         ensures { result.now ≡ self.now.bytes }
@@ -257,10 +282,47 @@ impl Lexer {
         SECTION_SYMBOLS.saturating_sub(self.state.symbols)
     }
 
-    /// Takes the next byte of the section. `End` comes at the `.` that ends a section without a fault, or where a fault
-    /// is certain, and at byte 1,048,577 at the latest; no byte is taken after that. Where memory was refused, each further
-    /// step answers so.
-    #[inline(always)]
+    /// Takes bytes from the front of these: all of them, or those up to the `.` that ends a section without a fault, or up to where a fault
+    /// is certain, which is at byte 1,048,577 of the section at the latest. Each byte but the last that is taken leaves it open how the
+    /// section ends, and none is taken after the answer `End`. Where memory was refused, each further call answers so.
+    pub fn take_front(&mut self, bytes: &[u8]) -> Result<Front, AllocError>
+        ensures takes { cut_after self.old.bytes ≡ More → IfOk result (λ front. (front.count ≤ length bytes.now)
+            × (self.new ≡ bytes_of (self.old.bytes ++ take front.count bytes.now) self.old.from)) }
+        ensures all { IfOk result (λ front. front.cut ≡ More → front.count ≡ length bytes.now) }
+        // It answers as a cutter does.
+        ensures says { IfOk result (λ front. front.cut ≡ cut_after self.new.bytes) }
+        ensures means { cut_after self.old.bytes ≡ More → IfOk result (λ front. Means front.cut self.new.bytes) }
+        ensures asked { cut_after self.old.bytes ≡ More → IfOk result (λ front. (k : ℕ) → k < front.count → cut_after (self.old.bytes ++ take k bytes.now) ≡ More) }
+        // After `End` it takes no byte.
+        ensures stays { cut_after self.old.bytes ≡ End → IfOk result (λ front. (front.count ≡ 0) × (self.new ≡ self.old)) }
+    {
+        match self.progress {
+            Progress::Going => {}
+            Progress::Stuck => return Err(AllocError),
+            Progress::Ended | Progress::Refused(_) => {
+                return Ok(Front {
+                    count: 0,
+                    cut: Cut::End,
+                });
+            }
+        }
+        let before = self.bytes.len();
+        let Ok(walked) = walk(&mut self.state, &mut self.pieces, before, bytes) else {
+            self.progress = Progress::Stuck;
+            return Err(AllocError);
+        };
+        let Ok(()) = self.bytes.extend_from_slice(&bytes[..walked.count]) else {
+            self.progress = Progress::Stuck;
+            return Err(AllocError);
+        };
+        self.progress = walked.progress;
+        Ok(Front {
+            count: walked.count,
+            cut: cut_at(walked.progress),
+        })
+    }
+
+    /// Takes the next byte of the section, as `take_front` does.
     pub fn step(&mut self, byte: u8) -> Result<Cut, AllocError>
         // It has one byte more.
         ensures takes { IfOk result (λ _. cut_after self.old.bytes ≡ More → self.new ≡ bytes_of (self.old.bytes ++ byte ∷ []) self.old.from) }
@@ -270,48 +332,8 @@ impl Lexer {
         // After `End` it takes no byte.
         ensures stays { cut_after self.old.bytes ≡ End → IfOk result (λ _. self.new ≡ self.old) }
     {
-        if self.state.bytes == 0 {
-            match self.progress {
-                Progress::Going => {}
-                Progress::Stuck => return Err(AllocError),
-                Progress::Ended | Progress::Refused(_) => return Ok(Cut::End),
-            }
-            let Ok(()) = push_last(&mut self.bytes, byte) else {
-                self.progress = Progress::Stuck;
-                return Err(AllocError);
-            };
-            self.progress = Progress::Refused(past(self.state, byte));
-            return Ok(Cut::End);
-        }
-        let before = self.bytes.len();
-        let Ok(()) = self.bytes.push(byte) else {
-            self.progress = Progress::Stuck;
-            self.state.bytes = 0;
-            return Err(AllocError);
-        };
-        let act = match take_next(&mut self.state, byte) {
-            Ok(act) => act,
-            Err(fault) => {
-                self.progress = Progress::Refused(fault);
-                self.state.bytes = 0;
-                return Ok(Cut::End);
-            }
-        };
-        // A byte that goes on with a piece is not the `.` that ends the section.
-        if let Act::Goes = act {
-            return Ok(Cut::More);
-        }
-        let Ok(()) = self.pieces.take(act, byte, before) else {
-            self.progress = Progress::Stuck;
-            self.state.bytes = 0;
-            return Err(AllocError);
-        };
-        if is_dot(self.state.mode) {
-            self.progress = Progress::Ended;
-            self.state.bytes = 0;
-            return Ok(Cut::End);
-        }
-        Ok(Cut::More)
+        let front = self.take_front(&[byte])?;
+        Ok(front.cut)
     }
 
     /// The answer of `lex` to the bytes so far.

@@ -2,6 +2,7 @@
 #![tactic(auto)]
 
 mod adding;
+mod block;
 mod counting;
 mod cutter;
 mod header;
@@ -11,6 +12,7 @@ mod machine;
 mod reserved;
 mod scan;
 mod sign;
+mod spans;
 mod token;
 mod values;
 
@@ -18,7 +20,7 @@ pub use cutter::{Cut, Cutter};
 pub use laws::{
     gives_each_section, has_one_section, has_section_without_fault, reserved_by_its_letters,
 };
-pub use lexer::Lexer;
+pub use lexer::{Front, Lexer};
 pub use scan::{Lexed, LexicalFault, lex, lex_placed};
 pub use token::{Kind, Token};
 pub use values::{character_byte, number_word, string_bytes};

@@ -1,4 +1,4 @@
-use Rattle.bk_filters.proofs.Terms.{◌≡◌, ◌⊎◌, ◌+◌, ◌≤◌, length, Consumes, cut_after, Asked}
+use Rattle.bk_filters.proofs.Terms.{◌≡◌, ◌⊎◌, ◌+◌, ◌≤◌, length, Consumes, INPUT_BYTES, cut_after, Asked}
 use Rattle.bk_lex.specs.declared.cutter.Cut.TheVariants.{More}
 use Rattle.bk_filters.proofs.reading.read_source_section.Given as goal
 
@@ -9,7 +9,8 @@ invariant-loop g l = record {
   goes_on : cut_after l.lexer.bytes ≡ More;
   asked : Asked l.lexer.bytes;
   taken : l.taken ≡ l.initial.taken + length l.lexer.bytes;
-  counted : length l.lexer.bytes ≡ l.counter;
+  counted : l.counter ≤ length l.lexer.bytes;
   within : length l.lexer.bytes ≤ 1048576;
-  readable : (1 ≤ l.counter) ⊎ (g.C.ByteIn.faults l.initial.source ≡ 0) → g.C.ByteIn.faults l.source ≡ 0;
+  most : l.taken ≤ INPUT_BYTES;
+  readable : (1 ≤ length l.lexer.bytes) ⊎ (g.C.ByteIn.faults l.initial.source ≡ 0) → g.C.ByteIn.faults l.source ≡ 0;
 }
