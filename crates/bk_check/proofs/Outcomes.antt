@@ -10,12 +10,12 @@ with_each (gives a w) f g h = h a w
 with_each (leaves x w) f g h = refl
 with_each _ f g h = refl
 
-turned : {A B : Type 0} (n : ℕ) (w : World) (go : World → Outcome A) (f : A → World → Outcome B) → with (turn_of n w go) f ≡ turn_of n w (λ w. with (go w) f)
-turned zero w go f = refl
-turned (suc n) w go f = refl
+turned : {A B : Type 0} (l : ℕ) (n : ℕ) (w : World) (go : World → Outcome A) (f : A → World → Outcome B) → with (turn_of l n w go) f ≡ turn_of l n w (λ w. with (go w) f)
+turned l zero w go f = refl
+turned l (suc n) w go f = refl
 
-pub with_turn : {A B : Type 0} (w : World) (go : World → Outcome A) (f : A → World → Outcome B) → with (turn w go) f ≡ turn w (λ w. with (go w) f)
-with_turn w go f = turned w.turns w go f
+pub with_turn : {A B : Type 0} (l : ℕ) (w : World) (go : World → Outcome A) (f : A → World → Outcome B) → with (turn l w go) f ≡ turn l w (λ w. with (go w) f)
+with_turn l w go f = turned _ w.turns w go f
 
 -- nothing follows a command that is done
 pub with_done : (u : Outcome Done) → with u (λ _ w. done w) ≡ u

@@ -6,6 +6,7 @@ use Rattle.bk_meaning.specs.World.{World, Outcome, Done, done, ends, divide_by_z
 use Rattle.bk_meaning.specs.Operators.{operate}
 use Rattle.bk_meaning.specs.Expressions.{judged}
 use Rattle.bk_meaning.specs.Loops.{relation}
+use Rattle.bk_objects.specs.Views.{cause_in}
 use Rattle.bk_check.specs.declared.fors.Tested.{Tested}
 use Rattle.bk_check.specs.declared.fors.Tested.TheVariants as t
 use Rattle.bk_check.specs.declared.fors.Stepped.{Stepped}
@@ -13,8 +14,8 @@ use Rattle.bk_check.specs.declared.fors.Stepped.TheVariants as s
 
 abbrev pub tested : ℕ → (World → Outcome Done) → Tested → World → Outcome Done
 tested l go (t.Holds b) w = either b go done w
-tested l go t.DivideByZero w = ends divide_by_zero w
-tested l go (t.Undefined why) w = undefined l w
+tested l go t.DivideByZero w = ends (divide_by_zero l) w
+tested l go (t.Undefined why) w = undefined l (cause_in why) w
 
 abbrev pub truth_then : ℕ → (World → Outcome Done) → Value → World → Outcome Done
 truth_then l go v w = with (judged l v w) (λ b w. either b go done w)
@@ -24,5 +25,5 @@ limit_then l go step limit v w = with (operate l (relation step) v limit w) (tru
 
 abbrev pub stepped : ℕ → Stepped → Memory → World → Outcome Done
 stepped l s.Done m w = done (remembering m w)
-stepped l s.DivideByZero m w = ends divide_by_zero (remembering m w)
-stepped l (s.Undefined why) m w = undefined l (remembering m w)
+stepped l s.DivideByZero m w = ends (divide_by_zero l) (remembering m w)
+stepped l (s.Undefined why) m w = undefined l (cause_in why) (remembering m w)

@@ -1,10 +1,12 @@
 -- What is still to be done: of what the parts inside give, an outcome of the whole.
-use Rattle.std.specs.Prelude.{◌≡◌, ℕ, Bool, true, false, not, map, Option, List, [], ◌∷◌, ◌++◌}
+use Rattle.std.specs.Prelude.{◌≡◌, ℕ, Bool, true, false, not, map, Option, Some, None, List, [], ◌∷◌, ◌++◌}
 use Rattle.bk_tree.specs.Tree as t
 use Rattle.bk_tree.specs.Tree.{Expression, Expressions, Command, Commands, Declarations, Starts, mention, expression, expressions_in, command_in, commands_in, declarations_in, definitions_in, starts_in}
+use Rattle.bk_tree.specs.Parts.{at_command}
 use Rattle.bk_meaning.specs.Values.{Value, unset}
 use Rattle.bk_meaning.specs.World.{World, Exit, break, loop, endcase, goto, result, return, status, divide_by_zero, Outcome, gives, leaves, ends, undefined, going, each_way, with, either, given, Done, done, closing, forgetting, turn}
-use Rattle.bk_meaning.specs.Operators.{sum, operate_prefix}
+use Rattle.bk_meaning.specs.Causes.{no_place, no_constant}
+use Rattle.bk_meaning.specs.Operators.{sum, sum_cause, operate_prefix}
 use Rattle.bk_meaning.specs.Seeking.{the_label, Mode, forwards, seeking}
 use Rattle.bk_meaning.specs.Environment.{Environment, past, past_command}
 use Rattle.bk_meaning.specs.Library.{library}
@@ -39,7 +41,7 @@ use Rattle.bk_check.specs.declared.frame.Next.{Next}
 use Rattle.bk_check.specs.declared.frame.Next.TheVariants as n
 use Rattle.bk_objects.specs.declared.worth.Worth.{Worth}
 use Rattle.bk_check.specs.Views.{letters_in, mode_in, start_in}
-use Rattle.bk_objects.specs.Views.{value_in, routine_in}
+use Rattle.bk_objects.specs.Views.{value_in, routine_in, cause_of}
 use Rattle.bk_lasting.specs.Views.{env_in}
 use Rattle.bk_objects.specs.Views.{place_in}
 use Rattle.bk_meaning.specs.Full.{full}
@@ -82,9 +84,9 @@ assigned_to m v t.none there es env w = done w
 
 -- the rounds of a loop after one
 abbrev pub next_round : Program → Command → Environment → World → Outcome Done
-next_round p (t.while l b e c) env w = where_truth (full p) b e env (λ w. turn w (λ w. (full p).rounds (t.while l b e c) forwards env w)) w
-next_round p (t.repeat l c) env w = turn w (λ w. (full p).rounds (t.repeat l c) forwards env w)
-next_round p (t.repeat_while l b c e) env w = where_truth (full p) b e (past_command c env) (λ w. turn w (λ w. (full p).rounds (t.repeat_while l b c e) forwards env w)) w
+next_round p (t.while l b e c) env w = where_truth (full p) b e env (λ w. turn l w (λ w. (full p).rounds (t.while l b e c) forwards env w)) w
+next_round p (t.repeat l c) env w = turn l w (λ w. (full p).rounds (t.repeat l c) forwards env w)
+next_round p (t.repeat_while l b c e) env w = where_truth (full p) b e (past_command c env) (λ w. turn l w (λ w. (full p).rounds (t.repeat_while l b c e) forwards env w)) w
 next_round p c env w = done w
 
 -- a WHILE: its condition first, where it is begun from its beginning
@@ -94,7 +96,7 @@ begun_loop p b e c (seeking s) env w = rounds_of (full p) c (seeking s) env w
 
 -- and those of a FOR
 abbrev pub further_for : Program → For → World → Outcome Done
-further_for p f w = turn w (λ w. (full p).for_rounds f.name.now.at (command_in f.body.now) f.object (value_in f.limit) f.step (env_in f.env) w)
+further_for p f w = turn f.name.now.at w (λ w. (full p).for_rounds f.name.now.at (command_in f.body.now) f.object (value_in f.limit) f.step (env_in f.env) w)
 
 abbrev pub next_for : Program → For → World → Outcome Done
 next_for p f w =
@@ -133,8 +135,8 @@ value_goes p (v.Right e q x) u = tag a_value (with u (combined (acts_at (express
 value_goes p (v.Judge e) u = tag a_truth (with u (judged (acts_at (expression e.now))))
 value_goes p v.At u = tag a_target (with u (λ a w. gives (at a) w))
 value_goes p (v.Vector e b env) u = tag a_target (with u (λ x w. with ((full p).value (expression b.now) (env_in env) w) (λ y w.
-    with (given (acts_at (expression e.now)) (sum w.memory x y) w) (λ a w. gives (at a) w))))
-value_goes p (v.Offset e x) u = tag a_target (with u (λ y w. with (given (acts_at (expression e.now)) (sum w.memory (value_in x) y) w) (λ a w. gives (at a) w)))
+    with (given (acts_at (expression e.now)) (sum_cause x y) (sum w.memory x y) w) (λ a w. gives (at a) w))))
+value_goes p (v.Offset e x) u = tag a_target (with u (λ y w. with (given (acts_at (expression e.now)) (sum_cause (value_in x) y) (sum w.memory (value_in x) y) w) (λ a w. gives (at a) w)))
 value_goes p (v.String b env) u = tag a_target (with u (λ x w. with ((full p).value (expression b.now) (env_in env) w) (λ y w. gives (byte_at x y) w)))
 value_goes p (v.Byte x) u = tag a_target (with u (λ y w. gives (byte_at (value_in x) y) w))
 value_goes p (v.Argument spot es here before callee env) u = tag a_value (with u (λ v w. with (values (full p) (expressions_in es.now) (env_in here) w) (λ vs w.
@@ -144,9 +146,9 @@ value_goes p v.Dropped u = tag done_tag (with u (λ _ w. done w))
 value_goes p v.Result u = tag done_tag (with u (λ v w. leaves (result v) w))
 value_goes p (v.Assigned xs there es env) u = tag done_tag (with u (λ v w. assigned_to (full p) v (expressions_in xs.now) (env_in there) (expressions_in es.now) (env_in env) w))
 value_goes p (v.Switch e c env) u = tag done_tag (with u (λ v w. choose_case (full p) (acts_at (expression e.now)) v (command_in c.now) (env_in env) w))
-value_goes p (v.ForStart x e env c step) u = tag done_tag (with u (λ v w. with ((full p).value (expression e.now) (env_in env) w) (λ h w. with (given x.now.at step w) (λ n w.
+value_goes p (v.ForStart x e env c step) u = tag done_tag (with u (λ v w. with ((full p).value (expression e.now) (env_in env) w) (λ h w. with (given x.now.at no_constant step w) (λ n w.
     for_loop (full p) (mention x.now) (command_in c.now) v h n (past (expression e.now) (env_in env)) w))))
-value_goes p (v.ForLimit x env start c step) u = tag done_tag (with u (λ h w. with (given x.now.at step w) (λ n w. for_loop (full p) (mention x.now) (command_in c.now) (value_in start) h n (env_in env) w)))
+value_goes p (v.ForLimit x env start c step) u = tag done_tag (with u (λ h w. with (given x.now.at no_constant step w) (λ n w. for_loop (full p) (mention x.now) (command_in c.now) (value_in start) h n (env_in env) w)))
 value_goes p (v.Starts is here names l) u = tag done_tag (with u (λ v w. with (with (b.starts (full p) (starts_in is.now) (env_in here) w) (λ vs w. gives (v ∷ vs) w)) (λ vs w. started_then p l.value (letters_in names.now) vs w)))
 
 abbrev pub truth_goes : Program → OnTruth → Outcome Bool → Outcome Given
@@ -157,7 +159,7 @@ truth_goes p (o.Or b env) u = tag a_truth (with u (λ x w. either x (λ w. gives
 truth_goes p (o.When b c env) u = tag done_tag (with u (λ x w. either (same_truth b x) (λ w. (full p).act (command_in c.now) forwards (env_in env) w) done w))
 truth_goes p (o.Test a b env) u = tag done_tag (with u (λ x w. either x (λ w. (full p).act (command_in a.now) forwards (env_in env) w) (λ w. (full p).act (command_in b.now) forwards (past_command (command_in a.now) (env_in env)) w) w))
 truth_goes p (o.First b c env) u = tag done_tag (with u (λ x w. either (same_truth b x) (λ w. rounds_of (full p) (command_in c.now) forwards (env_in env) w) done w))
-truth_goes p (o.Further b c env) u = tag done_tag (with u (λ x w. either (same_truth b x) (λ w. turn w (λ w. (full p).rounds (command_in c.now) forwards (env_in env) w)) done w))
+truth_goes p (o.Further b c env) u = tag done_tag (with u (λ x w. either (same_truth b x) (λ w. turn (at_command (command_in c.now)) w (λ w. (full p).rounds (command_in c.now) forwards (env_in env) w)) done w))
 
 abbrev pub target_goes : Program → OnTarget → Outcome Target → Outcome Given
 target_goes p (a.Address e) u = tag a_value (with u (address_in (acts_at (expression e.now))))
@@ -189,7 +191,7 @@ done_left p (d.ForRound f) x w = tag done_tag (round_exit (next_for p f) x w)
 
 abbrev pub resume_left : Program → Continuation → Exit → World → Outcome Given
 resume_left p (f.Done g) x w = done_left p g x w
-resume_left p (f.Returned c) x w = undefined c.at w
+resume_left p (f.Returned c) x w = undefined c.at no_place w
 resume_left p (f.Closing n) x w = leaves x (forgetting n w)
 resume_left p f x w = leaves x w
 
@@ -198,20 +200,20 @@ abbrev pub resume_value : Program → Continuation → Outcome Value → Outcome
 resume_value p (f.Value g) u = value_goes p g u
 resume_value p (f.Returned c) u = tag a_value (returned c.at c.calls u)
 resume_value p (f.Closing n) u = tag a_value (closing n u)
-resume_value p f u = each_way (λ _ w. undefined nowhere w) (resume_left p f) u
+resume_value p f u = each_way (λ _ w. undefined nowhere no_place w) (resume_left p f) u
 
 abbrev pub resume_truth : Program → Continuation → Outcome Bool → Outcome Given
 resume_truth p (f.Truth g) u = truth_goes p g u
-resume_truth p f u = each_way (λ _ w. undefined nowhere w) (resume_left p f) u
+resume_truth p f u = each_way (λ _ w. undefined nowhere no_place w) (resume_left p f) u
 
 abbrev pub resume_target : Program → Continuation → Outcome Target → Outcome Given
 resume_target p (f.Target g) u = target_goes p g u
-resume_target p f u = each_way (λ _ w. undefined nowhere w) (resume_left p f) u
+resume_target p f u = each_way (λ _ w. undefined nowhere no_place w) (resume_left p f) u
 
 abbrev pub resume_done : Program → Continuation → Outcome Done → Outcome Given
 resume_done p (f.Done g) u = done_goes p g u
 resume_done p (f.Closing n) u = tag done_tag (closing n u)
-resume_done p f u = each_way (λ _ w. undefined nowhere w) (resume_left p f) u
+resume_done p f u = each_way (λ _ w. undefined nowhere no_place w) (resume_left p f) u
 
 abbrev pub resume_given : Program → Continuation → Given → World → Outcome Given
 resume_given p f (a_value v) w = resume_value p f (gives v w)
@@ -239,6 +241,11 @@ acts_in (s.Call spot e) = spot
 acts_in (s.Library spot r n part) = spot
 acts_in (s.Nothing spot) = spot
 
+-- the number of the argument that is at fault, if the subject is a call of a routine of the library
+abbrev pub argument_of : Subject → Option ℕ
+argument_of (s.Library spot r n part) = Some n
+argument_of _ = None
+
 -- what comes next
 abbrev pub outcome_next : Program → Next → World → Outcome Given
 outcome_next p (n.Value e env) w = tag a_value ((full p).value (expression e.now) (env_in env) w)
@@ -253,9 +260,9 @@ outcome_next p (n.Gives t) w = gives (thing_in t) w
 outcome_next p (n.Leaves x) w = leaves (exit_in x) w
 outcome_next p (n.Library spot r vs) w = tag a_value (library spot (routine_in r) (map value_in vs.items) w)
 outcome_next p (n.Status k) w = ends (status k) w
-outcome_next p (n.DivideByZero s) w = ends divide_by_zero w
-outcome_next p (n.Undefined s why) w = undefined (acts_in s) w
-outcome_next p (n.Going spot) w = going w
+outcome_next p (n.DivideByZero s) w = ends (divide_by_zero (acts_in s)) w
+outcome_next p (n.Undefined s why) w = undefined (acts_in s) (cause_of (argument_of s) why) w
+outcome_next p (n.Going spot) w = going spot w
 
 abbrev pub list_value : List Worth → List Value
 list_value vs = map value_in vs

@@ -206,7 +206,7 @@ fn variables<'a>(
     rest: Box<Let<'a>>,
 ) -> Next<'a>
     ensures comes { (p : Program) (b : Bytes) → Comes p m.new.frames.items result (world m.new b) (resumed p m.old.frames.items (tag done_tag
-        (turn (world m.old b) (variables_then p (starts_in inits.now) (letters_in names.now) (env_in there.entry) rest.entry.value)))) }
+        (turn at (world m.old b) (variables_then p (starts_in inits.now) (letters_in names.now) (env_in there.entry) rest.entry.value)))) }
     ensures falls { Within 0 m.old m.new (Ok result) }
 {
     if m.turns == 0 {
@@ -324,7 +324,7 @@ fn vector<'a>(
 ) -> Result<Next<'a>, AllocError>
     ensures comes { IfOk result (λ next. (p : Program) (b : Bytes) →
         Comes p m.new.frames.items next (world m.new b)
-        (resumed p m.old.frames.items (tag done_tag (turn (world m.old b)
+        (resumed p m.old.frames.items (tag done_tag (turn at (world m.old b)
         (vector_then p (acts_at (expression size.now)) (constant_in (env_in here.entry) (expression size.now)) (starts_in others.now) (env_in here.entry)
         (letters_in names.now) rest.entry.value))))) }
     ensures falls { Within 0 m.old m.new result }

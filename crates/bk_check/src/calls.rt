@@ -6,6 +6,7 @@ ghost use Rattle.std.specs.Option.{option_map};
 ghost use Rattle.bk_meaning.specs.Environment.{Environment};
 ghost use Rattle.bk_meaning.specs.Lasting.{Program, procedure_of};
 ghost use Rattle.bk_meaning.specs.Calls as c;
+ghost use Rattle.bk_meaning.specs.Causes;
 ghost use Rattle.bk_meaning.specs.Full.{full};
 ghost use Rattle.bk_check.specs.Views.{letters_in, program_in};
 ghost use Rattle.bk_objects.specs.Views.{value_in, cell_in};
@@ -120,7 +121,7 @@ fn enter<'a>(
 
 /// A call of what is no procedure.
 fn no_procedure<'a>(at: Position, expr: Option<&'a Expr>, callee: Worth) -> Next<'a>
-    ensures comes { (p : Program) (w : World) → outcome_next p result w ≡ undefined at w }
+    ensures comes { (p : Program) (w : World) → outcome_next p result w ≡ undefined at (Causes.no_procedure (value_in callee)) w }
     ensures falls { Adds 0 (Ok result) }
 {
     let subject = match expr {
@@ -151,7 +152,7 @@ fn called<'a>(
         Worth::Routine(routine) => Ok(Next::Library(at, routine, values)),
         Worth::Procedure(number) => match procedure(program, number) {
             Some(procedure) => enter(m, procedure, values),
-            None => Ok(no_procedure(at, expr, callee)),
+            None => Ok(Next::Undefined(Subject::Nothing(at), Reason::NoPlace)),
         },
         Worth::Number(_) => Ok(no_procedure(at, expr, callee)),
         Worth::Address(_, _) => Ok(no_procedure(at, expr, callee)),

@@ -1,5 +1,6 @@
 //! FOR: the variable, which is an object, is compared with the limit, and the step is added to it.
 ghost use Rattle.std.specs.Prelude.{◌≡◌, ℕ, IfOk, OnOk, ◌∷◌, []};
+ghost use Rattle.bk_meaning.specs.Causes.{no_constant};
 ghost use Rattle.bk_meaning.specs.Memory.{made};
 ghost use Rattle.bk_tree.specs.Tree.{command_in, mention};
 ghost use Rattle.bk_meaning.specs.World.{World, Outcome, Done, with, given};
@@ -127,7 +128,7 @@ pub fn begin_for<'a>(
 ) -> Result<Next<'a>, AllocError>
     ensures comes { IfOk result (λ next. (p : Program) (b : Bytes) →
         Comes p m.new.frames.items next (world m.new b)
-        (resumed p m.old.frames.items (tag done_tag (with (given name.now.at step (world m.old b))
+        (resumed p m.old.frames.items (tag done_tag (with (given name.now.at no_constant step (world m.old b))
         (λ n w. for_loop (full p) (mention name.now) (command_in body.now) (value_in start) (value_in limit) n
         (env_in env.entry) w))))) }
     ensures falls { Within 6 m.old m.new result }

@@ -1,8 +1,8 @@
 //! What is still to be done.
-ghost use Rattle.std.specs.Prelude.{◌≡◌};
+ghost use Rattle.std.specs.Prelude.{◌≡◌, None};
 ghost use Rattle.bk_tree.specs.Tree.{expression};
 ghost use Rattle.bk_meaning.specs.Parts.{acts_at};
-ghost use Rattle.bk_check.specs.Resume.{acts_in};
+ghost use Rattle.bk_check.specs.Resume.{acts_in, argument_of};
 
 use bk_lasting::Env;
 use bk_objects::{FormatPart, Location, Reason, Routine, Worth};
@@ -71,7 +71,8 @@ pub enum Operands {
 
 /// An expression with its operands.
 pub fn subject_of<'a>(expr: &'a Expr, operands: Operands) -> Subject<'a>
-    ensures { acts_in result ≡ acts_at (expression expr.now) }
+    ensures at { acts_in result ≡ acts_at (expression expr.now) }
+    ensures argument { argument_of result ≡ None }
 {
     match operands {
         Operands::None => Subject::Expr(expr),

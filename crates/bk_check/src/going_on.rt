@@ -3,6 +3,7 @@ ghost use Rattle.std.specs.Prelude.{◌≡◌, IfOk, List, ◌+◌};
 ghost use Rattle.bk_tree.specs.Tree.{command_in, commands_in, expressions_in};
 ghost use Rattle.bk_meaning.specs.World.{World, goto, gives, leaves, undefined, done};
 ghost use Rattle.bk_meaning.specs.Scopes.{alone};
+ghost use Rattle.bk_meaning.specs.Causes.{no_place};
 ghost use Rattle.bk_meaning.specs.Parts.{nowhere};
 ghost use Rattle.bk_meaning.specs.Lasting.{Program};
 ghost use Rattle.bk_meaning.specs.Full.{full};
@@ -349,7 +350,7 @@ fn lands_alone<'a>(
 /// What a frame does not go on with.
 #[inline(never)]
 fn wrong<'a>() -> Result<Next<'a>, AllocError>
-    ensures comes { IfOk result (λ next. (p : Program) (fs : List Continuation) (w : World) → Comes p fs next w (resumed p fs (undefined nowhere w))) }
+    ensures comes { IfOk result (λ next. (p : Program) (fs : List Continuation) (w : World) → Comes p fs next w (resumed p fs (undefined nowhere no_place w))) }
     ensures falls { Adds 0 result }
 {
     Ok(Next::Undefined(Subject::Nothing(Position::first()), Reason::NoPlace))

@@ -1,5 +1,6 @@
 //! Loops: WHILE, UNTIL, REPEAT, REPEATWHILE and REPEATUNTIL.
 ghost use Rattle.std.specs.Prelude.{◌≡◌, IfOk};
+ghost use Rattle.bk_tree.specs.Parts.{at_command};
 ghost use Rattle.bk_tree.specs.Tree.{command_in, expression};
 ghost use Rattle.bk_meaning.specs.World.{turn};
 ghost use Rattle.bk_meaning.specs.Lasting.{Program};
@@ -104,7 +105,7 @@ pub fn further_round<'a>(
 ) -> Result<Next<'a>, AllocError>
     ensures comes { IfOk result (λ next. (p : Program) (b : Bytes) →
         Comes p m.new.frames.items next (world m.new b)
-        (resumed p m.old.frames.items (tag done_tag (turn (world m.old b) (λ w. (full p).rounds (command_in command.now) forwards (env_in env.entry) w))))) }
+        (resumed p m.old.frames.items (tag done_tag (turn (at_command (command_in command.now)) (world m.old b) (λ w. (full p).rounds (command_in command.now) forwards (env_in env.entry) w))))) }
     ensures falls { Within 0 m.old m.new result }
 {
     if m.turns == 0 {
@@ -125,7 +126,7 @@ fn next_while<'a>(
     ensures comes { IfOk result (λ next. (p : Program) (b : Bytes) →
         Comes p m.new.frames.items next (world m.new b)
         (resumed p m.old.frames.items (tag done_tag (where_truth (full p) truth (expression condition.now) (env_in env.entry)
-        (λ w. turn w (λ w. (full p).rounds (command_in command.now) forwards (env_in env.entry) w)) (world m.old b))))) }
+        (λ w. turn (at_command (command_in command.now)) w (λ w. (full p).rounds (command_in command.now) forwards (env_in env.entry) w)) (world m.old b))))) }
     ensures falls { Within 2 m.old m.new result }
 {
     let outside = env.again()?;
@@ -145,7 +146,7 @@ fn next_repeat_while<'a>(
         Comes p m.new.frames.items next (world m.new b)
         (resumed p m.old.frames.items (tag done_tag (where_truth (full p) truth (expression condition.now)
         (past_command (command_in inside.now) (env_in env.entry))
-        (λ w. turn w (λ w. (full p).rounds (command_in command.now) forwards (env_in env.entry) w)) (world m.old b))))) }
+        (λ w. turn (at_command (command_in command.now)) w (λ w. (full p).rounds (command_in command.now) forwards (env_in env.entry) w)) (world m.old b))))) }
     ensures falls { Within 2 m.old m.new result }
 {
     let following = env.again()?.following(count_command(inside)?)?;

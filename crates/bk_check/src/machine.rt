@@ -10,7 +10,7 @@ ghost use Rattle.bk_meaning.specs.Seeking.{forwards};
 ghost use Rattle.bk_meaning.specs.Scopes.{in_order, scope_of, alone};
 ghost use Rattle.bk_meaning.specs.Calls.{applied};
 ghost use Rattle.bk_meaning.specs.Environment.{objects, past};
-ghost use Rattle.bk_meaning.specs.Operators.{sum as sum_of};
+ghost use Rattle.bk_meaning.specs.Operators.{sum as sum_of, sum_cause};
 ghost use Rattle.bk_meaning.specs.Expressions.{value_of, truth_of, target_of, result_of, judged, combined as combination};
 ghost use Rattle.bk_meaning.specs.Full.{full};
 ghost use Rattle.bk_check.specs.Views.{mode_in};
@@ -339,7 +339,7 @@ impl<'a> Evaluator<'a> {
     pub fn place_given(&self, expr: &'a Expr, x: Worth, y: Worth) -> Next<'a>
         ensures comes { (p : Program) (b : Bytes) → Comes p self.now.frames.items result (world self.now b)
             (resumed p self.now.frames.items (tag a_target (with
-            (given (acting (expression expr.now)) (sum_of (world self.now b).memory (value_in x) (value_in y)) (world self.now b))
+            (given (acting (expression expr.now)) (sum_cause (value_in x) (value_in y)) (sum_of (world self.now b).memory (value_in x) (value_in y)) (world self.now b))
             (λ a w. gives (Parts.at a) w)))) }
         ensures falls { Adds 0 (Ok result) }
     {

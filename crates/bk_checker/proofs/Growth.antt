@@ -1,4 +1,6 @@
 -- What was written begins what is written then, whatever is still to be done.
+use Rattle.bk_meaning.specs.Causes.{no_constant}
+use Rattle.bk_meaning.specs.Operators.{sum_cause}
 use Rattle.bk_checker.proofs.Terms.{ℕ, suc, Bool, not, Option, List, [], ◌∷◌, ◌++◌, map, arith, Expression, Expressions, Command, Starts, expression, expressions_in, command_in, commands_in, declarations_in, definitions_in, starts_in, Value, unset, World, Exit, break, loop, result, Outcome, gives, leaves, undefined, with, given, either, Done, done, Environment, past, past_command, Program, Target, at, byte_at, call, History, history, Grows, After, full, stays, earlier, Adds, adds, with_after, each_way_after, given_after, either_after, Ties, ties, ties_add, AllTied, done_ties, fetch_ties, combined_ties, operate_prefix_ties, judged_ties, address_in_ties, values_ties, call_ties, assigned_ties, store_ties, choose_case_ties, rounds_of_ties, for_loop_ties, for_test_ties, for_step_ties, where_truth_ties, turn_ties, in_order_ties, landing_ties, result_ties, return_ties, case_exit_ties, starts_ties, let_values_ties, bind_variables_ties, declare_all_ties, scope_ties, library_ties, means_tied, value_in, routine_in, Continuation, Next, letters_in, mode_in, start_in, Given, a_value, a_truth, a_target, is_done, done_tag, tag, resumed, resume_given, resume_left, value_goes, truth_goes, target_goes, done_goes, done_left, next_round, next_for, bound_then, defined_then, started_then, starting_then, declared_then, outcome_next, thing_in, exit_in, assigned_to, OnValue, OnValue as v, OnTruth, OnTruth as o, OnTarget, OnTarget as a, OnDone, OnDone as d, Continuation as f, Next as n}
 use Rattle.bk_tree.specs.Tree.{Mention, mention}
 use Rattle.bk_tree.specs.Tree as t
@@ -37,7 +39,7 @@ by : {A B : Type 0} (go : World → Outcome A) (on : A → World → Outcome B) 
 by go on h g = adds _ (λ w. with_after (history w) (go w) on (h.at w) g)
 
 tagged : {A : Type 0} (k : A → Given) (h : History) (u : Outcome A) → After h u → After h (tag k u)
-tagged k h (undefined l w) up = up
+tagged k h (undefined l why w) up = up
 tagged k h y up = up
 
 tag_adds : {A : Type 0} (k : A → Given) (go : World → Outcome A) → Adds go → Adds (λ w. tag k (go w))
@@ -56,14 +58,14 @@ module _ (p : Program) where
   act : (c : Command) (mode : Mode) (env : Environment) → Adds ((full p).act c mode env)
   act c mode env = ties_add _ _ (g.act c mode env)
 
-  place : (l : ℕ) (x y : Value) → Adds (λ w. with (given l (sum w.memory x y) w) (λ c w. gives (at c) w))
-  place l x y = adds _ (λ w. with_after (history w) (given l (sum w.memory x y) w) (λ c w. gives (at c) w) (given_after l (sum w.memory x y) w) (λ c. still (at c)))
+  place : (l : ℕ) (x y : Value) → Adds (λ w. with (given l (sum_cause x y) (sum w.memory x y) w) (λ c w. gives (at c) w))
+  place l x y = adds _ (λ w. with_after (history w) (given l (sum_cause x y) (sum w.memory x y) w) (λ c w. gives (at c) w) (given_after l _ (sum w.memory x y) w) (λ c. still (at c)))
 
   one_of : {A : Type 0} (x : Bool) (go other : World → Outcome A) → Adds go → Adds other → Adds (λ w. either x go other w)
   one_of x go other h k = adds _ (λ w. either_after x go other h k w)
 
-  for_on : (x : Mention) (c : Command) (env : Environment) (step : Option ℕ) (start limit : Value) → Adds (λ w. with (given x.at step w) (λ n w. for_loop (full p) x c start limit n env w))
-  for_on x c env step start limit = adds _ (λ w. with_after (history w) (given x.at step w) _ (given_after x.at step w) (λ n. ties_add _ _ (for_loop_ties (full p) (full p) g x c start limit n env)))
+  for_on : (x : Mention) (c : Command) (env : Environment) (step : Option ℕ) (start limit : Value) → Adds (λ w. with (given x.at no_constant step w) (λ n w. for_loop (full p) x c start limit n env w))
+  for_on x c env step start limit = adds _ (λ w. with_after (history w) (given x.at no_constant step w) _ (given_after x.at _ step w) (λ n. ties_add _ _ (for_loop_ties (full p) (full p) g x c start limit n env)))
 
   bound : (l : Let) (ss : List b.Start) → Adds (bound_then p l ss)
   bound l ss = by _ _ (ties_add _ _ (bind_variables_ties (full p) (full p) g (map start_in l.starts.items ++ ss) (env_in l.following))) (λ env. declared l env)
@@ -116,7 +118,7 @@ module _ (p : Program) where
   truth_on (o.When b c env) x = tag_adds done_tag _ (one_of (same_truth b x) _ _ (act (command_in c.now) forwards (env_in env)) finished)
   truth_on (o.Test a b env) x = tag_adds done_tag _ (one_of x _ _ (act (command_in a.now) forwards (env_in env)) (act (command_in b.now) forwards (past_command (command_in a.now) (env_in env))))
   truth_on (o.First b c env) x = tag_adds done_tag _ (one_of (same_truth b x) _ _ (ties_add _ _ (rounds_of_ties (full p) (full p) g (command_in c.now) forwards (env_in env))) finished)
-  truth_on (o.Further b c env) x = tag_adds done_tag _ (one_of (same_truth b x) _ _ (ties_add _ _ (turn_ties (full p) (full p) g _ _ (g.rounds (command_in c.now) forwards (env_in env)))) finished)
+  truth_on (o.Further b c env) x = tag_adds done_tag _ (one_of (same_truth b x) _ _ (ties_add _ _ (turn_ties (full p) (full p) g _ _ _ (g.rounds (command_in c.now) forwards (env_in env)))) finished)
 
   -- with a place
   target_on : (k : OnTarget) (x : Target) → Adds (λ w. target_goes p k (gives x w))
@@ -124,14 +126,14 @@ module _ (p : Program) where
   target_on (a.Put e y xs there es env) x = tag_adds done_tag _ (by _ _ (ties_add _ _ (store_ties (full p) (full p) g _ x (value_in y))) (λ _. ties_add _ _ (assigned_ties (full p) (full p) g (expressions_in xs.now) (env_in there) (expressions_in es.now) (env_in env))))
 
   next_ties : (c : Command) (env : Environment) → Ties (next_round p c env) (next_round p c env)
-  next_ties (t.while l b e c) env = where_truth_ties (full p) (full p) g b e env _ _ (turn_ties (full p) (full p) g _ _ (g.rounds (t.while l b e c) forwards env))
-  next_ties (t.repeat l c) env = turn_ties (full p) (full p) g _ _ (g.rounds (t.repeat l c) forwards env)
-  next_ties (t.repeat_while l b c e) env = where_truth_ties (full p) (full p) g b e (past_command c env) _ _ (turn_ties (full p) (full p) g _ _ (g.rounds (t.repeat_while l b c e) forwards env))
+  next_ties (t.while l b e c) env = where_truth_ties (full p) (full p) g b e env _ _ (turn_ties (full p) (full p) g _ _ _ (g.rounds (t.while l b e c) forwards env))
+  next_ties (t.repeat l c) env = turn_ties (full p) (full p) g _ _ _ (g.rounds (t.repeat l c) forwards env)
+  next_ties (t.repeat_while l b c e) env = where_truth_ties (full p) (full p) g b e (past_command c env) _ _ (turn_ties (full p) (full p) g _ _ _ (g.rounds (t.repeat_while l b c e) forwards env))
   next_ties c env = done_ties
 
   next_for_adds : (k : For) → Adds (next_for p k)
   next_for_adds k = by _ _ (ties_add _ _ (for_step_ties (full p) (full p) g k.name.now.at k.object k.step)) (λ _.
-      ties_add _ _ (for_test_ties (full p) (full p) g k.name.now.at k.object (value_in k.limit) k.step _ _ (turn_ties (full p) (full p) g _ _ (g.for_rounds k.name.now.at (command_in k.body.now) k.object (value_in k.limit) k.step (env_in k.env)))))
+      ties_add _ _ (for_test_ties (full p) (full p) g k.name.now.at k.object (value_in k.limit) k.step _ _ (turn_ties (full p) (full p) g _ _ _ (g.for_rounds k.name.now.at (command_in k.body.now) k.object (value_in k.limit) k.step (env_in k.env)))))
 
   -- after a command
   done_on : (k : OnDone) → Adds (λ w. done_goes p k (done w))

@@ -1,4 +1,5 @@
 -- Runs over devices: steps one after another, and what the whole comes to.
+use Rattle.bk_meaning.specs.Causes.{Cause}
 use Rattle.std.specs.Prelude.{IsErr, ◌⊎◌}
 use Rattle.std.proofs.Common.{inl, inr}
 use Rattle.bk_checker.proofs.Terms.{Blames, ◌≡◌, ℕ, ◌^◌, ◌-◌, Vec, map, Bool, true, false, IsTrue, Result, Ok, Err, IfOk, IfErr, OnOk, OnErr, is_err, arith, List, [], ◌∷◌, ◌++◌, Option, None, Some, refl, sym, ap, subst, ◌∙◌, append_assoc, append-nil, Consumes-nil, Consumes-kept, Consumes-trans, Appends-nil, Appends-trans, Appends-kept, Declarations, Value, address, number, World, End, Outcome, gives, leaves, ends, undefined, going, divide_by_zero, given, globals_object, remembering, Effect, fetch, value_in, routine_in, outcome_of, outcome_in, Program, program_of, first_memory, call, full, History, history, Grows, After, reads_from_the_front, full_call, Continuation, Next, CheckFault, Given, a_value, tag, resume, resumed, outcome_next, Comes, Devices, Exchanged, Follows, Shows, Checks, over, verdict_of, place_of, run_given, Answered, Moves, Begun, Runs, ChecksPart, RunsPart, Reaches, Flushed, Worth, Worth as w, Effect as t, Computed, Computed as k, Thing as g, Next as n, Verdict, Verdict as v, CheckFault as x}
@@ -22,22 +23,22 @@ unfolding resumed
 ends_stays p [] e w = refl
 ends_stays p (f ∷ fs) e w = ap (resume p f) (ends_stays p fs e w)
 
-undefined_stays : (p : Program) (fs : List Continuation) (l : ℕ) (w : World) → resumed p fs (undefined l w) ≡ undefined l w
+undefined_stays : (p : Program) (fs : List Continuation) (l : ℕ) (why : Cause) (w : World) → resumed p fs (undefined l why w) ≡ undefined l why w
 unfolding resumed
-undefined_stays p [] l w = refl
-undefined_stays p (f ∷ fs) l w = ap (resume p f) (undefined_stays p fs l w)
+undefined_stays p [] l why w = refl
+undefined_stays p (f ∷ fs) l why w = ap (resume p f) (undefined_stays p fs l why w)
 
-going_stays : (p : Program) (fs : List Continuation) (w : World) → resumed p fs (going w) ≡ going w
+going_stays : (p : Program) (fs : List Continuation) (l : ℕ) (w : World) → resumed p fs (going l w) ≡ going l w
 unfolding resumed
-going_stays p [] w = refl
-going_stays p (f ∷ fs) w = ap (resume p f) (going_stays p fs w)
+going_stays p [] l w = refl
+going_stays p (f ∷ fs) l w = ap (resume p f) (going_stays p fs l w)
 
 over_is : (p : Program) (fs : List Continuation) (next : Next) (w : World) → over fs next ≡ true → resumed p fs (outcome_next p next w) ≡ outcome_next p next w
 unfolding resumed
 over_is p fs (n.Status k) w is = ends_stays p fs _ w
 over_is p fs (n.DivideByZero s) w is = ends_stays p fs _ w
-over_is p fs (n.Undefined s why) w is = undefined_stays p fs _ w
-over_is p fs (n.Going spot) w is = going_stays p fs w
+over_is p fs (n.Undefined s why) w is = undefined_stays p fs _ _ w
+over_is p fs (n.Going spot) w is = going_stays p fs _ w
 over_is p [] (n.Gives t) w is = refl
 over_is p [] (n.Leaves x) w is = refl
 over_is p fs next w is = absurd (cc is)
@@ -149,17 +150,17 @@ run_shows p start turns m m' m'' first last verdict place old new begun calls mo
 }
 
 -- what is given is there
-given_some : {A : Type 0} (l : ℕ) (x : Option A) (a : A) (w : World) → gives a w ≡ given l x w → x ≡ Some a
-given_some l None a w is = absurd (cc is)
-given_some l (Some b) a w is = let same : a ≡ b = cc in ap Some (sym same)
+given_some : {A : Type 0} (l : ℕ) (why : Cause) (x : Option A) (a : A) (w : World) → gives a w ≡ given l why x w → x ≡ Some a
+given_some l why None a w is = absurd (cc is)
+given_some l why (Some b) a w is = let same : a ≡ b = cc in ap Some (sym same)
 
-given_none : {A : Type 0} (l : ℕ) (x : Option A) (w : World) → undefined l w ≡ given l x w → x ≡ None
-given_none l None w is = refl
-given_none l (Some b) w is = absurd (cc is)
+given_none : {A : Type 0} (l : ℕ) (why other : Cause) (x : Option A) (w : World) → undefined l why w ≡ given l other x w → x ≡ None
+given_none l why other None w is = refl
+given_none l why other (Some b) w is = absurd (cc is)
 
-given_no_end : {A : Type 0} (l : ℕ) (x : Option A) (e : End) (w : World) → ends e w ≡ given l x w → ⊥
-given_no_end l None e w is = cc
-given_no_end l (Some b) e w is = cc
+given_no_end : {A : Type 0} (l : ℕ) (why : Cause) (x : Option A) (e : End) (w : World) → ends e w ≡ given l why x w → ⊥
+given_no_end l why None e w is = cc
+given_no_end l why (Some b) e w is = cc
 
 -- the first world, whatever its input
 abbrev some_world : Memory → World
@@ -455,7 +456,7 @@ module _ (p : Program) (turns : ℕ) (m : Evaluator) (begun : Begun p turns m) (
   pub start_found : (x : Worth) → came ≡ k.Value x → read (first_memory p) (address globals_object 1) ≡ Some (value_in x)
   start_found x is =
       ap (λ (s : Memory). read s (address globals_object 1)) (sym begun.store)
-      ∙ given_some nowhere (read m.store (address globals_object 1)) (value_in x) (some_world m.store) (sym (ap (λ (y : Computed). outcome_of nowhere y (some_world m.store)) is) ∙ law nowhere (some_world m.store) refl)
+      ∙ given_some nowhere _ (read m.store (address globals_object 1)) (value_in x) (some_world m.store) (sym (ap (λ (y : Computed). outcome_of nowhere y (some_world m.store)) is) ∙ law nowhere (some_world m.store) refl)
 
   start_missing : read m.store (address globals_object 1) ≡ None → read (first_memory p) (address globals_object 1) ≡ None
   start_missing none = ap (λ (s : Memory). read s (address globals_object 1)) (sym begun.store) ∙ none
@@ -465,5 +466,5 @@ module _ (p : Program) (turns : ℕ) (m : Evaluator) (begun : Begun p turns m) (
     where
       by : (y : Computed) → came ≡ y → read (first_memory p) (address globals_object 1) ≡ None
       by (k.Value x) is = absurd (not x is)
-      by k.DivideByZero is = absurd (given_no_end nowhere (read m.store (address globals_object 1)) divide_by_zero (some_world m.store) (sym (ap (λ (y : Computed). outcome_of nowhere y (some_world m.store)) is) ∙ law nowhere (some_world m.store) refl))
-      by (k.Undefined why) is = start_missing (given_none nowhere (read m.store (address globals_object 1)) (some_world m.store) (sym (ap (λ (y : Computed). outcome_of nowhere y (some_world m.store)) is) ∙ law nowhere (some_world m.store) refl))
+      by k.DivideByZero is = absurd (given_no_end nowhere _ (read m.store (address globals_object 1)) (divide_by_zero nowhere) (some_world m.store) (sym (ap (λ (y : Computed). outcome_of nowhere y (some_world m.store)) is) ∙ law nowhere (some_world m.store) refl))
+      by (k.Undefined why) is = start_missing (given_none nowhere _ _ (read m.store (address globals_object 1)) (some_world m.store) (sym (ap (λ (y : Computed). outcome_of nowhere y (some_world m.store)) is) ∙ law nowhere (some_world m.store) refl))

@@ -1,5 +1,5 @@
 -- What a check answers: the verdict of the meaning, with the bytes that it reads and writes.
-use Rattle.std.specs.Prelude.{◌≡◌, ◌⊎◌, ℕ, ⊤, Bool, true, false, IsTrue, List, [], ◌++◌, Option}
+use Rattle.std.specs.Prelude.{◌≡◌, ◌⊎◌, ℕ, ⊤, Bool, true, false, IsTrue, List, [], ◌++◌, Option, None}
 use Rattle.std.specs.Io.KnownBytes.{Consumes, Appends}
 use Rattle.bk_base.specs.declared.device.ByteIn as reader
 use Rattle.bk_base.specs.declared.device.ByteOut as writer
@@ -8,6 +8,7 @@ use Rattle.bk_meaning.specs.World.{World, Outcome, gives, leaves, ends, undefine
 use Rattle.bk_meaning.specs.Values.{number}
 use Rattle.bk_meaning.specs.Library.{takes_byte}
 use Rattle.bk_meaning.specs.Values.{Value}
+use Rattle.bk_meaning.specs.Causes.{no_place}
 use Rattle.bk_meaning.specs.Calls.{call}
 use Rattle.bk_meaning.specs.Parts.{nowhere}
 use Rattle.bk_meaning.specs.Lasting.{Program, first_memory}
@@ -19,13 +20,15 @@ use Rattle.bk_check.specs.declared.frame.Thing.TheVariants as g
 use Rattle.bk_check.specs.declared.frame.Next.{Next}
 use Rattle.bk_check.specs.declared.frame.Next.TheVariants as n
 use Rattle.bk_check.specs.declared.machine.Evaluator.{Evaluator}
+use Rattle.bk_objects.specs.Views.{cause_of}
+use Rattle.bk_objects.specs.declared.computed.Reason.TheVariants as y
 use Rattle.bk_checker.specs.Limits.{IsTooDeep}
 use Rattle.bk_checker.specs.declared.report.Verdict.{Verdict}
 use Rattle.bk_checker.specs.declared.report.Verdict.TheVariants as v
 use Rattle.bk_checker.specs.declared.report.CheckFault.{CheckFault}
 use Rattle.bk_checker.specs.declared.report.CheckFault.TheVariants as x
 use Rattle.bk_check.specs.Worlds.{world}
-use Rattle.bk_check.specs.Resume.{Given, a_value, Comes, resumed, acts_in, outcome_next}
+use Rattle.bk_check.specs.Resume.{Given, a_value, Comes, resumed, acts_in, argument_of, outcome_next}
 
 -- What the devices report at a moment: the bytes left of the input and whether its end was reported; the bytes that the output took.
 pub record Devices : Type 0 where
@@ -46,17 +49,17 @@ pub record Exchanged (old new : Devices) (read written : List ℕ) : Type 0 wher
 abbrev pub Follows : Devices → List ℕ → Type 0
 Follows new rest = IsTrue new.ended → rest ≡ []
 
--- The verdict is that of a run, which left this input and wrote these bytes; an undefined act is at this position, and nothing was
--- read or written after it.
+-- The verdict is that of a run, which left this input and wrote these bytes, and nothing was read or written after it. An undefined
+-- act, with its cause, and a division by zero are at this position; so is the node for which no turn was left.
 abbrev pub Shows : Verdict → ℕ → Run → List ℕ → List ℕ → Type 0
 Shows (v.Status k) place run left bytes = (calls : ℕ) × (run ≡ Ends bytes left calls (status k))
-Shows v.DivideByZero place run left bytes = (calls : ℕ) × (run ≡ Ends bytes left calls divide_by_zero)
+Shows v.DivideByZero place run left bytes = (calls : ℕ) × (run ≡ Ends bytes left calls (divide_by_zero place))
 Shows v.NoStart place run left bytes = (calls : ℕ) × (run ≡ Ends bytes left calls no_start)
-Shows v.Undefined place run left bytes = (calls : ℕ) × (run ≡ Undefined bytes left calls place)
-Shows v.Turns place run left bytes = (calls : ℕ) × (run ≡ Going bytes left calls)
+Shows (v.Undefined which why) place run left bytes = (calls : ℕ) × (run ≡ Undefined bytes left calls place (cause_of which why))
+Shows v.Turns place run left bytes = (calls : ℕ) × (run ≡ Going bytes left calls place)
 
--- THE CHECK. With so many turns the meaning of these sections has this verdict, and its undefined act is at this position: whatever follows
--- the bytes that were read, it reads just these bytes and writes just those that were written.
+-- THE CHECK. With so many turns the meaning of these sections has this verdict, at this position: whatever follows the bytes that were
+-- read, it reads just these bytes and writes just those that were written.
 pub record Checks (sections : List Declarations) (turns : ℕ) (verdict : Verdict) (place : ℕ) (old new : Devices) : Type 0 where
   pub read : List ℕ
   pub written : List ℕ
@@ -96,7 +99,8 @@ verdict_of (n.Status k) = v.Status k
 verdict_of (n.DivideByZero s) = v.DivideByZero
 verdict_of (n.Going spot) = v.Turns
 verdict_of (n.Gives (g.Value x)) = v.Status 0
-verdict_of next = v.Undefined
+verdict_of (n.Undefined s why) = v.Undefined (argument_of s) why
+verdict_of next = v.Undefined None y.NoPlace
 
 -- where what comes next acts
 abbrev pub place_of : Next → ℕ
@@ -108,11 +112,11 @@ place_of next = nowhere
 -- how a run ends whose call of START comes to this
 abbrev pub run_given : Outcome Given → Run
 run_given (gives (a_value v) w) = Ends w.output w.input w.most_calls (status 0)
-run_given (gives t w) = Undefined w.output w.input w.most_calls nowhere
-run_given (leaves x w) = Undefined w.output w.input w.most_calls nowhere
+run_given (gives t w) = Undefined w.output w.input w.most_calls nowhere no_place
+run_given (leaves x w) = Undefined w.output w.input w.most_calls nowhere no_place
 run_given (ends e w) = Ends w.output w.input w.most_calls e
-run_given (undefined l w) = Undefined w.output w.input w.most_calls l
-run_given (going w) = Going w.output w.input w.most_calls
+run_given (undefined l why w) = Undefined w.output w.input w.most_calls l why
+run_given (going l w) = Going w.output w.input w.most_calls l
 
 -- an answer to RDCH
 pub record Answered (word : ℕ) (old new : Devices) : Type 0 where

@@ -1,11 +1,14 @@
 //! Why an act is undefined, in the words of the source.
 
-use crate::made::{loop_at, vector_at};
+use crate::made::{arguments_at, loop_at, vector_at};
 use crate::misuse::say_library;
 use crate::operands::{
     Operand, bare, say_fault_of, say_no_value, say_operand, say_shared, say_uncalled, written,
 };
-use crate::operations::{say_beyond, say_index, say_names, say_operation, say_subscript};
+use crate::operations::{
+    say_beside, say_beyond, say_index, say_names, say_operation, say_subscript,
+};
+use crate::setting::{say_by_value, say_no_global, say_setting, say_setting_of, say_unreached};
 use crate::spelling::{add_number, add_ordinal, add_word, operator_symbol, prefix_symbol};
 use crate::values::Page;
 use crate::words::{say_byte, say_cell, say_partly};
@@ -34,21 +37,21 @@ fn say_name(page: &mut Page, name: &[u8], reason: Reason) -> Result<(), AllocErr
                 page.say(&[
                     b", was never set: no section defines it, and nothing was assigned to it",
                 ])?;
-                match page.other_number(name, offset) {
-                    Some(number) => {
-                        page.say(&[b"; elsewhere ", name, b" is the global "])?;
-                        add_word(&mut page.text, number)
-                    }
-                    None => Ok(()),
-                }
+                say_no_global(page, name, offset)
             }
             Origin::Query(line) => {
                 page.say(&[name, b" was never set: it is the `?` of line "])?;
-                add_number(&mut page.text, line as usize)
+                add_number(&mut page.text, line as usize)?;
+                say_by_value(page, name)?;
+                say_unreached(page, name, object, line)
             }
             _ => {
                 page.say(&[name, b" has no value: "])?;
-                page.say_origin(origin)
+                page.say_origin(origin)?;
+                match origin {
+                    Origin::Library(_) => say_setting_of(page, name, Worth::Unset(origin)),
+                    _ => Ok(()),
+                }
             }
         },
         _ => page.say(&[name, b" is gone"]),
@@ -154,7 +157,8 @@ fn say_no_place(page: &mut Page, destination: Destination, place: Worth) -> Resu
             }
             say_operand(page, operand)?;
             page.say(&[b", and `", destination.symbol, b"` wants an address"])?;
-            say_shared(page, operand)
+            say_shared(page, operand)?;
+            say_setting(page, operand)
         }
         None => {
             page.say(&[b"the operands of "])?;
@@ -201,18 +205,24 @@ fn say_destination(
         Reason::NoNumber(x) => say_no_byte_number(page, destination, x)?,
         Reason::NoByte(x) => {
             page.say_expr(expr)?;
-            page.say(&[b" is set to the lowest byte of a number, and the value is "])?;
+            page.say(&[b" is set from a number, and the value is "])?;
+            if matches!(x, Worth::Address(_, _)) && !page.is_text(x) {
+                page.say(&[b"the address "])?;
+            }
             page.say_value(x)?;
             page.say_character(x)?;
         }
         _ => page.say(&[b"what has no place"])?,
     }
-    match destination.index {
-        Some(index) => match page.known(index) {
-            Some(value) => say_index(page, written(index, value)),
-            None => say_names(page, index),
-        },
-        None => Ok(()),
+    if let Some(index) = destination.index {
+        match page.known(index) {
+            Some(value) => say_index(page, written(index, value))?,
+            None => say_names(page, index)?,
+        }
+    }
+    match reason {
+        Reason::Cell(_) | Reason::Byte(_, _) => say_beside(page),
+        _ => Ok(()),
     }
 }
 
@@ -278,10 +288,10 @@ fn say_prefix(page: &mut Page, expr: &Expr, x: Worth, reason: Reason) -> Result<
     let symbol = prefix_symbol(*prefix).trim_ascii();
     page.say(&[b", and `", symbol, wanted])?;
     say_shared(page, base)?;
-    match prefix {
-        Prefix::Contents => Ok(()),
-        _ => say_uncalled(page, base),
+    if !matches!(prefix, Prefix::Contents) {
+        say_uncalled(page, base)?;
     }
+    say_setting(page, base)
 }
 
 /// Adds why an operator is undefined.
@@ -319,7 +329,7 @@ fn say_infix(
 fn say_condition(page: &mut Page, expr: &Expr, reason: Reason) -> Result<(), AllocError> {
     match reason {
         Reason::Unset(origin) => {
-            page.say(&[b"a condition: "])?;
+            page.say(&[b"the condition "])?;
             say_no_value(page, written(expr, Worth::Unset(origin)), origin)
         }
         Reason::Beyond(x) => {
@@ -346,7 +356,8 @@ fn say_switch(page: &mut Page, expr: &Expr, reason: Reason) -> Result<(), AllocE
     say_operand(page, written(expr, value))?;
     page.say(&[b", and `SWITCHON` wants a number"])?;
     page.say_character(value)?;
-    say_uncalled(page, written(expr, value))
+    say_uncalled(page, written(expr, value))?;
+    say_setting(page, written(expr, value))
 }
 
 /// The limit of a FOR, and what compares its variable with the limit.
@@ -431,7 +442,21 @@ fn say_call(
         page.say_expr(callee)?;
         page.say(&[b")(..)` calls a word of the vector"])?;
     }
-    say_shared(page, written(callee, x))
+    if let Worth::Address(_, _) = x
+        && let Some([index]) = arguments_at(page.program, at)
+    {
+        page.say(&[b"; `"])?;
+        page.say_expr(callee)?;
+        page.say(&[if page.is_text(x) { b"%" } else { b"!" }])?;
+        page.say_expr(index)?;
+        page.say(&[if page.is_text(x) {
+            b"` is a byte of it"
+        } else {
+            b"` is a word of it"
+        }])?;
+    }
+    say_shared(page, written(callee, x))?;
+    say_setting(page, written(callee, x))
 }
 
 /// Adds why an act is undefined.
@@ -463,6 +488,7 @@ pub fn say_division(page: &mut Page, subject: &Subject) -> Result<(), AllocError
         if !matches!(bare(right), Expr::Name { .. }) {
             return say_names(page, right);
         }
+        return say_setting(page, written(right, *y));
     }
     Ok(())
 }

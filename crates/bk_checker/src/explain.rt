@@ -1,5 +1,5 @@
-//! What is reported to a person of the end of a check. Contracts say the verdict and the place; of the texts they say nothing, since the
-//! meaning has no reasons.
+//! What is reported to a person of the end of a check. Contracts say the verdict, with the reason, and the place; of the texts they say
+//! nothing.
 ghost use Rattle.std.specs.Prelude.{◌≡◌, IfOk};
 ghost use Rattle.bk_check.specs.Resume.{acts_in};
 ghost use Rattle.bk_checker.specs.Checks.{verdict_of, place_of};
@@ -7,7 +7,7 @@ ghost use Rattle.bk_checker.specs.Checks.{verdict_of, place_of};
 use crate::acts::{say_act, say_division};
 use crate::calls::{add_calls, innermost};
 use crate::report::{CheckFault, GivenUp, Notice, Report};
-use crate::rounds::{MANY, say_turns};
+use crate::rounds::{MANY, say_formals, say_turns};
 use crate::run::{FRAMES, verdict};
 use crate::values::Page;
 use bk_check::{Evaluator, Next, Subject, acts_at};
@@ -30,16 +30,30 @@ fn place_of_subject(subject: &Subject) -> Position
     }
 }
 
+/// The position of what ends a run.
+fn place(next: &Next) -> Position
+    ensures { result ≡ place_of next.now }
+{
+    match next {
+        Next::Undefined(subject, _) | Next::DivideByZero(subject) => place_of_subject(subject),
+        Next::Going(at) => *at,
+        _ => Position::first(),
+    }
+}
+
 /// Where the limits of a check were reached, and which.
 fn too_deep<'a>(m: &Evaluator<'a>, program: &[Lasting<'a>]) -> Result<Notice, AllocError> {
-    let mut page = Page::new(m, program);
+    let mut page = Page::new(m, program, innermost(m));
     let what: &[u8] = if m.frames.len() > FRAMES {
-        b"a check can't hold more calls, and what they have still to do; does the recursion end?"
+        b"a check can't hold more calls, and what they have still to do"
     } else {
         b"the words of the vectors and variables that are in use are more than a check can hold"
     };
     page.say(&[b"too deep: ", what])?;
-    if m.frames.len() <= FRAMES && m.calls > MANY {
+    if m.calls > MANY {
+        say_formals(&mut page)?;
+    }
+    if m.frames.len() > FRAMES || m.calls > MANY {
         page.say(&[b"; does the recursion end?"])?;
     }
     let mut calls = Vec::new(m.alloc);
@@ -72,23 +86,15 @@ pub fn explain<'a>(
 ) -> Result<Report, AllocError>
     ensures { IfOk result (λ report. (report.verdict ≡ verdict_of next.now) × (report.stop.at ≡ place_of next.now)) }
 {
-    let mut page = Page::new(m, program);
+    let at = place(next);
+    let mut page = Page::new(m, program, at);
     let mut calls = Vec::new(m.alloc);
-    let at = match next {
-        Next::Undefined(subject, reason) => {
-            say_act(&mut page, subject, *reason)?;
-            place_of_subject(subject)
-        }
-        Next::DivideByZero(subject) => {
-            say_division(&mut page, subject)?;
-            place_of_subject(subject)
-        }
-        Next::Going(at) => {
-            say_turns(&mut page, *at)?;
-            *at
-        }
-        _ => Position::first(),
-    };
+    match next {
+        Next::Undefined(subject, reason) => say_act(&mut page, subject, *reason)?,
+        Next::DivideByZero(subject) => say_division(&mut page, subject)?,
+        Next::Going(at) => say_turns(&mut page, *at)?,
+        _ => {}
+    }
     if !page.text.is_empty() {
         add_calls(&mut calls, m, program)?;
     }

@@ -24,11 +24,14 @@ struct Declared {
 
 /// A name in an expression.
 #[derive(Clone, Copy)]
-struct Used {
+pub struct Used {
     name: Spelled,
-    at: Position,
+    /// Where it is.
+    pub at: Position,
     /// How many arguments it is called with; none where it is not called.
-    arguments: usize,
+    pub arguments: usize,
+    /// Whether it is a condition by itself.
+    pub is_tested: bool,
 }
 
 /// The names of a section.
@@ -107,6 +110,19 @@ impl Names {
             name,
             at,
             arguments,
+            is_tested: false,
+        })?;
+        Ok(())
+    }
+
+    /// Adds a name that is a condition by itself.
+    pub fn note_test(&mut self, name: &[u8], at: Position) -> Result<(), AllocError> {
+        let name = self.keep(name)?;
+        self.used.push(Used {
+            name,
+            at,
+            arguments: 0,
+            is_tested: true,
         })?;
         Ok(())
     }
@@ -152,11 +168,11 @@ impl Names {
         }
     }
 
-    /// Where the name with this index in the expressions is, and with how many arguments it is called, if it is this one.
-    pub fn use_of(&self, index: usize, name: &[u8]) -> Option<(Position, usize)> {
+    /// The name with this index in the expressions, if it is this one.
+    pub fn use_of(&self, index: usize, name: &[u8]) -> Option<Used> {
         let used = self.used.get(index)?;
         if self.bytes(used.name) == name {
-            Some((used.at, used.arguments))
+            Some(*used)
         } else {
             None
         }

@@ -1,8 +1,10 @@
 //! Why a call of a routine of the library is undefined.
 
+use crate::formats::directives;
 use crate::made::arguments_at;
 use crate::operands::{Operand, say_fault_of, say_operand, say_uncalled, written};
-use crate::operations::say_index;
+use crate::operations::{say_beside, say_index};
+use crate::setting::say_setting;
 use crate::spelling::{add_directive, add_number, routine_name};
 use crate::values::Page;
 use crate::words::{say_byte, say_length};
@@ -120,10 +122,61 @@ fn say_other_kind(
     say_other_routine(page, wanted, operand.value)?;
     match (wanted.routine, wanted.directive) {
         (Routine::Wrch | Routine::Putbyte, _) | (_, Some(FormatPart::Character)) => {
-            page.say_character(operand.value)
+            page.say_character(operand.value)?;
         }
+        _ => {}
+    }
+    say_setting(page, operand)
+}
+
+/// Adds the order of the arguments, where the number of a byte is an address.
+fn say_order(page: &mut Page, wanted: Wanted, x: Worth) -> Result<(), AllocError> {
+    let order: &[u8] = match wanted.routine {
+        Routine::Getbyte => b"; `GETBYTE(S, I)` is byte I of S",
+        Routine::Putbyte if wanted.argument == 2 => b"; `PUTBYTE(S, I, B)` sets byte I of S to B",
+        _ => return Ok(()),
+    };
+    match x {
+        Worth::Address(_, _) => page.say(&[order]),
         _ => Ok(()),
     }
+}
+
+/// The bytes of a format that a call has, or that a name of it means.
+fn format_of(page: &Page, arguments: &[Expr]) -> Result<Option<Vec<u8>>, AllocError> {
+    let mut bytes = Vec::new(page.m.alloc);
+    match arguments.first() {
+        Some(Expr::Text { bytes: written, .. }) => bytes.extend_from_slice(written)?,
+        Some(format) => {
+            let Some(value) = page.known(format) else {
+                return Ok(None);
+            };
+            if !page.is_text(value) {
+                return Ok(None);
+            }
+            page.add_text(&mut bytes, value)?;
+        }
+        None => return Ok(None),
+    }
+    Ok(Some(bytes))
+}
+
+/// Adds how many arguments the directives of a format take, and how many there are.
+fn say_counts(page: &mut Page, arguments: &[Expr]) -> Result<(), AllocError> {
+    let Some(format) = format_of(page, arguments)? else {
+        return Ok(());
+    };
+    let given = arguments.len().saturating_sub(1);
+    let wanted = directives(&format);
+    page.say(&[b"; the format takes "])?;
+    add_number(&mut page.text, wanted)?;
+    page.say(&[b", and "])?;
+    add_number(&mut page.text, given)?;
+    page.say(&[if given == 1 {
+        b" follows it"
+    } else {
+        b" follow it"
+    }])
 }
 
 /// Adds the format, where it is not written in the call.
@@ -159,10 +212,11 @@ pub fn say_library(
         Reason::Argument => {
             say_which(page, wanted)?;
             say_of_it(page, wanted, b" is missing")?;
-            return match directive {
-                Some(_) => say_format(page, arguments),
-                None => Ok(()),
-            };
+            if directive.is_some() {
+                say_counts(page, arguments)?;
+                return say_format(page, arguments);
+            }
+            return Ok(());
         }
         Reason::NoNumber(x) | Reason::NoAddress(x) | Reason::NoByte(x) => x,
         Reason::Byte(at, _) => at,
@@ -176,11 +230,15 @@ pub fn say_library(
             say_missing_byte(page, wanted, operand, at, number)?;
             match (routine, arguments.get(1)) {
                 (Routine::Getbyte | Routine::Putbyte, Some(index)) => {
-                    say_index(page, written(index, Worth::Number(number)))
+                    say_index(page, written(index, Worth::Number(number)))?;
+                    say_beside(page)
                 }
                 _ => Ok(()),
             }
         }
-        _ => say_other_kind(page, wanted, operand, reason),
+        _ => {
+            say_other_kind(page, wanted, operand, reason)?;
+            say_order(page, wanted, value)
+        }
     }
 }

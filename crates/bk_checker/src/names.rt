@@ -13,6 +13,8 @@ pub struct Names<'m, 'a> {
     pub procedure: &'m Procedure<'a>,
     /// The object of its formals, and the number of arguments.
     pub formals: Option<(u64, usize)>,
+    /// The number of the frame of its call.
+    pub call: usize,
     /// Whether `env` has no formals.
     pub is_outside: bool,
 }
@@ -120,6 +122,7 @@ pub fn names_in<'m, 'a>(m: &'m Evaluator<'a>, program: &'m [Lasting<'a>]) -> Opt
                 env,
                 procedure,
                 formals,
+                call: at,
                 is_outside: false,
             });
         }
@@ -128,6 +131,7 @@ pub fn names_in<'m, 'a>(m: &'m Evaluator<'a>, program: &'m [Lasting<'a>]) -> Opt
         env: &procedure.env,
         procedure,
         formals,
+        call: at,
         is_outside: true,
     })
 }
@@ -145,6 +149,25 @@ impl<'m, 'a> Names<'m, 'a> {
             }
         }
         self.env.sense(name)
+    }
+
+    /// A name as the program has it, if it means something here.
+    pub fn spelled(&self, name: &[u8]) -> Option<&'a [u8]> {
+        if self.is_outside {
+            for formal in self.procedure.formals {
+                if formal.letters.as_slice() == name {
+                    return Some(&formal.letters);
+                }
+            }
+        }
+        let mut names = &self.env.names;
+        while let Some(node) = names {
+            if node.name == name {
+                return Some(node.name);
+            }
+            names = &node.outer;
+        }
+        None
     }
 
     /// The name of a cell, if one is visible.

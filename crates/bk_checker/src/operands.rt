@@ -98,18 +98,29 @@ fn takes_arguments(program: &[Lasting], callee: Worth) -> bool {
 }
 
 /// The name that an operand is, if it is written as one.
-fn name_of<'e>(operand: Operand<'e>) -> Option<&'e [u8]> {
+pub fn name_of<'e>(operand: Operand<'e>) -> Option<&'e [u8]> {
     match bare(operand.expr?) {
         Expr::Name { letters, .. } => Some(letters.as_slice()),
         _ => None,
     }
 }
 
-/// Adds how a procedure is called, where an operand is its name alone.
+/// Whether a value may be meant to be called: what it gives is used otherwise.
+fn gives(value: Worth) -> bool {
+    match value {
+        Worth::Procedure(_) => true,
+        Worth::Routine(routine) => matches!(routine, Routine::Rdch | Routine::Getbyte),
+        Worth::Number(_) | Worth::Address(_, _) | Worth::Unset(_) => false,
+    }
+}
+
+/// Adds how a procedure is called, where an operand is its name, or the name of what holds it.
 pub fn say_uncalled(page: &mut Page, operand: Operand) -> Result<(), AllocError> {
     let name = callee_name(page.program, operand.value);
-    if name_of(operand) != Some(name) {
-        return Ok(());
+    match name_of(operand) {
+        Some(written) if written == name => {}
+        Some(_) if gives(operand.value) && shared(page, operand).is_none() => {}
+        _ => return Ok(()),
     }
     let arguments: &[u8] = if takes_arguments(page.program, operand.value) {
         b"(..)"
@@ -127,12 +138,16 @@ fn global_of(page: &Page, name: &[u8]) -> Option<u32> {
     }
 }
 
-/// Adds another name of the global that an operand is, if it has one: perhaps its number is used twice.
+/// Another name of the global that an operand is, and its number, if it has one: perhaps its number is used twice.
+fn shared<'a>(page: &Page<'_, 'a>, operand: Operand) -> Option<(u32, &'a [u8])> {
+    let name = name_of(operand)?;
+    let number = global_of(page, name)?;
+    Some((number, page.other_name(name, number)?))
+}
+
+/// Adds another name of the global that an operand is, if it has one.
 pub fn say_shared(page: &mut Page, operand: Operand) -> Result<(), AllocError> {
-    if let Some(name) = name_of(operand)
-        && let Some(number) = global_of(page, name)
-        && let Some(other) = page.other_name(name, number)
-    {
+    if let Some((number, other)) = shared(page, operand) {
         page.say(&[b"; the global "])?;
         add_word(&mut page.text, number)?;
         return page.say(&[b" is also called ", other]);

@@ -1,7 +1,10 @@
 //! Why an operator has no value of its operands.
 
+use crate::made::in_procedure;
 use crate::operands::{Operand, bare, say_fault_of, say_operand, say_shared, say_uncalled};
-use crate::spelling::{add_word, operator_symbol};
+use crate::setting::{say_setting, say_setting_of};
+use crate::sought::Search;
+use crate::spelling::{add_expr, add_word, has_piece, operator_symbol};
 use crate::values::Page;
 use crate::words::{say_byte, say_cell, say_extent};
 use bk_objects::{Reason, Worth};
@@ -40,7 +43,8 @@ fn say_no_base(
     if matches!(index.value, Worth::Address(_, _)) {
         page.say(&[b" before it"])?;
     }
-    say_shared(page, base)
+    say_shared(page, base)?;
+    say_setting(page, base)
 }
 
 /// Adds why `!` or `%` between these operands is undefined.
@@ -62,7 +66,27 @@ pub fn say_subscript(
         Reason::Byte(at, number) => say_byte(page, Some(expr), base, at, number)?,
         _ => say_no_base(page, operator_symbol(operator), base, index)?,
     }
-    say_index(page, index)
+    say_index(page, index)?;
+    match reason {
+        Reason::Cell(_) | Reason::Byte(_, _) => say_beside(page),
+        _ => Ok(()),
+    }
+}
+
+/// Adds the values of the variables beside an act, in the same command, where they are numbers.
+pub fn say_beside(page: &mut Page) -> Result<(), AllocError> {
+    let Some(names) = page.names else {
+        return Ok(());
+    };
+    let Search { beside, .. } = in_procedure(names.procedure, page.at, b"");
+    for name in beside.each() {
+        if let Some(name) = name
+            && let Some(Worth::Number(number)) = page.variable(name)
+        {
+            say_once(page, name, number)?;
+        }
+    }
+    Ok(())
 }
 
 /// Adds the values of the names in an index.
@@ -91,22 +115,28 @@ fn say_once(page: &mut Page, name: &[u8], number: u32) -> Result<(), AllocError>
     Ok(())
 }
 
-/// Whether what a text has from a place on is in it before that place, too.
-fn is_twice(text: &[u8], place: usize) -> bool {
-    let (Some(before), Some(piece)) = (text.get(..place), text.get(place..)) else {
+/// Whether what a text has from a place on, after a semicolon, is in it before that place, too.
+pub fn is_twice(text: &[u8], place: usize) -> bool {
+    let (Some(before), Some(added)) = (text.get(..place), text.get(place..)) else {
         return false;
     };
-    for i in 0..before.len() {
-        if let Some(rest) = before.get(i..)
-            && rest.starts_with(piece)
-        {
-            return true;
-        }
+    match added {
+        [b';', piece @ ..] => has_piece(before, piece) || before.starts_with(piece.trim_ascii()),
+        _ => false,
     }
-    false
 }
 
-/// Adds the values of the names in an expression.
+/// Adds the value of a word of a vector, or of a byte, unless it is there already.
+fn say_part(page: &mut Page, expr: &Expr) -> Result<(), AllocError> {
+    let mut spelled = Vec::new(page.m.alloc);
+    add_expr(&mut spelled, expr)?;
+    match page.known(expr) {
+        Some(Worth::Number(number)) => say_once(page, &spelled, number),
+        _ => Ok(()),
+    }
+}
+
+/// Adds the values of the names in an expression, and of the words and bytes of vectors, where they are numbers.
 #[cycle(names)]
 pub fn say_names(page: &mut Page, expr: &Expr) -> Result<(), AllocError> {
     match expr {
@@ -116,11 +146,61 @@ pub fn say_names(page: &mut Page, expr: &Expr) -> Result<(), AllocError> {
         },
         Expr::Parens { inside, .. } => say_names(page, inside),
         Expr::Unary { operand, .. } => say_names(page, operand),
-        Expr::Binary { left, right, .. } => {
+        Expr::Binary {
+            operator,
+            left,
+            right,
+            ..
+        } => {
+            if matches!(operator, Operator::Subscript | Operator::Byte) {
+                say_part(page, expr)?;
+            }
             say_names(page, left)?;
             say_names(page, right)
         }
+        Expr::Apply { arguments, .. } => say_all_names(page, arguments),
         _ => Ok(()),
+    }
+}
+
+/// The same of expressions.
+#[cycle(names)]
+fn say_all_names(page: &mut Page, exprs: &[Expr]) -> Result<(), AllocError> {
+    for expr in exprs {
+        say_names(page, expr)?;
+    }
+    Ok(())
+}
+
+/// Adds the names in an expression that hold no numbers, with their values.
+#[cycle(holders)]
+fn say_holders(page: &mut Page, expr: &Expr) -> Result<(), AllocError> {
+    match expr {
+        Expr::Name { letters, .. } => match page.value_of(letters) {
+            Some(x) if !matches!(x, Worth::Number(_) | Worth::Unset(_)) => {
+                page.say(&[b"; "])?;
+                page.say_is(expr, x)?;
+                say_setting_of(page, letters, x)
+            }
+            _ => Ok(()),
+        },
+        Expr::Parens { inside, .. } => say_holders(page, inside),
+        Expr::Binary { left, right, .. } => {
+            say_holders(page, left)?;
+            say_holders(page, right)
+        }
+        _ => Ok(()),
+    }
+}
+
+/// Adds where the value of an operand that is no number comes from.
+fn say_source(page: &mut Page, operand: Operand) -> Result<(), AllocError> {
+    if matches!(operand.value, Worth::Number(_)) {
+        return Ok(());
+    }
+    match operand.expr {
+        Some(expr @ Expr::Binary { .. }) => say_holders(page, expr),
+        _ => say_setting(page, operand),
     }
 }
 
@@ -246,6 +326,7 @@ pub fn say_operation(
     for operand in [a, b] {
         say_shared(page, operand)?;
         say_uncalled(page, operand)?;
+        say_source(page, operand)?;
     }
     Ok(())
 }

@@ -1,25 +1,21 @@
 //! What is suspicious in a program that is accepted. No contract says anything of these texts, nor which things they are.
 
 use crate::falls::falls;
+use crate::formats::in_format;
+use crate::globals::{on_globals, own_routines};
 use crate::mentions::Names;
+use crate::procedures::{
+    begins, defined_in, in_function, no_start, on_procedures, remark_arguments, twice,
+};
 use crate::report::Notice;
 use crate::spelling::{add, add_expr};
 use bk_base::word_text;
-use bk_tree::{
-    Command, ConstItem, Decl, Def, Expr, Init, Operator, Position, Prefix, Section, Sort,
-};
-use itoa::Buffer;
+use bk_tree::{Command, Decl, Def, Expr, Init, Operator, Position, Prefix, Section};
 use std::alloc::{AllocError, Global};
 use std::mem::replace;
 
 /// How many remarks there are at most.
 const REMARKS: usize = 10;
-
-/// Among how many definitions before a procedure its name is sought.
-const NEAR: usize = 256;
-
-/// How many declarations of globals are compared with one another at most.
-const GLOBALS: usize = 4000;
 
 /// Something suspicious.
 #[derive(Debug, Drop)]
@@ -32,7 +28,7 @@ pub struct Remark {
 
 /// The remarks so far.
 #[derive(Drop)]
-struct Found {
+pub struct Found {
     remarks: Vec<Remark>,
     /// The names of the section.
     names: Names,
@@ -41,7 +37,7 @@ struct Found {
 }
 
 /// Whether the program defines this routine itself.
-fn is_own(found: &Found, name: &[u8]) -> bool {
+pub fn is_own(found: &Found, name: &[u8]) -> bool {
     for own in &found.own_routines {
         if *own == name {
             return true;
@@ -51,62 +47,10 @@ fn is_own(found: &Found, name: &[u8]) -> bool {
 }
 
 /// Whether a section defines a procedure of this name.
-fn is_defined(sections: &[Section], name: &[u8]) -> bool {
+pub fn is_defined(sections: &[Section], name: &[u8]) -> bool {
     sections
         .iter()
         .any(|section| defined_in(section.decls(), name).is_some())
-}
-
-/// Whether a declaration of globals gives this name another number.
-fn has_other_number(items: &[ConstItem], name: &[u8], standard: i32) -> bool {
-    for item in items {
-        let ConstItem::Item { letters, expr, .. } = item;
-        if letters.as_slice() == name && number(expr) != Some(standard) {
-            return true;
-        }
-    }
-    false
-}
-
-/// Whether a section declares a global of this name, and not with this number.
-fn is_renumbered(section: &Section, name: &[u8], standard: i32) -> bool {
-    for decl in section.decls() {
-        if let Decl::Constants {
-            sort: Sort::Global,
-            items,
-            ..
-        } = decl
-            && has_other_number(items, name, standard)
-        {
-            return true;
-        }
-    }
-    false
-}
-
-/// The routines of the library that the sections define themselves, or whose names they give to other globals.
-fn own_routines(alloc: Global, sections: &[Section]) -> Result<Vec<&'static [u8]>, AllocError> {
-    let mut own = Vec::new(alloc);
-    for (name, standard) in [
-        (b"STOP".as_slice(), 2),
-        (b"RDCH".as_slice(), 3),
-        (b"WRCH".as_slice(), 4),
-        (b"NEWLINE".as_slice(), 5),
-        (b"WRITES".as_slice(), 6),
-        (b"WRITEN".as_slice(), 7),
-        (b"WRITED".as_slice(), 8),
-        (b"GETBYTE".as_slice(), 9),
-        (b"PUTBYTE".as_slice(), 10),
-        (b"WRITEF".as_slice(), 11),
-    ] {
-        let is_other = sections
-            .iter()
-            .any(|section| is_renumbered(section, name, standard));
-        if is_defined(sections, name) || is_other {
-            own.push(name)?;
-        }
-    }
-    Ok(own)
 }
 
 /// How many arguments a routine of the library takes, if this is the name of one that has a number.
@@ -140,7 +84,7 @@ fn in_library_call(
 }
 
 /// Adds a remark, if there is room for it.
-fn make_remark(
+pub fn make_remark(
     alloc: Global,
     found: &mut Found,
     at: Position,
@@ -178,7 +122,7 @@ fn in_cases(alloc: Global, found: &mut Found, body: &Command) -> Result<(), Allo
 }
 
 /// The number that an expression is, if it is written as one.
-fn number(expr: &Expr) -> Option<i32> {
+pub fn number(expr: &Expr) -> Option<i32> {
     match expr {
         Expr::Number { word, .. } => Some(word.cast_signed()),
         Expr::Unary {
@@ -288,123 +232,6 @@ fn in_for(
     Ok(())
 }
 
-/// How many bytes of a format belong to the directive that `%` and the bytes after it are, besides the `%`; none where WRITEF writes
-/// the `%` as it is.
-fn directive(after: &[u8]) -> Option<usize> {
-    match after {
-        [b'%' | b'S' | b's' | b'N' | b'n' | b'C' | b'c', ..] => Some(1),
-        [b'I' | b'i', digit, ..] if digit.is_ascii_digit() => Some(2),
-        _ => None,
-    }
-}
-
-/// The byte after the first `%` of a format that WRITEF writes as it is.
-fn plain_percent(format: &[u8]) -> Option<u8> {
-    let mut skipped = 0;
-    for (i, byte) in format.iter().enumerate() {
-        if skipped > 0 {
-            skipped -= 1;
-        } else if *byte == b'%' {
-            let after = format.get(i + 1..)?;
-            skipped = match directive(after) {
-                Some(bytes) => bytes,
-                None => return after.first().copied(),
-            };
-        }
-    }
-    None
-}
-
-/// How many arguments the directives of a format take.
-fn directives(format: &[u8]) -> usize {
-    let mut count: usize = 0;
-    let mut skipped = 0;
-    for (i, byte) in format.iter().enumerate() {
-        if skipped > 0 {
-            skipped -= 1;
-        } else if *byte == b'%' {
-            let after = format.get(i + 1..).unwrap_or(&[]);
-            if let Some(bytes) = directive(after) {
-                skipped = bytes;
-                if !matches!(after, [b'%', ..]) {
-                    count = count.saturating_add(1);
-                }
-            }
-        }
-    }
-    count
-}
-
-/// A call of WRITEF with more arguments than its format has directives.
-fn in_arguments(
-    alloc: Global,
-    found: &mut Found,
-    at: Position,
-    format: &[u8],
-    given: usize,
-) -> Result<(), AllocError> {
-    let wanted = directives(format);
-    if given <= wanted {
-        return Ok(());
-    }
-    let mut first = Buffer::new();
-    let mut second = Buffer::new();
-    make_remark(
-        alloc,
-        found,
-        at,
-        &[
-            b"the directives of this format take ",
-            first.format(wanted).as_bytes(),
-            if wanted == 1 {
-                b" argument"
-            } else {
-                b" arguments"
-            },
-            b", and ",
-            second.format(given).as_bytes(),
-            if given == 1 {
-                b" follows it"
-            } else {
-                b" follow it"
-            },
-        ],
-    )
-}
-
-/// A call of WRITEF with a `%` that it writes as it is, or with too many arguments.
-fn in_format(
-    alloc: Global,
-    found: &mut Found,
-    at: Position,
-    callee: &Expr,
-    arguments: &[Expr],
-) -> Result<(), AllocError> {
-    let Expr::Name { letters: name, .. } = callee else {
-        return Ok(());
-    };
-    let [Expr::Text { bytes: format, .. }, given @ ..] = arguments else {
-        return Ok(());
-    };
-    if name.as_slice() != b"WRITEF".as_slice() || is_own(found, name) {
-        return Ok(());
-    }
-    match plain_percent(format) {
-        None => in_arguments(alloc, found, at, format, given.len()),
-        Some(letter) if letter.is_ascii_graphic() => make_remark(
-            alloc,
-            found,
-            at,
-            &[
-                b"`WRITEF` writes `%",
-                &[letter],
-                b"` as it is; it knows `%S`, `%N`, `%C`, `%I0` to `%I9` and `%%`",
-            ],
-        ),
-        _ => Ok(()),
-    }
-}
-
 /// A `\` in a string that begins an escape in C.
 fn in_text(alloc: Global, found: &mut Found, at: Position, bytes: &[u8]) -> Result<(), AllocError> {
     if bytes.windows(2).any(|pair| matches!(pair, b"\\n" | b"\\t")) {
@@ -485,6 +312,30 @@ fn in_operands(alloc: Global, found: &mut Found, expr: &Expr) -> Result<(), Allo
     Ok(())
 }
 
+/// Notes the names that are conditions by themselves, in a condition.
+#[cycle(tests)]
+fn note_tests(found: &mut Found, expr: &Expr) -> Result<(), AllocError> {
+    match expr {
+        Expr::Name { at, letters } => found.names.note_test(letters, *at),
+        Expr::Parens { inside, .. } => note_tests(found, inside),
+        Expr::Unary {
+            prefix: Prefix::Not,
+            operand,
+            ..
+        } => note_tests(found, operand),
+        Expr::Binary {
+            operator: Operator::Both | Operator::Either,
+            left,
+            right,
+            ..
+        } => {
+            note_tests(found, left)?;
+            note_tests(found, right)
+        }
+        _ => Ok(()),
+    }
+}
+
 /// What is suspicious in an expression.
 #[cycle(remarks)]
 fn in_expr(alloc: Global, found: &mut Found, expr: &Expr) -> Result<(), AllocError> {
@@ -511,6 +362,7 @@ fn in_expr(alloc: Global, found: &mut Found, expr: &Expr) -> Result<(), AllocErr
             no,
             ..
         } => {
+            note_tests(found, condition)?;
             in_expr(alloc, found, condition)?;
             in_expr(alloc, found, yes)?;
             in_expr(alloc, found, no)
@@ -591,6 +443,7 @@ fn in_command(alloc: Global, found: &mut Found, command: &Command) -> Result<(),
             body,
             ..
         } => {
+            note_tests(found, value)?;
             in_expr(alloc, found, value)?;
             in_command(alloc, found, body)
         }
@@ -605,6 +458,7 @@ fn in_command(alloc: Global, found: &mut Found, command: &Command) -> Result<(),
             no,
             ..
         } => {
+            note_tests(found, value)?;
             in_expr(alloc, found, value)?;
             in_command(alloc, found, yes)?;
             in_command(alloc, found, no)
@@ -639,6 +493,7 @@ fn in_command(alloc: Global, found: &mut Found, command: &Command) -> Result<(),
             ..
         } => {
             in_command(alloc, found, body)?;
+            note_tests(found, value)?;
             in_expr(alloc, found, value)
         }
     }
@@ -697,6 +552,7 @@ fn in_def(alloc: Global, found: &mut Found, def: &Def) -> Result<(), AllocError>
         } => {
             found.names.declare(letters, *at, Some(formals.len()))?;
             found.names.declare_all(formals)?;
+            in_function(alloc, found, letters, formals, body)?;
             in_expr(alloc, found, body)
         }
         Def::Variables { names, inits, .. } => {
@@ -712,349 +568,6 @@ fn in_inits(alloc: Global, found: &mut Found, inits: &[Init]) -> Result<(), Allo
     for init in inits {
         if let Init::Value(value) = init {
             in_expr(alloc, found, value)?;
-        }
-    }
-    Ok(())
-}
-
-/// A procedure where it is defined.
-#[derive(Clone, Copy)]
-struct Defined<'a> {
-    name: &'a [u8],
-    at: Position,
-}
-
-/// The procedure that a definition is, if it is one.
-fn procedure(def: &Def) -> Option<Defined<'_>> {
-    match def {
-        Def::Routine {
-            at,
-            letters: name,
-            ..
-        } => Some(Defined { name, at: *at }),
-        Def::Function {
-            at,
-            letters: name,
-            ..
-        } => Some(Defined { name, at: *at }),
-        Def::Variables { .. } => None,
-    }
-}
-
-/// These definitions, and others.
-fn with_defs<'a>(before: Vec<&'a Def>, defs: &'a [Def]) -> Result<Vec<&'a Def>, AllocError> {
-    let mut all = before;
-    for def in defs {
-        all.push(def)?;
-    }
-    Ok(all)
-}
-
-/// The definitions of a block or of a section.
-fn defs_of(alloc: Global, decls: &[Decl]) -> Result<Vec<&Def>, AllocError> {
-    let mut all = Vec::new(alloc);
-    for decl in decls {
-        if let Decl::Let { defs, .. } = decl {
-            all = with_defs(all, defs)?;
-        }
-    }
-    Ok(all)
-}
-
-/// The position of the last procedure among these definitions that has this name.
-fn place_of_last(defs: &[&Def], name: &[u8]) -> Option<Position> {
-    for def in defs.iter().rev() {
-        if let Some(defined) = procedure(def)
-            && defined.name == name
-        {
-            return Some(defined.at);
-        }
-    }
-    None
-}
-
-/// A remark on a procedure with the name of one on another line.
-fn remark_twice<'a>(
-    alloc: Global,
-    found: &mut Found,
-    at: Position,
-    name: &'a [u8],
-    before: &'a [u8],
-) -> Result<(), AllocError> {
-    make_remark(
-        alloc,
-        found,
-        at,
-        &[b"`", name, b"` hides that of line ", before],
-    )
-}
-
-/// Remarks on procedures of a block, or of a section, that have the name of one not far before them.
-fn twice(alloc: Global, found: &mut Found, decls: &[Decl]) -> Result<(), AllocError> {
-    let all = defs_of(alloc, decls)?;
-    for (i, def) in all.iter().enumerate() {
-        if let Some(defined) = procedure(def)
-            && let Some(before) = place_of_last(&all[i.saturating_sub(NEAR)..i], defined.name)
-        {
-            let mut number = Buffer::new();
-            let spelling = number.format(before.line().number()).as_bytes();
-            remark_twice(alloc, found, defined.at, defined.name, spelling)?;
-        }
-    }
-    Ok(())
-}
-
-/// Whether START is among the items of a declaration of globals.
-fn has_start(items: &[ConstItem]) -> bool {
-    items.iter().any(|ConstItem::Item { letters: name, .. }| name.as_slice() == b"START".as_slice())
-}
-
-/// Whether a declaration says that START is a global.
-fn declares_start(decl: &Decl) -> bool {
-    match decl {
-        Decl::Constants {
-            sort: Sort::Global,
-            items,
-            ..
-        } => has_start(items),
-        _ => false,
-    }
-}
-
-/// The position of the procedure of this name, if it is among these definitions.
-fn place_in(defs: &[Def], name: &[u8]) -> Option<Position> {
-    for def in defs {
-        if let Some(defined) = procedure(def)
-            && defined.name == name
-        {
-            return Some(defined.at);
-        }
-    }
-    None
-}
-
-/// The position of a procedure among these declarations.
-fn defined_in(decls: &[Decl], name: &[u8]) -> Option<Position> {
-    for decl in decls {
-        if let Decl::Let { defs, .. } = decl
-            && let Some(at) = place_in(defs, name)
-        {
-            return Some(at);
-        }
-    }
-    None
-}
-
-/// Whether a section has a procedure START that is a global.
-fn begins(section: &Section) -> bool {
-    section.decls().iter().any(declares_start) && defined_in(section.decls(), b"START").is_some()
-}
-
-/// A remark on a procedure START that is no global, or on MAIN where there is no START.
-fn no_start(alloc: Global, found: &mut Found, decls: &[Decl]) -> Result<(), AllocError> {
-    if let Some(at) = defined_in(decls, b"START") {
-        return make_remark(
-            alloc,
-            found,
-            at,
-            &[
-                b"`START` is no global here, so no run begins with it; `GET \"LIBHDR\"` before it makes it one",
-            ],
-        );
-    }
-    match defined_in(decls, b"MAIN") {
-        Some(at) => make_remark(
-            alloc,
-            found,
-            at,
-            &[b"a run begins with `START`, and not with `MAIN`"],
-        ),
-        None => Ok(()),
-    }
-}
-
-/// A remark on a procedure that is no global and that nothing in its section names.
-fn remark_unused<'a>(
-    alloc: Global,
-    found: &mut Found,
-    at: Position,
-    name: &'a [u8],
-) -> Result<(), AllocError> {
-    make_remark(
-        alloc,
-        found,
-        at,
-        &[b"nothing calls `", name, b"`, which is no global"],
-    )
-}
-
-/// A remark on a call with more arguments than the procedure has formals.
-fn remark_arguments<'a>(
-    alloc: Global,
-    found: &mut Found,
-    at: Position,
-    name: &'a [u8],
-    counts: (usize, usize),
-) -> Result<(), AllocError> {
-    let (arguments, formals) = counts;
-    let formats = name == b"WRITES".as_slice();
-    let mut given = Buffer::new();
-    let mut taken = Buffer::new();
-    make_remark(
-        alloc,
-        found,
-        at,
-        &[
-            b"`",
-            name,
-            b"` is called with ",
-            given.format(arguments).as_bytes(),
-            if arguments == 1 {
-                b" argument"
-            } else {
-                b" arguments"
-            },
-            b", and takes ",
-            taken.format(formals).as_bytes(),
-            if formats {
-                b"; `WRITEF` takes a format"
-            } else {
-                b""
-            },
-        ],
-    )
-}
-
-/// Remarks on the procedure that the declaration with this index is, where nothing calls it, or a call gives it too many arguments. One
-/// whose name means something else elsewhere in the section is not looked at, since a call may be of that.
-fn on_procedure(
-    alloc: Global,
-    found: &mut Found,
-    names: &Names,
-    index: usize,
-) -> Result<(), AllocError> {
-    let Some((at, formals)) = names.own_procedure(index) else {
-        return Ok(());
-    };
-    let name = names.name_of(index);
-    let mut is_used = false;
-    for i in 0..names.uses() {
-        if let Some((there, arguments)) = names.use_of(i, name) {
-            is_used = true;
-            if arguments > formals {
-                remark_arguments(alloc, found, there, name, (arguments, formals))?;
-            }
-        }
-    }
-    if is_used {
-        return Ok(());
-    }
-    remark_unused(alloc, found, at, name)
-}
-
-/// Remarks on the procedures of a section.
-fn on_procedures(alloc: Global, found: &mut Found, names: &Names) -> Result<(), AllocError> {
-    for i in 0..names.declarations() {
-        on_procedure(alloc, found, names, i)?;
-    }
-    Ok(())
-}
-
-/// The first global before a position that has this number, where it has another name.
-fn first_with<'a>(
-    decls: &'a [Decl],
-    before: Position,
-    name: &[u8],
-    wanted: i32,
-) -> Option<&'a ConstItem> {
-    for decl in decls {
-        if let Decl::Constants {
-            sort: Sort::Global,
-            items,
-            ..
-        } = decl
-        {
-            for item in items {
-                let ConstItem::Item { at, letters, expr } = item;
-                let other: &[u8] = letters;
-                if *at == before {
-                    return None;
-                }
-                if number(expr) == Some(wanted) {
-                    return if other == name { None } else { Some(item) };
-                }
-            }
-        }
-    }
-    None
-}
-
-/// A remark on a global that has the number of another.
-fn remark_shared(
-    alloc: Global,
-    found: &mut Found,
-    global: &ConstItem,
-    first: &ConstItem,
-    number: i32,
-) -> Result<(), AllocError> {
-    let ConstItem::Item { at, letters, .. } = global;
-    let ConstItem::Item {
-        at: first_at,
-        letters: first_letters,
-        ..
-    } = first;
-    let number = word_text(number);
-    let mut line = Buffer::new();
-    make_remark(
-        alloc,
-        found,
-        *at,
-        &[
-            b"`",
-            letters,
-            b"` is the global ",
-            number.as_bytes(),
-            b", and so is `",
-            first_letters,
-            b"` of line ",
-            line.format(first_at.line().number()).as_bytes(),
-        ],
-    )
-}
-
-/// Remarks on globals of a declaration that have the number of one before them, and another name.
-fn on_items(
-    alloc: Global,
-    found: &mut Found,
-    decls: &[Decl],
-    items: &[ConstItem],
-) -> Result<(), AllocError> {
-    for item in items {
-        let ConstItem::Item { at, letters, expr } = item;
-        if let Some(number) = number(expr)
-            && let Some(first) = first_with(decls, *at, letters, number)
-        {
-            remark_shared(alloc, found, item, first, number)?;
-        }
-    }
-    Ok(())
-}
-
-/// Remarks on globals of a section that have one number and two names. What another section calls a global may be meant, as where a
-/// program puts a routine of its own in the place of one of the library.
-fn on_globals(alloc: Global, found: &mut Found, decls: &[Decl]) -> Result<(), AllocError> {
-    let mut count: usize = 0;
-    for decl in decls {
-        if let Decl::Constants {
-            sort: Sort::Global,
-            items,
-            ..
-        } = decl
-        {
-            count = count.saturating_add(items.len());
-            if count <= GLOBALS {
-                on_items(alloc, found, decls, items)?;
-            }
         }
     }
     Ok(())

@@ -2,6 +2,7 @@
 ghost use Rattle.std.specs.Prelude.{◌≡◌, []};
 
 use crate::remarks::Remark;
+use bk_objects::Reason;
 use bk_tree::Position;
 use std::alloc::{AllocError, Global};
 
@@ -15,7 +16,12 @@ pub enum Verdict {
     /// The program has no START.
     NoStart,
     /// The program does what is undefined.
-    Undefined,
+    Undefined {
+        /// The number of the argument at fault, from 1, in a call of a routine of the library.
+        argument: Option<usize>,
+        /// Why it is undefined.
+        reason: Reason,
+    },
     /// The program goes on after all turns.
     Turns,
 }
@@ -111,7 +117,7 @@ impl From<AllocError> for GivenUp {
 pub struct Report {
     /// The verdict.
     pub verdict: Verdict,
-    /// Where the run stopped, and why.
+    /// Where the run stopped, and why: at the node that acts or divides, or for which no turn was left.
     pub stop: Notice,
     /// What is suspicious in the source, in its order: ten things at most.
     pub remarks: Vec<Remark>,

@@ -1,14 +1,18 @@
 //! What was going on where the turns of a check were used up.
 
-use crate::made::loop_at;
+use crate::jumps::{Back, back_at, between, label_of};
+use crate::made::{in_procedure, loop_at};
 use crate::names::Names;
+use crate::operands::bare;
 use crate::operations::say_names;
-use crate::spelling::{add, add_expr, add_number};
-use crate::values::Page;
+use crate::sought::{Few, Search, Setter, Setters, is_up_to, place_of};
+use crate::spelling::{add, add_expr, add_number, has_piece};
+use crate::values::{Object, Page};
+use crate::walk::{in_command, in_expr};
 use bk_check::{Continuation, OnDone, OnTruth};
-use bk_lasting::Env;
-use bk_objects::Cell;
-use bk_tree::{Command, Expr, Position};
+use bk_lasting::{Env, Sense};
+use bk_objects::{Cell, Worth};
+use bk_tree::{Command, Expr, Name, Position};
 use std::alloc::AllocError;
 
 /// How many calls are active where a recursion may be without end.
@@ -16,6 +20,9 @@ pub const MANY: u64 = 1000;
 
 /// How many loops are named at most.
 const LOOPS: usize = 3;
+
+/// Of how many formals the values are told at most.
+const FORMALS: usize = 4;
 
 /// The loop that is to go on after a truth, and what names mean there.
 fn loop_of_truth<'m, 'a>(frame: &'m OnTruth<'a>) -> Option<(&'a Command, &'m Env<'a>)> {
@@ -42,6 +49,144 @@ fn loop_of<'m, 'a>(frame: &'m Continuation<'a>) -> Option<(&'a Command, &'m Env<
     }
 }
 
+/// Adds the value of a name, if that is a number or an address, unless it is there already.
+fn say_value_once(page: &mut Page, name: &[u8], is_read: bool) -> Result<(), AllocError> {
+    let Some(x) = page.variable(name) else {
+        return Ok(());
+    };
+    if !matches!(x, Worth::Number(_) | Worth::Address(_, _)) || is_own_vector(page, name, x) {
+        return Ok(());
+    }
+    let mut piece = Vec::new(page.m.alloc);
+    add(&mut piece, &[b"; ", name, b" is "])?;
+    if has_piece(&page.text, &piece) {
+        return Ok(());
+    }
+    page.say(&[&piece])?;
+    page.say_value(x)?;
+    if is_read && matches!(x, Worth::Number(0xFFFF_FFFF)) {
+        return page.say(&[b", as `RDCH` gives at the end of the input"]);
+    }
+    Ok(())
+}
+
+/// Whether a value is the vector of this name.
+fn is_own_vector(page: &Page, name: &[u8], x: Worth) -> bool {
+    match x {
+        Worth::Address(object, 0) => match page.object(object) {
+            Object::Made(made) => made.name == name,
+            _ => false,
+        },
+        _ => false,
+    }
+}
+
+/// Adds the values of some names.
+fn say_values(page: &mut Page, names: Few, read: Few) -> Result<(), AllocError> {
+    for name in names.each() {
+        if let Some(name) = name {
+            say_value_once(page, name, read.has(name))?;
+        }
+    }
+    Ok(())
+}
+
+/// The names of an expression.
+fn names_of<'a>(expr: &'a Expr) -> Few<'a> {
+    let mut search = Search::new(expr.at(), b"");
+    in_expr(&mut search, expr);
+    let Search { beside, .. } = search;
+    beside
+}
+
+/// Whether a name means a variable or a formal of the procedure that is active, and a number is in it.
+fn is_local_number(page: &Page, name: &[u8]) -> bool {
+    match page.variable(name) {
+        Some(Worth::Number(_)) => is_local(page, name),
+        _ => false,
+    }
+}
+
+/// Whether a name means a variable or a formal.
+fn is_local(page: &Page, name: &[u8]) -> bool {
+    let Some(names) = page.names else {
+        return false;
+    };
+    match names.sense(name) {
+        Some(Sense::Cell(object, _)) => matches!(page.object(object), Object::Made(_)),
+        _ => false,
+    }
+}
+
+/// Whether a condition is a relation of a name and a number as they are written.
+fn compared<'a>(condition: &'a Expr) -> Option<&'a [u8]> {
+    match bare(condition) {
+        Expr::Name { letters, .. } => Some(letters),
+        Expr::Binary { left, right, .. } => match (&**left, &**right) {
+            (Expr::Name { letters, .. }, Expr::Number { .. }) => Some(letters),
+            (Expr::Number { .. }, Expr::Name { letters, .. }) => Some(letters),
+            _ => None,
+        },
+        _ => None,
+    }
+}
+
+/// Whether nothing in a loop sets a name, and nothing else in the procedure can.
+fn is_constant_in<'a>(page: &Page<'_, 'a>, command: &'a Command, name: &'a [u8]) -> bool {
+    let Some(names) = page.names else {
+        return false;
+    };
+    let mut search = Search::new(command.at(), name);
+    in_command(&mut search, command);
+    let Search {
+        setters,
+        declared,
+        ..
+    } = search;
+    setters.count == 0
+        && declared == 0
+        && !in_procedure(names.procedure, command.at(), name).is_taken
+}
+
+/// Adds that nothing in a loop sets the one variable of its condition, if that is so.
+fn say_unset<'a>(
+    page: &mut Page<'_, 'a>,
+    command: &'a Command,
+    condition: &'a Expr,
+) -> Result<(), AllocError> {
+    match compared(condition) {
+        Some(name) if is_local_number(page, name) && is_constant_in(page, command, name) => {
+            page.say(&[b", and nothing in the loop sets it"])
+        }
+        _ => Ok(()),
+    }
+}
+
+/// Adds the values of the names that a loop has in its condition, and of those that it sets.
+fn say_state<'a>(
+    page: &mut Page<'_, 'a>,
+    command: &'a Command,
+    condition: Option<&'a Expr>,
+) -> Result<(), AllocError> {
+    let mut search = Search::new(command.at(), b"");
+    in_command(&mut search, command);
+    let Search {
+        tested,
+        assigned,
+        read,
+        ..
+    } = search;
+    match condition {
+        Some(condition) => {
+            say_values(page, names_of(condition), read)?;
+            say_unset(page, command, condition)?;
+            say_names(page, condition)?;
+        }
+        None => say_values(page, tested, read)?,
+    }
+    say_values(page, assigned, read)
+}
+
 /// Adds a loop that has a condition, as it is written.
 fn say_conditional(
     page: &mut Page,
@@ -54,12 +199,11 @@ fn say_conditional(
     add_expr(&mut page.text, condition)?;
     add(&mut page.text, &[b"`", place])?;
     add_number(&mut page.text, at.line().number() as usize)?;
-    add(&mut page.text, &[b" goes on"])?;
-    say_names(page, condition)
+    add(&mut page.text, &[b" goes on"])
 }
 
-/// Adds a loop, and the values of the names in its condition.
-fn say_loop(page: &mut Page, command: &Command) -> Result<(), AllocError> {
+/// Adds a loop, and the values of the names in its condition, and of those that it sets.
+fn say_loop<'a>(page: &mut Page<'_, 'a>, command: &'a Command) -> Result<(), AllocError> {
     match command {
         Command::While {
             at,
@@ -68,7 +212,8 @@ fn say_loop(page: &mut Page, command: &Command) -> Result<(), AllocError> {
             ..
         } => {
             let keyword: &[u8] = if *truth { b"WHILE" } else { b"UNTIL" };
-            say_conditional(page, keyword, condition, b" of line ", *at)
+            say_conditional(page, keyword, condition, b" of line ", *at)?;
+            say_state(page, command, Some(condition))
         }
         Command::RepeatWhile {
             at,
@@ -81,7 +226,8 @@ fn say_loop(page: &mut Page, command: &Command) -> Result<(), AllocError> {
             } else {
                 b"REPEATUNTIL"
             };
-            say_conditional(page, keyword, condition, b" that begins on line ", *at)
+            say_conditional(page, keyword, condition, b" that begins on line ", *at)?;
+            say_state(page, command, Some(condition))
         }
         Command::For { at, name, .. } => {
             page.say(&[b"the `FOR ", &name.letters, b"` of line "])?;
@@ -91,7 +237,8 @@ fn say_loop(page: &mut Page, command: &Command) -> Result<(), AllocError> {
         _ => {
             page.say(&[b"the `REPEAT` that begins on line "])?;
             add_number(&mut page.text, command.at().line().number() as usize)?;
-            page.say(&[b" goes on"])
+            page.say(&[b" goes on"])?;
+            say_state(page, command, None)
         }
     }
 }
@@ -100,6 +247,7 @@ fn say_loop(page: &mut Page, command: &Command) -> Result<(), AllocError> {
 fn say_loops(page: &mut Page) -> Result<(), AllocError> {
     let m = page.m;
     let here = page.names;
+    let start = b"the turns are used up".len();
     let mut count: usize = 0;
     for frame in m.frames.iter().rev() {
         if count < LOOPS
@@ -110,9 +258,10 @@ fn say_loops(page: &mut Page) -> Result<(), AllocError> {
                 env,
                 procedure: names.procedure,
                 formals: names.formals,
+                call: names.call,
                 is_outside: false,
             });
-            page.say(&[if count == 0 { b": " } else { b"; " }])?;
+            begin_piece(page, start)?;
             say_loop(page, command)?;
             count += 1;
         }
@@ -121,22 +270,120 @@ fn say_loops(page: &mut Page) -> Result<(), AllocError> {
     Ok(())
 }
 
+/// Adds what is before a loop: a colon, or a semicolon after another.
+fn begin_piece(page: &mut Page, start: usize) -> Result<(), AllocError> {
+    let piece: &[u8] = if page.text.len() == start {
+        b": "
+    } else {
+        b"; "
+    };
+    page.say(&[piece])
+}
+
 /// Adds the innermost FOR that goes on, and the value of its variable.
 fn say_for_loop(page: &mut Page) -> Result<(), AllocError> {
     let m = page.m;
     for frame in m.frames.iter().rev() {
         if let Continuation::Done(OnDone::ForRound(run)) = frame {
-            let name: &[u8] = &run.name.letters;
-            page.say(&[b": the `FOR ", name, b"` of line "])?;
-            add_number(&mut page.text, run.name.at.line().number() as usize)?;
-            page.say(&[b" goes on"])?;
-            return match m.store.cell(run.object, 0) {
-                Some(Cell::Holds(x)) => {
-                    page.say(&[b"; ", name, b" is "])?;
-                    page.say_value(x)
-                }
-                _ => Ok(()),
-            };
+            return say_for_round(page, run.name, run.object, run.step, run.body);
+        }
+    }
+    Ok(())
+}
+
+/// Adds a FOR that goes on, the value of its variable, and what in it keeps it from its end.
+fn say_for_round<'a>(
+    page: &mut Page<'_, 'a>,
+    variable: &'a Name,
+    object: u64,
+    step: u32,
+    body: &'a Command,
+) -> Result<(), AllocError> {
+    let name: &'a [u8] = &variable.letters;
+    page.say(&[b": the `FOR ", name, b"` of line "])?;
+    add_number(&mut page.text, variable.at.line().number() as usize)?;
+    page.say(&[b" goes on"])?;
+    if let Some(Cell::Holds(x)) = page.m.store.cell(object, 0) {
+        page.say(&[b"; ", name, b" is "])?;
+        page.say_value(x)?;
+    }
+    if step == 0 {
+        return page.say(&[b"; its step is 0"]);
+    }
+    let mut search = Search::new(variable.at, name);
+    in_command(&mut search, body);
+    let Search {
+        setters,
+        declared,
+        ..
+    } = search;
+    let Setters { first, .. } = setters;
+    match first {
+        Some(Setter { line, .. }) if declared == 0 => {
+            page.say(&[b"; ", name, b" is set on line "])?;
+            add_number(&mut page.text, line as usize)
+        }
+        _ => Ok(()),
+    }
+}
+
+/// Where the innermost loop of the procedure that is active begins, if one goes on.
+fn loop_here(page: &Page) -> Option<Position> {
+    for frame in page.m.frames.iter().rev() {
+        match frame {
+            Continuation::Returned(_) => return None,
+            Continuation::Done(OnDone::ForRound(run)) => return Some(run.name.at),
+            _ => {}
+        }
+        if let Some((command, _)) = loop_of(frame) {
+            return Some(command.at());
+        }
+    }
+    None
+}
+
+/// The GOTO that makes the innermost loop of the procedure that is active.
+fn back_here<'a>(page: &Page<'_, 'a>) -> Option<Back<'a>> {
+    let back = back_at(page.program, page.at)?;
+    match loop_here(page) {
+        Some(other) if is_up_to(label_of(back), place_of(other)) => None,
+        _ => Some(back),
+    }
+}
+
+/// Adds a loop that a GOTO makes.
+fn say_back<'a>(page: &mut Page<'_, 'a>, back: Back<'a>) -> Result<(), AllocError> {
+    page.say(&[b": the `GOTO ", back.name, b"` of line "])?;
+    add_number(&mut page.text, back.line as usize)?;
+    page.say(&[b" goes back to the label of line "])?;
+    add_number(&mut page.text, back.label_line as usize)?;
+    let Search {
+        tested,
+        assigned,
+        read,
+        ..
+    } = between(page.program, back);
+    say_values(page, tested, read)?;
+    say_values(page, assigned, read)
+}
+
+/// Adds the values of the formals of the procedure that is active.
+pub fn say_formals(page: &mut Page) -> Result<(), AllocError> {
+    let Some(names) = page.names else {
+        return Ok(());
+    };
+    let mut before: &[u8] = b"; in ";
+    for formal in names.procedure.formals.iter().take(FORMALS) {
+        if let Some(x) = page.value_of(&formal.letters)
+            && !matches!(x, Worth::Unset(_))
+        {
+            page.say(&[before])?;
+            if before == b"; in ".as_slice() {
+                page.say(&[names.procedure.name, b", "])?;
+            }
+            page.say(&[&formal.letters, b" is "])?;
+            page.say_value(x)?;
+            before = b", ";
         }
     }
     Ok(())
@@ -149,8 +396,12 @@ pub fn say_turns(page: &mut Page, at: Position) -> Result<(), AllocError> {
         page.say(&[b": "])?;
         add_number(&mut page.text, page.m.calls as usize)?;
         page.say(&[b" calls are active, perhaps of a recursion without end"])?;
+        say_formals(page)?;
     } else {
         let before = page.text.len();
+        if let Some(back) = back_here(page) {
+            say_back(page, back)?;
+        }
         say_loops(page)?;
         if page.text.len() == before {
             say_for_loop(page)?;

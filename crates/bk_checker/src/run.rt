@@ -8,7 +8,7 @@ ghost use Rattle.bk_meaning.specs.Lasting.{Program};
 ghost use Rattle.bk_check.specs.declared.frame.Continuation.{Continuation};
 ghost use Rattle.bk_check.specs.declared.frame.Next.TheVariants as n;
 ghost use Rattle.bk_check.specs.Views.{program_in};
-ghost use Rattle.bk_check.specs.Resume.{outcome_next};
+ghost use Rattle.bk_check.specs.Resume.{outcome_next, argument_of as argument_in};
 ghost use Rattle.bk_checker.specs.declared.report.CheckFault.TheVariants.{Write, TooDeep};
 ghost use Rattle.bk_checker.specs.Checks.{Blames, over, verdict_of, Answered, Moves, Reaches, ComesToLimit, devices};
 ghost use Rattle.bk_checker.specs.Limits.{Progresses, asked, IsTooDeep};
@@ -17,7 +17,7 @@ use crate::report::{CheckFault, Verdict};
 use bk_base::{ByteIn, ByteOut, put_all};
 use bk_check::{Evaluator, Next, Subject, Thing, step};
 use bk_lasting::{Lasting, constant};
-use bk_objects::{Effect, Origin, Routine, Worth, perform};
+use bk_objects::{Effect, Origin, Reason, Routine, Worth, perform};
 use bk_tree::{Init, Position};
 
 /// How many frames are at most on the stack of a check.
@@ -138,6 +138,16 @@ fn is_over<'a>(m: &Evaluator<'a>, next: &Next<'a>) -> bool
     }
 }
 
+/// The number of the argument at fault, from 1, in a call of a routine of the library.
+fn argument_of(subject: &Subject) -> Option<usize>
+    ensures { result ≡ argument_in subject.now }
+{
+    match subject {
+        Subject::Library(_, _, argument, _) => Some(*argument),
+        _ => None,
+    }
+}
+
 /// The verdict of what ends a run.
 pub fn verdict(next: &Next) -> Verdict
     ensures { result ≡ verdict_of next.now }
@@ -147,7 +157,14 @@ pub fn verdict(next: &Next) -> Verdict
         Next::Status(status) => Verdict::Status(*status),
         Next::DivideByZero(_) => Verdict::DivideByZero,
         Next::Going(_) => Verdict::Turns,
-        _ => Verdict::Undefined,
+        Next::Undefined(subject, reason) => Verdict::Undefined {
+            argument: argument_of(subject),
+            reason: *reason,
+        },
+        _ => Verdict::Undefined {
+            argument: None,
+            reason: Reason::NoPlace,
+        },
     }
 }
 

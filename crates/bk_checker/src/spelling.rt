@@ -69,6 +69,18 @@ pub fn prefix_symbol(prefix: Prefix) -> &'static [u8] {
     }
 }
 
+/// Whether a piece is in a text.
+pub fn has_piece(text: &[u8], piece: &[u8]) -> bool {
+    for i in 0..text.len() {
+        if let Some(rest) = text.get(i..)
+            && rest.starts_with(piece)
+        {
+            return true;
+        }
+    }
+    false
+}
+
 /// Adds a number.
 pub fn add_number(text: &mut Vec<u8>, number: usize) -> Result<(), AllocError> {
     let mut buffer = Buffer::new();
@@ -190,6 +202,24 @@ fn put_expr(text: &mut Vec<u8>, expr: &Expr) -> Result<(), AllocError> {
             put_expr(text, operand)
         }
         Expr::Binary {
+            operator: Operator::Both,
+            left,
+            right,
+            ..
+        } if is_chain(left, right) => {
+            put_expr(text, left)?;
+            if let Expr::Binary {
+                operator,
+                right: last,
+                ..
+            } = &**right
+            {
+                add(text, &[b" ", operator_symbol(*operator), b" "])?;
+                put_expr(text, last)?;
+            }
+            Ok(())
+        }
+        Expr::Binary {
             operator,
             left,
             right,
@@ -231,6 +261,23 @@ fn put_expr(text: &mut Vec<u8>, expr: &Expr) -> Result<(), AllocError> {
             add(text, &[b"TABLE "])?;
             put_exprs(text, items)
         }
+    }
+}
+
+/// Whether the operands of an `&` are the relations of a chain: they share an operand of the text.
+fn is_chain(left: &Expr, right: &Expr) -> bool {
+    let last = match left {
+        Expr::Binary {
+            operator: Operator::Both,
+            right: last,
+            ..
+        } => &**last,
+        _ => left,
+    };
+    match (last, right) {
+        (Expr::Binary { right: shared, .. }, Expr::Binary { left: copy, .. }) => shared.at()
+            == copy.at(),
+        _ => false,
     }
 }
 

@@ -1,16 +1,17 @@
 //! Values and objects, as a person knows them: by the names of the source.
 
-use crate::made::{Kind, Made, formals_at, made_at};
+use crate::made::{Made, formals_at, made_at};
 use crate::names::{Names, env_of, name_in, names_in};
 use crate::operands::bare;
+use crate::sought::Kind;
 use crate::spelling::{
     add, add_character, add_expr, add_number, add_string, add_word, routine_name,
 };
 use bk_base::word;
 use bk_check::Evaluator;
 use bk_lasting::{Env, GLOBALS_OBJECT, Lasting, Sense};
-use bk_objects::{Cell, Origin, Worth};
-use bk_tree::{Expr, Position};
+use bk_objects::{Cell, Computed, Origin, Worth, combine, read};
+use bk_tree::{Expr, Position, Prefix};
 use std::alloc::AllocError;
 
 /// In how many frames the name of a static word is sought at most.
@@ -24,6 +25,8 @@ pub struct Page<'m, 'a> {
     pub program: &'m [Lasting<'a>],
     /// What names mean where the act is done, if that is known.
     pub names: Option<Names<'m, 'a>>,
+    /// Where the act is done.
+    pub at: Position,
 }
 
 /// The name of the procedure with this number.
@@ -99,6 +102,14 @@ fn byte_of(words: &[u32], place: u32) -> u8 {
     }
 }
 
+/// Adds the bytes of a string of these words.
+fn add_bytes(bytes: &mut Vec<u8>, words: &[u32]) -> Result<(), AllocError> {
+    for i in 0..u32::from(byte_of(words, 0)) {
+        bytes.push(byte_of(words, i.saturating_add(1)))?;
+    }
+    Ok(())
+}
+
 /// Whether words are those of a string that can be printed.
 fn is_string(words: &[u32]) -> bool {
     let length = u32::from(byte_of(words, 0));
@@ -132,13 +143,14 @@ pub enum Object<'m, 'a> {
 }
 
 impl<'m, 'a> Page<'m, 'a> {
-    /// An empty page, where an act is done.
-    pub fn new(m: &'m Evaluator<'a>, program: &'m [Lasting<'a>]) -> Page<'m, 'a> {
+    /// An empty page, for an act that is done at this position.
+    pub fn new(m: &'m Evaluator<'a>, program: &'m [Lasting<'a>], at: Position) -> Page<'m, 'a> {
         Page {
             text: Vec::new(m.alloc),
             m,
             program,
             names: names_in(m, program),
+            at,
         }
     }
 
@@ -240,7 +252,13 @@ impl<'m, 'a> Page<'m, 'a> {
                 self.say(&[b"the string "])?;
                 self.say_string(words)
             }
-            Object::Table => self.say(&[b"a TABLE"]),
+            Object::Table => match self.table_name(object) {
+                Some(made) => {
+                    self.say(&[made.name])?;
+                    self.say_of(made.procedure, object)
+                }
+                None => self.say(&[b"a TABLE"]),
+            },
             Object::Entry(name) => self.say(&[b"the word of the procedure ", name]),
             Object::Unknown => self.say(&[b"a variable or vector"]),
         }
@@ -264,10 +282,18 @@ impl<'m, 'a> Page<'m, 'a> {
     /// Adds a string of these words.
     fn say_string(&mut self, words: &[u32]) -> Result<(), AllocError> {
         let mut bytes = Vec::new(self.m.alloc);
-        for i in 0..u32::from(byte_of(words, 0)) {
-            bytes.push(byte_of(words, i.saturating_add(1)))?;
-        }
+        add_bytes(&mut bytes, words)?;
         add_string(&mut self.text, &bytes)
+    }
+
+    /// Adds the bytes of the string at an address, if one is there.
+    pub fn add_text(&self, bytes: &mut Vec<u8>, x: Worth) -> Result<(), AllocError> {
+        if let Worth::Address(object, 0) = x
+            && let Object::String(words) = self.object(object)
+        {
+            return add_bytes(bytes, words);
+        }
+        Ok(())
     }
 
     /// Adds that the object of an address is gone; of formals, the one at this offset.
@@ -331,13 +357,14 @@ impl<'m, 'a> Page<'m, 'a> {
             Object::Made(made) => match made.kind {
                 Kind::Formals => self.say_formal(made.procedure, made.name, made.at, offset),
                 Kind::Variable => {
-                    self.say(&[b"@"])?;
-                    self.say_object(object)?;
-                    self.say_offset(offset)
+                    self.say(&[b"@", made.name])?;
+                    self.say_offset(offset)?;
+                    self.say_of(made.procedure, object)
                 }
                 Kind::Vector => {
-                    self.say_object(object)?;
-                    self.say_offset(offset)
+                    self.say(&[made.name])?;
+                    self.say_offset(offset)?;
+                    self.say_of(made.procedure, object)
                 }
             },
             Object::Globals => match self.global(offset) {
@@ -437,7 +464,7 @@ impl<'m, 'a> Page<'m, 'a> {
                     Kind::Formals => self.say(&[b"the address of a formal"]),
                 },
                 Object::String(_) => self.say(&[b"a string"]),
-                Object::Table => self.say(&[b"the address of a TABLE"]),
+                Object::Table => self.say(&[b"a TABLE"]),
                 _ => self.say(&[b"an address"]),
             },
         }
@@ -463,7 +490,7 @@ impl<'m, 'a> Page<'m, 'a> {
         let expr = self.text.get(start..name).unwrap_or(&[]);
         let spelled = self.text.get(value..).unwrap_or(&[]);
         match x {
-            Worth::Procedure(_) | Worth::Routine(_) => spelled.ends_with(expr),
+            Worth::Procedure(_) | Worth::Routine(_) => callee_name(self.program, x) == expr,
             Worth::Address(_, _) => spelled == expr
                 || spelled.ends_with(b"\"") && expr.ends_with(b"\""),
             Worth::Number(_) | Worth::Unset(_) => spelled == expr,
@@ -507,6 +534,14 @@ impl<'m, 'a> Page<'m, 'a> {
         }
     }
 
+    /// The value of a name that is no constant, if it has one.
+    pub fn variable(&self, name: &[u8]) -> Option<Worth> {
+        match self.names?.sense(name)? {
+            Sense::Cell(_, _) => self.value_of(name),
+            Sense::Constant(_) | Sense::Label | Sense::Foreign => None,
+        }
+    }
+
     /// Whether an expression is a number, or a name of MANIFEST.
     pub fn is_constant(&self, expr: &Expr) -> bool {
         match bare(expr) {
@@ -540,16 +575,73 @@ impl<'m, 'a> Page<'m, 'a> {
         Ok(())
     }
 
-    /// The value of an expression that is a name or a number.
-    pub fn known(&self, expr: &Expr) -> Option<Worth> {
-        match expr {
-            Expr::Name { letters, .. } => self.value_of(letters),
-            Expr::Number { word, .. } => Some(Worth::Number(*word)),
-            Expr::Parens { inside, .. } => match &**inside {
-                Expr::Name { letters, .. } => self.value_of(letters),
-                _ => None,
-            },
-            _ => None,
+    /// The variable that holds the address of a TABLE: of those that do, the first of the outermost procedure.
+    pub fn table_name(&self, object: u64) -> Option<Made<'a>> {
+        for frame in self.m.frames.iter().take(NEAR) {
+            if let Some(env) = env_of(frame)
+                && let Some(made) = self.holder_in(env, object)
+            {
+                return Some(made);
+            }
         }
+        self.holder_in(self.names?.env, object)
+    }
+
+    /// The variable that was declared first among these that hold the address of an object.
+    fn holder_in(&self, env: &Env<'a>, object: u64) -> Option<Made<'a>> {
+        let mut names = &env.names;
+        let mut found = None;
+        while let Some(node) = names {
+            if let Sense::Cell(holder, 0) = node.sense
+                && let Some(Cell::Holds(Worth::Address(held, 0))) = self.m.store.cell(holder, 0)
+                && held == object
+                && let Object::Made(made) = self.object(holder)
+                && matches!(made.kind, Kind::Variable)
+            {
+                found = Some(made);
+            }
+            names = &node.outer;
+        }
+        found
+    }
+
+    /// The value of an expression, if it has no calls and its names have values.
+    pub fn known(&self, expr: &Expr) -> Option<Worth> {
+        known_in(self, expr)
+    }
+}
+
+/// What an operation gave, if it gave a value.
+fn given(computed: Computed) -> Option<Worth> {
+    match computed {
+        Computed::Value(x) => Some(x),
+        Computed::DivideByZero | Computed::Undefined(_) => None,
+    }
+}
+
+/// The value of an expression, if it has no calls and its names have values.
+#[cycle(known)]
+fn known_in(page: &Page, expr: &Expr) -> Option<Worth> {
+    match expr {
+        Expr::Name { letters, .. } => page.value_of(letters),
+        Expr::Number { word, .. } => Some(Worth::Number(*word)),
+        Expr::Parens { inside, .. } => known_in(page, inside),
+        Expr::Unary {
+            prefix: Prefix::Contents,
+            operand,
+            ..
+        } => given(read(&page.m.store, known_in(page, operand)?)),
+        Expr::Binary {
+            operator,
+            left,
+            right,
+            ..
+        } => given(combine(
+            &page.m.store,
+            *operator,
+            known_in(page, left)?,
+            known_in(page, right)?,
+        )),
+        _ => None,
     }
 }

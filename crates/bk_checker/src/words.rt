@@ -1,7 +1,7 @@
 //! What is wrong with a word or a byte of an object.
 
-use crate::made::Kind;
 use crate::operands::{Operand, bare, say_fault_of, say_written};
+use crate::sought::Kind;
 use crate::spelling::{add_number, add_word};
 use crate::values::{Object, Page};
 use bk_base::word;
@@ -33,7 +33,12 @@ pub fn say_partly(page: &mut Page, bytes: [bool; 4]) -> Result<(), AllocError> {
             before = b" and byte ";
         }
     }
-    page.say(&[b" was set"])
+    let count = bytes.iter().filter(|is_set| **is_set).count();
+    page.say(&[if count == 1 {
+        b" was set"
+    } else {
+        b" were set"
+    }])
 }
 
 /// Adds that there is no value, and why.
@@ -74,7 +79,11 @@ fn is_called(page: &Page, expr: &Expr, object: u64) -> bool {
     };
     match page.object(object) {
         Object::Made(made) => matches!(made.kind, Kind::Vector) && letters.as_slice() == made.name,
-        Object::String(_) | Object::Table | Object::Unknown => true,
+        Object::Table => match page.table_name(object) {
+            Some(made) => letters.as_slice() == made.name,
+            None => true,
+        },
+        Object::String(_) | Object::Unknown => true,
         Object::Globals | Object::Static(_) | Object::Entry(_) => false,
     }
 }
@@ -270,9 +279,11 @@ pub fn say_byte(
         Some(Cell::Holds(x)) => match x {
             Worth::Unset(origin) => say_unset(page, relative(is_called), origin),
             _ => {
-                page.say(&[b", and the word there is "])?;
-                page.say_value(x)?;
-                page.say(&[b", which has no bytes"])
+                page.say(&[b", where the word is no number: it is "])?;
+                if matches!(x, Worth::Address(_, _)) && !page.is_text(x) {
+                    page.say(&[b"the address "])?;
+                }
+                page.say_value(x)
             }
         },
     }

@@ -131,7 +131,7 @@ abbrev pub verdict_status : Verdict → ℕ
 verdict_status (v.Status word) = if nat_lt word 100 then word else 100
 verdict_status v.DivideByZero = 104
 verdict_status v.NoStart = 108
-verdict_status v.Undefined = 113
+verdict_status (v.Undefined which why) = 113
 verdict_status v.Turns = 106
 
 abbrev pub check_fault_status : CheckFault → ℕ
@@ -178,7 +178,7 @@ abbrev pub verdict_text : Verdict → List ℕ → Report → Option (List ℕ)
 verdict_text (v.Status word) file report = None
 verdict_text v.NoStart file report = Some (line_of (codes "no START"))
 verdict_text v.DivideByZero file report = Some (notice_text file [] report.stop)
-verdict_text v.Undefined file report = Some (notice_text file (codes "undefined: ") report.stop)
+verdict_text (v.Undefined which why) file report = Some (notice_text file (codes "undefined: ") report.stop)
 verdict_text v.Turns file report = Some (notice_text file [] report.stop)
 
 -- where the limits of a check were reached

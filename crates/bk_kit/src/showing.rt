@@ -147,9 +147,7 @@ fn put_refused<O: ByteOut>(
 /// The lexer after the text of a refused section.
 fn lexer_of(alloc: Global, refused: &RefusedText) -> Option<Lexer> {
     let mut lexer = Lexer::new(alloc, refused.line).ok()?;
-    for byte in refused.text.as_slice() {
-        let _cut = lexer.step(*byte).ok()?;
-    }
+    let _front = lexer.take_front(refused.text.as_slice()).ok()?;
     Some(lexer)
 }
 

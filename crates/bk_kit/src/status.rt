@@ -221,7 +221,7 @@ fn status_of_verdict(verdict: Verdict) -> u8
         Verdict::Status(word) => if word < 100 { word as u8 } else { 100 },
         Verdict::DivideByZero => 104,
         Verdict::NoStart => 108,
-        Verdict::Undefined => 113,
+        Verdict::Undefined { .. } => 113,
         Verdict::Turns => 106,
     }
 }
@@ -234,7 +234,7 @@ fn report_verdict<E: ByteOut>(report: &Report, file: &str, err: &mut E)
         Verdict::Status(_) => {}
         Verdict::NoStart => report_line("no START", err),
         Verdict::DivideByZero | Verdict::Turns => report_notice(&report.stop, "", file, err),
-        Verdict::Undefined => report_notice(&report.stop, "undefined: ", file, err),
+        Verdict::Undefined { .. } => report_notice(&report.stop, "undefined: ", file, err),
     }
 }
 

@@ -1,6 +1,6 @@
 -- What is done in any world only adds to its history: for proofs that follow a run step by step, and need it of what is still
 -- to be done.
-use Rattle.bk_meaning.proofs.Terms.{◌≡◌, ℕ, zero, suc, ◌≤◌, Bool, true, false, List, [], ◌++◌, Option, Some, None, refl, sym, ap, ◌∙◌, append_assoc, arith, append-nil, Memory, World, Exit, Outcome, gives, leaves, ends, undefined, going, each_way, with, given, either, turn, turn_of, closing, changes, calling, writing, History, history, Grows, After}
+use Rattle.bk_meaning.proofs.Terms.{◌≡◌, ℕ, zero, suc, ◌≤◌, Bool, true, false, List, [], ◌++◌, Option, Some, None, refl, sym, ap, ◌∙◌, append_assoc, arith, append-nil, Memory, World, Exit, Outcome, gives, leaves, ends, undefined, going, each_way, with, given, either, turn, turn_of, closing, changes, calling, writing, History, history, Grows, After, Cause}
 
 pub stays : (h : History) → Grows h h
 stays h = record { written = []; output = sym (append-nil h.output); taken = []; input = refl; most_calls = omega arith }
@@ -22,8 +22,8 @@ pub earlier : {A : Type 0} (u w : History) (o : Outcome A) → Grows u w → Aft
 earlier u w (gives a v) g h = then_on u w (history v) g h
 earlier u w (leaves x v) g h = then_on u w (history v) g h
 earlier u w (ends e v) g h = then_on u w (history v) g h
-earlier u w (undefined l v) g h = then_on u w (history v) g h
-earlier u w (going v) g h = then_on u w (history v) g h
+earlier u w (undefined l why v) g h = then_on u w (history v) g h
+earlier u w (going l v) g h = then_on u w (history v) g h
 
 pub record Adds {A : Type 0} (go : World → Outcome A) : Type 0 where
   pub at : (w : World) → After (history w) (go w)
@@ -39,28 +39,28 @@ each_way_after h _ on out up each exit = up
 pub with_after : {A B : Type 0} (h : History) (u : Outcome A) (on : A → World → Outcome B) → After h u → ((a : A) → Adds (on a)) → After h (with u on)
 with_after h u on up each = each_way_after h u on (λ x w. leaves x w) up each (λ x. adds _ (λ w. stays (history w)))
 
-pub given_after : {A : Type 0} (l : ℕ) (x : Option A) (w : World) → After (history w) (given l x w)
-given_after l None w = stays (history w)
-given_after l (Some a) w = stays (history w)
+pub given_after : {A : Type 0} (l : ℕ) (why : Cause) (x : Option A) (w : World) → After (history w) (given l why x w)
+given_after l why None w = stays (history w)
+given_after l why (Some a) w = stays (history w)
 
 pub either_after : {A : Type 0} (b : Bool) (go other : World → Outcome A) → Adds go → Adds other → (w : World) → After (history w) (either b go other w)
 either_after true go other g h w = g.at w
 either_after false go other g h w = h.at w
 
-pub turn_after : {A : Type 0} (go : World → Outcome A) → Adds go → (w : World) → After (history w) (turn w go)
-turn_after go g w = by w.turns
+pub turn_after : {A : Type 0} (l : ℕ) (go : World → Outcome A) → Adds go → (w : World) → After (history w) (turn l w go)
+turn_after l go g w = by w.turns
   where
-    by : (n : ℕ) → After (history w) (turn_of n w go)
+    by : (n : ℕ) → After (history w) (turn_of l n w go)
     by zero = stays (history w)
     by (suc n) = g.at (record w { turns = n })
 
 pub closing_after : {A : Type 0} (h : History) (k : ℕ) (u : Outcome A) → After h u → After h (closing k u)
-closing_after h k (undefined l v) up = up
+closing_after h k (undefined l why v) up = up
 closing_after h k _ up = up
 
-pub changes_after : (l : ℕ) (m : Option Memory) (w : World) → After (history w) (changes l m w)
-changes_after l None w = stays (history w)
-changes_after l (Some m) w = stays (history w)
+pub changes_after : (l : ℕ) (why : Cause) (m : Option Memory) (w : World) → After (history w) (changes l why m w)
+changes_after l why None w = stays (history w)
+changes_after l why (Some m) w = stays (history w)
 
 pub writing_on : (bytes : List ℕ) (w : World) → Grows (history w) (history (writing bytes w))
 writing_on bytes w = record { written = bytes; output = refl; taken = []; input = refl; most_calls = omega arith }

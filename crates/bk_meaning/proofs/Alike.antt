@@ -57,12 +57,12 @@ either_same false d go to other another g h w le = h.at w le
 it : {A : Type 0} (d : ℕ) (go : World → Outcome A) → Same d go go
 it d go = record { at = λ w le. refl }
 
-turn_at : {A : Type 0} (d i : ℕ) (w : World) (go to : World → Outcome A) → i ≤ d → Under d go to → turn_of i w go ≡ turn_of i w to
-turn_at d zero w go to le h = refl
-turn_at d (suc i) w go to le h = h.at (record w { turns = i }) (omega (arith, le))
+turn_at : {A : Type 0} (l : ℕ) (d i : ℕ) (w : World) (go to : World → Outcome A) → i ≤ d → Under d go to → turn_of l i w go ≡ turn_of l i w to
+turn_at l d zero w go to le h = refl
+turn_at l d (suc i) w go to le h = h.at (record w { turns = i }) (omega (arith, le))
 
-pub turn_same : {A : Type 0} (d : ℕ) (w : World) (go to : World → Outcome A) → w.turns ≤ d → Under d go to → turn w go ≡ turn w to
-turn_same d w go to le h = turn_at d w.turns w go to le h
+pub turn_same : {A : Type 0} (l : ℕ) (d : ℕ) (w : World) (go to : World → Outcome A) → w.turns ≤ d → Under d go to → turn l w go ≡ turn l w to
+turn_same l d w go to le h = turn_at _ d w.turns w go to le h
 
 pub under : {A : Type 0} (d : ℕ) (go to : World → Outcome A) → Same d go to → Under d go to
 under d go to h = record { at = λ w lt. h.at w (omega (arith, lt)) }
@@ -152,20 +152,20 @@ module _ (d : ℕ) (m n : Meanings) (s : AllSpend d m) (g : AllSame d m n) where
   where_truth_same : (b : Bool) (e : Expression) (env : Environment) (go to : World → Outcome Done) → Same d go to → Same d (Loops.where_truth m b e env go) (Loops.where_truth n b e env to)
   where_truth_same b e env go to h = same _ _ _ (λ w le. with_same w d _ _ _ _ le ((s.truth e env).at w le) ((g.truth e env).at w le) (λ x. same _ _ _ (λ w le. either_same (Loops.same_truth b x) d _ _ _ _ h (it d done) w le)))
 
-  turns_same : (go to : World → Outcome Done) → Under d go to → Same d (λ w. turn w go) (λ w. turn w to)
-  turns_same go to h = same _ _ _ (λ w le. turn_same d w go to le h)
+  turns_same : (l : ℕ) (go to : World → Outcome Done) → Under d go to → Same d (λ w. turn l w go) (λ w. turn l w to)
+  turns_same l go to h = same _ _ _ (λ w le. turn_same _ d w go to le h)
 
   pub rounds_of_same : (c : Command) (mode : Mode) (env : Environment) → Same d (Loops.rounds_of m c mode env) (Loops.rounds_of n c mode env)
-  rounds_of_same (t.while i b e c) mode env = same _ _ _ (λ w le. again_same w _ _ _ _ le ((s.act c mode (past e env)).at w le) ((g.act c mode (past e env)).at w le) (where_truth_same b e env _ _ (turns_same _ _ (g.rounds (t.while i b e c) forwards env))))
-  rounds_of_same (t.repeat i c) mode env = same _ _ _ (λ w le. again_same w _ _ _ _ le ((s.act c mode env).at w le) ((g.act c mode env).at w le) (turns_same _ _ (g.rounds (t.repeat i c) forwards env)))
-  rounds_of_same (t.repeat_while i b c e) mode env = same _ _ _ (λ w le. again_same w _ _ _ _ le ((s.act c mode env).at w le) ((g.act c mode env).at w le) (where_truth_same b e (past_command c env) _ _ (turns_same _ _ (g.rounds (t.repeat_while i b c e) forwards env))))
+  rounds_of_same (t.while i b e c) mode env = same _ _ _ (λ w le. again_same w _ _ _ _ le ((s.act c mode (past e env)).at w le) ((g.act c mode (past e env)).at w le) (where_truth_same b e env _ _ (turns_same _ _ _ (g.rounds (t.while i b e c) forwards env))))
+  rounds_of_same (t.repeat i c) mode env = same _ _ _ (λ w le. again_same w _ _ _ _ le ((s.act c mode env).at w le) ((g.act c mode env).at w le) (turns_same _ _ _ (g.rounds (t.repeat i c) forwards env)))
+  rounds_of_same (t.repeat_while i b c e) mode env = same _ _ _ (λ w le. again_same w _ _ _ _ le ((s.act c mode env).at w le) ((g.act c mode env).at w le) (where_truth_same b e (past_command c env) _ _ (turns_same _ _ _ (g.rounds (t.repeat_while i b c e) forwards env))))
   rounds_of_same c mode env = it d _
 
   pub for_test_same : (place : ℕ) (object : ℕ) (limit : Value) (step : ℕ) (go to : World → Outcome Done) → Same d go to → Same d (Loops.for_test place object limit step go) (Loops.for_test place object limit step to)
   for_test_same place object limit step go to h = same _ _ _ (λ w le. same_with w d _ _ _ le ((N.fetch_spends d m s place (address object 0)).at w le) (λ v. same _ _ _ (λ w le. same_with w d _ _ _ le ((N.operate_spends d m s place (Loops.relation step) v limit).at w le) (λ v. same _ _ _ (λ w le. same_with w d _ _ _ le ((N.judged_spends d m s place v).at w le) (λ b. same _ _ _ (λ w le. either_same b d _ _ _ _ h (it d done) w le)))))))
 
   pub for_rounds_of_same : (place : ℕ) (c : Command) (object : ℕ) (limit : Value) (step : ℕ) (env : Environment) → Same d (Loops.for_rounds_of m place c object limit step env) (Loops.for_rounds_of n place c object limit step env)
-  for_rounds_of_same place c object limit step env = same _ _ _ (λ w le. again_same w _ _ _ _ le ((N.scope_spends d m s (Scopes.alone c) forwards env).at w le) ((scope_same (Scopes.alone c) forwards env).at w le) (same _ _ _ (λ w le. same_with w d _ _ _ le ((N.for_step_spends d m s place object step).at w le) (λ _. for_test_same place object limit step _ _ (turns_same _ _ (g.for_rounds place c object limit step env))))))
+  for_rounds_of_same place c object limit step env = same _ _ _ (λ w le. again_same w _ _ _ _ le ((N.scope_spends d m s (Scopes.alone c) forwards env).at w le) ((scope_same (Scopes.alone c) forwards env).at w le) (same _ _ _ (λ w le. same_with w d _ _ _ le ((N.for_step_spends d m s place object step).at w le) (λ _. for_test_same place object limit step _ _ (turns_same _ _ _ (g.for_rounds place c object limit step env))))))
 
   pub for_loop_same : (x : Mention) (c : Command) (start limit : Value) (step : ℕ) (env : Environment) → Same d (Loops.for_loop m x c start limit step env) (Loops.for_loop n x c start limit step env)
   for_loop_same x c start limit step env = same _ _ _ (λ w le. ap (closing (length w.memory)) ((for_test_same x.at (length w.memory) limit step _ _ (for_rounds_of_same x.at c (length w.memory) limit step (bind x.letters (cell (length w.memory) 0) env))).at (making (holds start ∷ []) w) le))
@@ -180,11 +180,11 @@ module _ (d : ℕ) (m n : Meanings) (s : AllSpend d m) (g : AllSame d m n) where
   pub starts_same : (is : Starts) (env : Environment) → Same d (Blocks.starts m is env) (Blocks.starts n is env)
   starts_same t.no_starts env = it d _
   starts_same (t.value e is) env = same _ _ _ (λ w le. with_same w d _ _ _ _ le ((s.value e env).at w le) ((g.value e env).at w le) (λ v. same _ _ _ (λ w le. with_same w d _ _ _ _ le ((N.starts_spends d m s is (past e env)).at w le) ((starts_same is (past e env)).at w le) (λ vs. it d _))))
-  starts_same (t.vector i e is) env = same _ _ _ (λ w le. same_with w d _ _ _ le (turn_spent d _ (λ w lt. kept _ _ ((N.make_vec_spends d m s (acts_at e) (constant_in env e)).at w (omega (arith, lt)))) w le) (λ v. same _ _ _ (λ w le. with_same w d _ _ _ _ le ((N.starts_spends d m s is env).at w le) ((starts_same is env).at w le) (λ vs. it d _))))
+  starts_same (t.vector i e is) env = same _ _ _ (λ w le. same_with w d _ _ _ le (turn_spent _ d _ (λ w lt. kept _ _ ((N.make_vec_spends d m s (acts_at e) (constant_in env e)).at w (omega (arith, lt)))) w le) (λ v. same _ _ _ (λ w le. with_same w d _ _ _ _ le ((N.starts_spends d m s is env).at w le) ((starts_same is env).at w le) (λ vs. it d _))))
 
   pub let_values_same : (ds : Definitions) (env : Environment) → Same d (Blocks.let_values m ds env) (Blocks.let_values n ds env)
   let_values_same t.no_definitions env = it d _
-  let_values_same (t.define (t.variables i xs is) ds) env = same _ _ _ (λ w le. with_same w d _ _ _ _ le (turn_spent d _ (λ w lt. kept _ _ ((N.starts_spends d m s is env).at w (omega (arith, lt)))) w le) (turn_same d w _ _ le (under d _ _ (starts_same is env))) (λ vs. same _ _ _ (λ w le. with_same w d _ _ _ _ le ((N.let_values_spends d m s ds (past_definition (t.variables i xs is) env)).at w le) ((let_values_same ds (past_definition (t.variables i xs is) env)).at w le) (λ more. it d _))))
+  let_values_same (t.define (t.variables i xs is) ds) env = same _ _ _ (λ w le. with_same w d _ _ _ _ le (turn_spent _ d _ (λ w lt. kept _ _ ((N.starts_spends d m s is env).at w (omega (arith, lt)))) w le) (turn_same _ d w _ _ le (under d _ _ (starts_same is env))) (λ vs. same _ _ _ (λ w le. with_same w d _ _ _ _ le ((N.let_values_spends d m s ds (past_definition (t.variables i xs is) env)).at w le) ((let_values_same ds (past_definition (t.variables i xs is) env)).at w le) (λ more. it d _))))
   let_values_same (t.define x ds) env = let_values_same ds (past_definition x env)
 
   pub declare_same : (x : Declaration) (env : Environment) → Same d (Blocks.declare m x env) (Blocks.declare n x env)
@@ -207,7 +207,7 @@ module _ (d : ℕ) (m n : Meanings) (s : AllSpend d m) (g : AllSame d m n) where
   act_of_same p (t.test i e a b) (seeking x) env = same _ _ _ (λ w le. either_same (has_place x env a) d _ _ _ _ (g.act a (seeking x) (past e env)) (g.act b (seeking x) (past_command a (past e env))) w le)
   act_of_same p (t.while i b e c) forwards env = where_truth_same b e env _ _ (rounds_of_same (t.while i b e c) forwards env)
   act_of_same p (t.while i b e c) (seeking x) env = rounds_of_same (t.while i b e c) (seeking x) env
-  act_of_same p (t.for_loop i x a b h c) mode env = same _ _ _ (λ w le. with_same w d _ _ _ _ le ((s.value a env).at w le) ((g.value a env).at w le) (λ u. same _ _ _ (λ w le. with_same w d _ _ _ _ le ((s.value b (past a env)).at w le) ((g.value b (past a env)).at w le) (λ v. same _ _ _ (λ w le. same_with w d _ _ _ le (given_spent x.at (Loops.step_of env h) w) (λ k. for_loop_same x c u v k (past b (past a env))))))))
+  act_of_same p (t.for_loop i x a b h c) mode env = same _ _ _ (λ w le. with_same w d _ _ _ _ le ((s.value a env).at w le) ((g.value a env).at w le) (λ u. same _ _ _ (λ w le. with_same w d _ _ _ _ le ((s.value b (past a env)).at w le) ((g.value b (past a env)).at w le) (λ v. same _ _ _ (λ w le. same_with w d _ _ _ le (given_spent x.at _ (Loops.step_of env h) w) (λ k. for_loop_same x c u v k (past b (past a env))))))))
   act_of_same p (t.switch i e c) forwards env = same _ _ _ (λ w le. with_same w d _ _ _ _ le ((s.value e env).at w le) ((g.value e env).at w le) (λ v. choose_case_same (acts_at e) v c (past e env)))
   act_of_same p (t.switch i e c) (seeking x) env = ended_case_same c (seeking x) (past e env)
   act_of_same p (t.result i e) mode env = same _ _ _ (λ w le. ap (λ u. with u (λ v w. leaves (result v) w)) ((g.value e env).at w le))

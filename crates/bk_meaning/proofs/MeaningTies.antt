@@ -8,13 +8,13 @@ use Rattle.bk_meaning.proofs.NodeTies.{AllTied, value_of_ties, truth_of_ties, ta
 
 turn_for_tied : (c : Command) (go to : World → Outcome Done) → Ties go to → (w : World) (n : ℕ) → w.turns ≤ n → Tied w (turn_for c w go) (turn_for c (with_turns n w) to)
 turn_for_tied t.empty go to h w n le = h.at w n le
-turn_for_tied c go to h w n le = turn_tied go to h w n le
+turn_for_tied c go to h w n le = turn_tied _ go to h w n le
 
 means_with_tied : (p : Program) (m l : Meanings) → AllTied m l → AllTied (means_with p m) (means_with p l)
 means_with_tied p m l g = record {
-  value = λ e env. ties _ _ (λ w n le. turn_tied _ _ (value_of_ties m l g p e env) w n le);
-  truth = λ e env. ties _ _ (λ w n le. turn_tied _ _ (truth_of_ties m l g p e env) w n le);
-  target = λ e env. ties _ _ (λ w n le. turn_tied _ _ (target_of_ties m l g e env) w n le);
+  value = λ e env. ties _ _ (λ w n le. turn_tied _ _ _ (value_of_ties m l g p e env) w n le);
+  truth = λ e env. ties _ _ (λ w n le. turn_tied _ _ _ (truth_of_ties m l g p e env) w n le);
+  target = λ e env. ties _ _ (λ w n le. turn_tied _ _ _ (target_of_ties m l g e env) w n le);
   act = λ c mode env. ties _ _ (λ w n le. turn_for_tied c _ _ (act_of_ties m l g p c mode env) w n le);
   rounds = λ c mode env. rounds_of_ties m l g c mode env;
   for_rounds = λ place c object limit step env. for_rounds_of_ties m l g place c object limit step env;
@@ -22,7 +22,7 @@ means_with_tied p m l g = record {
 }
 
 -- cut off, where more turns go on
-cut_by : {A : Type 0} (go to : World → Outcome A) → Ties go to → (w : World) (n : ℕ) → w.turns ≤ n → Tied w (going w) (to (with_turns n w))
+cut_by : {A : Type 0} {l : ℕ} (go to : World → Outcome A) → Ties go to → (w : World) (n : ℕ) → w.turns ≤ n → Tied w (going l w) (to (with_turns n w))
 cut_by go to h w n le = let t : Tied w (go w) (to (with_turns n w)) = h.at w n le in cut_tied w _ t.on t.kept
 
 no_turn_tied : (c : Command) (w : World) (n : ℕ) → w.turns ≤ n → Tied w (no_turn_for c w) (no_turn_for c (with_turns n w))
@@ -77,8 +77,8 @@ run_continues w u v tied = by u v tied.below
     by _ _ (gives_more a v n le) = the_same _
     by _ _ (leaves_more x v n le) = the_same _
     by _ _ (ends_more e v n le) = the_same _
-    by _ _ (undefined_more l w n le) = the_same _
-    by _ _ (cut x v up) = further _ _ _ _ (run_on (history x) v up)
+    by _ _ (undefined_more l why w n le) = the_same _
+    by _ _ (cut l x v up) = further _ _ _ _ _ (run_on (history x) v up)
 
 started_continues : (p : Program) (f : Option Value) (input : List ℕ) (n k : ℕ) → n ≤ k → Continues (started p f (first_world p input n) n) (started p f (first_world p input k) k)
 started_continues p None input n k le = the_same _
@@ -138,8 +138,8 @@ in_its_world : {A : Type 0} (P : World → Type 0) (calls : ℕ) (old : List (Op
 in_its_world P calls old (gives a v) r h = h v r.kept
 in_its_world P calls old (leaves x v) r h = h v r.kept
 in_its_world P calls old (ends e v) r h = h v r
-in_its_world P calls old (undefined l v) r h = h v r
-in_its_world P calls old (going v) r h = h v r
+in_its_world P calls old (undefined l why v) r h = h v r
+in_its_world P calls old (going l v) r h = h v r
 
 never_shrinks_of : {A : Type 0} (w : World) (u : Outcome A) → Restores w.calls (sizes w.memory) u → InItsWorld (λ v. length w.memory ≤ length v.memory) u
 never_shrinks_of w u r = in_its_world _ w.calls (sizes w.memory) u r (λ v k. kept_length w.memory v.memory k)

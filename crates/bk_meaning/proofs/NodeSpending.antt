@@ -1,5 +1,5 @@
 -- How each part of the meaning spends turns, if the nodes inside do so.
-use Rattle.bk_meaning.proofs.Terms.{ℕ, ◌+◌, ◌≤◌, Bool, true, false, not, List, [], ◌∷◌, length, Option, Some, None, arith, Operator, Operator as o, Prefix, Prefix as q, Simple, Simple as k, Mention, Expression, Expressions, Command, Commands, Declaration, Declarations, Definition, Definitions, Starts, divides_by_zero, Routine, stop, rdch, wrch, newline, writes, writen, writed, getbyte, putbyte, writef, Value, number, address, procedure, routine, unset, holds, read, World, status, Exit, break, loop, endcase, goto, result, return, Outcome, gives, leaves, ends, undefined, going, with, Done, done, either, turn, making, calling, sum, truth_of_value, on_numbers, operate, operate_prefix, Environment, Sense, constant, cell, label, foreign, sense_of, bind, following, past, past_each, past_command, past_definition, constant_in, labelled, within_let, objects_of_definitions, Body, command, expression, Procedure, Program, procedure_of, library, writes_text, takes_byte, the_label, the_case, the_default, Mode, forwards, seeking, at_place, has_place, one_has_place, Target, at, byte_at, acts_at, Meanings, Start}
+use Rattle.bk_meaning.proofs.Terms.{ℕ, ◌+◌, ◌≤◌, Bool, true, false, not, List, [], ◌∷◌, length, Option, Some, None, arith, Operator, Operator as o, Prefix, Prefix as q, Simple, Simple as k, Mention, Expression, Expressions, Command, Commands, Declaration, Declarations, Definition, Definitions, Starts, divides_by_zero, Routine, stop, rdch, wrch, newline, writes, writen, writed, getbyte, putbyte, writef, Value, number, address, procedure, routine, unset, holds, read, World, status, Exit, break, loop, endcase, goto, result, return, Outcome, gives, leaves, ends, undefined, going, with, Done, done, either, turn, making, calling, sum, truth_of_value, on_numbers, operate, operate_prefix, Environment, Sense, constant, cell, label, foreign, sense_of, bind, following, past, past_each, past_command, past_definition, constant_in, labelled, within_let, objects_of_definitions, Body, command, expression, Procedure, Program, procedure_of, library, writes_text, takes_byte, the_label, the_case, the_default, Mode, forwards, seeking, at_place, has_place, one_has_place, Target, at, byte_at, acts_at, Meanings, Start, Cause}
 use Rattle.bk_tree.specs.Tree as t
 use Rattle.bk_meaning.specs.Parts
 use Rattle.bk_meaning.specs.Scopes
@@ -26,7 +26,7 @@ pub record AllSpend (d : ℕ) (m : Meanings) : Type 0 where
 
 module _ (d : ℕ) (m : Meanings) (g : AllSpend d m) where
   pub fetch_spends : (place : ℕ) (a : Value) → Spends d (Parts.fetch place a)
-  fetch_spends place a = spends _ _ (λ w le. given_spent _ (read w.memory a) w)
+  fetch_spends place a = spends _ _ (λ w le. given_spent _ _ (read w.memory a) w)
 
   pub done_spends : Spends d done
   done_spends = spends _ _ (λ w le. gives_spent tt w)
@@ -43,37 +43,37 @@ module _ (d : ℕ) (m : Meanings) (g : AllSpend d m) where
   -- operators
   pub on_numbers_spends : (place : ℕ) (q : Operator) (x y : Value) → Spends d (on_numbers place q x y)
   on_numbers_spends place q (number x) (number y) =
-      either_spends (divides_by_zero q (Some x) (Some y)) (spends _ _ (λ w le. ends_spent _ w)) (spends _ _ (λ w le. given_spent _ _ w))
+      either_spends (divides_by_zero q (Some x) (Some y)) (spends _ _ (λ w le. ends_spent _ w)) (spends _ _ (λ w le. given_spent _ _ _ w))
   on_numbers_spends place q (number x) _ = spends _ _ (λ w le. undefined_spent _ w)
   on_numbers_spends place q _ y = spends _ _ (λ w le. undefined_spent _ w)
 
   pub operate_spends : (place : ℕ) (q : Operator) (x y : Value) → Spends d (operate place q x y)
-  operate_spends place o.Add x y = spends _ _ (λ w le. given_spent _ _ w)
-  operate_spends place o.Subtract x y = spends _ _ (λ w le. given_spent _ _ w)
-  operate_spends place o.Equal x y = spends _ _ (λ w le. given_spent _ _ w)
-  operate_spends place o.Unequal x y = spends _ _ (λ w le. given_spent _ _ w)
-  operate_spends place o.Less x y = spends _ _ (λ w le. given_spent _ _ w)
-  operate_spends place o.Greater x y = spends _ _ (λ w le. given_spent _ _ w)
-  operate_spends place o.AtMost x y = spends _ _ (λ w le. given_spent _ _ w)
-  operate_spends place o.AtLeast x y = spends _ _ (λ w le. given_spent _ _ w)
+  operate_spends place o.Add x y = spends _ _ (λ w le. given_spent _ _ _ w)
+  operate_spends place o.Subtract x y = spends _ _ (λ w le. given_spent _ _ _ w)
+  operate_spends place o.Equal x y = spends _ _ (λ w le. given_spent _ _ _ w)
+  operate_spends place o.Unequal x y = spends _ _ (λ w le. given_spent _ _ _ w)
+  operate_spends place o.Less x y = spends _ _ (λ w le. given_spent _ _ _ w)
+  operate_spends place o.Greater x y = spends _ _ (λ w le. given_spent _ _ _ w)
+  operate_spends place o.AtMost x y = spends _ _ (λ w le. given_spent _ _ _ w)
+  operate_spends place o.AtLeast x y = spends _ _ (λ w le. given_spent _ _ _ w)
   operate_spends place q x y = on_numbers_spends place q x y
 
   pub combined_spends : (place : ℕ) (q : Operator) (x y : Value) → Spends d (Expressions.combined place q x y)
-  combined_spends place o.Subscript x y = then_spends (spends _ _ (λ w le. given_spent _ (sum w.memory x y) w)) (fetch_spends place)
-  combined_spends place o.Byte x y = spends _ _ (λ w le. given_spent _ _ w)
+  combined_spends place o.Subscript x y = then_spends (spends _ _ (λ w le. given_spent _ _ (sum w.memory x y) w)) (fetch_spends place)
+  combined_spends place o.Byte x y = spends _ _ (λ w le. given_spent _ _ _ w)
   combined_spends place q x y = operate_spends place q x y
 
   pub operate_prefix_spends : (place : ℕ) (q : Prefix) (x : Value) → Spends d (operate_prefix place q x)
-  operate_prefix_spends place q (number x) = spends _ _ (λ w le. given_spent _ _ w)
+  operate_prefix_spends place q (number x) = spends _ _ (λ w le. given_spent _ _ _ w)
   operate_prefix_spends place q _ = spends _ _ (λ w le. undefined_spent _ w)
 
   pub judged_spends : (place : ℕ) (v : Value) → Spends d (Expressions.judged place v)
-  judged_spends place v = spends _ _ (λ w le. given_spent _ (truth_of_value w.memory v) w)
+  judged_spends place v = spends _ _ (λ w le. given_spent _ _ (truth_of_value w.memory v) w)
 
   -- the library
-  pub writes_text_spent : (place : ℕ) (text : Option (List ℕ)) (w : World) → Spent w.turns (writes_text place text w)
-  writes_text_spent place None w = undefined_spent place w
-  writes_text_spent place (Some text) w = record { is = omega arith }
+  pub writes_text_spent : (place : ℕ) (why : Cause) (text : Option (List ℕ)) (w : World) → Spent w.turns (writes_text place why text w)
+  writes_text_spent place why None w = undefined_spent place w
+  writes_text_spent place why (Some text) w = record { is = omega arith }
 
   pub takes_byte_spent : (bytes : List ℕ) (w : World) → Spent w.turns (takes_byte bytes w)
   takes_byte_spent [] w = gives_spent _ w
@@ -84,12 +84,12 @@ module _ (d : ℕ) (m : Meanings) (g : AllSpend d m) where
   library_spends place rdch vs = spends _ _ (λ w le. takes_byte_spent w.input w)
   library_spends place wrch (number x ∷ vs) = spends _ _ (λ w le. record { is = omega arith })
   library_spends place newline vs = spends _ _ (λ w le. record { is = omega arith })
-  library_spends place writes (s ∷ vs) = spends _ _ (λ w le. writes_text_spent place _ w)
+  library_spends place writes (s ∷ vs) = spends _ _ (λ w le. writes_text_spent place _ _ w)
   library_spends place writen (number x ∷ vs) = spends _ _ (λ w le. record { is = omega arith })
   library_spends place writed (number x ∷ number y ∷ vs) = spends _ _ (λ w le. record { is = omega arith })
-  library_spends place getbyte (s ∷ i ∷ vs) = spends _ _ (λ w le. given_spent _ _ w)
-  library_spends place putbyte (s ∷ i ∷ b ∷ vs) = spends _ _ (λ w le. with_spent w d _ _ le (changes_spent _ _ w) (λ _. spends _ _ (λ w le. gives_spent unset w)))
-  library_spends place writef (f ∷ vs) = spends _ _ (λ w le. writes_text_spent place _ w)
+  library_spends place getbyte (s ∷ i ∷ vs) = spends _ _ (λ w le. given_spent _ _ _ w)
+  library_spends place putbyte (s ∷ i ∷ b ∷ vs) = spends _ _ (λ w le. with_spent w d _ _ le (changes_spent _ _ _ w) (λ _. spends _ _ (λ w le. gives_spent unset w)))
+  library_spends place writef (f ∷ vs) = spends _ _ (λ w le. writes_text_spent place _ _ w)
   library_spends place _ _ = spends _ _ (λ w le. undefined_spent _ w)
 
   pub values_spends : (es : Expressions) (env : Environment) → Spends d (Calls.values m es env)
@@ -135,7 +135,7 @@ module _ (d : ℕ) (m : Meanings) (g : AllSpend d m) where
       by return v n lt le = record { is = omega (arith, lt) }
       by x v n lt le = record { is = lt }
 
-  pub undefined_out : (place : ℕ) → SpendsOut {A = Value} d (λ x w. undefined place w)
+  pub undefined_out : {why : Cause} (place : ℕ) → SpendsOut {A = Value} d (λ x w. undefined place why w)
   undefined_out place = record { at = λ x v n lt le. record { is = tt } }
 
   pub unset_spends : Done → Spends {A = Value} d (λ w. gives unset w)
@@ -197,14 +197,14 @@ module _ (d : ℕ) (m : Meanings) (g : AllSpend d m) where
   target_of_spends (t.unary i q.Contents e) env = then_spends (g.value e env) (λ a. spends _ _ (λ w le. gives_spent (at a) w))
   target_of_spends (t.binary i o.Subscript j a b) env =
       then_spends (g.value a env) (λ x. then_spends (g.value b (past a env)) (λ y.
-      then_spends (spends _ _ (λ w le. given_spent _ (sum w.memory x y) w)) (λ a. spends _ _ (λ w le. gives_spent (at a) w))))
+      then_spends (spends _ _ (λ w le. given_spent _ _ (sum w.memory x y) w)) (λ a. spends _ _ (λ w le. gives_spent (at a) w))))
   target_of_spends (t.binary i o.Byte j a b) env =
       then_spends (g.value a env) (λ x. then_spends (g.value b (past a env)) (λ y. spends _ _ (λ w le. gives_spent (byte_at x y) w)))
   target_of_spends e env = spends _ _ (λ w le. undefined_spent _ w)
 
   pub store_spends : (place : ℕ) (a : Target) (v : Value) → Spends d (Parts.store place a v)
-  store_spends place (at a) v = spends _ _ (λ w le. changes_spent _ _ w)
-  store_spends place (byte_at a i) v = spends _ _ (λ w le. changes_spent _ _ w)
+  store_spends place (at a) v = spends _ _ (λ w le. changes_spent _ _ _ w)
+  store_spends place (byte_at a i) v = spends _ _ (λ w le. changes_spent _ _ _ w)
 
   pub assigned_spends : (xs : Expressions) (there : Environment) (es : Expressions) (env : Environment) → Spends d (commands.assigned m xs there es env)
   assigned_spends (t.more x xs) there (t.more e es) env = spends _ _ (λ w le.
@@ -227,19 +227,19 @@ module _ (d : ℕ) (m : Meanings) (g : AllSpend d m) where
   pub where_truth_spends : (b : Bool) (e : Expression) (env : Environment) (go : World → Outcome Done) → Spends d go → Spends d (Loops.where_truth m b e env go)
   where_truth_spends b e env go h = then_spends (g.truth e env) (λ x. either_spends (Loops.same_truth b x) h done_spends)
 
-  pub turn_spends : (go : World → Outcome Done) → Under d go → Spends d (λ w. turn w go)
-  turn_spends go h = spends _ _ (λ w le. turn_spent d go (λ w lt. kept _ _ (h.at w lt)) w le)
+  pub turn_spends : (l : ℕ) (go : World → Outcome Done) → Under d go → Spends d (λ w. turn l w go)
+  turn_spends l go h = spends _ _ (λ w le. turn_spent _ d go (λ w lt. kept _ _ (h.at w lt)) w le)
 
-  in_turn : {A : Type 0} {go : World → Outcome A} → Spends d go → Spends d (λ w. turn w go)
-  in_turn h = spends _ _ (λ w le. turn_spent d _ (λ w lt. kept _ _ (h.at w (omega (arith, lt)))) w le)
+  in_turn : {A : Type 0} (l : ℕ) {go : World → Outcome A} → Spends d go → Spends d (λ w. turn l w go)
+  in_turn l h = spends _ _ (λ w le. turn_spent _ d _ (λ w lt. kept _ _ (h.at w (omega (arith, lt)))) w le)
 
   pub rounds_of_spends : (c : Command) (mode : Mode) (env : Environment) → Spends d (Loops.rounds_of m c mode env)
   rounds_of_spends (t.while i b e c) mode env = spends _ _ (λ w le.
-      again_spent w _ _ le ((g.act c mode (past e env)).at w le) (where_truth_spends b e env _ (turn_spends _ (g.rounds (t.while i b e c) forwards env))))
+      again_spent w _ _ le ((g.act c mode (past e env)).at w le) (where_truth_spends b e env _ (turn_spends _ _ (g.rounds (t.while i b e c) forwards env))))
   rounds_of_spends (t.repeat i c) mode env = spends _ _ (λ w le.
-      again_spent w _ _ le ((g.act c mode env).at w le) (turn_spends _ (g.rounds (t.repeat i c) forwards env)))
+      again_spent w _ _ le ((g.act c mode env).at w le) (turn_spends _ _ (g.rounds (t.repeat i c) forwards env)))
   rounds_of_spends (t.repeat_while i b c e) mode env = spends _ _ (λ w le.
-      again_spent w _ _ le ((g.act c mode env).at w le) (where_truth_spends b e (past_command c env) _ (turn_spends _ (g.rounds (t.repeat_while i b c e) forwards env))))
+      again_spent w _ _ le ((g.act c mode env).at w le) (where_truth_spends b e (past_command c env) _ (turn_spends _ _ (g.rounds (t.repeat_while i b c e) forwards env))))
   rounds_of_spends c mode env = done_spends
 
   pub for_test_spends : (place : ℕ) (object : ℕ) (limit : Value) (step : ℕ) (go : World → Outcome Done) → Spends d go → Spends d (Loops.for_test place object limit step go)
@@ -254,7 +254,7 @@ module _ (d : ℕ) (m : Meanings) (g : AllSpend d m) where
   pub for_rounds_of_spends : (place : ℕ) (c : Command) (object : ℕ) (limit : Value) (step : ℕ) (env : Environment) → Spends d (Loops.for_rounds_of m place c object limit step env)
   for_rounds_of_spends place c object limit step env = spends _ _ (λ w le.
       again_spent w _ _ le ((scope_spends (Scopes.alone c) forwards env).at w le) (spends _ _ (λ w le.
-      with_spent w d _ _ le ((for_step_spends place object step).at w le) (λ _. for_test_spends place object limit step _ (turn_spends _ (g.for_rounds place c object limit step env))))))
+      with_spent w d _ _ le ((for_step_spends place object step).at w le) (λ _. for_test_spends place object limit step _ (turn_spends _ _ (g.for_rounds place c object limit step env))))))
 
   pub for_loop_spends : (x : Mention) (c : Command) (start limit : Value) (step : ℕ) (env : Environment) → Spends d (Loops.for_loop m x c start limit step env)
   for_loop_spends x c start limit step env = spends _ _ (λ w le.
@@ -284,13 +284,13 @@ module _ (d : ℕ) (m : Meanings) (g : AllSpend d m) where
   pub starts_spends : (is : Starts) (env : Environment) → Spends d (Blocks.starts m is env)
   starts_spends t.no_starts env = spends _ _ (λ w le. gives_spent [] w)
   starts_spends (t.value e is) env = then_spends (g.value e env) (λ v. then_spends (starts_spends is (past e env)) (λ vs. spends _ _ (λ w le. gives_spent _ w)))
-  starts_spends (t.vector i e is) env = then_spends (in_turn (make_vec_spends (acts_at e) (constant_in env e))) (λ v.
+  starts_spends (t.vector i e is) env = then_spends (in_turn _ (make_vec_spends (acts_at e) (constant_in env e))) (λ v.
       then_spends (starts_spends is env) (λ vs. spends _ _ (λ w le. gives_spent _ w)))
 
   pub let_values_spends : (ds : Definitions) (env : Environment) → Spends d (Blocks.let_values m ds env)
   let_values_spends t.no_definitions env = spends _ _ (λ w le. gives_spent [] w)
   let_values_spends (t.define (t.variables i xs is) ds) env =
-      then_spends (in_turn (starts_spends is env)) (λ vs.
+      then_spends (in_turn _ (starts_spends is env)) (λ vs.
       then_spends (let_values_spends ds (past_definition (t.variables i xs is) env)) (λ more. spends _ _ (λ w le. gives_spent _ w)))
   let_values_spends (t.define x ds) env = let_values_spends ds (past_definition x env)
 
@@ -314,7 +314,7 @@ module _ (d : ℕ) (m : Meanings) (g : AllSpend d m) where
 
   pub result_kept : (w : World) (u : Outcome Value) → Spent w.turns u → Kept {A = Done} w.turns (with u (λ v w. leaves (result v) w))
   result_kept w (leaves y x) h = let i : x.turns + 1 ≤ w.turns = h.is in record { is = omega (arith, i) }
-  result_kept w (undefined l v) h = record { is = tt }
+  result_kept w (undefined l why v) h = record { is = tt }
   result_kept w _ h = record { is = h.is }
 
   pub act_of_kept : (p : Program) (c : Command) (mode : Mode) (env : Environment) (w : World) → w.turns ≤ d → Kept w.turns (commands.act_of p m c mode env w)
@@ -334,7 +334,7 @@ module _ (d : ℕ) (m : Meanings) (g : AllSpend d m) where
   act_of_kept p (t.while i b e c) forwards env w le = kept _ _ ((where_truth_spends b e env _ (rounds_of_spends (t.while i b e c) forwards env)).at w le)
   act_of_kept p (t.while i b e c) (seeking s) env w le = kept _ _ ((rounds_of_spends (t.while i b e c) (seeking s) env).at w le)
   act_of_kept p (t.for_loop i x a b h c) mode env w le =
-      kept _ _ ((then_spends (g.value a env) (λ u. then_spends (g.value b (past a env)) (λ v. then_spends (spends _ _ (λ w le. given_spent _ (Loops.step_of env h) w))
+      kept _ _ ((then_spends (g.value a env) (λ u. then_spends (g.value b (past a env)) (λ v. then_spends (spends _ _ (λ w le. given_spent _ _ (Loops.step_of env h) w))
       (λ i. for_loop_spends x c u v i (past b (past a env)))))).at w le)
   act_of_kept p (t.switch i e c) forwards env w le = kept _ _ ((then_spends (g.value e env) (λ v. choose_case_spends (acts_at e) v c (past e env))).at w le)
   act_of_kept p (t.switch i e c) (seeking s) env w le = kept _ _ ((ended_case_spends c (seeking s) (past e env)).at w le)

@@ -1,5 +1,5 @@
 -- Every part of the meaning with fewer turns and with more, if the nodes inside are so.
-use Rattle.bk_meaning.proofs.Terms.{◌≡◌, ℕ, ◌≤◌, Bool, true, false, not, List, [], ◌∷◌, length, Option, Some, None, refl, Operator, Operator as o, Prefix, Prefix as q, Simple, Simple as k, Mention, Expression, Expressions, Command, Commands, Declaration, Declarations, Definition, Definitions, Starts, divides_by_zero, Routine, stop, rdch, wrch, newline, writes, writen, writed, getbyte, putbyte, writef, Value, number, address, procedure, routine, unset, holds, Memory, read, World, given, status, Exit, break, loop, endcase, goto, result, return, Outcome, gives, Done, done, turn, making, calling, writing, sum, truth_of_value, on_numbers, operate, operate_prefix, Environment, Sense, constant, cell, label, foreign, sense_of, bind, following, past, past_each, past_command, past_definition, constant_in, labelled, within_let, objects_of_definitions, Body, command, expression, Procedure, Program, procedure_of, library, writes_text, takes_byte, the_label, the_case, the_default, Mode, forwards, seeking, at_place, has_place, one_has_place, Target, at, byte_at, acts_at, Meanings, Start, with_turns}
+use Rattle.bk_meaning.proofs.Terms.{◌≡◌, ℕ, ◌≤◌, Bool, true, false, not, List, [], ◌∷◌, length, Option, Some, None, refl, Operator, Operator as o, Prefix, Prefix as q, Simple, Simple as k, Mention, Expression, Expressions, Command, Commands, Declaration, Declarations, Definition, Definitions, Starts, divides_by_zero, Routine, stop, rdch, wrch, newline, writes, writen, writed, getbyte, putbyte, writef, Value, number, address, procedure, routine, unset, holds, Memory, read, World, given, status, Exit, break, loop, endcase, goto, result, return, Outcome, gives, Done, done, turn, making, calling, writing, sum, truth_of_value, on_numbers, operate, operate_prefix, Environment, Sense, constant, cell, label, foreign, sense_of, bind, following, past, past_each, past_command, past_definition, constant_in, labelled, within_let, objects_of_definitions, Body, command, expression, Procedure, Program, procedure_of, library, writes_text, takes_byte, the_label, the_case, the_default, Mode, forwards, seeking, at_place, has_place, one_has_place, Target, at, byte_at, acts_at, Meanings, Start, with_turns, Cause, sum_cause, no_constant}
 use Rattle.bk_tree.specs.Tree as t
 use Rattle.bk_meaning.specs.Parts
 use Rattle.bk_meaning.specs.Scopes
@@ -22,11 +22,11 @@ pub record AllTied (m l : Meanings) : Type 0 where
   pub for_rounds : (place : ℕ) (c : Command) (object : ℕ) (limit : Value) (step : ℕ) (env : Environment) → Ties (m.for_rounds place c object limit step env) (l.for_rounds place c object limit step env)
   pub scope : (cs : Commands) (mode : Mode) (env : Environment) → Ties (m.scope cs mode env) (l.scope cs mode env)
 
-reads_ties : {A : Type 0} (place : ℕ) (x : Memory → Option A) → Ties (λ w. given place (x w.memory) w) (λ w. given place (x w.memory) w)
-reads_ties place x = ties _ _ (λ w n le. given_tied _ (x w.memory) w n le)
+reads_ties : {A : Type 0} (place : ℕ) (why : Memory → Cause) (x : Memory → Option A) → Ties (λ w. given place (why w.memory) (x w.memory) w) (λ w. given place (why w.memory) (x w.memory) w)
+reads_ties place why x = ties _ _ (λ w n le. given_tied _ _ (x w.memory) w n le)
 
 pub fetch_ties : (place : ℕ) (a : Value) → Ties (Parts.fetch place a) (Parts.fetch place a)
-fetch_ties place a = ties _ _ (λ w n le. given_tied _ (read w.memory a) w n le)
+fetch_ties place a = ties _ _ (λ w n le. given_tied _ _ (read w.memory a) w n le)
 
 pub done_ties : Ties done done
 done_ties = ties _ _ (λ w n le. gives_tied tt w n le)
@@ -43,37 +43,37 @@ address_named_ties place _ = ties _ _ (λ w n le. undefined_tied _ w n le)
 -- operators
 pub on_numbers_ties : (place : ℕ) (q : Operator) (x y : Value) → Ties (on_numbers place q x y) (on_numbers place q x y)
 on_numbers_ties place q (number x) (number y) =
-    either_ties (divides_by_zero q (Some x) (Some y)) (ties _ _ (λ w n le. ends_tied _ w n le)) (ties _ _ (λ w n le. given_tied _ _ w n le))
+    either_ties (divides_by_zero q (Some x) (Some y)) (ties _ _ (λ w n le. ends_tied _ w n le)) (ties _ _ (λ w n le. given_tied _ _ _ w n le))
 on_numbers_ties place q (number x) _ = ties _ _ (λ w n le. undefined_tied _ w n le)
 on_numbers_ties place q _ y = ties _ _ (λ w n le. undefined_tied _ w n le)
 
 pub operate_ties : (place : ℕ) (q : Operator) (x y : Value) → Ties (operate place q x y) (operate place q x y)
-operate_ties place o.Add x y = ties _ _ (λ w n le. given_tied _ _ w n le)
-operate_ties place o.Subtract x y = ties _ _ (λ w n le. given_tied _ _ w n le)
-operate_ties place o.Equal x y = ties _ _ (λ w n le. given_tied _ _ w n le)
-operate_ties place o.Unequal x y = ties _ _ (λ w n le. given_tied _ _ w n le)
-operate_ties place o.Less x y = ties _ _ (λ w n le. given_tied _ _ w n le)
-operate_ties place o.Greater x y = ties _ _ (λ w n le. given_tied _ _ w n le)
-operate_ties place o.AtMost x y = ties _ _ (λ w n le. given_tied _ _ w n le)
-operate_ties place o.AtLeast x y = ties _ _ (λ w n le. given_tied _ _ w n le)
+operate_ties place o.Add x y = ties _ _ (λ w n le. given_tied _ _ _ w n le)
+operate_ties place o.Subtract x y = ties _ _ (λ w n le. given_tied _ _ _ w n le)
+operate_ties place o.Equal x y = ties _ _ (λ w n le. given_tied _ _ _ w n le)
+operate_ties place o.Unequal x y = ties _ _ (λ w n le. given_tied _ _ _ w n le)
+operate_ties place o.Less x y = ties _ _ (λ w n le. given_tied _ _ _ w n le)
+operate_ties place o.Greater x y = ties _ _ (λ w n le. given_tied _ _ _ w n le)
+operate_ties place o.AtMost x y = ties _ _ (λ w n le. given_tied _ _ _ w n le)
+operate_ties place o.AtLeast x y = ties _ _ (λ w n le. given_tied _ _ _ w n le)
 operate_ties place q x y = on_numbers_ties place q x y
 
 pub combined_ties : (place : ℕ) (q : Operator) (x y : Value) → Ties (Expressions.combined place q x y) (Expressions.combined place q x y)
-combined_ties place o.Subscript x y = then_ties (reads_ties place (λ m. sum m x y)) (fetch_ties place)
-combined_ties place o.Byte x y = ties _ _ (λ w n le. given_tied _ _ w n le)
+combined_ties place o.Subscript x y = then_ties (reads_ties place (λ m. sum_cause x y) (λ m. sum m x y)) (fetch_ties place)
+combined_ties place o.Byte x y = ties _ _ (λ w n le. given_tied _ _ _ w n le)
 combined_ties place q x y = operate_ties place q x y
 
 pub operate_prefix_ties : (place : ℕ) (q : Prefix) (x : Value) → Ties (operate_prefix place q x) (operate_prefix place q x)
-operate_prefix_ties place q (number x) = ties _ _ (λ w n le. given_tied _ _ w n le)
+operate_prefix_ties place q (number x) = ties _ _ (λ w n le. given_tied _ _ _ w n le)
 operate_prefix_ties place q _ = ties _ _ (λ w n le. undefined_tied _ w n le)
 
 pub judged_ties : (place : ℕ) (v : Value) → Ties (Expressions.judged place v) (Expressions.judged place v)
-judged_ties place v = ties _ _ (λ w n le. given_tied _ (truth_of_value w.memory v) w n le)
+judged_ties place v = ties _ _ (λ w n le. given_tied _ _ (truth_of_value w.memory v) w n le)
 
 -- the library
-pub writes_text_tied : (place : ℕ) (text : Option (List ℕ)) (w : World) (n : ℕ) → w.turns ≤ n → Tied w (writes_text place text w) (writes_text place text (with_turns n w))
-writes_text_tied place None w n le = undefined_tied place w n le
-writes_text_tied place (Some text) w n le = record { below = gives_more unset (writing text w) n le; on = writing_on text w; kept = at_home w }
+pub writes_text_tied : (place : ℕ) (why : Cause) (text : Option (List ℕ)) (w : World) (n : ℕ) → w.turns ≤ n → Tied w (writes_text place why text w) (writes_text place why text (with_turns n w))
+writes_text_tied place why None w n le = undefined_tied place w n le
+writes_text_tied place why (Some text) w n le = record { below = gives_more unset (writing text w) n le; on = writing_on text w; kept = at_home w }
 
 pub writing_tied : (bytes : List ℕ) (w : World) (n : ℕ) → w.turns ≤ n → Tied {A = Value} w (gives unset (writing bytes w)) (gives unset (writing bytes (with_turns n w)))
 writing_tied bytes w n le = record { below = gives_more unset (writing bytes w) n le; on = writing_on bytes w; kept = at_home w }
@@ -91,12 +91,12 @@ library_ties place stop (number x ∷ vs) = ties _ _ (λ w n le. ends_tied (stat
 library_ties place rdch vs = ties _ _ (λ w n le. takes_byte_tied w.input w n refl le)
 library_ties place wrch (number x ∷ vs) = ties _ _ (λ w n le. writing_tied _ w n le)
 library_ties place newline vs = ties _ _ (λ w n le. writing_tied _ w n le)
-library_ties place writes (s ∷ vs) = ties _ _ (λ w n le. writes_text_tied place _ w n le)
+library_ties place writes (s ∷ vs) = ties _ _ (λ w n le. writes_text_tied place _ _ w n le)
 library_ties place writen (number x ∷ vs) = ties _ _ (λ w n le. writing_tied _ w n le)
 library_ties place writed (number x ∷ number y ∷ vs) = ties _ _ (λ w n le. writing_tied _ w n le)
-library_ties place getbyte (s ∷ i ∷ vs) = ties _ _ (λ w n le. given_tied _ _ w n le)
-library_ties place putbyte (s ∷ i ∷ b ∷ vs) = ties _ _ (λ w n le. with_tied w _ _ _ _ (changes_tied _ _ w n le (write_byte_keeps w.memory s i b)) (λ _. ties _ _ (λ w n le. gives_tied unset w n le)))
-library_ties place writef (s ∷ vs) = ties _ _ (λ w n le. writes_text_tied place _ w n le)
+library_ties place getbyte (s ∷ i ∷ vs) = ties _ _ (λ w n le. given_tied _ _ _ w n le)
+library_ties place putbyte (s ∷ i ∷ b ∷ vs) = ties _ _ (λ w n le. with_tied w _ _ _ _ (changes_tied _ _ _ w n le (write_byte_keeps w.memory s i b)) (λ _. ties _ _ (λ w n le. gives_tied unset w n le)))
+library_ties place writef (s ∷ vs) = ties _ _ (λ w n le. writes_text_tied place _ _ w n le)
 library_ties place _ _ = ties _ _ (λ w n le. undefined_tied _ w n le)
 
 module _ (m l : Meanings) (g : AllTied m l) where
@@ -187,14 +187,14 @@ module _ (m l : Meanings) (g : AllTied m l) where
   target_of_ties (t.unary i q.Contents e) env = then_ties (g.value e env) (λ a. ties _ _ (λ w n le. gives_tied (at a) w n le))
   target_of_ties (t.binary i o.Subscript j a b) env =
       then_ties (g.value a env) (λ x. then_ties (g.value b (past a env)) (λ y.
-      then_ties (reads_ties j (λ m. sum m x y)) (λ a. ties _ _ (λ w n le. gives_tied (at a) w n le))))
+      then_ties (reads_ties j (λ m. sum_cause x y) (λ m. sum m x y)) (λ a. ties _ _ (λ w n le. gives_tied (at a) w n le))))
   target_of_ties (t.binary i o.Byte j a b) env =
       then_ties (g.value a env) (λ x. then_ties (g.value b (past a env)) (λ y. ties _ _ (λ w n le. gives_tied (byte_at x y) w n le)))
   target_of_ties e env = ties _ _ (λ w n le. undefined_tied _ w n le)
 
   pub store_ties : (place : ℕ) (a : Target) (v : Value) → Ties (Parts.store place a v) (Parts.store place a v)
-  store_ties place (at a) v = ties _ _ (λ w n le. changes_tied _ _ w n le (write_keeps w.memory a v))
-  store_ties place (byte_at a i) v = ties _ _ (λ w n le. changes_tied _ _ w n le (write_byte_keeps w.memory a i v))
+  store_ties place (at a) v = ties _ _ (λ w n le. changes_tied _ _ _ w n le (write_keeps w.memory a v))
+  store_ties place (byte_at a i) v = ties _ _ (λ w n le. changes_tied _ _ _ w n le (write_byte_keeps w.memory a i v))
 
   pub assigned_ties : (xs : Expressions) (there : Environment) (es : Expressions) (env : Environment) → Ties (commands.assigned m xs there es env) (commands.assigned l xs there es env)
   assigned_ties (t.more x xs) there (t.more e es) env = ties _ _ (λ w n le.
@@ -214,16 +214,16 @@ module _ (m l : Meanings) (g : AllTied m l) where
   pub where_truth_ties : (b : Bool) (e : Expression) (env : Environment) (go to : World → Outcome Done) → Ties go to → Ties (Loops.where_truth m b e env go) (Loops.where_truth l b e env to)
   where_truth_ties b e env go to h = then_ties (g.truth e env) (λ x. either_ties (Loops.same_truth b x) h done_ties)
 
-  pub turn_ties : (go to : World → Outcome Done) → Ties go to → Ties (λ w. turn w go) (λ w. turn w to)
-  turn_ties go to h = ties _ _ (λ w n le. turn_tied go to h w n le)
+  pub turn_ties : (l : ℕ) (go to : World → Outcome Done) → Ties go to → Ties (λ w. turn l w go) (λ w. turn l w to)
+  turn_ties l go to h = ties _ _ (λ w n le. turn_tied _ go to h w n le)
 
   pub rounds_of_ties : (c : Command) (mode : Mode) (env : Environment) → Ties (Loops.rounds_of m c mode env) (Loops.rounds_of l c mode env)
   rounds_of_ties (t.while i b e c) mode env = ties _ _ (λ w n le.
-      again_tied w _ _ _ _ ((g.act c mode (past e env)).at w n le) (where_truth_ties b e env _ _ (turn_ties _ _ (g.rounds (t.while i b e c) forwards env))))
+      again_tied w _ _ _ _ ((g.act c mode (past e env)).at w n le) (where_truth_ties b e env _ _ (turn_ties _ _ _ (g.rounds (t.while i b e c) forwards env))))
   rounds_of_ties (t.repeat i c) mode env = ties _ _ (λ w n le.
-      again_tied w _ _ _ _ ((g.act c mode env).at w n le) (turn_ties _ _ (g.rounds (t.repeat i c) forwards env)))
+      again_tied w _ _ _ _ ((g.act c mode env).at w n le) (turn_ties _ _ _ (g.rounds (t.repeat i c) forwards env)))
   rounds_of_ties (t.repeat_while i b c e) mode env = ties _ _ (λ w n le.
-      again_tied w _ _ _ _ ((g.act c mode env).at w n le) (where_truth_ties b e (past_command c env) _ _ (turn_ties _ _ (g.rounds (t.repeat_while i b c e) forwards env))))
+      again_tied w _ _ _ _ ((g.act c mode env).at w n le) (where_truth_ties b e (past_command c env) _ _ (turn_ties _ _ _ (g.rounds (t.repeat_while i b c e) forwards env))))
   rounds_of_ties c mode env = done_ties
 
   pub for_test_ties : (place : ℕ) (object : ℕ) (limit : Value) (step : ℕ) (go to : World → Outcome Done) → Ties go to → Ties (Loops.for_test place object limit step go) (Loops.for_test place object limit step to)
@@ -238,7 +238,7 @@ module _ (m l : Meanings) (g : AllTied m l) where
   pub for_rounds_of_ties : (place : ℕ) (c : Command) (object : ℕ) (limit : Value) (step : ℕ) (env : Environment) → Ties (Loops.for_rounds_of m place c object limit step env) (Loops.for_rounds_of l place c object limit step env)
   for_rounds_of_ties place c object limit step env = ties _ _ (λ w n le.
       again_tied w _ _ _ _ ((scope_ties (Scopes.alone c) forwards env).at w n le) (ties _ _ (λ w n le.
-      with_tied w _ _ _ _ ((for_step_ties place object step).at w n le) (λ _. for_test_ties place object limit step _ _ (turn_ties _ _ (g.for_rounds place c object limit step env))))))
+      with_tied w _ _ _ _ ((for_step_ties place object step).at w n le) (λ _. for_test_ties place object limit step _ _ (turn_ties _ _ _ (g.for_rounds place c object limit step env))))))
 
   pub for_loop_ties : (x : Mention) (c : Command) (start limit : Value) (step : ℕ) (env : Environment) → Ties (Loops.for_loop m x c start limit step env) (Loops.for_loop l x c start limit step env)
   for_loop_ties x c start limit step env = ties _ _ (λ w n le.
@@ -266,13 +266,13 @@ module _ (m l : Meanings) (g : AllTied m l) where
   starts_ties t.no_starts env = ties _ _ (λ w n le. gives_tied [] w n le)
   starts_ties (t.value e is) env = then_ties (g.value e env) (λ v. then_ties (starts_ties is (past e env)) (λ vs. ties _ _ (λ w n le. gives_tied _ w n le)))
   starts_ties (t.vector i e is) env =
-      then_ties (ties _ _ (λ w n le. turn_tied _ _ (make_vec_ties (acts_at e) (constant_in env e)) w n le)) (λ v.
+      then_ties (ties _ _ (λ w n le. turn_tied _ _ _ (make_vec_ties (acts_at e) (constant_in env e)) w n le)) (λ v.
       then_ties (starts_ties is env) (λ vs. ties _ _ (λ w n le. gives_tied _ w n le)))
 
   pub let_values_ties : (ds : Definitions) (env : Environment) → Ties (Blocks.let_values m ds env) (Blocks.let_values l ds env)
   let_values_ties t.no_definitions env = ties _ _ (λ w n le. gives_tied [] w n le)
   let_values_ties (t.define (t.variables i xs is) ds) env = ties _ _ (λ w n le.
-      with_tied w _ _ _ _ (turn_tied _ _ (starts_ties is env) w n le) (λ vs. ties _ _ (λ w n le.
+      with_tied w _ _ _ _ (turn_tied _ _ _ (starts_ties is env) w n le) (λ vs. ties _ _ (λ w n le.
       with_tied w _ _ _ _ ((let_values_ties ds (past_definition (t.variables i xs is) env)).at w n le) (λ more. ties _ _ (λ w n le. gives_tied _ w n le)))))
   let_values_ties (t.define x ds) env = let_values_ties ds (past_definition x env)
 
@@ -314,7 +314,7 @@ module _ (m l : Meanings) (g : AllTied m l) where
   act_of_ties p (t.while i b e c) forwards env = where_truth_ties b e env _ _ (rounds_of_ties (t.while i b e c) forwards env)
   act_of_ties p (t.while i b e c) (seeking s) env = rounds_of_ties (t.while i b e c) (seeking s) env
   act_of_ties p (t.for_loop i x a b h c) mode env =
-      then_ties (g.value a env) (λ u. then_ties (g.value b (past a env)) (λ v. then_ties (reads_ties x.at (λ _. Loops.step_of env h))
+      then_ties (g.value a env) (λ u. then_ties (g.value b (past a env)) (λ v. then_ties (reads_ties x.at (λ _. no_constant) (λ _. Loops.step_of env h))
       (λ i. for_loop_ties x c u v i (past b (past a env)))))
   act_of_ties p (t.switch i e c) forwards env = then_ties (g.value e env) (λ v. choose_case_ties (acts_at e) v c (past e env))
   act_of_ties p (t.switch i e c) (seeking s) env = ended_case_ties c (seeking s) (past e env)

@@ -10,6 +10,7 @@ pub use Rattle.bk_tree.specs.declared.tree.Simple.{Simple}
 pub use Rattle.bk_tree.specs.declared.tree.Sort.{Sort}
 pub use Rattle.bk_meaning.specs.Blocks.{Start}
 pub use Rattle.bk_meaning.specs.Calls.{returned, call}
+pub use Rattle.bk_meaning.specs.Causes.{Cause, never_set, no_cell, no_byte, beyond, no_address, no_number, no_byte_value, apart, no_procedure, no_argument, argument, no_place, no_constant}
 pub use Rattle.bk_meaning.specs.Commands.{act_of}
 pub use Rattle.bk_meaning.specs.Environment.{Environment, globals_object, Sense, constant, cell, label, foreign, sense_of, bind, following, past, past_each, past_command, past_definition, constant_in, labelled, within_let, objects_of_definitions, objects, objects_of_each, objects_of_command, objects_of_commands, objects_of_declaration, objects_of_declarations, count, objects_of_definition, objects_of_starts, bind_each, letters, manifests, statics, globals, sense_of_constant, sense_of_global}
 pub use Rattle.bk_meaning.specs.Growing.{History, history, Grows, sizes, ComesBack, After, Restores, Keeps, InItsWorld, Throughout, OutputOnlyGrows, CallsComeBack, MemoryNeverShrinks, WhatLastsLives, size_of}
@@ -17,7 +18,7 @@ pub use Rattle.bk_meaning.specs.Lasting.{Program, program_of, Body, command, exp
 pub use Rattle.bk_meaning.specs.Library.{library, writes_text, takes_byte, digits}
 pub use Rattle.bk_meaning.specs.Memory.{Memory, dead_from, read, living, dead, cells_of, cells_at, cell_at, replaced, with_cell, write, write_byte, cell_of_byte, lives, made}
 pub use Rattle.bk_meaning.specs.Numbering.{AsManyAsCounted, IsNumbered, InStatics, InItems, InExpression, InEach, InCommand, InCommands, InDeclaration, InDeclarations, InDefinition, InDefinitions, InStarts, InSections, WhatLastsIsAtItsNumber}
-pub use Rattle.bk_meaning.specs.Operators.{sum, truth_of_value, on_numbers, operate, operate_prefix}
+pub use Rattle.bk_meaning.specs.Operators.{sum, sum_cause, truth_of_value, on_numbers, operate, operate_prefix}
 pub use Rattle.bk_meaning.specs.Parts.{Meanings, Target, at, byte_at, acts_at, nowhere}
 pub use Rattle.bk_meaning.specs.Program.{turn_for, means_with, no_turn_for, no_turns, means, run_of, first_world, started, Ends, Going, Undefined, Run, meaning}
 pub use Rattle.bk_meaning.specs.Seeking.{Mode, the_label, the_case, the_default, forwards, seeking, at_place, has_place, one_has_place}

@@ -1,5 +1,5 @@
 -- Runs of one tree, with fewer turns and with more; and what each of them only adds to, or leaves as it was.
-use Rattle.bk_meaning.proofs.Terms.{ℕ, zero, suc, ◌+◌, ◌≤◌, Bool, true, false, List, [], length, Option, Some, None, refl, sym, ◌∙◌, arith, append-nil, Value, Cell, Memory, dead_from, World, Exit, End, Outcome, gives, leaves, ends, undefined, going, each_way, with, given, either, turn, turn_of, closing, forgetting, changes, remembering, making, calling, calls_back, returned, History, history, Grows, sizes, ComesBack, After, Restores, with_turns}
+use Rattle.bk_meaning.proofs.Terms.{ℕ, zero, suc, ◌+◌, ◌≤◌, Bool, true, false, List, [], length, Option, Some, None, refl, sym, ◌∙◌, arith, append-nil, Value, Cell, Memory, dead_from, World, Exit, End, Outcome, gives, leaves, ends, undefined, going, each_way, with, given, either, turn, turn_of, closing, forgetting, changes, remembering, making, calling, calls_back, returned, History, history, Grows, sizes, ComesBack, After, Restores, with_turns, Cause}
 use Rattle.bk_meaning.proofs.After.{stays, earlier, Adds, adds, each_way_after, closing_after, calling_on}
 use Rattle.bk_meaning.proofs.Objects.{kept_still, kept_on, sizes-made, closed_keep, KeepsSizes}
 
@@ -11,8 +11,8 @@ pub data Below {A : Type 0} : Outcome A → Outcome A → Type 0 where
   gives_more : (a : A) (w : World) (n : ℕ) → w.turns ≤ n → Below (gives a w) (gives a (with_turns n w))
   leaves_more : (x : Exit) (w : World) (n : ℕ) → w.turns ≤ n → Below (leaves x w) (leaves x (with_turns n w))
   ends_more : (e : End) (w : World) (n : ℕ) → w.turns ≤ n → Below (ends e w) (ends e (with_turns n w))
-  undefined_more : (l : ℕ) (w : World) (n : ℕ) → w.turns ≤ n → Below (undefined l w) (undefined l (with_turns n w))
-  cut : (w : World) (o : Outcome A) → After (history w) o → Below (going w) o
+  undefined_more : (l : ℕ) (why : Cause) (w : World) (n : ℕ) → w.turns ≤ n → Below (undefined l why w) (undefined l why (with_turns n w))
+  cut : (l : ℕ) (w : World) (o : Outcome A) → After (history w) o → Below (going l w) o
 
 -- from a world, by fewer turns and by more
 pub record Tied {A : Type 0} (w : World) (o p : Outcome A) : Type 0 where
@@ -52,9 +52,9 @@ each_way_tied {A = A} w u v on to out off t h x = by u v t.below t.on t.kept
     by _ _ (gives_more a v n le) up back = from w v _ _ up back ((h a).at v n le)
     by _ _ (leaves_more y v n le) up back = from w v _ _ up back ((x y).at v n le)
     by _ _ (ends_more e v n le) up back = record { below = ends_more e v n le; on = up; kept = back }
-    by _ _ (undefined_more l v n le) up back = record { below = undefined_more l v n le; on = up; kept = back }
-    by _ _ (cut v p up) ahead back = record {
-      below = cut v _ (each_way_after (history v) p to off up (λ a. ties_add (on a) (to a) (h a)) (λ y. ties_add (out y) (off y) (x y)));
+    by _ _ (undefined_more l why v n le) up back = record { below = undefined_more l why v n le; on = up; kept = back }
+    by _ _ (cut l v p up) ahead back = record {
+      below = cut l v _ (each_way_after (history v) p to off up (λ a. ties_add (on a) (to a) (h a)) (λ y. ties_add (out y) (off y) (x y)));
       on = each_way_after (history w) p to off ahead (λ a. ties_add (on a) (to a) (h a)) (λ y. ties_add (out y) (off y) (x y));
       kept = kept_each_way _ _ p on to out off back h x;
     }
@@ -71,18 +71,18 @@ with_tied w u v on to t h = each_way_tied w u v on to _ _ t h (λ x. ties _ _ (�
 pub ends_tied : {A : Type 0} (e : End) (w : World) (n : ℕ) → w.turns ≤ n → Tied {A = A} w (ends e w) (ends e (with_turns n w))
 ends_tied e w n le = record { below = ends_more e w n le; on = stays (history w); kept = kept_still (sizes w.memory) }
 
-pub undefined_tied : {A : Type 0} (l : ℕ) (w : World) (n : ℕ) → w.turns ≤ n → Tied {A = A} w (undefined l w) (undefined l (with_turns n w))
-undefined_tied l w n le = record { below = undefined_more l w n le; on = stays (history w); kept = kept_still (sizes w.memory) }
+pub undefined_tied : {A : Type 0} {why : Cause} (l : ℕ) (w : World) (n : ℕ) → w.turns ≤ n → Tied {A = A} w (undefined l why w) (undefined l why (with_turns n w))
+undefined_tied l w n le = record { below = undefined_more l _ w n le; on = stays (history w); kept = kept_still (sizes w.memory) }
 
-pub cut_tied : {A : Type 0} (w : World) (o : Outcome A) → After (history w) o → Restores w.calls (sizes w.memory) o → Tied w (going w) o
-cut_tied w o up back = record { below = cut w o up; on = up; kept = back }
+pub cut_tied : {A : Type 0} {l : ℕ} (w : World) (o : Outcome A) → After (history w) o → Restores w.calls (sizes w.memory) o → Tied w (going l w) o
+cut_tied w o up back = record { below = cut _ w o up; on = up; kept = back }
 
-pub going_tied : {A : Type 0} (w : World) (n : ℕ) → Tied {A = A} w (going w) (going (with_turns n w))
+pub going_tied : {A : Type 0} {l : ℕ} (w : World) (n : ℕ) → Tied {A = A} w (going l w) (going l (with_turns n w))
 going_tied w n = cut_tied w _ (stays (history w)) (kept_still (sizes w.memory))
 
-pub given_tied : {A : Type 0} (l : ℕ) (x : Option A) (w : World) (n : ℕ) → w.turns ≤ n → Tied w (given l x w) (given l x (with_turns n w))
-given_tied l None w n le = undefined_tied l w n le
-given_tied l (Some a) w n le = gives_tied a w n le
+pub given_tied : {A : Type 0} (l : ℕ) (why : Cause) (x : Option A) (w : World) (n : ℕ) → w.turns ≤ n → Tied w (given l why x w) (given l why x (with_turns n w))
+given_tied l why None w n le = undefined_tied l w n le
+given_tied l why (Some a) w n le = gives_tied a w n le
 
 pub either_tied : {A : Type 0} (b : Bool) (go to other another : World → Outcome A) → Ties go to → Ties other another → (w : World) (n : ℕ) → w.turns ≤ n → Tied w (either b go other w) (either b to another (with_turns n w))
 either_tied true go to other another g h w n le = g.at w n le
@@ -95,10 +95,10 @@ then_ties {go = go} {to} {on} {then} g h = record { at = λ w n le. with_tied w 
 pub either_ties : {A : Type 0} {go to other another : World → Outcome A} (b : Bool) → Ties go to → Ties other another → Ties (λ w. either b go other w) (λ w. either b to another w)
 either_ties {go = go} {to} {other} {another} b g h = record { at = λ w n le. either_tied b go to other another g h w n le }
 
-pub turn_tied : {A : Type 0} (go to : World → Outcome A) → Ties go to → (w : World) (n : ℕ) → w.turns ≤ n → Tied w (turn w go) (turn (with_turns n w) to)
-turn_tied go to h w n le = at w.turns n le
+pub turn_tied : {A : Type 0} (l : ℕ) (go to : World → Outcome A) → Ties go to → (w : World) (n : ℕ) → w.turns ≤ n → Tied w (turn l w go) (turn l (with_turns n w) to)
+turn_tied l go to h w n le = at w.turns n le
   where
-    at : (i j : ℕ) → i ≤ j → Tied w (turn_of i w go) (turn_of j (with_turns n w) to)
+    at : (i j : ℕ) → i ≤ j → Tied w (turn_of l i w go) (turn_of l j (with_turns n w) to)
     at zero zero le = going_tied w n
     at zero (suc j) le =
         let t : Tied (with_turns j w) (go (with_turns j w)) (to (with_turns j w)) = h.at (with_turns j w) j (omega arith) in
@@ -124,13 +124,13 @@ closing_tied {A = A} w u v t = by u v t.below t.on t.kept
     by _ _ (gives_more a v n le) up back = record { below = gives_more a (forgetting (length w.memory) v) n le; on = up; kept = closed v back }
     by _ _ (leaves_more x v n le) up back = record { below = leaves_more x (forgetting (length w.memory) v) n le; on = up; kept = closed v back }
     by _ _ (ends_more e v n le) up back = record { below = ends_more e v n le; on = up; kept = back }
-    by _ _ (undefined_more l v n le) up back = record { below = undefined_more l v n le; on = up; kept = back }
-    by _ _ (cut v o up) ahead back = record { below = cut v _ (closing_after (history v) (length w.memory) o up); on = closing_after (history w) (length w.memory) o ahead; kept = closed_kept o back }
+    by _ _ (undefined_more l why v n le) up back = record { below = undefined_more l why v n le; on = up; kept = back }
+    by _ _ (cut l v o up) ahead back = record { below = cut l v _ (closing_after (history v) (length w.memory) o up); on = closing_after (history w) (length w.memory) o ahead; kept = closed_kept o back }
 
 -- memory that was changed, in cells alone
-pub changes_tied : (l : ℕ) (m : Option Memory) (w : World) (n : ℕ) → w.turns ≤ n → KeepsSizes w.memory m → Tied w (changes l m w) (changes l m (with_turns n w))
-changes_tied l None w n le same = undefined_tied l w n le
-changes_tied l (Some m) w n le same = record {
+pub changes_tied : (l : ℕ) (why : Cause) (m : Option Memory) (w : World) (n : ℕ) → w.turns ≤ n → KeepsSizes w.memory m → Tied w (changes l why m w) (changes l why m (with_turns n w))
+changes_tied l why None w n le same = undefined_tied l w n le
+changes_tied l why (Some m) w n le same = record {
   below = gives_more tt (remembering m w) n le;
   on = stays (history w);
   kept = record { calls = refl; kept = record { made = []; objects = same ∙ sym (append-nil (sizes w.memory)) } };
@@ -157,7 +157,7 @@ call_tied l w u v t = by u v t.below t.on t.kept
 
     by : (u v : Outcome Value) → Below u v → After (history (calling w)) v → Restores (w.calls + 1) (sizes w.memory) v → Tied w (returned l w.calls u) (returned l w.calls v)
     by _ _ (gives_more a v n le) up k = record { below = gives_more a (calls_back w.calls v) n le; on = later (gives a v) up; kept = came_back (gives a v) k }
-    by _ _ (leaves_more x v n le) up k = record { below = undefined_more l v n le; on = later (leaves x v) up; kept = k.kept }
+    by _ _ (leaves_more x v n le) up k = record { below = undefined_more l _ v n le; on = later (leaves x v) up; kept = k.kept }
     by _ _ (ends_more e v n le) up k = record { below = ends_more e v n le; on = later (ends e v) up; kept = k }
-    by _ _ (undefined_more i v n le) up k = record { below = undefined_more i v n le; on = later (undefined i v) up; kept = k }
-    by _ _ (cut v o up) ahead k = record { below = cut v _ (back_on (history v) o up); on = back_on (history w) o (later o ahead); kept = came_back o k }
+    by _ _ (undefined_more i why v n le) up k = record { below = undefined_more i why v n le; on = later (undefined i why v) up; kept = k }
+    by _ _ (cut i v o up) ahead k = record { below = cut i v _ (back_on (history v) o up); on = back_on (history w) o (later o ahead); kept = came_back o k }

@@ -3,6 +3,7 @@ use Rattle.std.specs.Prelude.{ℕ, ◌+◌, Option, Some, None, List, [], ◌∷
 use Rattle.bk_tree.specs.Tree as t
 use Rattle.bk_tree.specs.Tree.{Mention, Expression, Expressions, Command, Commands, Declaration, Declarations, Definition, Definitions, Starts}
 use Rattle.bk_meaning.specs.Values.{Value, address, unset, Cell, holds}
+use Rattle.bk_meaning.specs.Causes.{no_constant}
 use Rattle.bk_meaning.specs.World.{World, Outcome, gives, undefined, with, turn, making}
 use Rattle.bk_meaning.specs.Environment.{Environment, cell, bind, following, past, past_definition, constant_in, within_let, constants_declared, letters, objects_of_definitions}
 use Rattle.bk_meaning.specs.Parts.{Meanings, acts_at}
@@ -13,14 +14,14 @@ abbrev pub vec_cells : ℕ → List Cell
 vec_cells k = replicate (k + 1) (holds unset)
 
 abbrev pub make_vec : ℕ → Option ℕ → World → Outcome Value
-make_vec l None w = undefined l w
+make_vec l None w = undefined l no_constant w
 make_vec l (Some k) w = gives (address (length w.memory) 0) (making (vec_cells k) w)
 
 abbrev pub starts : Meanings → Starts → Environment → World → Outcome (List Value)
 starts m t.no_starts env w = gives [] w
 starts m (t.value e is) env w = with (m.value e env w) (λ v w. with (starts m is (past e env) w) (λ vs w. gives (v ∷ vs) w))
 starts m (t.vector l e is) env w =
-    with (turn w (λ w. make_vec (acts_at e) (constant_in env e) w)) (λ v w. with (starts m is env w) (λ vs w. gives (v ∷ vs) w))
+    with (turn l w (λ w. make_vec (acts_at e) (constant_in env e) w)) (λ v w. with (starts m is env w) (λ vs w. gives (v ∷ vs) w))
 
 pub record Start : Type 0 where
   pub name : List ℕ
@@ -33,7 +34,7 @@ paired _ _ = []
 abbrev pub let_values : Meanings → Definitions → Environment → World → Outcome (List Start)
 let_values m t.no_definitions env w = gives [] w
 let_values m (t.define (t.variables l xs is) ds) env w =
-    with (turn w (λ w. starts m is env w)) (λ vs w.
+    with (turn l w (λ w. starts m is env w)) (λ vs w.
     with (let_values m ds (past_definition (t.variables l xs is) env) w) (λ more w. gives (paired (letters xs) vs ++ more) w))
 let_values m (t.define d ds) env w = let_values m ds (past_definition d env) w
 

@@ -3,6 +3,7 @@ use Rattle.std.specs.Prelude.{ℕ, suc, Option, Some, None, List, [], ◌∷◌,
 use Rattle.bk_tree.specs.Tree as t
 use Rattle.bk_tree.specs.Tree.{Mention, Expression, Expressions, Command, Commands, Declaration, Declarations, Definition, Definitions, Starts}
 use Rattle.bk_meaning.specs.Values.{Value, procedure, routine, unset, Cell, holds}
+use Rattle.bk_meaning.specs.Causes.{no_place, no_procedure}
 use Rattle.bk_meaning.specs.World.{World, Exit, return, Outcome, gives, leaves, undefined, each_way, with, making, closing, calling, calls_back}
 use Rattle.bk_meaning.specs.Environment.{Environment, cell, bind, past}
 use Rattle.bk_meaning.specs.Lasting.{Body, command, expression, Procedure, Program, procedure_of}
@@ -37,18 +38,18 @@ run_body m (command c) env w = each_way (λ _ w. gives unset w) return_exit (sco
 run_body m (expression e) env w = m.value e env w
 
 abbrev pub enter : Meanings → ℕ → Option Procedure → List Value → World → Outcome Value
-enter m l None vs w = undefined l w
+enter m l None vs w = undefined l no_place w
 enter m l (Some p) vs w =
     closing (length w.memory) (run_body m p.body (bind_formals (length w.memory) 0 p.formals p.env) (making (formal_cells p.formals vs) w))
 
 abbrev pub called : Program → Meanings → ℕ → Value → List Value → World → Outcome Value
 called p m l (procedure n) vs w = enter m l (procedure_of p n) vs w
 called p m l (routine r) vs w = library l r vs w
-called p m l _ vs w = undefined l w
+called p m l v vs w = undefined l (no_procedure v) w
 
 -- While it runs a further call is active. After it n are. No other exit leaves a procedure.
 abbrev pub returned : ℕ → ℕ → Outcome Value → Outcome Value
-returned l n u = each_way (λ v after. gives v (calls_back n after)) (λ x w. undefined l w) u
+returned l n u = each_way (λ v after. gives v (calls_back n after)) (λ x w. undefined l no_place w) u
 
 abbrev pub call : Program → Meanings → ℕ → Value → List Value → World → Outcome Value
 call p m l f vs w = returned l w.calls (called p m l f vs (calling w))

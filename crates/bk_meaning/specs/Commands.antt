@@ -5,6 +5,7 @@ use Rattle.bk_tree.specs.declared.tree.Simple.TheVariants as k
 use Rattle.bk_tree.specs.Tree as t
 use Rattle.bk_tree.specs.Tree.{Mention, Expression, Expressions, Command, Commands, Declaration, Declarations, Definition, Definitions, Starts}
 use Rattle.bk_meaning.specs.Values.{Value, number}
+use Rattle.bk_meaning.specs.Causes.{no_numbers, no_constant}
 use Rattle.bk_meaning.specs.World.{World, status, Exit, break, loop, endcase, goto, result, return, Outcome, leaves, ends, undefined, each_way, with, Done, done, given, either, closing}
 use Rattle.bk_meaning.specs.Environment.{Environment, past, past_each, past_command, constant_in}
 use Rattle.bk_meaning.specs.Lasting.{Program}
@@ -34,7 +35,7 @@ abbrev pub choose_case : Meanings → ℕ → Value → Command → Environment 
 choose_case m l (number n) c env w =
     either (has_place (the_case (Some n)) env c) (λ w. ended_case (m.act c (seeking (the_case (Some n))) env w))
     (λ w. either (has_place the_default env c) (λ w. ended_case (m.act c (seeking the_default) env w)) done w) w
-choose_case m l v c env w = undefined l w
+choose_case m l v c env w = undefined l (no_numbers v v) w
 
 abbrev pub simple_exit : Simple → World → Outcome Done
 simple_exit k.Break w = leaves break w
@@ -61,7 +62,7 @@ act_of p m (t.test l e a b) (seeking s) env w =
 act_of p m (t.while l b e c) forwards env w = where_truth m b e env (λ w. rounds_of m (t.while l b e c) forwards env w) w
 act_of p m (t.while l b e c) (seeking s) env w = rounds_of m (t.while l b e c) (seeking s) env w
 act_of p m (t.for_loop l x a b h c) mode env w =
-    with (m.value a env w) (λ u w. with (m.value b (past a env) w) (λ v w. with (given x.at (step_of env h) w) (λ n w.
+    with (m.value a env w) (λ u w. with (m.value b (past a env) w) (λ v w. with (given x.at no_constant (step_of env h) w) (λ n w.
     for_loop m x c u v n (past b (past a env)) w)))
 act_of p m (t.switch l e c) forwards env w = with (m.value e env w) (λ v w. choose_case m (acts_at e) v c (past e env) w)
 act_of p m (t.switch l e c) (seeking s) env w = ended_case (m.act c (seeking s) (past e env) w)

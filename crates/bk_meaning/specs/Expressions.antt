@@ -8,9 +8,10 @@ use Rattle.bk_tree.specs.declared.tree.Prefix.TheVariants as q
 use Rattle.bk_tree.specs.Tree as t
 use Rattle.bk_tree.specs.Tree.{Mention, Expression, Expressions, Command, Commands, Declaration, Declarations, Definition, Definitions, Starts}
 use Rattle.bk_meaning.specs.Values.{Value, number, address, unset}
+use Rattle.bk_meaning.specs.Causes.{no_place, byte_cause}
 use Rattle.bk_meaning.specs.Memory.{read_byte}
 use Rattle.bk_meaning.specs.World.{World, Exit, result, Outcome, gives, leaves, undefined, each_way, with, Done, given, either}
-use Rattle.bk_meaning.specs.Operators.{sum, truth_of_value, operate, operate_prefix}
+use Rattle.bk_meaning.specs.Operators.{sum, sum_cause, truth_of_value, truth_cause, operate, operate_prefix}
 use Rattle.bk_meaning.specs.Environment.{Environment, sense_of, past}
 use Rattle.bk_meaning.specs.Lasting.{Program}
 use Rattle.bk_meaning.specs.Seeking.{forwards}
@@ -29,12 +30,12 @@ result_of u = each_way (λ _ w. gives unset w) result_exit u
 -- the address that a target is; a byte has none
 abbrev pub address_in : ℕ → Target → World → Outcome Value
 address_in l (at a) w = gives a w
-address_in l (byte_at a i) w = undefined l w
+address_in l (byte_at a i) w = undefined l no_place w
 
 -- `!` and `%` between two operands, and the other operators
 abbrev pub combined : ℕ → Operator → Value → Value → World → Outcome Value
-combined l o.Subscript x y w = with (given l (sum w.memory x y) w) (fetch l)
-combined l o.Byte x y w = given l (option_map number (read_byte w.memory x y)) w
+combined l o.Subscript x y w = with (given l (sum_cause x y) (sum w.memory x y) w) (fetch l)
+combined l o.Byte x y w = given l (byte_cause x y) (option_map number (read_byte w.memory x y)) w
 combined l q x y w = operate l q x y w
 
 -- The value of an expression: operands from left to right.
@@ -58,7 +59,7 @@ value_of p m (t.table l es) env w = gives (address env.next 0) w
 
 -- the truth of a value
 abbrev pub judged : ℕ → Value → World → Outcome Bool
-judged l v w = given l (truth_of_value w.memory v) w
+judged l v w = given l (truth_cause v) (truth_of_value w.memory v) w
 
 -- The truth of an expression in a condition: NOT, `&` and `|` go on only until the answer is known.
 abbrev pub truth_of : Program → Meanings → Expression → Environment → World → Outcome Bool
@@ -76,7 +77,7 @@ target_of m (t.name l x) env w = address_named l (sense_of x env) w
 target_of m (t.parens l e) env w = m.target e env w
 target_of m (t.unary l q.Contents e) env w = with (m.value e env w) (λ a w. gives (at a) w)
 target_of m (t.binary l o.Subscript i a b) env w =
-    with (m.value a env w) (λ x w. with (m.value b (past a env) w) (λ y w. with (given i (sum w.memory x y) w) (λ a w. gives (at a) w)))
+    with (m.value a env w) (λ x w. with (m.value b (past a env) w) (λ y w. with (given i (sum_cause x y) (sum w.memory x y) w) (λ a w. gives (at a) w)))
 target_of m (t.binary l o.Byte i a b) env w =
     with (m.value a env w) (λ x w. with (m.value b (past a env) w) (λ y w. gives (byte_at x y) w))
-target_of m e env w = undefined (acts_at e) w
+target_of m e env w = undefined (acts_at e) no_place w

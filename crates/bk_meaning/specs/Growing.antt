@@ -51,8 +51,8 @@ abbrev pub InItsWorld : {A : Type 0} → (World → Type 0) → Outcome A → Ty
 InItsWorld P (gives a v) = P v
 InItsWorld P (leaves x v) = P v
 InItsWorld P (ends e v) = P v
-InItsWorld P (undefined l v) = P v
-InItsWorld P (going v) = P v
+InItsWorld P (undefined l why v) = P v
+InItsWorld P (going l v) = P v
 
 -- the outcome of what began with this history; with these calls and objects
 abbrev pub After : {A : Type 0} → History → Outcome A → Type 0
@@ -62,8 +62,8 @@ abbrev pub Restores : {A : Type 0} → ℕ → List (Option ℕ) → Outcome A �
 Restores calls old (gives a v) = ComesBack calls old v.calls (sizes v.memory)
 Restores calls old (leaves x v) = ComesBack calls old v.calls (sizes v.memory)
 Restores calls old (ends e v) = Keeps old (sizes v.memory)
-Restores calls old (undefined l v) = Keeps old (sizes v.memory)
-Restores calls old (going v) = Keeps old (sizes v.memory)
+Restores calls old (undefined l why v) = Keeps old (sizes v.memory)
+Restores calls old (going l v) = Keeps old (sizes v.memory)
 
 -- what holds of the outcome of each part of the meaning, from any world on
 pub record Throughout (Holds : (A : Type 0) → World → Outcome A → Type 0) (m : Meanings) : Type 0 where

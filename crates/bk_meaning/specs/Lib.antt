@@ -1,5 +1,6 @@
 -- What programs mean: read in this order.
 pub mod Values
+pub mod Causes
 pub mod Memory
 pub mod World
 pub mod Operators

@@ -33,10 +33,10 @@ where_truth m b e env go w = with (m.truth e env w) (λ x w. either (same_truth 
 -- A round, and those after it: a further one takes a turn. The first may begin at a place that is sought; then the loop goes on.
 abbrev pub rounds_of : Meanings → Command → Mode → Environment → World → Outcome Done
 rounds_of m (t.while l b e c) mode env w =
-    again (m.act c mode (past e env) w) (λ w. where_truth m b e env (λ w. turn w (λ w. m.rounds (t.while l b e c) forwards env w)) w)
-rounds_of m (t.repeat l c) mode env w = again (m.act c mode env w) (λ w. turn w (λ w. m.rounds (t.repeat l c) forwards env w))
+    again (m.act c mode (past e env) w) (λ w. where_truth m b e env (λ w. turn l w (λ w. m.rounds (t.while l b e c) forwards env w)) w)
+rounds_of m (t.repeat l c) mode env w = again (m.act c mode env w) (λ w. turn l w (λ w. m.rounds (t.repeat l c) forwards env w))
 rounds_of m (t.repeat_while l b c e) mode env w =
-    again (m.act c mode env w) (λ w. where_truth m b e (past_command c env) (λ w. turn w (λ w. m.rounds (t.repeat_while l b c e) forwards env w)) w)
+    again (m.act c mode env w) (λ w. where_truth m b e (past_command c env) (λ w. turn l w (λ w. m.rounds (t.repeat_while l b c e) forwards env w)) w)
 rounds_of m c mode env w = done w
 
 -- FOR: the variable, which is an object, is compared with the limit, and the step is added to it.
@@ -59,7 +59,7 @@ for_step l object step w =
 abbrev pub for_rounds_of : Meanings → ℕ → Command → ℕ → Value → ℕ → Environment → World → Outcome Done
 for_rounds_of m l c object limit step env w =
     again (scope_of m (alone c) forwards env w) (λ w. with (for_step l object step w) (λ _ w.
-    for_test l object limit step (λ w. turn w (λ w. m.for_rounds l c object limit step env w)) w))
+    for_test l object limit step (λ w. turn l w (λ w. m.for_rounds l c object limit step env w)) w))
 
 abbrev pub for_loop : Meanings → Mention → Command → Value → Value → ℕ → Environment → World → Outcome Done
 for_loop m x c start limit step env w =

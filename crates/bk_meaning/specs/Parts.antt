@@ -4,6 +4,7 @@ use Rattle.std.specs.Prelude.{ℕ, Bool, Option, Some}
 use Rattle.bk_tree.specs.Tree as t
 use Rattle.bk_tree.specs.Tree.{Expression, Command, Commands}
 use Rattle.bk_meaning.specs.Values.{Value, number, address}
+use Rattle.bk_meaning.specs.Causes.{no_place, cell_cause, set_byte_cause}
 use Rattle.bk_meaning.specs.Memory.{read, write, write_byte}
 use Rattle.bk_meaning.specs.World.{World, Outcome, gives, undefined, Done, given, changes}
 use Rattle.bk_meaning.specs.Environment.{Environment, Sense, constant, cell}
@@ -48,19 +49,19 @@ pub record Meanings : Type 0 where
 
 -- what is at an address
 abbrev pub fetch : ℕ → Value → World → Outcome Value
-fetch l a w = given l (read w.memory a) w
+fetch l a w = given l (cell_cause a) (read w.memory a) w
 
 -- the value of a name, and its address
 abbrev pub named : ℕ → Option Sense → World → Outcome Value
 named l (Some (constant n)) w = gives (number n) w
 named l (Some (cell a i)) w = fetch l (address a i) w
-named l _ w = undefined l w
+named l _ w = undefined l no_place w
 
 abbrev pub address_named : ℕ → Option Sense → World → Outcome Target
 address_named l (Some (cell a i)) w = gives (at (address a i)) w
-address_named l _ w = undefined l w
+address_named l _ w = undefined l no_place w
 
 -- puts a value there
 abbrev pub store : ℕ → Target → Value → World → Outcome Done
-store l (at a) v w = changes l (write w.memory a v) w
-store l (byte_at a i) v w = changes l (write_byte w.memory a i v) w
+store l (at a) v w = changes l (cell_cause a) (write w.memory a v) w
+store l (byte_at a i) v w = changes l (set_byte_cause a i v) (write_byte w.memory a i v) w

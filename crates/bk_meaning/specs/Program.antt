@@ -2,12 +2,14 @@
 use Rattle.std.specs.Prelude.{ℕ, zero, suc, Option, Some, None, List, []}
 use Rattle.bk_tree.specs.Tree as t
 use Rattle.bk_tree.specs.Tree.{Expression, Command, Declarations}
+use Rattle.bk_tree.specs.Parts.{at_command}
 use Rattle.bk_meaning.specs.Values.{Value, address}
+use Rattle.bk_meaning.specs.Causes.{Cause, no_place}
 use Rattle.bk_meaning.specs.Memory.{read}
 use Rattle.bk_meaning.specs.World.{World, End, status, no_start, Outcome, gives, leaves, ends, undefined, going, Done, done, turn}
 use Rattle.bk_meaning.specs.Environment.{globals_object}
 use Rattle.bk_meaning.specs.Lasting.{Program, program_of, first_memory}
-use Rattle.bk_meaning.specs.Parts.{Meanings, nowhere}
+use Rattle.bk_meaning.specs.Parts.{Meanings, acts_at, nowhere}
 use Rattle.bk_meaning.specs.Scopes.{scope_of}
 use Rattle.bk_meaning.specs.Calls.{call}
 use Rattle.bk_meaning.specs.Expressions.{value_of, truth_of, target_of}
@@ -17,14 +19,14 @@ use Rattle.bk_meaning.specs.Commands.{act_of}
 -- a command takes a turn, unless it is empty
 abbrev pub turn_for : Command → World → (World → Outcome Done) → Outcome Done
 turn_for t.empty w go = go w
-turn_for c w go = turn w go
+turn_for c w go = turn (at_command c) w go
 
 -- Each node takes a turn, and has its meaning from that of the nodes inside it.
 abbrev pub means_with : Program → Meanings → Meanings
 means_with p m = record {
-  value = λ e env w. turn w (λ w. value_of p m e env w);
-  truth = λ e env w. turn w (λ w. truth_of p m e env w);
-  target = λ e env w. turn w (λ w. target_of m e env w);
+  value = λ e env w. turn (acts_at e) w (λ w. value_of p m e env w);
+  truth = λ e env w. turn (acts_at e) w (λ w. truth_of p m e env w);
+  target = λ e env w. turn (acts_at e) w (λ w. target_of m e env w);
   act = λ c mode env w. turn_for c w (λ w. act_of p m c mode env w);
   rounds = λ c mode env w. rounds_of m c mode env w;
   for_rounds = λ l c object limit step env w. for_rounds_of m l c object limit step env w;
@@ -34,17 +36,17 @@ means_with p m = record {
 -- where no turn is left
 abbrev pub no_turn_for : Command → World → Outcome Done
 no_turn_for t.empty w = done w
-no_turn_for c w = going w
+no_turn_for c w = going (at_command c) w
 
 abbrev pub no_turns : Meanings
 no_turns = record {
-  value = λ e env w. going w;
-  truth = λ e env w. going w;
-  target = λ e env w. going w;
+  value = λ e env w. going (acts_at e) w;
+  truth = λ e env w. going (acts_at e) w;
+  target = λ e env w. going (acts_at e) w;
   act = λ c mode env w. no_turn_for c w;
-  rounds = λ c mode env w. going w;
-  for_rounds = λ l c object limit step env w. going w;
-  scope = λ cs mode env w. going w;
+  rounds = λ c mode env w. going (at_command c) w;
+  for_rounds = λ l c object limit step env w. going l w;
+  scope = λ cs mode env w. going nowhere w;
 }
 
 -- the meaning of all nodes in worlds with at most n turns left
@@ -53,19 +55,19 @@ means p zero = no_turns
 means p (suc n) = means_with p (means p n)
 
 -- How the run of a program ends: with the bytes that it wrote, those of the input that it left, and the most calls that were
--- active at once. It may go on past all turns, or do what is undefined, at a position.
+-- active at once. It may go on past all turns, or do what is undefined, for a cause: at a position, where no turn was left, or the act is.
 pub data Run : Type 0 where
   Ends : (bytes left : List ℕ) (calls : ℕ) (end : End) → Run
-  Going : (bytes left : List ℕ) (calls : ℕ) → Run
-  Undefined : (bytes left : List ℕ) (calls at : ℕ) → Run
+  Going : (bytes left : List ℕ) (calls at : ℕ) → Run
+  Undefined : (bytes left : List ℕ) (calls at : ℕ) (why : Cause) → Run
 
 -- a return from START ends with 0
 abbrev pub run_of : Outcome Value → Run
 run_of (gives v w) = Ends w.output w.input w.most_calls (status 0)
-run_of (leaves x w) = Undefined w.output w.input w.most_calls nowhere
+run_of (leaves x w) = Undefined w.output w.input w.most_calls nowhere no_place
 run_of (ends e w) = Ends w.output w.input w.most_calls e
-run_of (undefined l w) = Undefined w.output w.input w.most_calls l
-run_of (going w) = Going w.output w.input w.most_calls
+run_of (undefined l why w) = Undefined w.output w.input w.most_calls l why
+run_of (going l w) = Going w.output w.input w.most_calls l
 
 -- global 1 is called
 abbrev pub first_world : Program → List ℕ → ℕ → World

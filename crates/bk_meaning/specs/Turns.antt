@@ -18,13 +18,13 @@ shown bytes left calls = record { output = bytes; input = left; most_calls = cal
 
 abbrev pub RunGoesOn : History → Run → Type 0
 RunGoesOn old (Ends bytes left calls e) = Grows old (shown bytes left calls)
-RunGoesOn old (Going bytes left calls) = Grows old (shown bytes left calls)
-RunGoesOn old (Undefined bytes left calls at) = Grows old (shown bytes left calls)
+RunGoesOn old (Going bytes left calls at) = Grows old (shown bytes left calls)
+RunGoesOn old (Undefined bytes left calls at why) = Grows old (shown bytes left calls)
 
 -- a run with fewer turns, and with more
 pub data Continues : Run → Run → Type 0 where
   the_same : (r : Run) → Continues r r
-  further : (bytes left : List ℕ) (calls : ℕ) (r : Run) → RunGoesOn (shown bytes left calls) r → Continues (Going bytes left calls) r
+  further : (bytes left : List ℕ) (calls at : ℕ) (r : Run) → RunGoesOn (shown bytes left calls) r → Continues (Going bytes left calls at) r
 
 abbrev pub MoreTurns : Type 0
 MoreTurns = (sections : List Declarations) (input : List ℕ) (n k : ℕ) → n ≤ k → Continues (meaning sections input n) (meaning sections input k)
@@ -35,4 +35,4 @@ ReadsFromTheFront = (sections : List Declarations) (input : List ℕ) (n : ℕ) 
 
 -- A call is cut off only where no turn is left: the depth to which trees are gone into never runs out before the turns.
 abbrev pub CutOnlyWithoutTurns : Type 0
-CutOnlyWithoutTurns = (p : Program) (l : ℕ) (f : Value) (vs : List Value) (n : ℕ) (w v : World) → w.turns ≤ n → call p (means p n) l f vs w ≡ going v → v.turns ≡ 0
+CutOnlyWithoutTurns = (p : Program) (l : ℕ) (f : Value) (vs : List Value) (n at : ℕ) (w v : World) → w.turns ≤ n → call p (means p n) l f vs w ≡ going at v → v.turns ≡ 0

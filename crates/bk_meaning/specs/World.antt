@@ -1,6 +1,7 @@
 -- Worlds, and how a run goes on or ends.
 use Rattle.std.specs.Prelude.{ℕ, zero, suc, ◌+◌, max, Bool, true, false, Option, Some, None, List, ◌++◌}
 use Rattle.bk_meaning.specs.Values.{Value, Cell}
+use Rattle.bk_meaning.specs.Causes.{Cause}
 use Rattle.bk_meaning.specs.Memory.{Memory, made, dead_from}
 
 pub record World : Type 0 where
@@ -15,10 +16,10 @@ pub record World : Type 0 where
   -- the turns that are left
   pub turns : ℕ
 
--- how a program ends
+-- how a program ends: a division by zero with the position of the node that divides
 pub data End : Type 0 where
   status : (word : ℕ) → End
-  divide_by_zero : End
+  divide_by_zero : (at : ℕ) → End
   -- there is no START
   no_start : End
 
@@ -33,21 +34,22 @@ pub data Exit : Type 0 where
   return : Exit
 
 -- What results from an expression or a command: something is given and the run goes on, or it is left by an exit, or the program
--- ends; or an act is undefined, at the position of the node that acts, in the world before it; or no turn is left.
+-- ends; or an act is undefined, at the position of the node that acts, for a cause, in the world before it; or no turn is left
+-- for the node at a position.
 pub data Outcome (A : Type 0) : Type 0 where
   gives : (what : A) (w : World) → Outcome A
   leaves : (exit : Exit) (w : World) → Outcome A
   ends : (end : End) (w : World) → Outcome A
-  undefined : (at : ℕ) (w : World) → Outcome A
-  going : (w : World) → Outcome A
+  undefined : (at : ℕ) (why : Cause) (w : World) → Outcome A
+  going : (at : ℕ) (w : World) → Outcome A
 
 -- goes on with what was given, or with the exit; any other outcome stays
 abbrev pub each_way : {A B : Type 0} → (A → World → Outcome B) → (Exit → World → Outcome B) → Outcome A → Outcome B
 each_way on out (gives a w) = on a w
 each_way on out (leaves x w) = out x w
 each_way on out (ends e w) = ends e w
-each_way on out (undefined l w) = undefined l w
-each_way on out (going w) = going w
+each_way on out (undefined l why w) = undefined l why w
+each_way on out (going l w) = going l w
 
 -- goes on with what was given; an exit stays
 abbrev pub with : {A B : Type 0} → Outcome A → (A → World → Outcome B) → Outcome B
@@ -60,22 +62,22 @@ Done = Unit {0}
 abbrev pub done : World → Outcome Done
 done w = gives tt w
 
--- Nothing is undefined. From here on l is the position of what acts.
-abbrev pub given : {A : Type 0} → ℕ → Option A → World → Outcome A
-given l None w = undefined l w
-given l (Some a) w = gives a w
+-- Nothing is undefined, for a cause. From here on l is the position of what acts.
+abbrev pub given : {A : Type 0} → ℕ → Cause → Option A → World → Outcome A
+given l why None w = undefined l why w
+given l why (Some a) w = gives a w
 
 abbrev pub either : {A : Type 0} → Bool → (World → Outcome A) → (World → Outcome A) → World → Outcome A
 either true then_so else_so w = then_so w
 either false then_so else_so w = else_so w
 
--- takes a turn, if one is left
-abbrev pub turn_of : {A : Type 0} → ℕ → World → (World → Outcome A) → Outcome A
-turn_of zero w go = going w
-turn_of (suc n) w go = go (record w { turns = n })
+-- takes a turn, if one is left, for the node at a position
+abbrev pub turn_of : {A : Type 0} → ℕ → ℕ → World → (World → Outcome A) → Outcome A
+turn_of l zero w go = going l w
+turn_of l (suc n) w go = go (record w { turns = n })
 
-abbrev pub turn : {A : Type 0} → World → (World → Outcome A) → Outcome A
-turn w go = turn_of w.turns w go
+abbrev pub turn : {A : Type 0} → ℕ → World → (World → Outcome A) → Outcome A
+turn l w go = turn_of l w.turns w go
 
 -- with another memory, and with a new object
 abbrev pub remembering : Memory → World → World
@@ -93,9 +95,9 @@ abbrev pub closing : {A : Type 0} → ℕ → Outcome A → Outcome A
 closing o u = each_way (λ a w. gives a (forgetting o w)) (λ x w. leaves x (forgetting o w)) u
 
 -- memory that was changed, if that was allowed
-abbrev pub changes : ℕ → Option Memory → World → Outcome Done
-changes l None w = undefined l w
-changes l (Some m) w = done (remembering m w)
+abbrev pub changes : ℕ → Cause → Option Memory → World → Outcome Done
+changes l why None w = undefined l why w
+changes l why (Some m) w = done (remembering m w)
 
 abbrev pub writing : List ℕ → World → World
 writing bytes w = record w { output = w.output ++ bytes }

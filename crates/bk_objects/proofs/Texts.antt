@@ -1,5 +1,5 @@
 -- Texts that grow.
-use Rattle.bk_objects.proofs.Terms.{◌≡◌, ℕ, zero, suc, ◌+◌, ◌-◌, Option, Some, None, List, [], ◌∷◌, ◌++◌, length, take, drop, min, refl, ap, sym, append_assoc, option_map, take_rest, drop_min, FormatPart, further, part_at, parts_after, parts, Value, number, Memory, read_byte, bytes_from}
+use Rattle.bk_objects.proofs.Terms.{◌≡◌, ℕ, zero, suc, ◌+◌, ◌-◌, Option, Some, None, List, [], ◌∷◌, ◌++◌, length, take, drop, min, refl, ap, sym, append_assoc, option_map, take_rest, drop_min, FormatPart, further, part_at, parts_after, parts, Value, number, Memory, read_byte, bytes_from, bytes_cause, byte_cause}
 
 -- a text that grew, and what is still to come
 pub behind_byte : (text : List ℕ) (b : ℕ) (rest : Option (List ℕ)) → option_map (λ bs. text ++ bs) (option_map (λ bs. b ∷ bs) rest) ≡ option_map (λ bs. (text ++ b ∷ []) ++ bs) rest
@@ -12,6 +12,13 @@ bytes_more n k m a i b text e is = rw (e, ← is) (behind_byte text b (bytes_fro
 
 pub bytes_cut : (n k : ℕ) (m : Memory) (a : Value) (i : ℕ) (text : List ℕ) → n ≡ suc k → None ≡ read_byte m a (number i) → option_map (λ bs. text ++ bs) (bytes_from n m a i) ≡ None
 bytes_cut n k m a i text e is = rw (e, ← is) refl
+
+-- why a byte is missing
+pub cause_more : (n k : ℕ) (m : Memory) (a : Value) (i b : ℕ) → n ≡ suc k → Some b ≡ read_byte m a (number i) → bytes_cause n m a i ≡ bytes_cause k m a (i + 1)
+cause_more n k m a i b e is = rw (e, ← is) refl
+
+pub cause_cut : (n k : ℕ) (m : Memory) (a : Value) (i : ℕ) → n ≡ suc k → None ≡ read_byte m a (number i) → bytes_cause n m a i ≡ byte_cause a (number i)
+cause_cut n k m a i e is = rw (e, ← is) refl
 
 -- the parts of a format
 pub parts_skipped : (n : ℕ) (bytes : List ℕ) → parts_after n bytes ≡ parts (drop n bytes)

@@ -3,13 +3,14 @@ use Rattle.std.specs.Prelude.{◌≡◌, ℕ, ◌++◌, List, Option, Some, None
 use Rattle.std.specs.Option.{option_map}
 use Rattle.bk_base.specs.Format as f
 use Rattle.bk_meaning.specs.Values.{Value, unset}
+use Rattle.bk_meaning.specs.Causes.{argument}
 use Rattle.bk_meaning.specs.World.{World, Outcome, gives, ends, status, undefined, writing}
 use Rattle.bk_meaning.specs.Library.{takes_byte}
 use Rattle.bk_objects.specs.declared.format.Part.{Part}
 use Rattle.bk_objects.specs.declared.format.Part.TheVariants as p
 use Rattle.bk_objects.specs.declared.library.Effect.{Effect}
 use Rattle.bk_objects.specs.declared.library.Effect.TheVariants as e
-use Rattle.bk_objects.specs.Views.{value_in}
+use Rattle.bk_objects.specs.Views.{value_in, cause_in}
 
 -- The text grew by these bytes, if they are there; else the addition was refused.
 abbrev pub Adds : {E : Type 0} → List ℕ → List ℕ → Option (List ℕ) → Result (Unit {0}) E → Type 0
@@ -29,4 +30,4 @@ outcome_in l (e.Stops n) w = ends (status n) w
 outcome_in l e.TakesByte w = takes_byte w.input w
 outcome_in l (e.Writes text) w = gives unset (writing text.items w)
 outcome_in l (e.Gives x) w = gives (value_in x) w
-outcome_in l (e.Undefined why) w = undefined l w
+outcome_in l (e.Undefined misuse) w = undefined l (argument misuse.argument (cause_in misuse.reason)) w

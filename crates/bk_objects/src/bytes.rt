@@ -1,12 +1,13 @@
 //! Bytes of cells, and what is written to memory.
-ghost use Rattle.std.specs.Prelude.{◌≡◌, ◌==◌, ◌<◌, ℕ, Some, None, OnErr, is_ok, if◌then◌else◌};
+ghost use Rattle.std.specs.Prelude.{◌≡◌, ◌==◌, ◌<◌, ℕ, Some, None, IfErr, OnErr, is_ok, if◌then◌else◌};
 ghost use Rattle.std.specs.Option.{option_map};
 ghost use Rattle.std.specs.Result.{result_ok};
 ghost use Rattle.bk_meaning.specs.Values as v;
 ghost use Rattle.bk_meaning.specs.Memory as m;
+ghost use Rattle.bk_meaning.specs.Causes.{cell_cause, byte_cause, set_byte_cause};
 ghost use Rattle.bk_meaning.specs.World.{World, changes};
 ghost use Rattle.bk_meaning.specs.Parts as p;
-ghost use Rattle.bk_objects.specs.Views.{value_in, cell_in, place_in};
+ghost use Rattle.bk_objects.specs.Views.{value_in, cell_in, place_in, cause_in, cause_by};
 
 use crate::computed::Reason;
 use crate::store::Store;
@@ -32,7 +33,8 @@ fn byte_in(cell: Cell, i: u32) -> Option<u8>
 
 /// The byte with this number of the words from an address on.
 pub fn read_byte(store: &Store, at: Worth, i: Worth) -> Result<u8, Reason>
-    ensures { result_ok result ≡ m.read_byte store.now (value_in at) (value_in i) }
+    ensures byte { result_ok result ≡ m.read_byte store.now (value_in at) (value_in i) }
+    ensures why { IfErr result (λ why. cause_in why ≡ byte_cause (value_in at) (value_in i)) }
 {
     let Worth::Number(i) = i else {
         return Err(Reason::NoNumber(i));
@@ -103,6 +105,7 @@ fn with_byte(cell: Cell, i: u32, byte: u8) -> Option<Cell>
 /// Puts a value into the cell at an address. An `Err` says why it is undefined.
 pub fn write(store: &mut Store, at: Worth, x: Worth) -> Result<(), Reason>
     ensures memory { (if is_ok result then Some store.new else None) ≡ m.write store.old (value_in at) (value_in x) }
+    ensures why { IfErr result (λ why. cause_in why ≡ cell_cause (value_in at)) }
     ensures unchanged { OnErr result (store.new ≡ store.old) }
 {
     let Worth::Address(object, offset) = at else {
@@ -118,6 +121,7 @@ pub fn write(store: &mut Store, at: Worth, x: Worth) -> Result<(), Reason>
 /// Sets the byte with this number of the words from an address on to the lowest byte of a number. An `Err` says why it is undefined.
 pub fn write_byte(store: &mut Store, at: Worth, i: Worth, x: Worth) -> Result<(), Reason>
     ensures memory { (if is_ok result then Some store.new else None) ≡ m.write_byte store.old (value_in at) (value_in i) (value_in x) }
+    ensures why { IfErr result (λ why. cause_in why ≡ set_byte_cause (value_in at) (value_in i) (value_in x)) }
     ensures unchanged { OnErr result (store.new ≡ store.old) }
 {
     let Worth::Number(i) = i else {
@@ -146,7 +150,7 @@ pub fn write_byte(store: &mut Store, at: Worth, i: Worth, x: Worth) -> Result<()
 /// Puts a value in a place. An `Err` says why it is undefined.
 pub fn put(store: &mut Store, place: Location, x: Worth) -> Result<(), Reason>
     ensures memory { (l : ℕ) (w : World) → w.memory ≡ store.old
-        → changes l (if is_ok result then Some store.new else None) w ≡ p.store l (place_in place) (value_in x) w }
+        → changes l (cause_by result) (if is_ok result then Some store.new else None) w ≡ p.store l (place_in place) (value_in x) w }
     ensures unchanged { OnErr result (store.new ≡ store.old) }
 {
     match place {

@@ -1,9 +1,10 @@
 //! What the routines of the library do.
 ghost use Rattle.std.specs.Prelude.{◌≡◌, ℕ, IfOk, OnErr, map};
 ghost use Rattle.bk_meaning.specs.Values as v;
+ghost use Rattle.bk_meaning.specs.Causes;
 ghost use Rattle.bk_meaning.specs.World.{World, remembering, undefined};
 ghost use Rattle.bk_meaning.specs.Library.{library};
-ghost use Rattle.bk_objects.specs.Views.{routine_in, value_in};
+ghost use Rattle.bk_objects.specs.Views.{routine_in, value_in, cause_in};
 ghost use Rattle.bk_objects.specs.Texts.{outcome_in};
 
 use crate::bytes::{read_byte, write_byte};
@@ -30,7 +31,7 @@ pub enum Effect {
 
 /// An argument, by its number from 1, with which a call is undefined.
 fn misuse(argument: usize, reason: Reason) -> Effect
-    ensures { (l : ℕ) (w : World) → outcome_in l result w ≡ undefined l w }
+    ensures { (l : ℕ) (w : World) → outcome_in l result w ≡ undefined l (Causes.argument argument (cause_in reason)) w }
 {
     Effect::Undefined(Misuse {
         argument,
@@ -40,7 +41,9 @@ fn misuse(argument: usize, reason: Reason) -> Effect
 }
 
 /// The number of the argument with which a routine for bytes is undefined, from 1.
-fn byte_argument(reason: Reason) -> usize {
+fn byte_argument(reason: Reason) -> usize
+    ensures { Causes.argument result (cause_in reason) ≡ Causes.of_arguments (cause_in reason) }
+{
     match reason {
         Reason::NoNumber(_) => 2,
         Reason::NoByte(_) => 3,

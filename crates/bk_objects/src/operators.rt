@@ -1,15 +1,16 @@
 //! Operators on values.
-ghost use Rattle.std.specs.Prelude.{◌≡◌, ◌==◌, ℕ, Option, Some, is_ok};
+ghost use Rattle.std.specs.Prelude.{◌≡◌, ◌==◌, ℕ, Option, Some, is_ok, IfErr};
 ghost use Rattle.std.specs.Option.{option_map};
 ghost use Rattle.std.specs.Result.{result_ok};
 ghost use Rattle.bk_scope.specs.Constants.{infix_word};
-ghost use Rattle.bk_meaning.specs.Values.{number};
+ghost use Rattle.bk_meaning.specs.Values.{number, address};
+ghost use Rattle.bk_meaning.specs.Causes as c;
 ghost use Rattle.bk_meaning.specs.World.{World, given};
 ghost use Rattle.bk_meaning.specs.Parts.{fetch};
 ghost use Rattle.bk_meaning.specs.Operators as o;
-ghost use Rattle.bk_meaning.specs.Operators.{living_address, in_one, on_numbers, truth_of_value, operate_prefix};
+ghost use Rattle.bk_meaning.specs.Operators.{living_address, in_one, on_numbers, truth_of_value, operate_prefix, sum_cause, in_one_cause, difference_cause, truth_cause, equals_zero_cause, equal_cause, ordered_cause};
 ghost use Rattle.bk_meaning.specs.Expressions.{combined};
-ghost use Rattle.bk_objects.specs.Views.{value_in, cell_in, outcome_of, given_by};
+ghost use Rattle.bk_objects.specs.Views.{value_in, cell_in, cause_in, outcome_of, given_by, cause_by};
 
 use crate::bytes::read_byte;
 use crate::computed::{Computed, Reason};
@@ -57,7 +58,9 @@ pub fn calculated(operator: Operator, x: u32, y: u32) -> Option<u32>
 }
 
 /// Why no operator for numbers has a value here.
-fn no_numbers(x: Worth, y: Worth) -> Reason {
+fn no_numbers(x: Worth, y: Worth) -> Reason
+    ensures { cause_in result ≡ c.no_numbers (value_in x) (value_in y) }
+{
     if let Worth::Unset(origin) = x {
         return Reason::Unset(origin);
     }
@@ -102,7 +105,8 @@ pub fn prefixed(prefix: Prefix, x: Worth) -> Computed
 
 /// Whether an object lives and has so many cells.
 fn within(store: &Store, object: u64, offset: u32) -> Result<(), Reason>
-    ensures { is_ok result ≡ o.within store.now object offset }
+    ensures within { is_ok result ≡ o.within store.now object offset }
+    ensures why { IfErr result (λ why. cause_in why ≡ c.beyond (address object offset)) }
 {
     match store.size(object) {
         None => Err(Reason::Beyond(Worth::Address(object, offset))),
@@ -115,7 +119,8 @@ fn within(store: &Store, object: u64, offset: u32) -> Result<(), Reason>
 
 /// Whether a value counts as true.
 pub fn truth_of(store: &Store, x: Worth) -> Result<bool, Reason>
-    ensures { result_ok result ≡ truth_of_value store.now (value_in x) }
+    ensures truth { result_ok result ≡ truth_of_value store.now (value_in x) }
+    ensures why { IfErr result (λ why. cause_in why ≡ truth_cause (value_in x)) }
 {
     match x {
         Worth::Number(n) => Ok(n != 0),
@@ -130,7 +135,8 @@ pub fn truth_of(store: &Store, x: Worth) -> Result<bool, Reason>
 
 /// An address in a living object.
 fn living(store: &Store, object: u64, offset: u32) -> Result<Worth, Reason>
-    ensures { given_by result ≡ living_address store.now object offset }
+    ensures value { given_by result ≡ living_address store.now object offset }
+    ensures why { IfErr result (λ why. cause_in why ≡ c.beyond (address object offset)) }
 {
     match store.size(object) {
         Some(_) => Ok(Worth::Address(object, offset)),
@@ -140,7 +146,8 @@ fn living(store: &Store, object: u64, offset: u32) -> Result<Worth, Reason>
 
 /// The sum of two numbers, or of an address and a number.
 pub fn sum(store: &Store, x: Worth, y: Worth) -> Result<Worth, Reason>
-    ensures { given_by result ≡ o.sum store.now (value_in x) (value_in y) }
+    ensures value { given_by result ≡ o.sum store.now (value_in x) (value_in y) }
+    ensures why { IfErr result (λ why. cause_in why ≡ sum_cause (value_in x) (value_in y)) }
 {
     match (x, y) {
         (Worth::Number(x), Worth::Number(y)) => Ok(Worth::Number(word::sum(x, y))),
@@ -156,7 +163,8 @@ pub fn sum(store: &Store, x: Worth, y: Worth) -> Result<Worth, Reason>
 
 /// Whether two objects are one, which lives.
 fn one(store: &Store, a: u64, b: u64) -> Result<(), Reason>
-    ensures { result_ok result ≡ in_one store.now a b (Some tt) }
+    ensures one { result_ok result ≡ in_one store.now a b (Some tt) }
+    ensures why { IfErr result (λ why. cause_in why ≡ in_one_cause a b) }
 {
     if a != b {
         return Err(Reason::Apart);
@@ -169,7 +177,8 @@ fn one(store: &Store, a: u64, b: u64) -> Result<(), Reason>
 
 /// The difference of two numbers, of an address and a number, or of two addresses in one object.
 fn difference(store: &Store, x: Worth, y: Worth) -> Result<Worth, Reason>
-    ensures { given_by result ≡ o.difference store.now (value_in x) (value_in y) }
+    ensures value { given_by result ≡ o.difference store.now (value_in x) (value_in y) }
+    ensures why { IfErr result (λ why. cause_in why ≡ difference_cause (value_in x) (value_in y)) }
 {
     match (x, y) {
         (Worth::Number(x), Worth::Number(y)) => Ok(Worth::Number(word::difference(x, y))),
@@ -186,7 +195,8 @@ fn difference(store: &Store, x: Worth, y: Worth) -> Result<Worth, Reason>
 
 /// Whether a number equals another value.
 fn equals_zero(store: &Store, n: u32, x: Worth) -> Result<bool, Reason>
-    ensures { result_ok result ≡ o.equals_zero store.now n (value_in x) }
+    ensures truth { result_ok result ≡ o.equals_zero store.now n (value_in x) }
+    ensures why { IfErr result (λ why. cause_in why ≡ equals_zero_cause n (value_in x)) }
 {
     if n != 0 {
         return Err(no_numbers(x, x));
@@ -196,7 +206,8 @@ fn equals_zero(store: &Store, n: u32, x: Worth) -> Result<bool, Reason>
 
 /// Whether two values are equal.
 fn equal(store: &Store, x: Worth, y: Worth) -> Result<bool, Reason>
-    ensures { result_ok result ≡ o.equal store.now (value_in x) (value_in y) }
+    ensures truth { result_ok result ≡ o.equal store.now (value_in x) (value_in y) }
+    ensures why { IfErr result (λ why. cause_in why ≡ equal_cause (value_in x) (value_in y)) }
 {
     match x {
         Worth::Number(n) => match y {
@@ -220,7 +231,8 @@ fn equal(store: &Store, x: Worth, y: Worth) -> Result<bool, Reason>
 
 /// What an operator of order gives of two words.
 fn on_offsets(operator: Operator, x: u32, y: u32) -> Result<Worth, Reason>
-    ensures { given_by result ≡ option_map number (infix_word operator x y) }
+    ensures value { given_by result ≡ option_map number (infix_word operator x y) }
+    ensures why { IfErr result (λ why. cause_in why ≡ c.no_number (number x)) }
 {
     match calculated(operator, x, y) {
         Some(word) => Ok(Worth::Number(word)),
@@ -230,7 +242,8 @@ fn on_offsets(operator: Operator, x: u32, y: u32) -> Result<Worth, Reason>
 
 /// The order of two numbers, or of two addresses in one object.
 fn ordered(store: &Store, operator: Operator, x: Worth, y: Worth) -> Result<Worth, Reason>
-    ensures { given_by result ≡ o.ordered operator store.now (value_in x) (value_in y) }
+    ensures value { given_by result ≡ o.ordered operator store.now (value_in x) (value_in y) }
+    ensures why { IfErr result (λ why. cause_in why ≡ ordered_cause store.now (value_in x) (value_in y)) }
 {
     match (x, y) {
         (Worth::Number(x), Worth::Number(y)) => on_offsets(operator, x, y),
@@ -262,7 +275,7 @@ fn on_words(operator: Operator, x: Worth, y: Worth) -> Computed
 
 /// The value that was given.
 fn given_value(value: Result<Worth, Reason>) -> Computed
-    ensures { (l : ℕ) (w : World) → outcome_of l result w ≡ given l (given_by value) w }
+    ensures { (l : ℕ) (w : World) → outcome_of l result w ≡ given l (cause_by value) (given_by value) w }
 {
     match value {
         Ok(x) => Computed::Value(x),
@@ -272,7 +285,7 @@ fn given_value(value: Result<Worth, Reason>) -> Computed
 
 /// The number of the truth that was given.
 fn given_truth(truth: Result<bool, Reason>) -> Computed
-    ensures { (l : ℕ) (w : World) → outcome_of l result w ≡ given l (option_map o.truth_number (result_ok truth)) w }
+    ensures { (l : ℕ) (w : World) → outcome_of l result w ≡ given l (cause_by truth) (option_map o.truth_number (result_ok truth)) w }
 {
     match truth {
         Ok(holds) => Computed::Value(Worth::Number(word::truth_of(holds))),

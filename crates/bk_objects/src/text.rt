@@ -1,10 +1,11 @@
 //! Texts that the library's routines write.
-ghost use Rattle.std.specs.Prelude.{◌≡◌, ◌∷◌, ◌++◌, List, None, IfOk, OnOk, MatchResult, map, replicate};
+ghost use Rattle.std.specs.Prelude.{◌≡◌, ◌≤◌, ◌∷◌, ◌++◌, ◌+◌, ℕ, length, List, None, IfOk, IfErr, OnOk, MatchResult, map, replicate};
 ghost use Rattle.std.specs.Option.{option_map};
 ghost use Rattle.bk_base.specs.Format as f;
+ghost use Rattle.bk_meaning.specs.Causes.{argument};
 ghost use Rattle.bk_base.specs.Format.{FormatPart, aligned, parts};
-ghost use Rattle.bk_meaning.specs.Library.{bytes_from, string_at, digits, argument_text, written};
-ghost use Rattle.bk_objects.specs.Views.{value_in};
+ghost use Rattle.bk_meaning.specs.Library.{bytes_from, bytes_cause, string_at, string_cause, digits, argument_text, argument_cause, written, written_cause};
+ghost use Rattle.bk_objects.specs.Views.{value_in, cause_in};
 ghost use Rattle.bk_objects.specs.Texts.{Adds, part_in};
 
 use crate::bytes::read_byte;
@@ -22,7 +23,8 @@ fn add_bytes(
     count: u8,
     text: &mut Vec<u8>,
 ) -> Result<Result<(), Reason>, AllocError>
-    ensures { IfOk result (Adds text.old.items text.new.items (bytes_from count store.now (value_in at) 1)) }
+    ensures adds { IfOk result (Adds text.old.items text.new.items (bytes_from count store.now (value_in at) 1)) }
+    ensures why { IfOk result (λ added. IfErr added (λ why. cause_in why ≡ bytes_cause count store.now (value_in at) 1)) }
 {
     for i in 0..u32::from(count) {
         match read_byte(store, at, Worth::Number(i + 1)) {
@@ -39,7 +41,8 @@ pub fn add_string(
     at: Worth,
     text: &mut Vec<u8>,
 ) -> Result<Result<(), Reason>, AllocError>
-    ensures { IfOk result (Adds text.old.items text.new.items (string_at store.now (value_in at))) }
+    ensures adds { IfOk result (Adds text.old.items text.new.items (string_at store.now (value_in at))) }
+    ensures why { IfOk result (λ added. IfErr added (λ why. cause_in why ≡ string_cause store.now (value_in at))) }
 {
     match read_byte(store, at, Worth::Number(0)) {
         Ok(count) => add_bytes(store, at, count, text),
@@ -92,7 +95,8 @@ fn add_argument(
     x: Worth,
     text: &mut Vec<u8>,
 ) -> Result<Result<(), Reason>, AllocError>
-    ensures { IfOk result (Adds text.old.items text.new.items (argument_text store.now (part_in part) (value_in x))) }
+    ensures adds { IfOk result (Adds text.old.items text.new.items (argument_text store.now (part_in part) (value_in x))) }
+    ensures why { IfOk result (λ added. IfErr added (λ why. cause_in why ≡ argument_cause store.now (part_in part) (value_in x))) }
 {
     if part == Part::String {
         return add_string(store, x, text);
@@ -116,11 +120,17 @@ fn add_part<'a>(
     arguments: &'a [Worth],
     text: &mut Vec<u8>,
 ) -> Result<Result<&'a [Worth], Reason>, AllocError>
-    ensures { IfOk result (λ added. MatchResult added
+    ensures adds { IfOk result (λ added. MatchResult added
         (λ left. (ps : List FormatPart) →
         option_map (λ bytes. text.old.items ++ bytes) (written store.now (part_in part ∷ ps) (map value_in arguments.now))
         ≡ option_map (λ bytes. text.new.items ++ bytes) (written store.now ps (map value_in left.now)))
         (λ _. (ps : List FormatPart) → written store.now (part_in part ∷ ps) (map value_in arguments.now) ≡ None)) }
+    ensures why { IfOk result (λ added. MatchResult added
+        (λ left. (n k : ℕ) (ps : List FormatPart) → k + length left.now ≡ n + length arguments.now →
+        written_cause store.now n (part_in part ∷ ps) (map value_in arguments.now) ≡ written_cause store.now k ps (map value_in left.now))
+        (λ why. (n : ℕ) (ps : List FormatPart) → argument n (cause_in why)
+        ≡ written_cause store.now n (part_in part ∷ ps) (map value_in arguments.now))) }
+    ensures fewer { IfOk result (λ added. IfOk added (λ left. length left.now ≤ length arguments.now)) }
 {
     match part {
         Part::Byte(byte) => {
@@ -150,7 +160,9 @@ pub fn add_format(
     arguments: &[Worth],
     text: &mut Vec<u8>,
 ) -> Result<Result<(), Misuse>, AllocError>
-    ensures { IfOk result (Adds text.old.items text.new.items (written store.now (parts format.now) (map value_in arguments.now))) }
+    ensures adds { IfOk result (Adds text.old.items text.new.items (written store.now (parts format.now) (map value_in arguments.now))) }
+    ensures why { IfOk result (λ added. IfErr added (λ misuse. argument misuse.argument (cause_in misuse.reason)
+        ≡ written_cause store.now 2 (parts format.now) (map value_in arguments.now))) }
 {
     let mut rest = format;
     let mut left = arguments;

@@ -1,4 +1,7 @@
 -- All forms: what holds of the meanings of the nodes inside holds of each node.
+use Rattle.bk_tree.specs.Parts.{at_command}
+use Rattle.bk_meaning.specs.Causes.{no_number}
+use Rattle.bk_meaning.specs.Operators.{sum_cause}
 use Rattle.bk_simulation.proofs.Words.{word_negation, word_not, ◌≡◌, ℕ, suc, ◌+◌, ◌-◌, ◌*◌, ◌≤◌, Bool, true, false, List, ◌∷◌, ◌++◌, Some, refl, sym, ◌∙◌, subst, arith, zero, State, from_label, Stmt, Monadic, JumpIf, Stack, CallRoutine, FRAME_WORDS, infix_code, Operator, Expression, Expressions, Command, Commands, option_map, infix_word, divides_by_zero, Value, number, sum, on_numbers, operate_prefix, Environment, constant_in, past, past_each, labelled, Sought, the_label, the_case, the_default, Mode, forwards, seeking, World, ends, divide_by_zero, done, given, with, turn, Exit, going, history, After, Throughout, Meanings, at, fetch, in_order, scope_of, landing, alone, value_of, truth_of, address_in, combined, judged, assigned, act_of, applied, rounds_of, means_with, turn_for, means, no_turns, no_turn_for, Adds, adds, stays, given_after, with_after, each_way_after, either_after, Prefix, only_grows, goto, break, loop, endcase, return, acts_at}
 use Rattle.bk_simulation.proofs.Forms.{negates, inverts, not_true, turns_of, turns_among, turns_in, turns_through, Setting, Stretch, ByTurns, AreFrom, AreStores, AreValues, AreActs, CallAt, count, IsValue, IsJump, IsAddress, IsStore, IsAct, IsLoop, Entered, EnteredAny, EnteredBody, Configuration, start, Ready, Account, here, Ran, went, with_ran, turn_behind, CompletedAt, Has, Out, stay, completed_more, ran_first, ran_more, Simulates, for_value, for_truth, for_act, for_rounds, HasTruth, HasAddress, Destined, word, through, byte, Did, RanDid, for_scope, for_counts, contents_run, sign_run, plus_run, combined_run, for_two, one_run, two_run, RanValue, name_runs, number_runs, truth_runs, query_runs, text_runs, table_runs, denied_run, straight_run, over_run, choice_run, tested, order_adds, order_run, landing_adds, scope_runs, valof_run, while_rounds, repeat_rounds, repeat_while_rounds, while_run, while_sought, repeat_run, repeat_while_run, switch_run, switch_sought, when_run, when_sought, test_run, test_sought, left_here, finish_runs, resultis_runs, place_run, assigned_run, RanAddress, RanStore, address_runs, word_runs, contents_address, contents_store, subscript_address, subscript_store, byte_store, for_run, for_rounds_run, rounds_adds, AloneRuns, Procedures, KnowsLibrary, AloneAdds, apply_runs}
 use Rattle.bk_simulation.proofs.Terms.{Monadic as w, Operator as o, Prefix as q, Simple as k, Program, Target, byte_at, target_of}
@@ -19,15 +22,15 @@ alone_runs setting inner sim x z j c rest v l r = scope_runs setting inner sim (
 
 -- what operators add
 prefix_adds : (place : ℕ) (f : Prefix) (u : Value) → Adds (operate_prefix place f u)
-prefix_adds place f (number n) = adds _ (λ v. given_after _ _ v)
+prefix_adds place f (number n) = adds _ (λ v. given_after _ _ _ v)
 prefix_adds place f _ = adds _ (λ v. stays (history v))
 
 numbers_add : (place : ℕ) (f : Operator) (x y : Value) → Adds (on_numbers place f x y)
-numbers_add place f (number a) (number b) = adds _ (λ v. either_after (divides_by_zero f (Some a) (Some b)) _ _ (adds (λ w. ends divide_by_zero w) (λ w1. stays (history w1))) (adds (λ w. given place (option_map number (infix_word f a b)) w) (λ w1. given_after _ _ w1)) v)
+numbers_add place f (number a) (number b) = adds _ (λ v. either_after (divides_by_zero f (Some a) (Some b)) _ _ (adds (λ w. ends (divide_by_zero place) w) (λ w1. stays (history w1))) (adds (λ w. given place (no_number (number a)) (option_map number (infix_word f a b)) w) (λ w1. given_after _ _ _ w1)) v)
 numbers_add place f _ _ = adds _ (λ v. stays (history v))
 
 subscript_adds : (place : ℕ) (x y : Value) → Adds (combined place o.Subscript x y)
-subscript_adds place x y = adds (combined place o.Subscript x y) (λ v. with_after (history v) (given place (sum v.memory x y) v) (fetch place) (given_after place (sum v.memory x y) v) (λ a. adds _ (λ w1. given_after _ _ w1)))
+subscript_adds place x y = adds (combined place o.Subscript x y) (λ v. with_after (history v) (given place (sum_cause x y) (sum v.memory x y) v) (fetch place) (given_after place _ (sum v.memory x y) v) (λ a. adds _ (λ w1. given_after _ _ _ w1)))
 
 combined_adds : (place : ℕ) (f : Operator) (x y : Value) → Adds (combined place f x y)
 combined_adds place o.Subscript x y = subscript_adds place x y
@@ -40,7 +43,7 @@ combined_adds place o.Both x y = numbers_add place o.Both x y
 combined_adds place o.Either x y = numbers_add place o.Either x y
 combined_adds place o.Same x y = numbers_add place o.Same x y
 combined_adds place o.Differ x y = numbers_add place o.Differ x y
-combined_adds place _ x y = adds _ (λ v. given_after _ _ v)
+combined_adds place _ x y = adds _ (λ v. given_after _ _ _ v)
 
 -- a turn less
 ready_ticked : (setting : Setting) (z : Configuration) (v : World) (n : ℕ) → Ready setting z v → Ready setting z (record v { turns = n })
@@ -82,7 +85,7 @@ module _ (setting : Setting) (p : Program) (inner : Meanings) (procs : Procedure
       addressed (at u) w1 y = went (record { arr = completed_more (omega arith) (omega arith) y.arr; stands = y.stands })
       addressed (byte_at u i) w1 y = went tt
   value_of_runs B (t.unary l q.Contents e) z c rest v le ll a r =
-      one_run setting inner simulated B e z c (Monadic w.Contents ∷ rest) v _ _ (λ u. adds _ (λ w1. given_after _ _ w1)) (omega arith) (omega arith) a r (λ u w1 y pos. contents_run _ setting (start z c v) (for_value e v) B z rest v w1 u (omega arith) (omega arith) r.deep y)
+      one_run setting inner simulated B e z c (Monadic w.Contents ∷ rest) v _ _ (λ u. adds _ (λ w1. given_after _ _ _ w1)) (omega arith) (omega arith) a r (λ u w1 y pos. contents_run _ setting (start z c v) (for_value e v) B z rest v w1 u (omega arith) (omega arith) r.deep y)
   value_of_runs B (t.unary l q.Plus e) z c rest v le ll a r =
       one_run setting inner simulated B e z c rest v _ _ (λ u. prefix_adds l q.Plus u) (omega arith) (omega arith) a r (λ u w1 y pos. plus_run _ setting (start z c v) (for_value e v) B z rest v w1 u (omega arith) (omega arith) y)
   value_of_runs B (t.unary l q.Minus e) z c rest v le ll a r =
@@ -104,7 +107,7 @@ module _ (setting : Setting) (p : Program) (inner : Meanings) (procs : Procedure
       → from_label z.scene.own.stmts n ≡ Some to → Ready setting z v → Ran setting (start z c v) B (HasTruth setting (start z c v) B z u to rest v) (Out setting (start z c v) B z v) (with (value_of p inner e z.env v) (judged (acts_at e)))
   plain_truth B e z u n to c rest v le ll a f r =
       let A : Account = record { most = 16 * v.turns + 12; least = suc v.turns - turns_of false e } in
-      with_ran (λ x. adds _ (λ w1. given_after _ _ w1))
+      with_ran (λ x. adds _ (λ w1. given_after _ _ _ w1))
       (ran_more (omega arith) (omega arith) (value_of_runs A e z c (JumpIf u n ∷ rest) v (omega arith) (omega arith) a r))
       (λ x w1 y. tested _ (omega arith) (omega arith) r f y)
 
@@ -209,42 +212,42 @@ module _ (setting : Setting) (p : Program) (inner : Meanings) (procs : Procedure
 
   -- ---- with their turns
   value_turn : (e : Expression) (z : Configuration) (c rest : List Stmt) (v : World) → IsValue setting z.scene z.depth z.env e c rest → Ready setting z v
-      → Ran setting (start z c v) (for_value e v) (λ u w1. Has setting (start z c v) (for_value e v) z rest (z.depth + 1) v u w1 × (1 ≤ v.turns)) (Out setting (start z c v) (for_value e v) z v) (turn v (λ w. value_of p inner e z.env w))
+      → Ran setting (start z c v) (for_value e v) (λ u w1. Has setting (start z c v) (for_value e v) z rest (z.depth + 1) v u w1 × (1 ≤ v.turns)) (Out setting (start z c v) (for_value e v) z v) (turn (acts_at e) v (λ w. value_of p inner e z.env w))
   value_turn e z c rest v a r =
-      turn_behind 0 0 v _ (here _) (omega arith) (omega arith) refl refl (λ n en.
+      turn_behind _ 0 0 v _ (here _) (omega arith) (omega arith) refl refl (λ n en.
       let v1 : World = record v { turns = n } in
       let B : Account = for_value e v in
       ran_first (omega arith) (omega arith)
       (λ u w1 y. (record { arr = y.arr; stands = y.stands }, omega arith)) (value_of_runs B e z c rest v1 (omega arith) (omega arith) a (ready_ticked setting z v n r)))
 
   truth_turn : (e : Expression) (z : Configuration) (u : Bool) (n : ℕ) (to c rest : List Stmt) (v : World) → IsJump setting z.scene z.depth z.env e u n c rest → from_label z.scene.own.stmts n ≡ Some to → Ready setting z v
-      → Ran setting (start z c v) (for_truth e v) (HasTruth setting (start z c v) (for_truth e v) z u to rest v) (Out setting (start z c v) (for_truth e v) z v) (turn v (λ w. truth_of p inner e z.env w))
+      → Ran setting (start z c v) (for_truth e v) (HasTruth setting (start z c v) (for_truth e v) z u to rest v) (Out setting (start z c v) (for_truth e v) z v) (turn (acts_at e) v (λ w. truth_of p inner e z.env w))
   truth_turn e z u n to c rest v a f r =
-      turn_behind 0 0 v _ (here _) (omega arith) (omega arith) refl refl (λ k en.
+      turn_behind _ 0 0 v _ (here _) (omega arith) (omega arith) refl refl (λ k en.
       truth_of_runs (for_truth e v) e z u n to c rest (record v { turns = k }) (omega arith) (omega arith) a f (ready_ticked setting z v k r))
 
   address_turn : (e : Expression) (z : Configuration) (c rest : List Stmt) (v : World) → IsAddress setting z.scene z.depth z.env e c rest → Ready setting z v
-      → Ran setting (start z c v) (for_value e v) (HasAddress setting (start z c v) (for_value e v) z rest v) (Out setting (start z c v) (for_value e v) z v) (turn v (λ w. target_of inner e z.env w))
+      → Ran setting (start z c v) (for_value e v) (HasAddress setting (start z c v) (for_value e v) z rest v) (Out setting (start z c v) (for_value e v) z v) (turn (acts_at e) v (λ w. target_of inner e z.env w))
   address_turn e z c rest v a r =
-      turn_behind 0 0 v _ (here _) (omega arith) (omega arith) refl refl (λ n en.
+      turn_behind _ 0 0 v _ (here _) (omega arith) (omega arith) refl refl (λ n en.
       let v1 : World = record v { turns = n } in
       let B : Account = for_value e v in
       ran_first (omega arith) (omega arith)
       (λ u w1 y. larger_address setting (start z c v) B B z rest v n u w1 (omega arith) (omega arith) y) (address_of_runs B e z c rest v1 (omega arith) (omega arith) a (ready_ticked setting z v n r)))
 
   store_turn : (e : Expression) (z : Configuration) (c rest : List Stmt) (v : World) → IsStore setting z.scene z.depth z.env e c rest → Ready setting z v
-      → Ran setting (start z c v) (for_value e v) (λ u w1. Destined setting (start z c v) (for_value e v) z rest v u w1) (Out setting (start z c v) (for_value e v) z v) (turn v (λ w. target_of inner e z.env w))
+      → Ran setting (start z c v) (for_value e v) (λ u w1. Destined setting (start z c v) (for_value e v) z rest v u w1) (Out setting (start z c v) (for_value e v) z v) (turn (acts_at e) v (λ w. target_of inner e z.env w))
   store_turn e z c rest v a r =
-      turn_behind 0 0 v _ (here _) (omega arith) (omega arith) refl refl (λ n en.
+      turn_behind _ 0 0 v _ (here _) (omega arith) (omega arith) refl refl (λ n en.
       let v1 : World = record v { turns = n } in
       let B : Account = for_value e v in
       ran_first (omega arith) (omega arith)
       (λ u w1 y. larger_store setting (start z c v) B B z rest v n u w1 (omega arith) (omega arith) y) (store_of_runs B e z c rest v1 (omega arith) (omega arith) a (ready_ticked setting z v n r)))
 
   act_turn : (x : Command) (mode : Mode) (z : Configuration) (there : Sought → List Stmt) (c rest e : List Stmt) (v : World) → 1 ≤ turns_in false x → IsAct setting z.scene z.depth z.env x there c rest → Entered mode z.env x there c e → Ready setting z v
-      → RanDid setting (start z e v) (for_act x v) z rest v (turn v (λ w. act_of p inner x mode z.env w))
+      → RanDid setting (start z e v) (for_act x v) z rest v (turn (at_command x) v (λ w. act_of p inner x mode z.env w))
   act_turn x mode z there c rest e v pos a en r =
-      turn_behind 0 0 v _ (here _) (omega arith) (omega arith) refl refl (λ n ev.
+      turn_behind _ 0 0 v _ (here _) (omega arith) (omega arith) refl refl (λ n ev.
       act_of_runs (for_act x v) x mode z there c rest e (record v { turns = n }) (omega arith) (omega arith) (omega arith) a en (ready_ticked setting z v n r))
 
   act_run : (x : Command) (mode : Mode) (z : Configuration) (there : Sought → List Stmt) (c rest e : List Stmt) (v : World) → IsAct setting z.scene z.depth z.env x there c rest → Entered mode z.env x there c e → Ready setting z v
@@ -278,8 +281,8 @@ module _ (setting : Setting) (p : Program) (inner : Meanings) (procs : Procedure
 -- ---- With any number of turns each form does what it means.
 
 -- where no turn is left a run goes on from where it is
-still_going : {A : Type 0} {K : A → World → Type 0} {X : Exit → World → Type 0} (setting : Setting) (B : Account) (z : Configuration) (c : List Stmt) (w : World)
-    → B.least ≤ w.turns → Ran setting (start z c w) B K X (going w)
+still_going : {A : Type 0} {l : ℕ} {K : A → World → Type 0} {X : Exit → World → Type 0} (setting : Setting) (B : Account) (z : Configuration) (c : List Stmt) (w : World)
+    → B.least ≤ w.turns → Ran setting (start z c w) B K X (going l w)
 still_going setting B z c w le = went (record { to = start z c w; steps = 0; paid = 0; comes = here _; most = omega arith; least = omega arith; wrote = refl; left = refl })
 
 act_without : (setting : Setting) (x : Command) (mode : Mode) (z : Configuration) (there : Sought → List Stmt) (c rest e : List Stmt) (w : World) → IsAct setting z.scene z.depth z.env x there c rest → Entered mode z.env x there c e → Ready setting z w

@@ -1,4 +1,6 @@
 -- Assignments: each value, its destination, and the word or byte that is stored.
+use Rattle.bk_meaning.specs.Causes.{cell_cause, set_byte_cause}
+use Rattle.bk_meaning.specs.Operators.{sum_cause}
 use Rattle.bk_simulation.proofs.Words.{false, ◌≡◌, ℕ, ◌+◌, ◌-◌, ◌*◌, ◌<◌, ◌≤◌, true, List, ◌∷◌, Option, Some, None, refl, sym, ap, ◌∙◌, subst, arith, ◌%◌, ◌^◌, word_sum, byte_distance, Content, Variable, Cell, Held, content_of, kind_of, write, below, Word, Placed, Inside, State, named_place, has_word, Local, Static, Stmt, Assign, AssignAt, AssignByte, Address, Dyadic, Expression, Expressions, Value, address, holds, Memory, write_byte, Environment, past, Sense, constant, cell, sense_of, World, changes, remembering, Outcome, gives, given, with, history, Meanings, at, store as put_value, address_named, assigned, Adds, adds, stays, with_after, changes_after, sum}
 use Rattle.bk_simulation.proofs.Pieces.{by_option, Moves, assign_moves, assign_at_moves, assign_byte_moves, does, AreBytes, write_byte_at, BaseOf, Like, Applies, Store, Moved, Fits, moved_on, fits_above, fits_more, fits_less, moved_above, below_like, variable_found, put, write_here, write_at, turns_of, turns_among, Setting, Stretch, ByTurns, AreFrom, AreStores, IsStore, named_word, IsValue, Configuration, store, state, start, place_of, Ready, Account, further, went, with_ran, CompletedAt, store_at, there, Has, next, ready_next, NameAt, Ran, Out, stay, stepped, completed_more, completed_on, ran_on, comes_to, ran_more, above, Simulates, for_value, Destined, word, through, byte, RanDid, HasAddress, one_run, dyadic_topped, Two, for_two, two_run, pushes_item, named_at, ready_at, sum_applied}
 use Rattle.bk_simulation.proofs.Terms.{Variable as Named, Target, byte_at, Dyadic as two}
@@ -58,18 +60,18 @@ contents_store setting inner sim B e z c rest w le le' l r =
 -- `E!E`: the sum of two values
 sum_run : (place : ℕ) (setting : Setting) (s : State) (A B : Account) (z : Configuration) (rest : List Stmt) (w w1 : World) (u v : Value) (L : Target → World → Type 0) → A.most + 1 ≤ B.most → B.least ≤ A.least → 2 ≤ z.depth
     → ((a : Value) → Has setting s B z rest (z.depth + 1) w a w1 → L (at a) w1)
-    → Two setting s A z (Dyadic two.Add ∷ rest) w u v w1 → Ran setting s B L (Out setting s B z w) (with (given place (sum w1.memory u v) w1) (λ a w. gives (at a) w))
+    → Two setting s A z (Dyadic two.Add ∷ rest) w u v w1 → Ran setting s B L (Out setting s B z w) (with (given place (sum_cause u v) (sum w1.memory u v) w1) (λ a w. gives (at a) w))
 sum_run place setting s A B z rest w w1 u v L le le' dp gain t =
-    by_option (λ y. Ran setting s B L (Out setting s B z w) (with (given place y w1) (λ a w. gives (at a) w))) (sum w1.memory u v) (λ _. went tt) (λ a h.
+    by_option (λ y. Ran setting s B L (Out setting s B z w) (with (given place (sum_cause u v) y w1) (λ a w. gives (at a) w))) (sum w1.memory u v) (λ _. went tt) (λ a h.
     let p = sum_applied setting.codes t.arr.bases1 t.arr.cells1 (z.frame + z.depth) w1 t.arr.fits u v a _ _ t.first t.second h in
     went (gain a (dyadic_topped setting s A B z two.Add rest w w1 u v a p.left p.right p.result le le' dp t p.is_left p.is_right p.applies p.stands)))
 
-sum_adds : (place : ℕ) (u v : Value) → Adds (λ w. with (given place (sum w.memory u v) w) (λ a w. gives (at a) w))
+sum_adds : (place : ℕ) (u v : Value) → Adds (λ w. with (given place (sum_cause u v) (sum w.memory u v) w) (λ a w. gives (at a) w))
 sum_adds place u v = grind (arith, adds, given, gives, stays)
 
 pub subscript_address : (place : ℕ) (setting : Setting) (inner : Meanings) → Simulates setting inner → (B : Account) (a b : Expression) (z : Configuration) (c c1 rest : List Stmt) (w : World) → 16 * w.turns + 1 ≤ B.most → B.least ≤ w.turns - (turns_of false a + turns_of false b)
     → IsValue setting z.scene z.depth z.env a c c1 → IsValue setting z.scene (z.depth + 1) (past a z.env) b c1 (Dyadic two.Add ∷ rest) → Ready setting z w
-    → RanAddress setting (start z c w) B z rest w (with (inner.value a z.env w) (λ x w. with (inner.value b (past a z.env) w) (λ y w. with (given place (sum w.memory x y) w) (λ a w. gives (at a) w))))
+    → RanAddress setting (start z c w) B z rest w (with (inner.value a z.env w) (λ x w. with (inner.value b (past a z.env) w) (λ y w. with (given place (sum_cause x y) (sum w.memory x y) w) (λ a w. gives (at a) w))))
 subscript_address place setting inner sim B a b z c c1 rest w le le' la lb r =
     let dp = r.deep in
     two_run setting inner sim B a b z c c1 (Dyadic two.Add ∷ rest) w _ _ (sum_adds _) (omega arith) le' la lb r (λ u v w1 t pos.
@@ -77,7 +79,7 @@ subscript_address place setting inner sim B a b z c c1 rest w le le' la lb r =
 
 pub subscript_store : (place : ℕ) (setting : Setting) (inner : Meanings) → Simulates setting inner → (B : Account) (a b : Expression) (z : Configuration) (c c1 rest : List Stmt) (w : World) → 16 * w.turns + 1 ≤ B.most → B.least ≤ w.turns - (turns_of false a + turns_of false b)
     → IsValue setting z.scene z.depth z.env a c c1 → IsValue setting z.scene (z.depth + 1) (past a z.env) b c1 (Dyadic two.Add ∷ AssignAt ∷ rest) → Ready setting z w
-    → RanStore setting (start z c w) B z rest w (with (inner.value a z.env w) (λ x w. with (inner.value b (past a z.env) w) (λ y w. with (given place (sum w.memory x y) w) (λ a w. gives (at a) w))))
+    → RanStore setting (start z c w) B z rest w (with (inner.value a z.env w) (λ x w. with (inner.value b (past a z.env) w) (λ y w. with (given place (sum_cause x y) (sum w.memory x y) w) (λ a w. gives (at a) w))))
 subscript_store place setting inner sim B a b z c c1 rest w le le' la lb r =
     let dp = r.deep in
     two_run setting inner sim B a b z c c1 (Dyadic two.Add ∷ AssignAt ∷ rest) w _ _ (sum_adds _) (omega arith) le' la lb r (λ u v w1 t pos.
@@ -120,7 +122,7 @@ pub word_stored : (place : ℕ) (setting : Setting) (s : State) (A B : Account) 
     → (a : CompletedAt setting s A z (Assign v ∷ rest) (z.depth + 1) w w2) → BaseOf a.bases1 o b → b + i ≡ place_of z.scene.own z.frame v → Applies setting.codes a.bases1 u (content_of (a.cells1 (z.frame + z.depth)))
     → RanDid setting s B z rest w (put_value place (at (address o i)) u w2)
 word_stored place setting s A B z rest w w2 v o i b u le le' r a eb ep st =
-    by_option (λ y. RanDid setting s B z rest w (changes place y w2)) (memory.write w2.memory (address o i) u) (λ _. went tt) (λ mem1 e.
+    by_option (λ y. RanDid setting s B z rest w (changes place (cell_cause (address o i)) y w2)) (memory.write w2.memory (address o i) u) (λ _. went tt) (λ mem1 e.
     let here = there setting s A z (Assign v ∷ rest) (z.depth + 1) w w2 a in
     let y = content_of (a.cells1 (z.frame + z.depth)) in
     let q = write_here setting.codes (record { bases = a.bases1; mem = w2.memory; cells = a.cells1 }) (z.frame + z.depth) o i b (holds u) mem1 a.fits eb e in
@@ -137,7 +139,7 @@ through_stored : (place : ℕ) (setting : Setting) (s : State) (A B : Account) (
     → (a : CompletedAt setting s A z (AssignAt ∷ rest) (z.depth + 1 + 1) w w2) → Applies setting.codes a.bases1 p (content_of (a.cells1 (z.frame + (z.depth + 1)))) → Applies setting.codes a.bases1 u (content_of (a.cells1 (z.frame + z.depth)))
     → RanDid setting s B z rest w (put_value place (at p) u w2)
 through_stored place setting s A B z rest w w2 p u le le' r a sp su =
-    by_option (λ y. RanDid setting s B z rest w (changes place y w2)) (memory.write w2.memory p u) (λ _. went tt) (λ mem1 e.
+    by_option (λ y. RanDid setting s B z rest w (changes place (cell_cause p) y w2)) (memory.write w2.memory p u) (λ _. went tt) (λ mem1 e.
     let here = there setting s A z (AssignAt ∷ rest) (z.depth + 1 + 1) w w2 a in
     let y = content_of (a.cells1 (z.frame + z.depth)) in
     let q = write_at setting.codes (record { bases = a.bases1; mem = w2.memory; cells = a.cells1 }) (z.frame + z.depth) p _ (holds u) mem1 a.fits sp e in
@@ -154,7 +156,7 @@ byte_stored : (place : ℕ) (setting : Setting) (s : State) (A B : Account) (z :
 byte_stored place setting s A B z rest w w2 p k u le le' r a sp sk su =
     let three_deep : (d : ℕ) → d + 1 + 1 + 1 ≡ d + 3 = λ d. omega arith in
     let two_deep : (d : ℕ) → d + 1 + 1 ≡ d + 2 = λ d. omega arith in
-    by_option (λ y. RanDid setting s B z rest w (changes place y w2)) (write_byte w2.memory p k u) (λ _. went tt) (λ mem1 e.
+    by_option (λ y. RanDid setting s B z rest w (changes place (set_byte_cause p k u) y w2)) (write_byte w2.memory p k u) (λ _. went tt) (λ mem1 e.
     let here = there setting s A z (AssignByte ∷ rest) (z.depth + 1 + 1 + 1) w w2 a in
     let high = fits_more setting.codes _ (z.frame + z.depth) (z.frame + (z.depth + 3)) (omega arith) a.fits in
     let are : (x : ℕ) (c : Content) → a.cells1 x ≡ Held Variable c → AreBytes c = λ x c ec. subst AreBytes (ap content_of ec) (a.bytes.words x) in
@@ -170,8 +172,8 @@ abbrev pub for_assigned : Expressions → Expressions → World → Account
 for_assigned xs es w = record { most = 16 * w.turns; least = w.turns - (turns_among false xs + turns_among false es) }
 
 put_adds : (place : ℕ) (a : Target) (v : Value) → Adds (put_value place a v)
-put_adds place (at p) v = adds _ (λ w. changes_after place (memory.write w.memory p v) w)
-put_adds place (byte_at p i) v = adds _ (λ w. changes_after place (write_byte w.memory p i v) w)
+put_adds place (at p) v = adds _ (λ w. changes_after place _ (memory.write w.memory p v) w)
+put_adds place (byte_at p i) v = adds _ (λ w. changes_after place _ (write_byte w.memory p i v) w)
 
 assigned_adds : (setting : Setting) (inner : Meanings) → Simulates setting inner → (xs es : Expressions) (there env : Environment) → Adds (assigned inner xs there es env)
 assigned_adds setting inner sim (t.more x xs) (t.more e es) there env =

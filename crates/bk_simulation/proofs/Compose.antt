@@ -149,10 +149,10 @@ module _ {setting : Setting} {s : State} {own : Placed} {frame calls top : ℕ} 
       → Completed setting s B own frame calls top R c d w1 → Completed setting s N own frame calls top R c d (record w1 { turns = n })
   completed_turn n e le le' a = let m = a.most in let l = a.least in accounted n a (omega arith) (omega arith)
 
-  pub turn_there : {T : Type 0} {R : Store → Type 0} {A B : Account} {K : T → World → Type 0} {X : Exit → World → Type 0} (go : World → Outcome T)
+  pub turn_there : {T : Type 0} {R : Store → Type 0} {A B : Account} {K : T → World → Type 0} {X : Exit → World → Type 0} (place : ℕ) (go : World → Outcome T)
       → A.most ≤ B.most → B.least ≤ A.least → (a : Completed setting s A own frame calls top R c d w1)
-      → ((n : ℕ) → w1.turns ≡ suc n → Ran setting s B K X (go (record w1 { turns = n }))) → Ran setting s B K X (turn w1 go)
-  turn_there go le le' a h = let m = a.most in let l = a.least in turn_behind a.steps a.paid w1 go a.comes (omega arith) (omega arith) refl refl h
+      → ((n : ℕ) → w1.turns ≡ suc n → Ran setting s B K X (go (record w1 { turns = n }))) → Ran setting s B K X (turn place w1 go)
+  turn_there place go le le' a h = let m = a.most in let l = a.least in turn_behind place a.steps a.paid w1 go a.comes (omega arith) (omega arith) refl refl h
 
   -- a step that leaves the words below the top as they are, which pays
   abbrev pub completed_paid : {h : Store} {B : Account} {c2 : List Stmt} {d2 : ℕ} (a : Completed setting s B own frame calls top (Moved top h) c d w1) (cells2 : ℕ → Cell)

@@ -1,4 +1,5 @@
 -- Steps that move control from where a run has come to: LAB, jumps, tests, results.
+use Rattle.bk_meaning.specs.Operators.{truth_cause}
 use Rattle.bk_simulation.proofs.Words.{◌≡◌, ℕ, suc, ◌+◌, ◌-◌, ◌<◌, ◌≤◌, ◌==◌, Bool, true, false, not, List, ◌∷◌, length, Option, Some, None, refl, ap, ◌∙◌, subst, arith, option_map_or, Content, Unset, Word, Cell, content_of, below, settle, Placed, Inside, State, Goal, from_label, Stmt, Jump, JumpIf, Label, GiveResult, TakeResult, Stack, Value, truth_of_value, World, Exit, given, forgetting, judged, drop}
 use Rattle.bk_simulation.proofs.Situations.{by_option, Moves, label_moves, jump_moves, taken_moves, passed_moves, give_result_moves, does, Like, Applies, Store, Moved, below_like, judged_word, Setting, Scene, LabelAt, Configuration, state, Ready, Account, paying, Ran, went, Completed, CompletedAt, OpenCompleted, there, Has, GoesTo, Exited, Out, still}
 use Rattle.bk_simulation.proofs.Compose.{accounted, stepped, links_below, completed_more, completed_paid, topped, closed_arrival}
@@ -76,7 +77,7 @@ pub tested : {setting : Setting} {s : State} {A B : Account} {z : Configuration}
     → from_label z.scene.own.stmts n ≡ Some to → Has setting s A z (JumpIf u n ∷ rest) (z.depth + 1) w v w1 → Ran setting s B (HasTruth setting s B z u to rest w) (Out setting s B z w)
     (judged place v w1)
 tested {setting} {s} {A} {B} {z} {u} {n} {to} {rest} {w} {w1} {v} place le le' r e a =
-    by_option (λ y. Ran setting s B (HasTruth setting s B z u to rest w) (Out setting s B z w) (given place y w1)) (truth_of_value w1.memory v) (λ _. went tt) (λ t h.
+    by_option (λ y. Ran setting s B (HasTruth setting s B z u to rest w) (Out setting s B z w) (given place (truth_cause v) y w1)) (truth_of_value w1.memory v) (λ _. went tt) (λ t h.
     let j = judged_word setting.codes a.arr.bases1 a.arr.cells1 (z.frame + z.depth) w1 a.arr.fits v _ t a.stands h in
     went (lands u t j.word refl j.is_word j.zero_if))
   where

@@ -1,4 +1,5 @@
 -- FOR as a command.
+use Rattle.bk_meaning.specs.Causes.{cell_cause, no_constant}
 use Rattle.bk_simulation.proofs.Words.{◌≡◌, ◌≢◌, ℕ, zero, suc, ◌+◌, ◌-◌, ◌*◌, ◌<◌, ◌≤◌, ◌^◌, Bool, true, false, cond, List, [], ◌∷◌, ◌++◌, length, Some, None, refl, sym, ap, ◌∙◌, subst, arith, ⊎_elim, not, nat_lt, pos, int_lt, bytes_eq-Decides, FRAME_WORDS, Bound, Binding, bound_in, bind as bind_bound, Content, Cell, Variable, Held, content_of, below, settle, Word, State, Local, Stmt, Label, Load, JumpIf, Jump, Store as Store_stmt, Stack, Number, Dyadic, Assign, variable, test_of_step, goal, Mention, Expression, Expressions, Command, Value, holds, number, address, Environment, cell, past, World, Outcome, Done, done, given, with, either, making, Exit, break, loop, turn, history, Meanings, fetch, store as put_value, at, Sought, forwards, step_of, for_test, for_rounds_of, for_loop, round_exit, for_step, relation, Adds, adds, with_after, given_after, closing_after, stays, each_way_after, turn_after, changes_after, either_after, scope_of, alone, nat_tests, ints, signed, word_of, from_label, read, operate, judged, slice_get, Cell_of}
 use Rattle.bk_simulation.proofs.Pieces.{by_option, by_test, jump_moves, does, BaseOf, Alive, Like, like_on, Applies, StandsCell, Store, Moved, moved_on, fits_above, fits_more, stands_grown, below_at, below_like, settle_like, settle_at, read_here, make, make_fits, Since, since_refl, since_on, since_cells, since_made, grown_made, lying, since_moved, get_new, turns_of, turns_in, turns_through, Setting, Scene, in_loop, IsAlone, KeepsLabels, LabelAt, IsAct, IsForLoop, behind_body, some_objects, Configuration, store, state, start, named_grown, Ready, Account, further, went, ran_from, CompletedAt, OpenCompleted, there, next, ready_next, each_way_ran, with_ran, so, Out, Has, begun, stay, links_like, with_objects, stepped, following, completed_more, comes_to, open_configuration, open_ready, open_step, open_on, ran_open, closed_ran, completed_turn, turn_there, ran_more, outside, completed_on, topped, above, Simulates, Limit, where_to, RanDid, for_scope, for_counts, label_on, landed_on, closes, caught_at, tested, bound_named, operates, dyadic_run, for_two, two_run, Two, RanValue, pushes_item, same_number, NameAt}
 use Rattle.bk_simulation.proofs.Terms.{Bound as b, bind, Operator as op, Dyadic as two}
@@ -24,7 +25,7 @@ slot_run setting s A B z q rest w w1 v le le' dp a st =
 variable_run : (place : ℕ) (setting : Setting) (s : State) (A B : Account) (z : Configuration) (d o : ℕ) (rest : List Stmt) (w w1 : World) → A.most + 1 ≤ B.most → B.least ≤ A.least → 2 ≤ z.depth → BaseOf z.bases o (z.frame + d) → CompletedAt setting s A z (Load (Local d) ∷ rest) z.depth w w1
     → RanValue setting s B z rest w (fetch place (address o 0) w1)
 variable_run place setting s A B z d o rest w w1 le le' dp eb a =
-    by_option (λ y. RanValue setting s B z rest w (given place y w1)) (read w1.memory (address o 0)) (λ _. went tt) (λ v e.
+    by_option (λ y. RanValue setting s B z rest w (given place (cell_cause (address o 0)) y w1)) (read w1.memory (address o 0)) (λ _. went tt) (λ v e.
     let f = read_here setting.codes _ (z.frame + z.depth) o 0 (z.frame + d) v a.fits (a.moved.grown.each o (z.frame + d) eb) e in
     let zero : z.frame + d + 0 ≡ z.frame + d = omega arith in
     went (slot_run setting s A B z d rest w w1 v le le' dp a (subst (λ y. Applies setting.codes a.bases1 v (content_of (a.cells1 y))) zero (subst (λ y. Applies setting.codes a.bases1 v y) (sym (ap content_of f.there)) f.stands))))
@@ -62,10 +63,10 @@ limit_pushed setting s A B z d o v rest w w1 u le le' ed l r a =
 
 -- ---- the step is added to the variable
 sum_adds : (place : ℕ) (u v : Value) → Adds (operate place op.Add u v)
-sum_adds place u v = adds _ (λ w. given_after _ _ w)
+sum_adds place u v = adds _ (λ w. given_after _ _ _ w)
 
 put_adds : (place : ℕ) (p v : Value) → Adds (put_value place (at p) v)
-put_adds place p v = adds _ (λ w. changes_after _ (memory.write w.memory p v) w)
+put_adds place p v = adds _ (λ w. changes_after _ _ (memory.write w.memory p v) w)
 
 pub step_run : (place : ℕ) (setting : Setting) (s : State) (A B : Account) (z : Configuration) (d o k : ℕ) (rest : List Stmt) (w w1 : World) → A.most + 4 ≤ B.most → B.least ≤ A.least → k < 2 ^ 32 → BaseOf z.bases o (z.frame + d) → Ready setting z w
     → CompletedAt setting s A z (Load (Local d) ∷ Number (signed k) ∷ Dyadic two.Add ∷ Assign (Local d) ∷ rest) z.depth w w1 → RanDid setting s B z rest w (for_step place o k w1)
@@ -103,14 +104,14 @@ related_run place setting s A B z false rest w w1 u v le le' dp t =
     dyadic_run setting s A B z two.AtLeast rest w w1 u v (operate place op.AtLeast u v w1) le le' dp t (operates setting.codes t.arr.bases1 t.arr.cells1 (z.frame + z.depth) w1 t.arr.fits place op.AtLeast u v _ _ t.first t.second)
 
 related_adds : (place : ℕ) (b : Bool) (u v : Value) → Adds (operate place (cond b op.AtMost op.AtLeast) u v)
-related_adds place true u v = adds _ (λ w. given_after _ _ w)
-related_adds place false u v = adds _ (λ w. given_after _ _ w)
+related_adds place true u v = adds _ (λ w. given_after _ _ _ w)
+related_adds place false u v = adds _ (λ w. given_after _ _ _ w)
 
 fetch_adds : (place : ℕ) (a : Value) → Adds (fetch place a)
-fetch_adds place a = adds _ (λ w. given_after _ _ w)
+fetch_adds place a = adds _ (λ w. given_after _ _ _ w)
 
 judged_adds : (place : ℕ) (v : Value) → Adds (judged place v)
-judged_adds place v = adds _ (λ w. given_after _ _ w)
+judged_adds place v = adds _ (λ w. given_after _ _ _ w)
 
 either_adds : (go : World → Outcome Done) → Adds go → (b : Bool) → Adds (λ w. either b go done w)
 either_adds go ad b = adds _ (λ w. either_after b go done ad (adds _ (λ w1. stays (history w1))) w)
@@ -155,11 +156,11 @@ limit_next setting s A z c w w1 d o u ed r l a = record {
 -- a further round: the LAB of the body pays, and a turn is taken
 further_count : (place : ℕ) (setting : Setting) (inner : Meanings) → Simulates setting inner → (s : State) (A B : Account) (x : Command) (o : ℕ) (u : Value) (k d : ℕ) (z : Configuration) (n1 : ℕ) (body rest : List Stmt) (w w1 : World) → A.most + 1 ≤ B.most → A.most ≤ 16 * w.turns + 10
     → 16 * w.turns + 11 ≤ B.most → B.least ≤ w.turns - suc (turns_in false x) → w.turns ≤ A.least + turns_in false x → suc (turns_in false x) ≤ setting.pay → z.depth ≡ d + 2 → IsForLoop setting z.scene z.depth d k z.env x body rest → Limit setting z w d o u
-    → LabelAt setting z.scene z.depth n1 body → Ready setting z w → CompletedAt setting s A z (Label n1 ∷ body) z.depth w w1 → RanDid setting s B z rest w (turn w1 (λ w. inner.for_rounds place x o u k z.env w))
+    → LabelAt setting z.scene z.depth n1 body → Ready setting z w → CompletedAt setting s A z (Label n1 ∷ body) z.depth w w1 → RanDid setting s B z rest w (turn place w1 (λ w. inner.for_rounds place x o u k z.env w))
 further_count place setting inner sim s A B x o u k d z n1 body rest w w1 le0 le1 le ll la lp ed lf lim ln r a =
     let b = label_on ln a in
     let bl = b.least in
-    turn_there _ (omega arith) (omega arith) b (λ t et.
+    turn_there _ _ (omega arith) (omega arith) b (λ t et.
     let w2 : World = record w1 { turns = t } in
     let D : Account = record { most = A.most + 1 - 16; least = A.least + setting.pay - 1 } in
     let bm = b.most in
@@ -169,14 +170,14 @@ further_count place setting inner sim s A B x o u k d z n1 body rest w w1 le0 le
     (sim.for_rounds place x o u k d (next setting s D z body z.depth w w2 z.env z.depth ar) body rest w2 ed lf (limit_next setting s D z body w w2 d o u ed r lim ar) (ready_next z.env z.depth ar refl (omega arith) r)))
 
 -- what a further round adds, and what the step and the test before it do
-turn_adds : (place : ℕ) (setting : Setting) (inner : Meanings) → Simulates setting inner → (x : Command) (o : ℕ) (u : Value) (k : ℕ) (env : Environment) → Adds (λ w. turn w (λ w. inner.for_rounds place x o u k env w))
-turn_adds place setting inner sim x o u k env = adds _ (λ w. turn_after _ (adds _ (λ w1. sim.grows.for_rounds place x o u k env w1)) w)
+turn_adds : (place : ℕ) (setting : Setting) (inner : Meanings) → Simulates setting inner → (x : Command) (o : ℕ) (u : Value) (k : ℕ) (env : Environment) → Adds (λ w. turn place w (λ w. inner.for_rounds place x o u k env w))
+turn_adds place setting inner sim x o u k env = adds _ (λ w. turn_after _ _ (adds _ (λ w1. sim.grows.for_rounds place x o u k env w1)) w)
 
 next_adds : (place : ℕ) (setting : Setting) (inner : Meanings) → Simulates setting inner → (x : Command) (o : ℕ) (u : Value) (k : ℕ) (env : Environment)
-    → Adds (λ w. with (for_step place o k w) (λ _ w. for_test place o u k (λ w. turn w (λ w. inner.for_rounds place x o u k env w)) w))
+    → Adds (λ w. with (for_step place o k w) (λ _ w. for_test place o u k (λ w. turn place w (λ w. inner.for_rounds place x o u k env w)) w))
 next_adds place setting inner sim x o u k env =
-    adds _ (λ w. with_after (history w) (for_step place o k w) (λ _ w. for_test place o u k (λ w. turn w (λ w. inner.for_rounds place x o u k env w)) w) ((step_adds _ o k).at w)
-    (λ _. test_adds _ o k u (λ w. turn w (λ w. inner.for_rounds place x o u k env w)) (turn_adds _ setting inner sim x o u k env)))
+    adds _ (λ w. with_after (history w) (for_step place o k w) (λ _ w. for_test place o u k (λ w. turn place w (λ w. inner.for_rounds place x o u k env w)) w) ((step_adds _ o k).at w)
+    (λ _. test_adds _ o k u (λ w. turn place w (λ w. inner.for_rounds place x o u k env w)) (turn_adds _ setting inner sim x o u k env)))
 
 pub for_rounds_run : (place : ℕ) (setting : Setting) (inner : Meanings) → Simulates setting inner → (x : Command) (o : ℕ) (u : Value) (k d : ℕ) (z : Configuration) (body rest : List Stmt) (w : World) → z.depth ≡ d + 2 → IsForLoop setting z.scene z.depth d k z.env x body rest → Limit setting z w d o u
     → Ready setting z w → RanDid setting (start z body w) (for_counts x w) z rest w (for_rounds_of inner place x o u k z.env w)
@@ -187,28 +188,28 @@ for_rounds_run place setting inner sim x o u k d z body rest w ed lf lim r =
     (λ _ w1 q. go (for_scope (alone x) w) w1 (omega arith) (omega arith) q) out
   where
     go : (A : Account) (w1 : World) → A.most ≤ 16 * w.turns → w.turns ≤ A.least + turns_in false x → CompletedAt setting (start z body w) A z (Label lf.2 ∷ behind_body d k lf.0 lf.5) z.depth w w1
-        → RanDid setting (start z body w) (for_counts x w) z rest w (with (for_step place o k w1) (λ _ w. for_test place o u k (λ w. turn w (λ w. inner.for_rounds place x o u k z.env w)) w))
+        → RanDid setting (start z body w) (for_counts x w) z rest w (with (for_step place o k w1) (λ _ w. for_test place o u k (λ w. turn place w (λ w. inner.for_rounds place x o u k z.env w)) w))
     go A w1 lm ll a =
         let s = start z body w in
         let B = for_counts x w in
         let A1 : Account = record { most = A.most + 1; least = A.least } in
         let A5 : Account = record { most = A.most + 5; least = A.least } in
         let A6 : Account = record { most = A.most + 6; least = A.least } in
-        with_ran (λ _. test_adds _ o k u (λ w. turn w (λ w. inner.for_rounds place x o u k z.env w)) (turn_adds _ setting inner sim x o u k z.env))
+        with_ran (λ _. test_adds _ o k u (λ w. turn place w (λ w. inner.for_rounds place x o u k z.env w)) (turn_adds _ setting inner sim x o u k z.env))
         (ran_more (omega arith) (omega arith) (step_run _ setting s A1 A5 z d o k (Label lf.0 ∷ lf.5) w w1 (omega arith) (omega arith) lf.13 lim.base r (landed_on (omega arith) (omega arith) lf.10 a)))
         (λ _ w2 b.
-        test_run _ setting s A6 B z d o k lf.1 u (Label lf.1 ∷ body) (Label lf.3 ∷ rest) rest w w2 (λ w. turn w (λ w. inner.for_rounds place x o u k z.env w)) (turn_adds _ setting inner sim x o u k z.env) (omega arith) (omega arith) lf.13 ed lim lf.9.found r
+        test_run _ setting s A6 B z d o k lf.1 u (Label lf.1 ∷ body) (Label lf.3 ∷ rest) rest w w2 (λ w. turn place w (λ w. inner.for_rounds place x o u k z.env w)) (turn_adds _ setting inner sim x o u k z.env) (omega arith) (omega arith) lf.13 ed lim lf.9.found r
         (subst (λ y. CompletedAt setting s A6 z y z.depth w w2) lf.7 (landed_on (omega arith) (omega arith) lf.8 b)) (fin A lm ll))
       where
         fin : (A : Account) → A.most ≤ 16 * w.turns → w.turns ≤ A.least + turns_in false x → (t : Bool) (w3 : World)
             → CompletedAt setting (start z body w) (record { most = A.most + 6 + 4; least = A.least }) z (where_to true t (Label lf.1 ∷ body) (Label lf.3 ∷ rest)) z.depth w w3
-            → RanDid setting (start z body w) (for_counts x w) z rest w (either t (λ w. turn w (λ w. inner.for_rounds place x o u k z.env w)) done w3)
+            → RanDid setting (start z body w) (for_counts x w) z rest w (either t (λ w. turn place w (λ w. inner.for_rounds place x o u k z.env w)) done w3)
         fin A lm ll true w3 c =
             further_count _ setting inner sim (start z body w) (record { most = A.most + 6 + 4; least = A.least }) (for_counts x w) x o u k d z lf.1 body rest w w3 (omega arith) (omega arith) (omega arith) (omega arith) (omega arith) lf.12 ed lf lim lf.9 r c
         fin A lm ll false w3 c = went (landed_on (omega arith) (omega arith) lf.11 c)
 
     out : (y : Exit) (w1 : World) → Out setting (start z body w) (for_scope (alone x) w) (looping lf.2 lf.3 z) w y w1
-        → RanDid setting (start z body w) (for_counts x w) z rest w (round_exit (λ w. with (for_step place o k w) (λ _ w. for_test place o u k (λ w. turn w (λ w. inner.for_rounds place x o u k z.env w)) w)) y w1)
+        → RanDid setting (start z body w) (for_counts x w) z rest w (round_exit (λ w. with (for_step place o k w) (λ _ w. for_test place o u k (λ w. turn place w (λ w. inner.for_rounds place x o u k z.env w)) w)) y w1)
     out loop w1 q = let dp = r.deep in
         go (record { most = 16 * w.turns; least = (w.turns - turns_through false (alone x)) + setting.pay + setting.pay }) w1 (omega arith) (omega arith)
         (caught_at q (goal lf.2 z.depth) z.depth (Label lf.2 ∷ behind_body d k lf.0 lf.5) refl q.leads.0 lf.10.found refl (omega arith) (omega arith))
@@ -220,7 +221,7 @@ for_rounds_run place setting inner sim x o u k d z body rest w ed lf lim r =
 -- what rounds add
 pub rounds_adds : (place : ℕ) (setting : Setting) (inner : Meanings) → Simulates setting inner → (x : Command) (o : ℕ) (u : Value) (k : ℕ) (env : Environment) → Adds (λ w. scope_of inner (alone x) forwards env w) → Adds (λ w. for_rounds_of inner place x o u k env w)
 rounds_adds place setting inner sim x o u k env au =
-    adds _ (λ w. each_way_after (history w) (scope_of inner (alone x) forwards env w) (λ _ w. with (for_step place o k w) (λ _ w. for_test place o u k (λ w. turn w (λ w. inner.for_rounds place x o u k env w)) w)) (round_exit (λ w. with (for_step place o k w) (λ _ w. for_test place o u k (λ w. turn w (λ w. inner.for_rounds place x o u k env w)) w))) (au.at w) (λ _. next_adds _ setting inner sim x o u k env) (round_exit_adds _ (next_adds _ setting inner sim x o u k env)))
+    adds _ (λ w. each_way_after (history w) (scope_of inner (alone x) forwards env w) (λ _ w. with (for_step place o k w) (λ _ w. for_test place o u k (λ w. turn place w (λ w. inner.for_rounds place x o u k env w)) w)) (round_exit (λ w. with (for_step place o k w) (λ _ w. for_test place o u k (λ w. turn place w (λ w. inner.for_rounds place x o u k env w)) w))) (au.at w) (λ _. next_adds _ setting inner sim x o u k env) (round_exit_adds _ (next_adds _ setting inner sim x o u k env)))
 
 -- ---- what follows an arrival in a situation of its own that has not all its items
 abbrev joined : {setting : Setting} {s : State} {A N B : Account} {z : Configuration} {c c2 : List Stmt} {k d2 : ℕ} {w w1 w2 : World} → A.most + N.most ≤ B.most + 16 * w1.turns
@@ -394,10 +395,10 @@ pub for_run : (setting : Setting) (inner : Meanings) → Simulates setting inner
     (there : Sought → List Stmt) (c0 rest : List Stmt) (w : World) → 16 * w.turns + 16 ≤ B.most
     → B.least ≤ w.turns - (turns_of false a + (turns_of false y + suc (turns_in false c))) → IsAct setting z.scene z.depth z.env (t.for_loop l x a y h c) there c0 rest
     → ((o : ℕ) (v : Value) (k : ℕ) (env : Environment) → Adds (λ w. for_rounds_of inner x.at c o v k env w)) → Ready setting z w
-    → RanDid setting (start z c0 w) B z rest w (with (inner.value a z.env w) (λ u w. with (inner.value y (past a z.env) w) (λ v w. with (given x.at (step_of z.env h) w) (λ n w. for_loop inner x c u v n (past y (past a z.env)) w))))
+    → RanDid setting (start z c0 w) B z rest w (with (inner.value a z.env w) (λ u w. with (inner.value y (past a z.env) w) (λ v w. with (given x.at no_constant (step_of z.env h) w) (λ n w. for_loop inner x c u v n (past y (past a z.env)) w))))
 for_run setting inner sim B l x a y h c z there c0 rest w le le' lx ad r =
-    let all_adds : (u v : Value) → Adds (λ w. with (given x.at (step_of z.env h) w) (λ n w. for_loop inner x c u v n (past y (past a z.env)) w)) = λ u v.
-    adds _ (λ w1. with_after (history w1) (given x.at (step_of z.env h) w1) (λ n w. for_loop inner x c u v n (past y (past a z.env)) w) (given_after x.at (step_of z.env h) w1)
+    let all_adds : (u v : Value) → Adds (λ w. with (given x.at no_constant (step_of z.env h) w) (λ n w. for_loop inner x c u v n (past y (past a z.env)) w)) = λ u v.
+    adds _ (λ w1. with_after (history w1) (given x.at no_constant (step_of z.env h) w1) (λ n w. for_loop inner x c u v n (past y (past a z.env)) w) (given_after x.at _ (step_of z.env h) w1)
     (λ n. loop_adds inner x c u v n (past y (past a z.env)) (λ o. ad o v n (bind x.letters (cell o 0) (past y (past a z.env)))))) in
     two_run setting inner sim B a y z c0 lx.6 (Store_stmt ∷ Jump lx.0 ∷ Label lx.1 ∷ lx.7) w _ _ all_adds (omega arith) (omega arith) lx.9 lx.10 r (λ u v w2 t pos.
     let s = start z c0 w in
@@ -405,6 +406,6 @@ for_run setting inner sim B l x a y h c z there c0 rest w le le' lx ad r =
     let m0 = t.arr.most in
     let zf = next setting s A z (Store_stmt ∷ Jump lx.0 ∷ Label lx.1 ∷ lx.7) (z.depth + 1 + 1) w w2 (past y (past a z.env)) z.depth t.arr in
     let rf = ready_next (past y (past a z.env)) z.depth t.arr refl (omega arith) r in
-    subst (λ q. RanDid setting s B z rest w (with (given x.at q w2) (λ n w. for_loop inner x c u v n (past y (past a z.env)) w))) (sym lx.13)
+    subst (λ q. RanDid setting s B z rest w (with (given x.at no_constant q w2) (λ n w. for_loop inner x c u v n (past y (past a z.env)) w))) (sym lx.13)
     (joined_ran (omega arith) (omega arith) r t.arr
     (for_opened setting inner sim l x a y h c zf z there c0 rest w2 u v lx refl rf t.first t.second (λ o. ad o v lx.4 (bind x.letters (cell o 0) (past y (past a z.env)))))))

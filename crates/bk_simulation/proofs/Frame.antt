@@ -138,15 +138,15 @@ abbrev pub Falls : {A : Type 0} → Setting → State → Outcome A → Type 0
 Falls setting s (gives a w) = FallsThose setting s w.output w.most_calls
 Falls setting s (leaves x w) = FallsThose setting s w.output w.most_calls
 Falls setting s (ends e w) = FallsThose setting s w.output w.most_calls
-Falls setting s (undefined l v) = Unit {0}
-Falls setting s (going w) = FallsThose setting s w.output w.most_calls
+Falls setting s (undefined l why v) = Unit {0}
+Falls setting s (going l w) = FallsThose setting s w.output w.most_calls
 
 abbrev pub Went : {A : Type 0} → Setting → State → Account → (A → World → Type 0) → (Exit → World → Type 0) → Outcome A → Type 0
 Went setting s B K X (gives a w) = K a w
 Went setting s B K X (leaves x w) = X x w
 Went setting s B K X (ends e w) = Stopped setting s B e w
-Went setting s B K X (undefined l v) = Unit {0}
-Went setting s B K X (going w) = Reaches setting s B w
+Went setting s B K X (undefined l why v) = Unit {0}
+Went setting s B K X (going l w) = Reaches setting s B w
 
 pub record Ran {A : Type 0} (setting : Setting) (s : State) (B : Account) (K : A → World → Type 0) (X : Exit → World → Type 0) (o : Outcome A) : Type 0 where
   pub is : Went setting s B K X o ⊎ Falls setting s o
@@ -165,8 +165,8 @@ pub falls_on : {A : Type 0} (setting : Setting) (s : State) (w : World) (o : Out
 falls_on setting s w (gives a w1) f h = falls_later setting s w w1 h f
 falls_on setting s w (leaves x w1) f h = falls_later setting s w w1 h f
 falls_on setting s w (ends e w1) f h = falls_later setting s w w1 h f
-falls_on setting s w (undefined l v) f h = tt
-falls_on setting s w (going w1) f h = falls_later setting s w w1 h f
+falls_on setting s w (undefined l why v) f h = tt
+falls_on setting s w (going l w1) f h = falls_later setting s w w1 h f
 
 -- what was given and each exit are gone on with
 pub each_way_ran : {A B : Type 0} {setting : Setting} {s : State} {N : Account} {K : A → World → Type 0} {L : B → World → Type 0} {X Y : Exit → World → Type 0}
@@ -209,11 +209,11 @@ ran_from {A} {setting} {s} {t} {k} {p} {M} {N} {K} {L} {X} {Y} {o} c le le' h i 
         let m = q.most in went
         (record { to = q.to; steps = k + q.steps; paid = p + q.paid; comes = comes_on setting _ _ _ _ _ _ _ c q.comes; most = omega arith; end = q.end; is_end = q.is_end; stops = q.stops; wrote = q.wrote; left = q.left })
     by (ends e w) (inr f) = record { is = inr (falls_before setting s t k p w c f) }
-    by (undefined l v) r = went tt
-    by (going w) (inl q) =
+    by (undefined l why v) r = went tt
+    by (going l w) (inl q) =
         let m = q.most in let l = q.least in went
         (record { to = q.to; steps = k + q.steps; paid = p + q.paid; comes = comes_on setting _ _ _ _ _ _ _ c q.comes; most = omega arith; least = omega arith; wrote = q.wrote; left = q.left })
-    by (going w) (inr f) = record { is = inr (falls_before setting s t k p w c f) }
+    by (going l w) (inr f) = record { is = inr (falls_before setting s t k p w c f) }
 
 -- more is said of it, within a larger account
 pub so : {A : Type 0} {setting : Setting} {s : State} {M N : Account} {K L : A → World → Type 0} {X Y : Exit → World → Type 0} {o : Outcome A} → M.most ≤ N.most
@@ -226,13 +226,13 @@ pub ran_same : {A : Type 0} {setting : Setting} {s : State} {B : Account} {K L :
 ran_same h r = so (omega arith) (omega arith) h (λ x w q. q) r
 
 -- a turn is taken, if one is left, behind a run to here
-pub turn_behind : {A : Type 0} {setting : Setting} {s to : State} {B : Account} {K : A → World → Type 0} {X : Exit → World → Type 0} (steps paid : ℕ) (w : World)
+pub turn_behind : {A : Type 0} {setting : Setting} {s to : State} {B : Account} {K : A → World → Type 0} {X : Exit → World → Type 0} (l steps paid : ℕ) (w : World)
     (go : World → Outcome A) → Comes setting steps paid s to
     → steps ≤ B.most → B.least ≤ w.turns + paid → to.output ≡ w.output → to.input ≡ w.input
-    → ((n : ℕ) → w.turns ≡ suc n → Ran setting s B K X (go (record w { turns = n }))) → Ran setting s B K X (turn w go)
-turn_behind {A} {setting} {s} {to} {B} {K} {X} steps paid w go c le le' e ei h = at_turns w.turns refl
+    → ((n : ℕ) → w.turns ≡ suc n → Ran setting s B K X (go (record w { turns = n }))) → Ran setting s B K X (turn l w go)
+turn_behind {A} {setting} {s} {to} {B} {K} {X} l steps paid w go c le le' e ei h = at_turns w.turns refl
   where
-    at_turns : (n : ℕ) → w.turns ≡ n → Ran setting s B K X (turn_of n w go)
+    at_turns : (n : ℕ) → w.turns ≡ n → Ran setting s B K X (turn_of l n w go)
     at_turns zero q = went (record { to = to; steps = steps; paid = paid; comes = c; most = omega arith; least = omega arith; wrote = e; left = ei })
     at_turns (suc n) q = h n q
 

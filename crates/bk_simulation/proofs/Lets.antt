@@ -58,7 +58,7 @@ starts_after inner grows t.no_starts env w = stays (history w)
 starts_after inner grows (t.value e is) env w =
     with_after _ (inner.value e env w) _ (grows.value e env w) (λ v. adds _ (λ w1. with_after _ (starts inner is (past e env) w1) _ (starts_after inner grows is (past e env) w1) (λ vs. adds _ (λ w2. stays (history w2)))))
 starts_after inner grows (t.vector x e is) env w =
-    with_after _ _ _ (turn_after _ (adds _ (λ w1. make_vec_after _ (constant_in env e) w1)) w) (λ v. adds _ (λ w1. with_after _ (starts inner is env w1) _ (starts_after inner grows is env w1) (λ vs. adds _ (λ w2. stays (history w2)))))
+    with_after _ _ _ (turn_after _ _ (adds _ (λ w1. make_vec_after _ (constant_in env e) w1)) w) (λ v. adds _ (λ w1. with_after _ (starts inner is env w1) _ (starts_after inner grows is env w1) (λ vs. adds _ (λ w2. stays (history w2)))))
 
 -- ---- a VEC
 
@@ -192,7 +192,7 @@ starts_run setting inner sim (t.vector x e is) env bs s A B z w c rest d d1 slot
     let grows : Throughout (λ A w u. After (history w) u) inner = sim.grows in
     with_ran {K = NextItem setting s A1 z w h d (d + k + 1) c0 (d + k + 2)}
     (λ v. adds _ (λ w2. with_after _ (starts inner is env w2) _ (starts_after inner grows is env w2) (λ vs. adds _ (λ w3. stays (history w3)))))
-    (turn_there (λ w. make_vec (acts_at e) (constant_in env e) w) le1 (omega arith) a (λ n en.
+    (turn_there _ (λ w. make_vec (acts_at e) (constant_in env e) w) le1 (omega arith) a (λ n en.
     let A0 : Account = record { most = A.most - 16; least = A.least - 1 } in
     let a1 = open_ticked n en a in
     let v = vec_done setting s A0 z w c c0 d k (record w1 { turns = n }) r le (omega arith) l.4 a1 in
@@ -364,7 +364,7 @@ no_spots setting sc (t.define (t.function x y fs a) ds) d env c rest d1 ps l e =
 pub let_values_after : (inner : Meanings) → Throughout (λ A w u. After (history w) u) inner → (ds : Definitions) (env : Environment) (w : World) → After (history w) (let_values inner ds env w)
 let_values_after inner grows t.no_definitions env w = stays (history w)
 let_values_after inner grows (t.define (t.variables l xs is) ds) env w =
-    with_after _ _ _ (turn_after _ (adds _ (λ w1. starts_after inner grows is env w1)) w)
+    with_after _ _ _ (turn_after _ _ (adds _ (λ w1. starts_after inner grows is env w1)) w)
     (λ vs. adds _ (λ w1. with_after _ _ _ (let_values_after inner grows ds (past_definition (t.variables l xs is) env) w1) (λ more. adds _ (λ w2. stays (history w2)))))
 let_values_after inner grows (t.define (t.routine l x fs c) ds) env w = let_values_after inner grows ds (past_definition (t.routine l x fs c) env) w
 let_values_after inner grows (t.define (t.function l x fs e) ds) env w = let_values_after inner grows ds (past_definition (t.function l x fs e) env) w
@@ -400,7 +400,7 @@ let_run setting inner sim (t.define (t.variables x xs is) ds) env bs s A B z w c
     let grows : Throughout (λ A w u. After (history w) u) inner = sim.grows in
     with_ran {K = λ vs w2. Started setting s C z w h d c0 d0 l.2 vs w2 × (16 ≤ A.most)}
     (λ vs. adds _ (λ w2. with_after _ _ _ (let_values_after inner grows ds env1 w2) (λ more. adds _ (λ w3. stays (history w3)))))
-    (turn_there (λ w. starts inner is env w) le1 (omega arith) a (λ n en.
+    (turn_there _ (λ w. starts inner is env w) le1 (omega arith) a (λ n en.
     let A0 : Account = record { most = A.most - 16; least = A.least - 1 } in
     let a1 = open_ticked n en a in
     let big : 16 ≤ A.most = (let q = a.most in omega arith) in

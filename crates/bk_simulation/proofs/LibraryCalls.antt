@@ -1,4 +1,6 @@
 -- The routines of the library are called: each does its step, and goes back.
+use Rattle.bk_meaning.specs.Causes.{argument, byte_cause, set_byte_cause, of_arguments}
+use Rattle.bk_meaning.specs.Library.{string_cause, written_cause, format_cause}
 use Rattle.bk_simulation.proofs.Words.{ltb-true, ◌≡◌, ◌≢◌, ℕ, suc, ◌+◌, ◌-◌, ◌*◌, ◌<◌, ◌≤◌, ◌%◌, ◌^◌, ◌==◌, nat_lt, Bool, false, List, [], ◌∷◌, length, Option, Some, None, refl, sym, ap, ◌∙◌, subst, if◌then◌else◌, arith, slice_get, zero, ◌++◌, option_and_then, option_map, Status, signed, word_sum, byte_distance, Content, Word, Variable, Cell, Held, content_of, write, number_in, variable_in, variable_at, byte_at, word_with_byte_at, string_at, bytes_from, At, State, Ends, slot, on_number, on_some, tells, routine_step, step, Program, in_hand, program_step, Stmt, Value, number, address, procedure, routine, unset, read_byte, write_byte, World, Outcome, gives, given, with, changes, writing, remembering, calls_back, spelling, aligned, FormatPart, format_bytes, in_front, library, writes_text, takes_byte, eqb-true}
 use Rattle.bk_simulation.proofs.Pieces.{by_option, by_truth, return_goes, call_stmt, Applies, Store, Moved, Fits, moved_on, moved_refl, Codes, untouched, AreBytes, read_byte_at, write_byte_at, word_number, HasBytes, Setting, CallAt, Configuration, store, Ready, Account, Comes, Ran, went}
 use Rattle.bk_base.specs.Format.{parts}
@@ -237,7 +239,7 @@ library_runs place of setting s A B z rest w w1 vs value.newline n le le' en rea
     back_same of setting s A B z rest w w1 vs value.newline n le le' en ready call known at unset None (writing (10 ∷ []) w1) refl refl tt refl
 library_runs place of setting s A B z rest w w1 (a ∷ vs) value.writes n le le' en ready call known at =
     let h : State = record { control = At (setting.codes.routine value.writes); cells = at.cells1; frame = z.frame + z.depth; hand = None; input = w1.input; output = w1.output; written = at.written1 } in
-    by_option (λ o. Ran setting s B (λ v w3. Gave of setting s B z rest w v (calls_back n w3)) AnyExit (writes_text place o w1))
+    by_option (λ o. Ran setting s B (λ v w3. Gave of setting s B z rest w v (calls_back n w3)) AnyExit (writes_text place (argument 1 (string_cause w1.memory a)) o w1))
     (m.string_at w1.memory a) (λ _. went tt) (λ text e.
     let hs : Store = record { bases = at.bases1; mem = w1.memory; cells = at.cells1 } in
     let x = string_word setting.codes hs (z.frame + z.depth) at.fits a _ text (at.each 0 a refl) e in
@@ -256,7 +258,7 @@ library_runs place of setting s A B z rest w w1 (number k ∷ number d ∷ vs) v
     ∙ ap (λ y. on_number y (λ w. tells h (aligned k w))) (at.each 1 (number d) refl))
 library_runs place of setting s A B z rest w w1 (a ∷ i ∷ vs) value.getbyte n le le' en ready call known at =
     let h : State = record { control = At (setting.codes.routine value.getbyte); cells = at.cells1; frame = z.frame + z.depth; hand = None; input = w1.input; output = w1.output; written = at.written1 } in
-    by_option (λ o. Ran setting s B (λ v w3. Gave of setting s B z rest w v (calls_back n w3)) AnyExit (given place (option_map number o) w1))
+    by_option (λ o. Ran setting s B (λ v w3. Gave of setting s B z rest w v (calls_back n w3)) AnyExit (given place (of_arguments (byte_cause a i)) (option_map number o) w1))
     (read_byte w1.memory a i) (λ _. went tt) (λ b e.
     let hs : Store = record { bases = at.bases1; mem = w1.memory; cells = at.cells1 } in
     let x = read_byte_at setting.codes hs (z.frame + z.depth) a i _ _ b at.fits (at.each 0 a refl) (at.each 1 i refl) e in
@@ -267,7 +269,7 @@ library_runs place of setting s A B z rest w w1 (a ∷ i ∷ vs) value.getbyte n
 library_runs place of setting s A B z rest w w1 (a ∷ i ∷ u ∷ vs) value.putbyte n le le' en ready call known at =
     let h : State = record { control = At (setting.codes.routine value.putbyte); cells = at.cells1; frame = z.frame + z.depth; hand = None; input = w1.input; output = w1.output; written = at.written1 } in
     let set_to : ℕ → Content → State = λ p x. record h { cells = write h.cells p (Held Variable x); written = p ∷ h.written } in
-    by_option (λ o. Ran setting s B (λ v w3. Gave of setting s B z rest w v (calls_back n w3)) AnyExit (with (changes place o w1) (λ _ w. gives unset w)))
+    by_option (λ o. Ran setting s B (λ v w3. Gave of setting s B z rest w v (calls_back n w3)) AnyExit (with (changes place (of_arguments (set_byte_cause a i u)) o w1) (λ _ w. gives unset w)))
     (write_byte w1.memory a i u) (λ _. went tt) (λ m1 e.
     let hs : Store = record { bases = at.bases1; mem = w1.memory; cells = at.cells1 } in
     let x = write_byte_at setting.codes hs (z.frame + z.depth) a i u _ _ _ m1 (λ p k e. subst (λ c. AreBytes (content_of c)) e (at.has.words p)) at.fits (at.each 0 a refl) (at.each 1 i refl) (at.each 2 u refl) e in
@@ -284,9 +286,9 @@ library_runs place of setting s A B z rest w w1 (a ∷ i ∷ u ∷ vs) value.put
     (ap content_of (untouched at.cells1 p (Held Variable x.content) (z.frame + z.depth + 1) n1) ∙ at.link1)
     x.fits (x.moved (z.frame + z.depth)))
 library_runs place of setting s A B z rest w w1 (a ∷ vs) value.writef n le le' en ready call known at =
-    by_option (λ o. Ran setting s B (λ v w3. Gave of setting s B z rest w v (calls_back n w3)) AnyExit (writes_text place (option_and_then (λ bytes. m.written w1.memory (parts bytes) vs) o) w1))
+    by_option (λ o. Ran setting s B (λ v w3. Gave of setting s B z rest w v (calls_back n w3)) AnyExit (writes_text place (format_cause w1.memory a o vs) (option_and_then (λ bytes. m.written w1.memory (parts bytes) vs) o) w1))
     (m.string_at w1.memory a) (λ _. went tt) (λ bytes eb.
-    by_option (λ o. Ran setting s B (λ v w3. Gave of setting s B z rest w v (calls_back n w3)) AnyExit (writes_text place o w1)) (m.written w1.memory (parts bytes) vs) (λ _. went tt) (λ text e.
+    by_option (λ o. Ran setting s B (λ v w3. Gave of setting s B z rest w v (calls_back n w3)) AnyExit (writes_text place (written_cause w1.memory 2 (parts bytes) vs) o w1)) (m.written w1.memory (parts bytes) vs) (λ _. went tt) (λ text e.
     let h = here of setting s A B z rest w w1 (a ∷ vs) value.writef n le le' en ready call known at in
     let hs : Store = record { bases = at.bases1; mem = w1.memory; cells = at.cells1 } in
     let x = string_word setting.codes hs (z.frame + z.depth) at.fits a _ bytes (at.each 0 a refl) eb in

@@ -95,13 +95,13 @@ abbrev pub looping : ℕ → ℕ → Configuration → Configuration
 looping again_at out_at z = record z { scene = in_loop again_at out_at z.depth z.scene }
 
 -- A further round: the LAB of the body pays, and a turn is taken.
-further_round : (setting : Setting) (inner : Meanings) → Simulates setting inner → (s : State) (A B : Account) (x : Command) (z : Configuration) (n : ℕ) (at : Sought → List Stmt) (body rest : List Stmt) (w w1 : World) → A.most + 1 ≤ B.most → A.most ≤ 16 * w.turns + 1
+further_round : (place : ℕ) (setting : Setting) (inner : Meanings) → Simulates setting inner → (s : State) (A B : Account) (x : Command) (z : Configuration) (n : ℕ) (at : Sought → List Stmt) (body rest : List Stmt) (w w1 : World) → A.most + 1 ≤ B.most → A.most ≤ 16 * w.turns + 1
     → 16 * w.turns + 2 ≤ B.most → B.least ≤ w.turns - turns_in_round x → w.turns + 1 ≤ A.least + turns_in_round x → 1 ≤ turns_in_round x → turns_in_round x ≤ setting.pay → IsLoop setting z.scene z.depth z.env x at body rest → EnteredBody forwards z.env x at body body
-    → LabelAt setting z.scene z.depth n body → Ready setting z w → CompletedAt setting s A z (Label n ∷ body) z.depth w w1 → RanDid setting s B z rest w (turn w1 (λ w. inner.rounds x forwards z.env w))
-further_round setting inner sim s A B x z n at body rest w w1 le0 le1 le ll la l1 lp l en ln r a =
+    → LabelAt setting z.scene z.depth n body → Ready setting z w → CompletedAt setting s A z (Label n ∷ body) z.depth w w1 → RanDid setting s B z rest w (turn place w1 (λ w. inner.rounds x forwards z.env w))
+further_round place setting inner sim s A B x z n at body rest w w1 le0 le1 le ll la l1 lp l en ln r a =
     let b = label_on ln a in
     let bl = b.least in
-    turn_there _ (omega arith) (omega arith) b (λ k ek.
+    turn_there _ _ (omega arith) (omega arith) b (λ k ek.
     let D : Account = record { most = A.most + 1 - 16; least = A.least + setting.pay - 1 } in
     let bm = b.most in
     let ar : CompletedAt setting s D z body z.depth w (record w1 { turns = k }) = completed_turn k ek (omega arith) (omega arith) b in
@@ -136,42 +136,42 @@ round_run setting inner sim B a mode z env again_at out_at at body mid following
     out x w1 o = went (outside z.scene (omega arith) (omega arith) o o.leads)
 
 -- ---- WHILE and UNTIL: the test stands behind the body
-pub test_adds_again : (setting : Setting) (inner : Meanings) → Simulates setting inner → (x : Command) (env : Environment) (b : Bool) (t : Bool) → Adds (λ w. either (same_truth b t) (λ w. turn w (λ w. inner.rounds x forwards env w)) done w)
-test_adds_again setting inner sim x env b t = adds _ (λ w. either_after (same_truth b t) _ _ (adds _ (λ w1. turn_after _ (adds _ (λ w2. sim.grows.rounds x forwards env w2)) w1)) (adds _ (λ w1. stays (history w1))) w)
+pub test_adds_again : (place : ℕ) (setting : Setting) (inner : Meanings) → Simulates setting inner → (x : Command) (env : Environment) (b : Bool) (t : Bool) → Adds (λ w. either (same_truth b t) (λ w. turn place w (λ w. inner.rounds x forwards env w)) done w)
+test_adds_again place setting inner sim x env b t = adds _ (λ w. either_after (same_truth b t) _ _ (adds _ (λ w1. turn_after _ _ (adds _ (λ w2. sim.grows.rounds x forwards env w2)) w1)) (adds _ (λ w1. stays (history w1))) w)
 
-pub while_adds : (setting : Setting) (inner : Meanings) → Simulates setting inner → (x : Command) (e : Expression) (env there : Environment) (b : Bool) → Adds (λ w. where_truth inner b e there (λ w. turn w (λ w. inner.rounds x forwards env w)) w)
-while_adds setting inner sim x e env there b = adds _ (λ w. with_after _ _ _ (sim.grows.truth e there w) (λ t. test_adds_again setting inner sim x env b t))
+pub while_adds : (place : ℕ) (setting : Setting) (inner : Meanings) → Simulates setting inner → (x : Command) (e : Expression) (env there : Environment) (b : Bool) → Adds (λ w. where_truth inner b e there (λ w. turn place w (λ w. inner.rounds x forwards env w)) w)
+while_adds place setting inner sim x e env there b = adds _ (λ w. with_after _ _ _ (sim.grows.truth e there w) (λ t. test_adds_again _ setting inner sim x env b t))
 
 -- the test behind a body, and a further round
-test_behind : (setting : Setting) (inner : Meanings) → Simulates setting inner → (s : State) (A B : Account) (x : Command) (b : Bool) (e : Expression) (z : Configuration) (env : Environment) (n1 n2 : ℕ) (at : Sought → List Stmt) (body test rest : List Stmt) (w w1 : World)
+test_behind : (place : ℕ) (setting : Setting) (inner : Meanings) → Simulates setting inner → (s : State) (A B : Account) (x : Command) (b : Bool) (e : Expression) (z : Configuration) (env : Environment) (n1 n2 : ℕ) (at : Sought → List Stmt) (body test rest : List Stmt) (w w1 : World)
     → A.most ≤ 16 * w.turns + 1 → 16 * w.turns + 2 ≤ B.most → B.least ≤ w.turns - turns_in_round x → w.turns + 1 ≤ A.least + (turns_in_round x - turns_of false e) → 1 ≤ turns_in_round x - turns_of false e → turns_in_round x ≤ setting.pay → env.names ≡ z.env.names
     → IsLoop setting z.scene z.depth z.env x at body rest → EnteredBody forwards z.env x at body body → IsJump setting z.scene z.depth env e b n1 test (Label n2 ∷ rest) → LabelAt setting z.scene z.depth n1 body → LabelAt setting z.scene z.depth n2 rest → Ready setting z w
-    → CompletedAt setting s A z test z.depth w w1 → RanDid setting s B z rest w (where_truth inner b e env (λ w. turn w (λ w. inner.rounds x forwards z.env w)) w1)
-test_behind setting inner sim s A B x b e z env n1 n2 at body test rest w w1 le1 le ll la l1 lp en lx ent lt ln1 ln2 r ar =
+    → CompletedAt setting s A z test z.depth w w1 → RanDid setting s B z rest w (where_truth inner b e env (λ w. turn place w (λ w. inner.rounds x forwards z.env w)) w1)
+test_behind place setting inner sim s A B x b e z env n1 n2 at body test rest w w1 le1 le ll la l1 lp en lx ent lt ln1 ln2 r ar =
     let m0 = ar.most in
     let al0 = ar.least in
     let C : Account = record { most = 16 * w.turns + 1; least = A.least - turns_of false e } in
-    with_ran {K = λ t w2. HasTruth setting s C z b (Label n1 ∷ body) (Label n2 ∷ rest) w t w2} (λ t. test_adds_again setting inner sim x z.env b t)
+    with_ran {K = λ t w2. HasTruth setting s C z b (Label n1 ∷ body) (Label n2 ∷ rest) w t w2} (λ t. test_adds_again _ setting inner sim x z.env b t)
     (ran_on (omega arith) (omega arith) r (omega arith) ar (λ t w2 q. completed_on (omega arith) (omega arith) r (omega arith) ar q)
     (sim.truth e (next setting s A z test z.depth w w1 env z.depth ar) b n1 (Label n1 ∷ body) test (Label n2 ∷ rest) w1 lt ln1.found (ready_next env z.depth ar en (omega arith) r)))
     (λ t w2 q. goes (same_truth b t) w2 (subst (λ y. CompletedAt setting s C z y z.depth w w2) (jump_evaluation b t (Label n1 ∷ body) (Label n2 ∷ rest)) q))
   where
     goes : (t : Bool) (w2 : World) → CompletedAt setting s (record { most = 16 * w.turns + 1; least = A.least - turns_of false e }) z (cond t (Label n1 ∷ body) (Label n2 ∷ rest)) z.depth w w2
-        → RanDid setting s B z rest w (either t (λ w. turn w (λ w. inner.rounds x forwards z.env w)) done w2)
+        → RanDid setting s B z rest w (either t (λ w. turn place w (λ w. inner.rounds x forwards z.env w)) done w2)
     goes true w2 q =
-        further_round setting inner sim s (record { most = 16 * w.turns + 1; least = A.least - turns_of false e }) B x z n1 at body rest w w2 (omega arith) (omega arith) le ll (omega arith) (omega arith) lp lx ent ln1 r q
+        further_round _ setting inner sim s (record { most = 16 * w.turns + 1; least = A.least - turns_of false e }) B x z n1 at body rest w w2 (omega arith) (omega arith) le ll (omega arith) (omega arith) lp lx ent ln1 r q
     goes false w2 q = went (landed_on (omega arith) (omega arith) ln2 q)
 
 pub while_rounds : (setting : Setting) (inner : Meanings) → Simulates setting inner → (l : ℕ) (b : Bool) (e : Expression) (a : Command) (mode : Mode) (z : Configuration) (at : Sought → List Stmt) (body rest e1 : List Stmt) (w : World)
     → IsLoop setting z.scene z.depth z.env (t.while l b e a) at body rest → EnteredBody mode z.env (t.while l b e a) at body e1 → Ready setting z w
     → RanDid setting (start z e1 w) (for_rounds (t.while l b e a) w) z rest w (rounds_of inner (t.while l b e a) mode z.env w)
 while_rounds setting inner sim l b e a mode z at body rest e1 w lx ent r =
-    round_run setting inner sim (for_rounds (t.while l b e a) w) a mode z (past e z.env) lx.0 lx.2 at body (Label lx.0 ∷ lx.3) lx.3 rest e1 w _ (λ _. while_adds setting inner sim (t.while l b e a) e z.env z.env b) (omega arith) (omega arith) refl lx.4 (entered mode ent) lx.6 lx.8 r following following
+    round_run setting inner sim (for_rounds (t.while l b e a) w) a mode z (past e z.env) lx.0 lx.2 at body (Label lx.0 ∷ lx.3) lx.3 rest e1 w _ (λ _. while_adds _ setting inner sim (t.while l b e a) e z.env z.env b) (omega arith) (omega arith) refl lx.4 (entered mode ent) lx.6 lx.8 r following following
   where
     following : (A : Account) (w1 : World) → A.most ≤ 16 * w.turns → w.turns - turns_in false a ≤ A.least → CompletedAt setting (start z e1 w) A z (Label lx.0 ∷ lx.3) z.depth w w1
-        → RanDid setting (start z e1 w) (for_rounds (t.while l b e a) w) z rest w (where_truth inner b e z.env (λ w. turn w (λ w. inner.rounds (t.while l b e a) forwards z.env w)) w1)
+        → RanDid setting (start z e1 w) (for_rounds (t.while l b e a) w) z rest w (where_truth inner b e z.env (λ w. turn l w (λ w. inner.rounds (t.while l b e a) forwards z.env w)) w1)
     following A w1 lm ll q = let dp = r.deep in
-        test_behind setting inner sim (start z e1 w) (record { most = 16 * w.turns + 1; least = A.least }) (for_rounds (t.while l b e a) w) (t.while l b e a) b e z z.env lx.1 lx.2 at body lx.3 rest w w1 (omega arith) (omega arith) (omega arith) (omega arith) (omega arith) lx.9 refl lx refl lx.5 lx.7 lx.8 r
+        test_behind _ setting inner sim (start z e1 w) (record { most = 16 * w.turns + 1; least = A.least }) (for_rounds (t.while l b e a) w) (t.while l b e a) b e z z.env lx.1 lx.2 at body lx.3 rest w w1 (omega arith) (omega arith) (omega arith) (omega arith) (omega arith) lx.9 refl lx refl lx.5 lx.7 lx.8 r
         (landed_on (omega arith) (omega arith) lx.6 q)
 
     entered : (mode : Mode) → EnteredBody mode z.env (t.while l b e a) at body e1 → Entered mode (past e z.env) a at body e1
@@ -183,12 +183,12 @@ pub repeat_while_rounds : (setting : Setting) (inner : Meanings) → Simulates s
     → IsLoop setting z.scene z.depth z.env (t.repeat_while l b a e) at body rest → EnteredBody mode z.env (t.repeat_while l b a e) at body e1 → Ready setting z w
     → RanDid setting (start z e1 w) (for_rounds (t.repeat_while l b a e) w) z rest w (rounds_of inner (t.repeat_while l b a e) mode z.env w)
 repeat_while_rounds setting inner sim l b a e mode z at body rest e1 w lx ent r =
-    round_run setting inner sim (for_rounds (t.repeat_while l b a e) w) a mode z z.env lx.1 lx.2 at body (Label lx.1 ∷ lx.3) lx.3 rest e1 w _ (λ _. while_adds setting inner sim (t.repeat_while l b a e) e z.env (past_command a z.env) b) (omega arith) (omega arith) refl lx.4 (entered mode ent) lx.7 lx.8 r following following
+    round_run setting inner sim (for_rounds (t.repeat_while l b a e) w) a mode z z.env lx.1 lx.2 at body (Label lx.1 ∷ lx.3) lx.3 rest e1 w _ (λ _. while_adds _ setting inner sim (t.repeat_while l b a e) e z.env (past_command a z.env) b) (omega arith) (omega arith) refl lx.4 (entered mode ent) lx.7 lx.8 r following following
   where
     following : (A : Account) (w1 : World) → A.most ≤ 16 * w.turns → w.turns - turns_in false a ≤ A.least → CompletedAt setting (start z e1 w) A z (Label lx.1 ∷ lx.3) z.depth w w1
-        → RanDid setting (start z e1 w) (for_rounds (t.repeat_while l b a e) w) z rest w (where_truth inner b e (past_command a z.env) (λ w. turn w (λ w. inner.rounds (t.repeat_while l b a e) forwards z.env w)) w1)
+        → RanDid setting (start z e1 w) (for_rounds (t.repeat_while l b a e) w) z rest w (where_truth inner b e (past_command a z.env) (λ w. turn l w (λ w. inner.rounds (t.repeat_while l b a e) forwards z.env w)) w1)
     following A w1 lm ll q = let dp = r.deep in
-        test_behind setting inner sim (start z e1 w) (record { most = 16 * w.turns + 1; least = A.least }) (for_rounds (t.repeat_while l b a e) w) (t.repeat_while l b a e) b e z (past_command a z.env) lx.0 lx.2 at body lx.3 rest w w1 (omega arith) (omega arith) (omega arith) (omega arith) (omega arith) lx.9 refl lx refl lx.5 lx.6 lx.8 r
+        test_behind _ setting inner sim (start z e1 w) (record { most = 16 * w.turns + 1; least = A.least }) (for_rounds (t.repeat_while l b a e) w) (t.repeat_while l b a e) b e z (past_command a z.env) lx.0 lx.2 at body lx.3 rest w w1 (omega arith) (omega arith) (omega arith) (omega arith) (omega arith) lx.9 refl lx refl lx.5 lx.6 lx.8 r
         (landed_on (omega arith) (omega arith) lx.7 q)
 
     entered : (mode : Mode) → EnteredBody mode z.env (t.repeat_while l b a e) at body e1 → Entered mode z.env a at body e1
@@ -196,21 +196,21 @@ repeat_while_rounds setting inner sim l b a e mode z at body rest e1 w lx ent r 
     entered (seeking s) h = h
 
 -- ---- REPEAT
-pub repeat_adds : (setting : Setting) (inner : Meanings) → Simulates setting inner → (x : Command) (env : Environment) → Adds (λ w. turn w (λ w. inner.rounds x forwards env w))
-repeat_adds setting inner sim x env = adds _ (λ w. turn_after _ (adds _ (λ w1. sim.grows.rounds x forwards env w1)) w)
+pub repeat_adds : (place : ℕ) (setting : Setting) (inner : Meanings) → Simulates setting inner → (x : Command) (env : Environment) → Adds (λ w. turn place w (λ w. inner.rounds x forwards env w))
+repeat_adds place setting inner sim x env = adds _ (λ w. turn_after _ _ (adds _ (λ w1. sim.grows.rounds x forwards env w1)) w)
 
 pub repeat_rounds : (setting : Setting) (inner : Meanings) → Simulates setting inner → (l : ℕ) (a : Command) (mode : Mode) (z : Configuration) (at : Sought → List Stmt) (body rest e1 : List Stmt) (w : World) → IsLoop setting z.scene z.depth z.env (t.repeat l a) at body rest
     → EnteredBody mode z.env (t.repeat l a) at body e1 → Ready setting z w → RanDid setting (start z e1 w) (for_rounds (t.repeat l a) w) z rest w (rounds_of inner (t.repeat l a) mode z.env w)
 repeat_rounds setting inner sim l a mode z at body rest e1 w lx ent r =
     let following : (A : Account) (w1 : World) → A.most ≤ 16 * w.turns → w.turns - turns_in false a ≤ A.least → CompletedAt setting (start z e1 w) A z (Label lx.0 ∷ body) z.depth w w1
-    → RanDid setting (start z e1 w) (for_rounds (t.repeat l a) w) z rest w (turn w1 (λ w. inner.rounds (t.repeat l a) forwards z.env w)) = λ A w1 lm ll q.
-    further_round setting inner sim (start z e1 w) A (for_rounds (t.repeat l a) w) (t.repeat l a) z lx.0 at body rest w w1 (omega arith) (omega arith) (omega arith) (omega arith) (omega arith) (omega arith) lx.5 lx refl lx.3 r q in
+    → RanDid setting (start z e1 w) (for_rounds (t.repeat l a) w) z rest w (turn l w1 (λ w. inner.rounds (t.repeat l a) forwards z.env w)) = λ A w1 lm ll q.
+    further_round _ setting inner sim (start z e1 w) A (for_rounds (t.repeat l a) w) (t.repeat l a) z lx.0 at body rest w w1 (omega arith) (omega arith) (omega arith) (omega arith) (omega arith) (omega arith) lx.5 lx refl lx.3 r q in
     let ends : (A : Account) (w1 : World) → A.most ≤ 16 * w.turns → w.turns - turns_in false a ≤ A.least → CompletedAt setting (start z e1 w) A z (Jump lx.0 ∷ Label lx.1 ∷ rest) z.depth w w1
-    → RanDid setting (start z e1 w) (for_rounds (t.repeat l a) w) z rest w (turn w1 (λ w. inner.rounds (t.repeat l a) forwards z.env w)) = λ A w1 lm ll q.
+    → RanDid setting (start z e1 w) (for_rounds (t.repeat l a) w) z rest w (turn l w1 (λ w. inner.rounds (t.repeat l a) forwards z.env w)) = λ A w1 lm ll q.
     let dp = r.deep in
-    further_round setting inner sim (start z e1 w) (paying setting A) (for_rounds (t.repeat l a) w) (t.repeat l a) z lx.0 at body rest w w1 (omega arith) (omega arith) (omega arith) (omega arith) (omega arith) (omega arith) lx.5 lx refl lx.3 r
+    further_round _ setting inner sim (start z e1 w) (paying setting A) (for_rounds (t.repeat l a) w) (t.repeat l a) z lx.0 at body rest w w1 (omega arith) (omega arith) (omega arith) (omega arith) (omega arith) (omega arith) lx.5 lx refl lx.3 r
     (jump_on (omega arith) (omega arith) lx.3.found q) in
-    round_run setting inner sim (for_rounds (t.repeat l a) w) a mode z z.env lx.0 lx.1 at body (Jump lx.0 ∷ Label lx.1 ∷ rest) body rest e1 w _ (λ _. repeat_adds setting inner sim (t.repeat l a) z.env) (omega arith) (omega arith) refl lx.2 (entered mode ent) lx.3 lx.4 r ends following
+    round_run setting inner sim (for_rounds (t.repeat l a) w) a mode z z.env lx.0 lx.1 at body (Jump lx.0 ∷ Label lx.1 ∷ rest) body rest e1 w _ (λ _. repeat_adds _ setting inner sim (t.repeat l a) z.env) (omega arith) (omega arith) refl lx.2 (entered mode ent) lx.3 lx.4 r ends following
   where
     entered : (mode : Mode) → EnteredBody mode z.env (t.repeat l a) at body e1 → Entered mode z.env a at body e1
     entered forwards h = h
@@ -253,7 +253,7 @@ again_adds u next au an = adds _ (λ w. each_way_after (history w) (u w) (λ _ w
 
 while_goes : (setting : Setting) (inner : Meanings) → Simulates setting inner → (l : ℕ) (b : Bool) (e : Expression) (a : Command) (env : Environment) (x : Bool) → Adds (λ w. either (same_truth b x) (λ w. rounds_of inner (t.while l b e a) forwards env w) done w)
 while_goes setting inner sim l b e a env x =
-    adds _ (λ w. either_after (same_truth b x) _ _ (again_adds _ _ (adds _ (λ w1. sim.grows.act a forwards _ w1)) (while_adds setting inner sim (t.while l b e a) e env env b)) (adds _ (λ w1. stays (history w1))) w)
+    adds _ (λ w. either_after (same_truth b x) _ _ (again_adds _ _ (adds _ (λ w1. sim.grows.act a forwards _ w1)) (while_adds _ setting inner sim (t.while l b e a) e env env b)) (adds _ (λ w1. stays (history w1))) w)
 
 pub while_run : (setting : Setting) (inner : Meanings) → Simulates setting inner → (B : Account) (l : ℕ) (b : Bool) (e : Expression) (a : Command) (z : Configuration) (at : Sought → List Stmt) (c rest : List Stmt) (w : World) → 16 * w.turns + 8 ≤ B.most
     → B.least ≤ w.turns - suc (turns_of false e + turns_in false a) → (lx : IsAct setting z.scene z.depth z.env (t.while l b e a) at c rest) → Ready setting z w

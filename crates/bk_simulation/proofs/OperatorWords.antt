@@ -1,4 +1,5 @@
 -- The operators of the meaning on values, and those of OCODE on the words that stand for them.
+use Rattle.bk_meaning.specs.Causes.{Cause}
 use Rattle.bk_simulation.proofs.Lists.{by_option}
 use Rattle.bk_simulation.proofs.Words.{◌≡◌, ◌≢◌, ℕ, ◌+◌, ◌-◌, ◌<◌, ◌≤◌, ◌%◌, ◌^◌, ◌==◌, nat_lt, nat_le, Bool, true, false, not, cond, pos, int_lt, List, length, Option, Some, None, refl, sym, ap, ◌∙◌, subst, if◌then◌else◌, arith, int_le, option_map, ints, nat_tests, signed, truth, word_sum, word_difference, word_quotient, word_remainder, word_less, word_greater, word_at_most, word_at_least, word_negation, word_not, infix_word, Operator, Value, number, address, procedure, routine, unset, cells_at, lives, World, Outcome, gives, ends, undefined, divide_by_zero, given, either, sum, difference, lies_within, truth_of_value, equals_zero, equal, ordered, on_numbers, truth_number, operate, operate_prefix, Content, Word, Cell, quotient, dyadic_word, cond_some, leb-true, eqb-true}
 use Rattle.bk_simulation.proofs.Terms.{Operator as o, Prefix as q, within, Dyadic, Dyadic as d}
@@ -246,19 +247,19 @@ module _ (codes : Codes) (bases : List ℕ) (cells : ℕ → Cell) (top : ℕ) (
 
   abbrev pub OperatedAs : Dyadic → Content → Content → Outcome Value → Type 0
   OperatedAs op x y (gives v w1) = (w1 ≡ w) × Applied op x y v
-  OperatedAs op x y (ends e w1) = (w1 ≡ w) × (e ≡ divide_by_zero) × Undivided op x y
-  OperatedAs op x y (undefined l v) = Unit {0}
+  OperatedAs op x y (ends e w1) = (w1 ≡ w) × ((l : ℕ) × (e ≡ divide_by_zero l)) × Undivided op x y
+  OperatedAs op x y (undefined l why v) = Unit {0}
   OperatedAs op x y _ = ⊥
 
-  given_as : (op : Dyadic) (x y : Content) (place : ℕ) (r : Option Value) → ((v : Value) → r ≡ Some v → Applied op x y v) → OperatedAs op x y (given place r w)
-  given_as op x y place None go = tt
-  given_as op x y place (Some v) go = (refl, go v refl)
+  given_as : (op : Dyadic) (x y : Content) (place : ℕ) (why : Cause) (r : Option Value) → ((v : Value) → r ≡ Some v → Applied op x y v) → OperatedAs op x y (given place why r w)
+  given_as op x y place why None go = tt
+  given_as op x y place why (Some v) go = (refl, go v refl)
 
-  divided : (place : ℕ) (op : Dyadic) (g : ℕ → ℕ → ℕ) (a b : ℕ) (x y : Content) → x ≡ Word a → y ≡ Word b → ((a b : ℕ) → dyadic_word op a b ≡ quotient g a b) → (t : Bool) → (b == 0) ≡ t
-      → OperatedAs op x y (either t (λ w. ends divide_by_zero w) (λ w. given place (option_map number (cond t None (Some (g a b)))) w) w)
-  divided place op g a b x y ex ey ed true et =
-      (refl, refl, record { left = a; right = b; is_left = ex; is_right = ey; none = ed a b ∙ ap (λ (z : Bool). if z then None else Some (g a b)) et })
-  divided place op g a b x y ex ey ed false et = grind (arith, numbers_applied, number)
+  divided : (place : ℕ) (why : Cause) (op : Dyadic) (g : ℕ → ℕ → ℕ) (a b : ℕ) (x y : Content) → x ≡ Word a → y ≡ Word b → ((a b : ℕ) → dyadic_word op a b ≡ quotient g a b) → (t : Bool) → (b == 0) ≡ t
+      → OperatedAs op x y (either t (λ w. ends (divide_by_zero place) w) (λ w. given place why (option_map number (cond t None (Some (g a b)))) w) w)
+  divided place why op g a b x y ex ey ed true et =
+      (refl, (place, refl), record { left = a; right = b; is_left = ex; is_right = ey; none = ed a b ∙ ap (λ (z : Bool). if z then None else Some (g a b)) et })
+  divided place why op g a b x y ex ey ed false et = grind (arith, numbers_applied, number)
 
   -- operators on numbers alone
   abbrev OnNumbers : ℕ → Operator → Dyadic → Type 0
@@ -273,17 +274,17 @@ module _ (codes : Codes) (bases : List ℕ) (cells : ℕ → Cell) (top : ℕ) (
   ByOperator (Some op) x y u = OperatedAs op x y u
 
   pub operates : (place : ℕ) (q : Operator) (u v : Value) (x y : Content) → Applies codes bases u x → Applies codes bases v y → ByOperator (dyadic_of q) x y (operate place q u v w)
-  operates place o.Add u v x y su sv = given_as d.Add x y place (sum w.memory u v) (λ r e. sum_applied u v r x y su sv e)
-  operates place o.Subtract u v x y su sv = given_as d.Subtract x y place (difference w.memory u v) (λ r e. difference_applied u v r x y su sv e)
-  operates place o.Equal u v x y su sv = given_as d.Equal x y place _ (λ r e. equal_applied d.Equal (λ b. b) (λ a b. refl) u v r x y su sv e)
-  operates place o.Unequal u v x y su sv = given_as d.Unequal x y place _ (λ r e. equal_applied d.Unequal not (λ a b. refl) u v r x y su sv e)
-  operates place o.Less u v x y su sv = given_as d.Less x y place _ (λ r e. less_applied u v r x y su sv e)
-  operates place o.Greater u v x y su sv = given_as d.Greater x y place _ (λ r e. greater_applied u v r x y su sv e)
-  operates place o.AtMost u v x y su sv = given_as d.AtMost x y place _ (λ r e. at_most_applied u v r x y su sv e)
-  operates place o.AtLeast u v x y su sv = given_as d.AtLeast x y place _ (λ r e. at_least_applied u v r x y su sv e)
+  operates place o.Add u v x y su sv = given_as d.Add x y place _ (sum w.memory u v) (λ r e. sum_applied u v r x y su sv e)
+  operates place o.Subtract u v x y su sv = given_as d.Subtract x y place _ (difference w.memory u v) (λ r e. difference_applied u v r x y su sv e)
+  operates place o.Equal u v x y su sv = given_as d.Equal x y place _ _ (λ r e. equal_applied d.Equal (λ b. b) (λ a b. refl) u v r x y su sv e)
+  operates place o.Unequal u v x y su sv = given_as d.Unequal x y place _ _ (λ r e. equal_applied d.Unequal not (λ a b. refl) u v r x y su sv e)
+  operates place o.Less u v x y su sv = given_as d.Less x y place _ _ (λ r e. less_applied u v r x y su sv e)
+  operates place o.Greater u v x y su sv = given_as d.Greater x y place _ _ (λ r e. greater_applied u v r x y su sv e)
+  operates place o.AtMost u v x y su sv = given_as d.AtMost x y place _ _ (λ r e. at_most_applied u v r x y su sv e)
+  operates place o.AtLeast u v x y su sv = given_as d.AtLeast x y place _ _ (λ r e. at_least_applied u v r x y su sv e)
   operates place o.Times u v x y su sv = on_numbers_as place o.Times d.Multiply (λ a b x y ex ey. (refl, numbers_applied d.Multiply a b _ x y _ ex ey refl refl)) u v x y su sv
-  operates place o.Over u v x y su sv = on_numbers_as place o.Over d.Divide (λ a b x y ex ey. divided place d.Divide word_quotient a b x y ex ey (λ a b. refl) (b == 0) refl) u v x y su sv
-  operates place o.Rem u v x y su sv = on_numbers_as place o.Rem d.Remainder (λ a b x y ex ey. divided place d.Remainder word_remainder a b x y ex ey (λ a b. refl) (b == 0) refl) u v x y su sv
+  operates place o.Over u v x y su sv = on_numbers_as place o.Over d.Divide (λ a b x y ex ey. divided place _ d.Divide word_quotient a b x y ex ey (λ a b. refl) (b == 0) refl) u v x y su sv
+  operates place o.Rem u v x y su sv = on_numbers_as place o.Rem d.Remainder (λ a b x y ex ey. divided place _ d.Remainder word_remainder a b x y ex ey (λ a b. refl) (b == 0) refl) u v x y su sv
   operates place o.ShiftLeft u v x y su sv = on_numbers_as place o.ShiftLeft d.ShiftLeft (λ a b x y ex ey. (refl, numbers_applied d.ShiftLeft a b _ x y _ ex ey refl refl)) u v x y su sv
   operates place o.ShiftRight u v x y su sv = on_numbers_as place o.ShiftRight d.ShiftRight (λ a b x y ex ey. (refl, numbers_applied d.ShiftRight a b _ x y _ ex ey refl refl)) u v x y su sv
   operates place o.Both u v x y su sv = on_numbers_as place o.Both d.And (λ a b x y ex ey. (refl, numbers_applied d.And a b _ x y _ ex ey refl refl)) u v x y su sv
@@ -296,7 +297,7 @@ module _ (codes : Codes) (bases : List ℕ) (cells : ℕ → Cell) (top : ℕ) (
 
   abbrev pub PrefixedAs : (ℕ → ℕ) → Content → Outcome Value → Type 0
   PrefixedAs g x (gives v w1) = (w1 ≡ w) × (n : ℕ) × (x ≡ Word n) × Applies codes bases v (Word (g n))
-  PrefixedAs g x (undefined l v) = Unit {0}
+  PrefixedAs g x (undefined l why v) = Unit {0}
   PrefixedAs g x _ = ⊥
 
   pub negates : (place : ℕ) (v : Value) (x : Content) → Applies codes bases v x → PrefixedAs word_negation x (operate_prefix place q.Minus v w)

@@ -1,4 +1,6 @@
 -- What is done with one value and with two: `!`, `@`, signs, NOT, and the operators. Truth where it is asked for: values, NOT, `&` and `|`; and `->`.
+use Rattle.bk_meaning.specs.Causes.{Cause, cell_cause, byte_cause}
+use Rattle.bk_meaning.specs.Operators.{sum_cause}
 use Rattle.bk_simulation.proofs.Words.{on_number, step_by, slot, Goes, ◌≡◌, ℕ, ◌+◌, ◌<◌, ◌≤◌, List, ◌∷◌, ◌++◌, Option, Some, None, refl, sym, ap, subst, arith, ◌-◌, ◌*◌, ◌^◌, Bool, true, false, length, ◌∙◌, option_map, signed, word_of, truth as truth_word, Operator, Word, content_of, Content, Unset, Temporary, Held, write, below, Inside, State, dyadic_word, named_place, DivideByZero, Stmt, Monadic, Dyadic, LoadByte, Number, True, False, Query, Load, Address, Text, infix_code, variable, push, truth_value, Value, number, address, unset, read, read_byte, World, Outcome, gives, ends, undefined, given, with, sum, operate, operate_prefix, fetch, Meanings, named, combined, Expression, past, Sense, constant, cell, sense_of, Adds, adds, with_after, of_z-to_z, Bound, bound_in, Local, Static, Target, meant, not, from_label, Label, GiveResult, TakeResult, Environment, either, history, stays, either_after, w32}
 use Rattle.bk_simulation.proofs.Situations.{by_option, contents_moves, dyadic_moves, load_byte_moves, Moves, dyadic_ends, does, one_off, pushed, Applies, fits_more, BaseOf, Grown, Store, read_at, variable_found, read_here, read_byte_at, operates, sum_applied, PrefixedAs, OperatedAs, Setting, IsValue, named_word, Scene, LabelAt, IsJump, Configuration, Account, there, Has, went, start, Ready, Ran, with_ran, CompletedAt, Out, next, ready_next, store, state, place_of, NameAt, Completed, turns_of, IsWord}
 use Rattle.bk_simulation.proofs.Terms.{Dyadic as Two_word, Monadic as Monadic_word, Variable as Named, Operator as o, Prefix as q, Dyadic as two, Monadic as m, Bound as b}
@@ -72,10 +74,10 @@ push_word ts (Some (b.Variable k i)) h = refl
 push_word ts _ h = absurd h
 
 -- the word of a name is pushed
-cell_runs : (setting : Setting) (B : Account) (z : Configuration) (c : List Stmt) (x : List ℕ) (rest : List Stmt) (w : World) (o i base : ℕ) → 16 * w.turns + 1 ≤ B.most → B.least ≤ w.turns → c ≡ Load (named_word z.scene x) ∷ rest → Ready setting z w
-    → BaseOf z.bases o base → base + i ≡ place_of z.scene.own z.frame (named_word z.scene x) → (place : ℕ) (y : Option Value) → read w.memory (address o i) ≡ y → RanValue setting (start z c w) B z rest w (given place y w)
-cell_runs setting B z c x rest w o i base le le' ec r eb ep place None h = went tt
-cell_runs setting B z c x rest w o i base le le' ec r eb ep place (Some v) h =
+cell_runs : (why : Cause) (setting : Setting) (B : Account) (z : Configuration) (c : List Stmt) (x : List ℕ) (rest : List Stmt) (w : World) (o i base : ℕ) → 16 * w.turns + 1 ≤ B.most → B.least ≤ w.turns → c ≡ Load (named_word z.scene x) ∷ rest → Ready setting z w
+    → BaseOf z.bases o base → base + i ≡ place_of z.scene.own z.frame (named_word z.scene x) → (place : ℕ) (y : Option Value) → read w.memory (address o i) ≡ y → RanValue setting (start z c w) B z rest w (given place why y w)
+cell_runs why setting B z c x rest w o i base le le' ec r eb ep place None h = went tt
+cell_runs why setting B z c x rest w o i base le le' ec r eb ep place (Some v) h =
     let f = read_here setting.codes (store z w) (z.frame + z.depth) o i base v r.fits eb h in
     let s = start z (Load (named_word z.scene x) ∷ rest) w in
     let here : z.cells (named_place s z.scene.own (named_word z.scene x)) ≡ z.cells (base + i) = ap z.cells (named_at z (Load (named_word z.scene x) ∷ rest) w (named_word z.scene x) ∙ sym ep) in
@@ -90,7 +92,7 @@ name_runs place setting B z c x rest w le le' ec r = by_sense (sense_of x z.env)
     by_sense : (y : Option Sense) → NameAt z.scene z.bases z.frame x y → RanValue setting (start z c w) B z rest w (named place y w)
     by_sense (Some (constant n)) h = number_runs setting B z c n rest w le le' (ec ∙ ap (λ y. push z.scene.targets (meant y) ∷ rest) h.0) h.1 r
     by_sense (Some (cell o i)) h =
-        cell_runs setting B z c x rest w o i h.0 le le' (ec ∙ ap (λ y. y ∷ rest) (push_word z.scene.targets (bound_in z.scene.bindings x) h.4)) r h.1 h.3 place (read w.memory (address o i)) refl
+        cell_runs _ setting B z c x rest w o i h.0 le le' (ec ∙ ap (λ y. y ∷ rest) (push_word z.scene.targets (bound_in z.scene.bindings x) h.4)) r h.1 h.3 place (read w.memory (address o i)) refl
     by_sense _ h = went tt
 
 -- ---- One value and two, and what is done with them.
@@ -132,7 +134,7 @@ two_run setting inner sim B a b z c c1 rest w L go ad le le' la lb r h =
 -- the contents of an address on top
 pub contents_run : (place : ℕ) (setting : Setting) (s : State) (A B : Account) (z : Configuration) (rest : List Stmt) (w w1 : World) (u : Value) → A.most + 1 ≤ B.most → B.least ≤ A.least → 2 ≤ z.depth
     → Has setting s A z (Monadic m.Contents ∷ rest) (z.depth + 1) w u w1 → RanValue setting s B z rest w (fetch place u w1)
-contents_run place setting s A B z rest w w1 u le le' dp a = by_option (λ y. RanValue setting s B z rest w (given place y w1)) (read w1.memory u) (λ _. went tt) (λ v h.
+contents_run place setting s A B z rest w w1 u le le' dp a = by_option (λ y. RanValue setting s B z rest w (given place (cell_cause u) y w1)) (read w1.memory u) (λ _. went tt) (λ v h.
     let f = read_at setting.codes _ (z.frame + z.depth) u v _ a.arr.fits a.stands h in
     let k = f.cell.content in
     let low : f.base + f.offset < z.frame + z.depth = f.cell.low in
@@ -148,7 +150,7 @@ pub sign_run : (setting : Setting) (s : State) (A B : Account) (z : Configuratio
 sign_run setting s A B z op f rest w w1 u (gives v w2) is le le' dp a h =
     let t = there setting s A z (Monadic op ∷ rest) (z.depth + 1) w w1 a.arr in
     subst (λ x. RanValue setting s B z rest w (gives v x)) (sym h.0) (went (topped _ le le' dp a.arr h.3 (does setting.program t z.scene.own rest (z.depth + 1) (Monadic op) refl (is t (z.depth + 1) ∙ rw (one_off z.depth, h.2)) refl)))
-sign_run setting s A B z op f rest w w1 u (undefined l v) is le le' dp a h = went tt
+sign_run setting s A B z op f rest w w1 u (undefined l why v) is le le' dp a h = went tt
 sign_run setting s A B z op f rest w w1 u _ is le le' dp a h = absurd h
 
 -- `+` before a number has no code
@@ -180,7 +182,7 @@ dyadic_run setting s A B z op rest w w1 u v (gives r w2) le le' dp t h =
 dyadic_run setting s A B z op rest w w1 u v (ends e w2) le le' dp t h =
     let a = h.2 in
     let m = t.arr.most in
-    subst (λ x. RanValue setting s B z rest w (ends e x)) (sym h.0) (subst (λ x. RanValue setting s B z rest w (ends x w1)) (sym h.1) (went (record {
+    subst (λ x. RanValue setting s B z rest w (ends e x)) (sym h.0) (subst (λ x. RanValue setting s B z rest w (ends x w1)) (sym h.1.1) (went (record {
       to = there setting s A z (Dyadic op ∷ rest) (z.depth + 1 + 1) w w1 t.arr;
       steps = t.arr.steps;
       paid = t.arr.paid;
@@ -192,14 +194,14 @@ dyadic_run setting s A B z op rest w w1 u v (ends e w2) le le' dp t h =
       wrote = refl;
       left = refl;
     })))
-dyadic_run setting s A B z op rest w w1 u v (undefined l x) le le' dp t h = went tt
+dyadic_run setting s A B z op rest w w1 u v (undefined l why x) le le' dp t h = went tt
 dyadic_run setting s A B z op rest w w1 u v _ le le' dp t h = absurd h
 
 -- `!` between two operands: their sum, and its contents
 pub subscript_run : (place : ℕ) (setting : Setting) (s : State) (A B : Account) (z : Configuration) (rest : List Stmt) (w w1 : World) (u v : Value) → A.most + 2 ≤ B.most → B.least ≤ A.least → 2 ≤ z.depth
-    → Two setting s A z (Dyadic two.Add ∷ Monadic m.Contents ∷ rest) w u v w1 → RanValue setting s B z rest w (with (given place (sum w1.memory u v) w1) (fetch place))
+    → Two setting s A z (Dyadic two.Add ∷ Monadic m.Contents ∷ rest) w u v w1 → RanValue setting s B z rest w (with (given place (sum_cause u v) (sum w1.memory u v) w1) (fetch place))
 subscript_run place setting s A B z rest w w1 u v le le' dp t =
-    by_option (λ y. RanValue setting s B z rest w (with (given place y w1) (fetch place))) (sum w1.memory u v) (λ _. went tt) (λ a h.
+    by_option (λ y. RanValue setting s B z rest w (with (given place (sum_cause u v) y w1) (fetch place))) (sum w1.memory u v) (λ _. went tt) (λ a h.
     let p = sum_applied setting.codes t.arr.bases1 t.arr.cells1 (z.frame + z.depth) w1 t.arr.fits u v a _ _ t.first t.second h in
     let N : Account = record { most = A.most + 1; least = A.least } in
     contents_run _ setting s N B z rest w w1 a (omega arith) le' dp
@@ -207,9 +209,9 @@ subscript_run place setting s A B z rest w w1 u v le le' dp t =
 
 -- a byte
 pub byte_run : (place : ℕ) (setting : Setting) (s : State) (A B : Account) (z : Configuration) (rest : List Stmt) (w w1 : World) (u v : Value) → A.most + 1 ≤ B.most → B.least ≤ A.least → 2 ≤ z.depth
-    → Two setting s A z (LoadByte ∷ rest) w u v w1 → RanValue setting s B z rest w (given place (option_map number (read_byte w1.memory u v)) w1)
+    → Two setting s A z (LoadByte ∷ rest) w u v w1 → RanValue setting s B z rest w (given place (byte_cause u v) (option_map number (read_byte w1.memory u v)) w1)
 byte_run place setting s A B z rest w w1 u v le le' dp t =
-    by_option (λ y. RanValue setting s B z rest w (given place (option_map number y) w1)) (read_byte w1.memory u v) (λ _. went tt) (λ n h.
+    by_option (λ y. RanValue setting s B z rest w (given place (byte_cause u v) (option_map number y) w1)) (read_byte w1.memory u v) (λ _. went tt) (λ n h.
     let f = fits_more setting.codes _ (z.frame + z.depth) (z.frame + (z.depth + 2)) (omega arith) t.arr.fits in
     let p = read_byte_at setting.codes _ (z.frame + (z.depth + 2)) u v _ _ n f t.first t.second h in
     went (topped _ le le' dp t.arr refl

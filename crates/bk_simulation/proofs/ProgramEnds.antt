@@ -10,8 +10,8 @@ use Rattle.bk_simulation.proofs.Applied.{AloneAdds}
 -- the calls that a run tells of
 abbrev pub calls_of : Run → ℕ
 calls_of (Finishes bytes left calls e) = calls
-calls_of (Going bytes left calls) = calls
-calls_of (Undefined bytes left calls place) = calls
+calls_of (Going bytes left calls at) = calls
+calls_of (Undefined bytes left calls at why) = calls
 
 last_or : (k n : ℕ) → k ≤ suc n → (k ≤ n) ⊎ (k ≡ suc n)
 last_or zero n le = inl (omega arith)
@@ -87,8 +87,8 @@ module _ (setting : Setting) (s0 s : State) (is : settled setting.program s0 ≡
       → Does setting.program setting.first n s0 (run_of (returned nowhere k o))
   does_those n k B (gives v w) le ec r = grind (arith, (at_end n B (status 0) w le ec (end_of (status 0)) refl r))
   does_those n k B (ends e w) le ec r = subst (λ c. DoesEnd setting.program setting.first n s0 w.output w.input c (end_of e)) (sym ec) (at_end n B e w le ec (end_of e) refl r)
-  does_those n k B (going w) le ec (inl q) = subst (λ c. Does setting.program setting.first n s0 (Going w.output w.input c)) (sym ec) (inl (reached_comes B w (16 * n + 16) le q))
-  does_those n k B (going w) le ec (inr f) = subst (λ c. Does setting.program setting.first n s0 (Going w.output w.input c)) (sym ec) (inr (falls_out w.output w.most_calls ec f))
+  does_those n k B (going l w) le ec (inl q) = subst (λ c. Does setting.program setting.first n s0 (Going w.output w.input c l)) (sym ec) (inl (reached_comes B w (16 * n + 16) le q))
+  does_those n k B (going l w) le ec (inr f) = subst (λ c. Does setting.program setting.first n s0 (Going w.output w.input c l)) (sym ec) (inr (falls_out w.output w.most_calls ec f))
   does_those n k B _ le ec r = tt
 
 -- ---- The program does from its first state what its sections mean.
@@ -111,8 +111,8 @@ pub some_calls : (k : ℕ) (w0 : World) (o : Outcome Value) → After (history (
 some_calls k w0 (gives v w) h = let c : max w0.most_calls (w0.calls + 1) ≤ w.most_calls = h.most_calls in omega arith
 some_calls k w0 (leaves x w) h = let c : max w0.most_calls (w0.calls + 1) ≤ w.most_calls = h.most_calls in omega arith
 some_calls k w0 (ends e w) h = let c : max w0.most_calls (w0.calls + 1) ≤ w.most_calls = h.most_calls in omega arith
-some_calls k w0 (undefined l w) h = let c : max w0.most_calls (w0.calls + 1) ≤ w.most_calls = h.most_calls in omega arith
-some_calls k w0 (going w) h = let c : max w0.most_calls (w0.calls + 1) ≤ w.most_calls = h.most_calls in omega arith
+some_calls k w0 (undefined l why w) h = let c : max w0.most_calls (w0.calls + 1) ≤ w.most_calls = h.most_calls in omega arith
+some_calls k w0 (going l w) h = let c : max w0.most_calls (w0.calls + 1) ≤ w.most_calls = h.most_calls in omega arith
 
 pub enter_after : (inner : Meanings) → AloneAdds inner → (setting : Setting) → Simulates setting inner → (f : Procedure) (vs : List Value) (w : World) → After (history w) (enter inner nowhere (Some f) vs w)
 enter_after inner alone_after setting sim f vs w =

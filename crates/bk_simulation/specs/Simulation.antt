@@ -31,7 +31,7 @@ pub record Begin (bytes all : List ℕ) : Type 0 where
 -- the end that the meaning has, as a run of OCODE reports it
 abbrev pub end_of : m.End → Option End
 end_of (m.status w) = Some (Status (signed w))
-end_of m.divide_by_zero = Some DivideByZero
+end_of (m.divide_by_zero at) = Some DivideByZero
 end_of m.no_start = None
 
 -- at a call whose frame would begin past word 2^31 - 65,536
@@ -87,8 +87,8 @@ module _ (program : Program) (first : ℕ) where
 
   abbrev pub Does : ℕ → State → Run → Type 0
   Does n s (Finishes bytes left calls e) = DoesEnd n s bytes left calls (end_of e)
-  Does n s (Going bytes left calls) = ComesWithin s (16 * n + 16) calls bytes left ⊎ RunsOut s calls bytes
-  Does n s (Undefined bytes left calls place) = Unit {0}
+  Does n s (Going bytes left calls at) = ComesWithin s (16 * n + 16) calls bytes left ⊎ RunsOut s calls bytes
+  Does n s (Undefined bytes left calls at why) = Unit {0}
 
   -- without a first state the source has no START
   abbrev pub DoesFrom : ℕ → Option State → Run → Type 0
@@ -104,7 +104,8 @@ module _ (program : Program) (first : ℕ) where
     pub bytes : List ℕ
     pub left : List ℕ
     pub calls : ℕ
-    pub means : meaning sections input turns ≡ Going bytes left calls
+    pub at : ℕ
+    pub means : meaning sections input turns ≡ Going bytes left calls at
     pub wrote : Begin now.output bytes
 
   -- the run comes to a call whose frame would begin too high; what it wrote begins what the source means to write
@@ -113,7 +114,8 @@ module _ (program : Program) (first : ℕ) where
     pub bytes : List ℕ
     pub left : List ℕ
     pub calls : ℕ
-    pub means : meaning sections input turns ≡ Going bytes left calls
+    pub at : ℕ
+    pub means : meaning sections input turns ≡ Going bytes left calls at
     pub runs_out : RunsOut s calls bytes
 
 -- The law of programs.
@@ -123,7 +125,7 @@ StepsDoWhatSourcesMean = (sections : List Declarations) (program : Program) (fir
 
 -- Runs without an end.
 abbrev pub IsWithoutEnd : List Declarations → List ℕ → Type 0
-IsWithoutEnd sections input = (n : ℕ) → (bytes left : List ℕ) × (calls : ℕ) × (meaning sections input n ≡ Going bytes left calls)
+IsWithoutEnd sections input = (n : ℕ) → (bytes left : List ℕ) × (calls at : ℕ) × (meaning sections input n ≡ Going bytes left calls at)
 
 abbrev pub StepsGoOnWithTheirSource : Type 0
 StepsGoOnWithTheirSource = (sections : List Declarations) (program : Program) (first : ℕ) (input : List ℕ) (s : State) → AreAccepted sections

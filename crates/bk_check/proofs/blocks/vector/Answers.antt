@@ -8,7 +8,7 @@ returns-clause-comes c =
     meets c.make_vector.result _ (λ b. world c.make_vector.new.m b) _ _
     (λ p b. ap (λ (u : Outcome Done). resumed p c.args.m.now.frames.items (tag done_tag u))
     (ap (λ (x : Option ℕ). vector_then p (acts_at (expression c.args.size.now)) x (starts_in c.args.others.now) (env_in c.args.here) (letters_in c.args.names.now) c.args.rest.value (record (world c.args.m.now b) { turns = c.args.m.now.turns - 1 })) c.constant-last.ensures
-    ∙ turn_left (world c.args.m.now b) (vector_then p (acts_at (expression c.args.size.now)) (constant_in (env_in c.args.here) (expression c.args.size.now)) (starts_in c.args.others.now) (env_in c.args.here) (letters_in c.args.names.now) c.args.rest.value) lt)) c.make_vector.ensures.comes
+    ∙ turn_left _ (world c.args.m.now b) (vector_then p (acts_at (expression c.args.size.now)) (constant_in (env_in c.args.here) (expression c.args.size.now)) (starts_in c.args.others.now) (env_in c.args.here) (letters_in c.args.names.now) c.args.rest.value) lt)) c.make_vector.ensures.comes
 
 pub returns-then-m-eq0-clause-comes : goal.returns-then-m-eq0-clause-comes
 returns-then-m-eq0-clause-comes c =

@@ -12,7 +12,7 @@ returns-clause-comes c =
 pub returns-then-m-eq0-clause-comes : goal.returns-then-m-eq0-clause-comes
 returns-then-m-eq0-clause-comes c =
     let none : c.args.m.now.turns ≡ 0 = grind arith in
-    λ p b. ap (λ (u : Outcome Done). resumed p c.args.m.now.frames.items (tag done_tag u)) (act_none p (command_in c.args.command.now) (mode_in c.args.mode) (env_in c.args.env) (world c.args.m.now b) (grind arith) none)
+    rw c.at.ensures (λ p b. ap (λ (u : Outcome Done). resumed p c.args.m.now.frames.items (tag done_tag u)) (act_none p (command_in c.args.command.now) (mode_in c.args.mode) (env_in c.args.env) (world c.args.m.now b) (grind arith) none))
 
 pub returns-then-is_empty-clause-comes : goal.returns-then-is_empty-clause-comes
 returns-then-is_empty-clause-comes c = λ p b. ap (λ (u : Outcome Done). resumed p c.args.m.now.frames.items (tag done_tag u)) (act_empty p (command_in c.args.command.now) (mode_in c.args.mode) (env_in c.args.env) (world c.args.m.now b) (grind arith))

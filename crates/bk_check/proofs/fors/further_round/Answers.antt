@@ -10,4 +10,4 @@ returns-clause-comes c =
     (λ p b. let w = world c.args.m.now b in
     ap (λ (u : Outcome Done). resumed p c.args.m.now.frames.items (tag done_tag u))
     (sym (full_for_rounds p f.name.now.at (command_in f.body.now) f.object (value_in f.limit) f.step (env_in f.env) (record w { turns = w.turns - 1 }))
-    ∙ turn_left w (λ (w : World). (full p).for_rounds f.name.now.at (command_in f.body.now) f.object (value_in f.limit) f.step (env_in f.env) w) lt)) c.for_round.ensures.comes
+    ∙ turn_left _ w (λ (w : World). (full p).for_rounds f.name.now.at (command_in f.body.now) f.object (value_in f.limit) f.step (env_in f.env) w) lt)) c.for_round.ensures.comes

@@ -9,4 +9,4 @@ returns-clause-comes c =
     (λ p b. let w = world c.args.m.now b in
     ap (λ (u : Outcome Done). resumed p c.args.m.now.frames.items (tag done_tag u))
     (sym (full_rounds p (command_in c.args.command.now) forwards (env_in c.args.env) (record w { turns = w.turns - 1 }))
-    ∙ turn_left w (λ (w : World). (full p).rounds (command_in c.args.command.now) forwards (env_in c.args.env) w) lt)) c.round.ensures.comes
+    ∙ turn_left _ w (λ (w : World). (full p).rounds (command_in c.args.command.now) forwards (env_in c.args.env) w) lt)) c.round.ensures.comes

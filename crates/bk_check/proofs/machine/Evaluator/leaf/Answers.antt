@@ -9,7 +9,7 @@ returns-clause-value c =
     let env = env_in c.args.env.now in
     some_map _ _ c.known.result (λ x is p b.
     full_value p e env (world c.args.self.now b)
-    ∙ sym (turn_left (world c.args.self.now b) (λ (w : World). value_of p (full p) e env w) lt)
+    ∙ sym (turn_left _ (world c.args.self.now b) (λ (w : World). value_of p (full p) e env w) lt)
     ∙ is p (record (world c.args.self.now b) { turns = c.args.self.now.turns - 1 }) refl) c.known.ensures.value
 
 pub returns-clause-left : goal.returns-clause-left

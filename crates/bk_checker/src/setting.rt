@@ -1,0 +1,421 @@
+//! Where a name was set, or might have been.
+
+use crate::made::{arguments_at, in_procedure, seek};
+use crate::operands::{Operand, bare, name_of};
+use crate::operations::is_twice;
+use crate::sought::{Kind, Search, Setters};
+use crate::spelling::{add_expr, add_number, add_ordinal, add_word, has_piece};
+use crate::values::{Object, Page};
+use crate::walk::in_expr;
+use bk_check::{Continuation, OnValue};
+use bk_lasting::{GLOBALS_OBJECT, Lasting, Procedure, Sense};
+use bk_objects::Worth;
+use bk_tree::{Expr, Position};
+use std::alloc::AllocError;
+
+/// The number of a line.
+fn line(at: Position) -> u32 {
+    at.line().number()
+}
+
+/// Adds the line, or the two lines, where a name is set.
+fn say_lines(
+    page: &mut Page,
+    name: &[u8],
+    first: u32,
+    second: Option<u32>,
+) -> Result<(), AllocError> {
+    page.say(&[b"; ", name, b" is set on line "])?;
+    add_number(&mut page.text, first as usize)?;
+    match second {
+        Some(second) if second != first => {
+            page.say(&[b" and on line "])?;
+            add_number(&mut page.text, second as usize)
+        }
+        _ => Ok(()),
+    }
+}
+
+/// Adds what a name is set to, unless it is a number, or is said already.
+fn say_source(page: &mut Page, value: &Expr) -> Result<(), AllocError> {
+    match bare(value) {
+        Expr::Name { .. } | Expr::Binary { .. } | Expr::Apply { .. } | Expr::Unary { .. } => {}
+        _ => return Ok(()),
+    }
+    let mut spelled = Vec::new(page.m.alloc);
+    add_expr(&mut spelled, value)?;
+    if has_piece(&page.text, &spelled) {
+        return Ok(());
+    }
+    page.say(&[b", to ", &spelled])
+}
+
+/// Adds where a name was set, if that is on another line than the act, and at most two places set it.
+fn say_setters(page: &mut Page, name: &[u8], setters: Setters) -> Result<(), AllocError> {
+    let here = line(page.at);
+    let Setters {
+        count,
+        first,
+        second,
+    } = setters;
+    match (first, second) {
+        (Some(first), None) if first.line != here => {
+            say_lines(page, name, first.line, None)?;
+            say_source(page, first.value)
+        }
+        (Some(first), Some(second)) if count == 2 && (first.line != here || second.line != here) =>
+            { say_lines(page, name, first.line, Some(second.line)) }
+        _ => Ok(()),
+    }
+}
+
+/// Where the procedures set what a name means in all of them.
+fn setters_of_all<'a>(program: &[Lasting<'a>], name: &'a [u8], cell: (u64, u32)) -> Setters<'a> {
+    let mut search = Search::new(Position::first(), name);
+    for lasting in program {
+        if let Lasting::Code(procedure) = lasting
+            && has_outside(procedure, name, cell)
+        {
+            seek(&mut search, procedure);
+        }
+    }
+    let Search {
+        setters,
+        is_taken,
+        ..
+    } = search;
+    if is_taken { Setters::none() } else { setters }
+}
+
+/// Whether a name means this cell in a procedure, which declares no other of the name.
+fn has_outside<'a>(procedure: &Procedure<'a>, name: &'a [u8], cell: (u64, u32)) -> bool {
+    match procedure.env.sense(name) {
+        Some(Sense::Cell(object, offset)) => {
+            (object, offset) == cell
+                && !is_formal(procedure, name)
+                && in_procedure(procedure, Position::first(), name).declared == 0
+        }
+        _ => false,
+    }
+}
+
+/// Whether a formal of a procedure has a name.
+fn is_formal(procedure: &Procedure, name: &[u8]) -> bool {
+    procedure
+        .formals
+        .iter()
+        .any(|formal| formal.letters.as_slice() == name)
+}
+
+/// Adds where the variable of a LET was set, if its name is no other's, and nothing else can set it.
+fn say_variable<'a>(
+    page: &mut Page<'_, 'a>,
+    at: Position,
+    name: &'a [u8],
+) -> Result<(), AllocError> {
+    let Some(names) = page.names else {
+        return Ok(());
+    };
+    let Search {
+        declared,
+        is_taken,
+        setters,
+        ..
+    } = in_procedure(names.procedure, at, name);
+    if declared != 1 || is_taken {
+        return Ok(());
+    }
+    say_setters(page, name, setters)
+}
+
+/// Whether a command of a procedure sets a name, or takes its address.
+fn is_set_in<'a>(procedure: &Procedure<'a>, name: &'a [u8]) -> bool {
+    let Search {
+        setters,
+        is_taken,
+        ..
+    } = in_procedure(procedure, Position::first(), name);
+    setters.count > 0 || is_taken
+}
+
+/// Where the procedure that is active is called, if there are several formals, of which no command of it sets this one.
+fn call_of_formal<'a>(page: &Page<'_, 'a>, name: &'a [u8]) -> Option<Position> {
+    let names = page.names?;
+    if names.procedure.formals.len() < 2 || is_set_in(names.procedure, name) {
+        return None;
+    }
+    match page.m.frames.get(names.call) {
+        Some(Continuation::Returned(call)) => Some(call.at),
+        _ => None,
+    }
+}
+
+/// Adds which argument a formal is, where there are several, and no command of the procedure sets it.
+fn say_formal<'a>(page: &mut Page<'_, 'a>, name: &'a [u8], offset: u32) -> Result<(), AllocError> {
+    let Some(at) = call_of_formal(page, name) else {
+        return Ok(());
+    };
+    let index = offset as usize;
+    let Some(arguments) = arguments_at(page.program, at) else {
+        return Ok(());
+    };
+    let Some(argument) = arguments.get(index) else {
+        return Ok(());
+    };
+    page.say(&[b"; ", name, b" is the "])?;
+    add_ordinal(&mut page.text, index.saturating_add(1))?;
+    page.say(&[b" argument on line "])?;
+    add_number(&mut page.text, line(at) as usize)?;
+    if let Expr::Number { .. } = argument {
+        return Ok(());
+    }
+    page.say(&[b", "])?;
+    add_expr(&mut page.text, argument)
+}
+
+/// Whether a value is the one that a static word begins with.
+fn is_first(program: &[Lasting], object: u64, x: Worth) -> bool {
+    match (program.get(object as usize), x) {
+        (Some(Lasting::Words(words)), Worth::Number(number)) => words.first() == Some(&number),
+        _ => false,
+    }
+}
+
+/// Adds how a static word or a global was set.
+fn say_lasting<'a>(
+    page: &mut Page<'_, 'a>,
+    name: &'a [u8],
+    x: Worth,
+    cell: (u64, u32),
+) -> Result<(), AllocError> {
+    let (object, _) = cell;
+    if is_first(page.program, object, x) {
+        return page.say(&[b"; `STATIC` gives ", name, b" that value"]);
+    }
+    let setters = setters_of_all(page.program, name, cell);
+    if setters.count == 1 {
+        return say_setters(page, name, setters);
+    }
+    Ok(())
+}
+
+/// Adds where an operand that is a name got its value, as far as the text tells.
+pub fn say_setting(page: &mut Page, operand: Operand) -> Result<(), AllocError> {
+    match name_of(operand) {
+        Some(name) => say_setting_of(page, name, operand.value),
+        None => Ok(()),
+    }
+}
+
+/// Adds where a name got its value, as far as the text tells; nothing of a string, which is told itself.
+pub fn say_setting_of(page: &mut Page, name: &[u8], x: Worth) -> Result<(), AllocError> {
+    if page.is_text(x) {
+        return Ok(());
+    }
+    let before = page.text.len();
+    say_once_set(page, name, x)?;
+    if is_twice(&page.text, before) {
+        page.text.truncate(before);
+    }
+    Ok(())
+}
+
+/// What a name is in the program, and the cell that it means.
+fn cell_of<'a>(page: &Page<'_, 'a>, name: &[u8]) -> Option<(&'a [u8], u64, u32)> {
+    let names = page.names?;
+    let spelled = names.spelled(name)?;
+    match names.sense(name)? {
+        Sense::Cell(object, offset) => Some((spelled, object, offset)),
+        _ => None,
+    }
+}
+
+/// Adds where a name got its value.
+fn say_once_set(page: &mut Page, name: &[u8], x: Worth) -> Result<(), AllocError> {
+    let Some((spelled, object, offset)) = cell_of(page, name) else {
+        return Ok(());
+    };
+    match page.object(object) {
+        Object::Made(made) => match made.kind {
+            Kind::Variable => say_variable(page, made.at, spelled),
+            Kind::Formals => say_formal(page, spelled, offset),
+            Kind::Vector => Ok(()),
+        },
+        Object::Globals | Object::Static(_) | Object::Entry(_) => {
+            say_lasting(page, spelled, x, (object, offset))
+        }
+        Object::String(_) | Object::Table | Object::Unknown => Ok(()),
+    }
+}
+
+/// Where the LET of a variable is that was made by it.
+fn let_of(page: &Page, object: u64) -> Option<Position> {
+    match page.object(object) {
+        Object::Made(made) => Some(made.at),
+        _ => None,
+    }
+}
+
+/// Adds that another variable has the name of one that was never set, or that an assignment to it was not reached; `query` is the line
+/// of the `?` that it has.
+pub fn say_unreached(
+    page: &mut Page,
+    name: &[u8],
+    object: u64,
+    query: u32,
+) -> Result<(), AllocError> {
+    let Some(names) = page.names else {
+        return Ok(());
+    };
+    let Some(spelled) = names.spelled(name) else {
+        return Ok(());
+    };
+    let Some(at) = let_of(page, object) else {
+        return Ok(());
+    };
+    if line(at) != query {
+        return Ok(());
+    }
+    let Search {
+        other,
+        setters,
+        is_taken,
+        ..
+    } = in_procedure(names.procedure, at, spelled);
+    if let Some(other) = other {
+        page.say(&[b"; the ", name, b" of line "])?;
+        add_number(&mut page.text, other as usize)?;
+        return page.say(&[b" is another variable"]);
+    }
+    if is_taken {
+        return Ok(());
+    }
+    say_assignment(page, name, setters)
+}
+
+/// Whether an expression has a name.
+fn has_name(expr: &Expr, name: &[u8]) -> bool {
+    let mut search = Search::new(expr.at(), b"");
+    in_expr(&mut search, expr);
+    let Search { beside, .. } = search;
+    beside.has(name)
+}
+
+/// Adds that the first of some assignments to a name was not reached, unless it is on the line of the act, or uses the name itself.
+fn say_assignment(page: &mut Page, name: &[u8], setters: Setters) -> Result<(), AllocError> {
+    let Setters { first, .. } = setters;
+    match first {
+        Some(setter) if setter.line != line(page.at) && !has_name(setter.value, name) => {
+            page.say(&[b"; the assignment of line "])?;
+            add_number(&mut page.text, setter.line as usize)?;
+            page.say(&[b" was not reached"])
+        }
+        _ => Ok(()),
+    }
+}
+
+/// The procedure that a call evaluates an argument for, and the name of its formal.
+fn callee_of<'m, 'a>(page: &Page<'m, 'a>) -> Option<(&'m Procedure<'a>, &'a [u8])> {
+    let Continuation::Value(OnValue::Argument(_, _, _, before, callee, _)) = page.m.frames.last()?
+    else {
+        return None;
+    };
+    let Worth::Procedure(number) = page.known(callee)? else {
+        return None;
+    };
+    match page.program.get(number as usize)? {
+        Lasting::Code(procedure) => {
+            Some((procedure, &procedure.formals.get(before.len())?.letters))
+        }
+        _ => None,
+    }
+}
+
+/// Adds that a call passes the value of a name, where its procedure sets the formal.
+pub fn say_by_value(page: &mut Page, name: &[u8]) -> Result<(), AllocError> {
+    match callee_of(page) {
+        Some((procedure, formal)) if is_set_in(procedure, formal) => page.say(&[
+            b"; ",
+            procedure.name,
+            b" gets its value, and sets a formal of its own; `@",
+            name,
+            b"` is its address",
+        ]),
+        _ => Ok(()),
+    }
+}
+
+/// The line of a declaration of this name in the body of a procedure, and the name of that procedure.
+fn local_of<'a>(program: &[Lasting<'a>], name: &'a [u8]) -> Option<(u32, &'a [u8])> {
+    for lasting in program {
+        if let Lasting::Code(procedure) = lasting
+            && let Some(other) = in_procedure(procedure, Position::first(), name).other
+        {
+            return Some((other, procedure.name));
+        }
+    }
+    None
+}
+
+/// Whether a section has a procedure of this name that is no global.
+fn is_own_procedure(program: &[Lasting], name: &[u8]) -> bool {
+    for lasting in program {
+        if let Lasting::Code(procedure) = lasting
+            && procedure.name == name
+            && procedure.global.is_none()
+        {
+            return true;
+        }
+    }
+    false
+}
+
+/// Whether a section has a static word of this name.
+fn is_static(program: &[Lasting], name: &[u8]) -> bool {
+    for lasting in program {
+        if let Lasting::Code(procedure) = lasting
+            && let Some(Sense::Cell(object, _)) = procedure.env.sense(name)
+            && object != GLOBALS_OBJECT
+        {
+            return true;
+        }
+    }
+    false
+}
+
+/// Adds why nothing was assigned to a global, as far as the text tells.
+pub fn say_no_global(page: &mut Page, name: &[u8], number: u32) -> Result<(), AllocError> {
+    if let Some(other) = page.other_number(name, number) {
+        page.say(&[b"; elsewhere ", name, b" is the global "])?;
+        return add_word(&mut page.text, other);
+    }
+    if is_own_procedure(page.program, name) {
+        return page.say(&[
+            b"; the procedure ",
+            name,
+            b" of another section is no global there",
+        ]);
+    }
+    if is_static(page.program, name) {
+        return page.say(&[
+            b"; elsewhere ",
+            name,
+            b" is a static word, which no other section sees",
+        ]);
+    }
+    let Some((spelled, _, _)) = cell_of(page, name) else {
+        return Ok(());
+    };
+    let setters = setters_of_all(page.program, spelled, (GLOBALS_OBJECT, number));
+    if setters.count > 0 {
+        return say_assignment(page, name, setters);
+    }
+    match local_of(page.program, spelled) {
+        Some((other, procedure)) => {
+            page.say(&[b"; the ", name, b" of line "])?;
+            add_number(&mut page.text, other as usize)?;
+            page.say(&[b", in ", procedure, b", is another variable"])
+        }
+        None => Ok(()),
+    }
+}

@@ -1,0 +1,391 @@
+//! What is sought in the bodies of procedures, and what is found.
+
+use bk_check::acts_at;
+use bk_tree::{Command, Expr, Init, Name, Operator, Position, Prefix};
+
+/// What the source makes an object by.
+#[derive(Clone, Copy)]
+pub enum Kind {
+    /// A variable of a LET or of a FOR.
+    Variable,
+    /// A VEC.
+    Vector,
+    /// The formals of a procedure.
+    Formals,
+}
+
+/// Up to four names, each once.
+#[derive(Clone, Copy)]
+pub struct Few<'a> {
+    first: Option<&'a [u8]>,
+    second: Option<&'a [u8]>,
+    third: Option<&'a [u8]>,
+    fourth: Option<&'a [u8]>,
+}
+
+impl<'a> Few<'a> {
+    /// None.
+    pub fn none() -> Few<'a> {
+        Few {
+            first: None,
+            second: None,
+            third: None,
+            fourth: None,
+        }
+    }
+
+    /// They, in the order in which they came.
+    pub fn each(&self) -> [Option<&'a [u8]>; 4] {
+        [self.first, self.second, self.third, self.fourth]
+    }
+
+    /// Whether a name is one of them.
+    pub fn has(&self, name: &[u8]) -> bool {
+        self.each().contains(&Some(name))
+    }
+
+    /// Adds a name where there is room for it.
+    fn add(&mut self, name: &'a [u8]) {
+        if self.has(name) {
+            return;
+        }
+        if self.first.is_none() {
+            self.first = Some(name);
+        } else if self.second.is_none() {
+            self.second = Some(name);
+        } else if self.third.is_none() {
+            self.third = Some(name);
+        } else if self.fourth.is_none() {
+            self.fourth = Some(name);
+        }
+    }
+}
+
+/// The line where a variable is set, and what it is set to there.
+#[derive(Clone, Copy)]
+pub struct Setter<'a> {
+    pub line: u32,
+    pub value: &'a Expr,
+}
+
+/// A line, and the number of a byte.
+#[derive(Clone, Copy)]
+pub struct Place {
+    pub line: u32,
+    pub byte: u32,
+}
+
+/// The place of a position.
+pub fn place_of(at: Position) -> Place {
+    Place {
+        line: at.line().number(),
+        byte: at.bytes(),
+    }
+}
+
+/// The first places where a variable is set, and how many there are.
+#[derive(Clone, Copy)]
+pub struct Setters<'a> {
+    pub count: usize,
+    pub first: Option<Setter<'a>>,
+    pub second: Option<Setter<'a>>,
+}
+
+impl<'a> Setters<'a> {
+    /// None.
+    pub fn none() -> Setters<'a> {
+        Setters {
+            count: 0,
+            first: None,
+            second: None,
+        }
+    }
+
+    /// Adds one.
+    pub fn add(&mut self, setter: Setter<'a>) {
+        self.count = self.count.saturating_add(1);
+        if self.first.is_none() {
+            self.first = Some(setter);
+        } else if self.second.is_none() {
+            self.second = Some(setter);
+        }
+    }
+}
+
+/// A GOTO.
+#[derive(Clone, Copy)]
+pub struct Jump<'a> {
+    pub place: Place,
+    pub label: &'a [u8],
+}
+
+/// What is sought, and what is found.
+#[derive(Drop)]
+pub struct Search<'a> {
+    /// The position that is sought.
+    pub at: Position,
+    /// The name that is sought.
+    pub name: &'a [u8],
+    /// A declaration that is at the position.
+    pub made: Option<(&'a [u8], Kind)>,
+    /// The arguments of a call that is there.
+    pub arguments: Option<&'a [Expr]>,
+    /// A loop that is there.
+    pub looping: Option<&'a Command>,
+    /// What is before the `!` before a call that is there.
+    pub vector: Option<&'a Expr>,
+    /// The names of the expressions beside what is there, in its command.
+    pub beside: Few<'a>,
+    /// How far the names beside it are known.
+    is_here: bool,
+    is_past: bool,
+    /// How many declarations have the name, and the line of the first that is not at the position.
+    pub declared: usize,
+    pub other: Option<u32>,
+    /// Where the name is set, and the first position of that.
+    pub setters: Setters<'a>,
+    pub set_at: Option<Position>,
+    /// Whether its address is taken.
+    pub is_taken: bool,
+    /// Where it is a label.
+    pub label: Option<Place>,
+    /// The GOTOs that are behind the position, up to four.
+    pub first_jump: Option<Jump<'a>>,
+    pub second_jump: Option<Jump<'a>>,
+    pub third_jump: Option<Jump<'a>>,
+    /// The names that are assigned to between two positions.
+    pub assigned: Few<'a>,
+    pub from: Place,
+    pub to: Option<Place>,
+    /// The names that the conditions of IF, UNLESS and TEST have there.
+    pub tested: Few<'a>,
+    is_tested: bool,
+    /// The names that are set there to what RDCH gives.
+    pub read: Few<'a>,
+    /// Whether there is a RESULTIS.
+    pub has_result: bool,
+}
+
+/// Whether a place is before another, or is it.
+pub fn is_up_to(a: Place, b: Place) -> bool {
+    a.line < b.line || a.line == b.line && a.byte <= b.byte
+}
+
+/// Whether an expression is a call of RDCH.
+fn is_read(expr: &Expr) -> bool {
+    match expr {
+        Expr::Apply { callee, .. } => match &**callee {
+            Expr::Name { letters, .. } => letters.as_slice() == b"RDCH".as_slice(),
+            _ => false,
+        },
+        _ => false,
+    }
+}
+
+impl<'a> Search<'a> {
+    /// Nothing is found yet. What is assigned is found from the position on.
+    pub fn new(at: Position, name: &'a [u8]) -> Search<'a> {
+        Search {
+            at,
+            name,
+            made: None,
+            arguments: None,
+            looping: None,
+            vector: None,
+            beside: Few::none(),
+            is_here: false,
+            is_past: false,
+            declared: 0,
+            other: None,
+            setters: Setters::none(),
+            set_at: None,
+            is_taken: false,
+            label: None,
+            first_jump: None,
+            second_jump: None,
+            third_jump: None,
+            assigned: Few::none(),
+            from: place_of(at),
+            to: None,
+            tested: Few::none(),
+            is_tested: false,
+            read: Few::none(),
+            has_result: false,
+        }
+    }
+
+    /// A part of a command begins, whose names are beside one another.
+    fn begin(&mut self) {
+        self.is_tested = false;
+        if self.is_here {
+            self.is_past = true;
+        }
+        if !self.is_past {
+            self.beside = Few::none();
+        }
+    }
+
+    /// Whether a position is in the range in which assignments are sought.
+    fn is_within(&self, at: Position) -> bool {
+        let place = place_of(at);
+        let is_before = match self.to {
+            Some(to) => is_up_to(place, to),
+            None => true,
+        };
+        is_before && is_up_to(self.from, place)
+    }
+
+    /// A name that is declared.
+    pub fn declaration(&mut self, name: &'a Name) {
+        let letters: &[u8] = &name.letters;
+        if name.at == self.at {
+            self.made = Some((letters, Kind::Variable));
+        }
+        if letters == self.name {
+            self.declared = self.declared.saturating_add(1);
+            if name.at != self.at && self.other.is_none() {
+                self.other = Some(name.at.line().number());
+            }
+        }
+    }
+
+    /// What a variable begins with.
+    pub fn init(&mut self, name: &'a Name, init: &'a Init) {
+        self.begin();
+        let letters: &[u8] = &name.letters;
+        match init {
+            Init::Value(value) => self.sets(letters, name.at, value, false),
+            Init::Vector { size, .. } => {
+                if size.at() == self.at {
+                    self.made = Some((letters, Kind::Vector));
+                }
+            }
+        }
+    }
+
+    /// A call with these arguments at a position.
+    pub fn call(&mut self, at: Position, arguments: &'a [Expr]) {
+        if at == self.at {
+            self.arguments = Some(arguments);
+            self.is_here = true;
+        }
+    }
+
+    /// A call after `!`.
+    pub fn index(&mut self, operator: Operator, left: &'a Expr, right: &'a Expr) {
+        if let Expr::Apply { sign, .. } = right
+            && matches!(operator, Operator::Subscript)
+            && *sign == self.at
+        {
+            self.vector = Some(left);
+        }
+    }
+
+    /// An expression.
+    pub fn expr(&mut self, expr: &'a Expr) {
+        if acts_at(expr) == self.at {
+            self.is_here = true;
+        }
+        match expr {
+            Expr::Name { letters, .. } => {
+                if !self.is_past {
+                    self.beside.add(letters);
+                }
+                if self.is_tested {
+                    self.tested.add(letters);
+                }
+            }
+            Expr::Unary {
+                prefix: Prefix::Address,
+                operand,
+                ..
+            } => {
+                if let Expr::Name { letters, .. } = &**operand
+                    && letters.as_slice() == self.name
+                {
+                    self.is_taken = true;
+                }
+            }
+            _ => {}
+        }
+    }
+
+    /// A name is set to a value: by an assignment, or where it is declared.
+    fn sets(&mut self, letters: &'a [u8], at: Position, value: &'a Expr, is_assigned: bool) {
+        if letters == self.name && !matches!(value, Expr::Query { .. }) {
+            self.setters.add(Setter {
+                line: at.line().number(),
+                value,
+            });
+            if self.set_at.is_none() {
+                self.set_at = Some(at);
+            }
+        }
+        if is_read(value) && self.is_within(at) {
+            self.read.add(letters);
+        }
+        if is_assigned && self.is_within(at) {
+            self.assigned.add(letters);
+        }
+    }
+
+    /// Assignments.
+    pub fn assignments(&mut self, destinations: &'a [Expr], values: &'a [Expr]) {
+        for (i, destination) in destinations.iter().enumerate() {
+            if let Expr::Name { at, letters } = destination
+                && let Some(value) = values.get(i)
+            {
+                self.sets(letters, *at, value, true);
+            }
+        }
+    }
+
+    /// A GOTO.
+    fn jump(&mut self, at: Position, label: &'a [u8]) {
+        let place = place_of(at);
+        if !is_up_to(place_of(self.at), place) {
+            return;
+        }
+        let jump = Some(Jump { place, label });
+        if self.first_jump.is_none() {
+            self.first_jump = jump;
+        } else if self.second_jump.is_none() {
+            self.second_jump = jump;
+        } else if self.third_jump.is_none() {
+            self.third_jump = jump;
+        }
+    }
+
+    /// A command. A FOR is at the name of its variable, and another loop at its first symbol.
+    pub fn command(&mut self, command: &'a Command) {
+        self.begin();
+        let at = match command {
+            Command::For { name, .. } => Some(name.at),
+            Command::While { at, .. }
+            | Command::Repeat { at, .. }
+            | Command::RepeatWhile { at, .. } => Some(*at),
+            Command::ResultIs { .. } => {
+                self.has_result = true;
+                None
+            }
+            Command::If { at, .. } | Command::Test { at, .. } => {
+                self.is_tested = self.is_within(*at);
+                None
+            }
+            Command::Goto { at, name } => {
+                self.jump(*at, &name.letters);
+                None
+            }
+            Command::Label { at, letters, .. } => {
+                if letters.as_slice() == self.name {
+                    self.label = Some(place_of(*at));
+                }
+                None
+            }
+            _ => None,
+        };
+        if at == Some(self.at) {
+            self.looping = Some(command);
+        }
+    }
+}
