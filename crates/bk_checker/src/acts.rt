@@ -397,6 +397,19 @@ fn is_negative(by: &Option<Box<Expr>>) -> bool {
     }
 }
 
+/// Adds the limit of a FOR, and where it comes from, where it is a number and the variable is none.
+fn say_number(page: &mut Page, variable: Worth, limit: Operand) -> Result<(), AllocError> {
+    match (variable, limit.value) {
+        (Worth::Number(_), _) => Ok(()),
+        (_, Worth::Number(_)) => {
+            page.say(&[b"; "])?;
+            say_operand(page, limit)?;
+            say_setting(page, limit)
+        }
+        _ => Ok(()),
+    }
+}
+
 /// Adds why the test or the step of a FOR is undefined.
 fn say_for(
     page: &mut Page,
@@ -414,7 +427,8 @@ fn say_for(
             };
             let (last, operator) = limit_of(loop_at(page.program, name.at), limit);
             page.say(&[b"`FOR`: "])?;
-            say_operation(page, operator, variable, last)
+            say_operation(page, operator, variable, last)?;
+            say_number(page, x, last)
         }
         _ => say_name(page, &name.letters, reason),
     }

@@ -1,5 +1,6 @@
 //! The calls that are active.
 
+use crate::report::Within;
 use crate::spelling::{add, add_number};
 use crate::values::callee_name;
 use bk_check::{Call, Continuation, Evaluator};
@@ -85,16 +86,36 @@ fn add_last(text: &mut Vec<u8>, listing: &Listing) -> Result<(), AllocError> {
     }
 }
 
-/// The position of the innermost call that is active; the source's first line where none is.
-pub fn innermost(m: &Evaluator) -> Position {
-    for frame in m.frames.iter().rev() {
-        if let Continuation::Returned(call) = frame
-            && matches!(call.callee, Worth::Procedure(_))
-        {
-            return call.at;
-        }
+/// The procedure of an active call, by its number.
+fn procedure_called(frame: &Continuation) -> Option<(Position, u64)> {
+    match frame {
+        Continuation::Returned(call) => match call.callee {
+            Worth::Procedure(number) => Some((call.at, number)),
+            _ => None,
+        },
+        _ => None,
     }
-    Position::first()
+}
+
+/// The section of what is done now: that of the innermost procedure that is active.
+pub fn within(m: &Evaluator) -> Within {
+    match m.frames.iter().rev().find_map(procedure_called) {
+        Some((_, number)) => Within::Procedure(number),
+        None => Within::Section(0),
+    }
+}
+
+/// The position of the innermost call that is active, and its section; the source's first line where none is.
+pub fn innermost(m: &Evaluator) -> (Position, Within) {
+    let mut calls = m.frames.iter().rev().filter_map(procedure_called);
+    let at = match calls.next() {
+        Some((at, _)) => at,
+        None => Position::first(),
+    };
+    match calls.next() {
+        Some((_, caller)) => (at, Within::Procedure(caller)),
+        None => (at, Within::Section(0)),
+    }
 }
 
 /// Adds the calls that are active, innermost first, so that START is at the end. Equal calls one after another have one line.

@@ -13,7 +13,7 @@ ghost use Rattle.bk_checker.specs.Checks.{Checks, Blames, Flushed, Begun, Runs, 
 
 use crate::explain::{explain, given_up};
 use crate::remarks::remarks_on;
-use crate::report::{GivenUp, Notice, Report, Verdict};
+use crate::report::{GivenUp, Notice, Report, Verdict, Within};
 use crate::run::{flush, go, verdict};
 use bk_base::{ByteIn, ByteOut};
 use bk_check::{Evaluator, call};
@@ -82,7 +82,13 @@ fn no_start<O: ByteOut>(alloc: Global, out: &mut O) -> Result<Report, GivenUp>
     flush(out)?;
     Ok(Report {
         verdict: Verdict::NoStart,
-        stop: Notice::new(alloc, Position::first(), Vec::new(alloc), Vec::new(alloc)),
+        stop: Notice::new(
+            alloc,
+            Position::first(),
+            Within::Section(0),
+            Vec::new(alloc),
+            Vec::new(alloc),
+        ),
         remarks: Vec::new(alloc),
     })
 }

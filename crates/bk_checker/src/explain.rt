@@ -5,7 +5,7 @@ ghost use Rattle.bk_check.specs.Resume.{acts_in};
 ghost use Rattle.bk_checker.specs.Checks.{verdict_of, place_of};
 
 use crate::acts::{say_act, say_division};
-use crate::calls::{add_calls, innermost};
+use crate::calls::{add_calls, innermost, within};
 use crate::report::{CheckFault, GivenUp, Notice, Report};
 use crate::rounds::{MANY, say_formals, say_turns};
 use crate::run::{FRAMES, verdict};
@@ -43,7 +43,8 @@ fn place(next: &Next) -> Position
 
 /// Where the limits of a check were reached, and which.
 fn too_deep<'a>(m: &Evaluator<'a>, program: &[Lasting<'a>]) -> Result<Notice, AllocError> {
-    let mut page = Page::new(m, program, innermost(m));
+    let (at, section) = innermost(m);
+    let mut page = Page::new(m, program, at);
     let what: &[u8] = if m.frames.len() > FRAMES {
         b"a check can't hold more calls, and what they have still to do"
     } else {
@@ -59,7 +60,7 @@ fn too_deep<'a>(m: &Evaluator<'a>, program: &[Lasting<'a>]) -> Result<Notice, Al
     let mut calls = Vec::new(m.alloc);
     add_calls(&mut calls, m, program)?;
     let Page { text, .. } = page;
-    Ok(Notice::new(m.alloc, innermost(m), text, calls))
+    Ok(Notice::new(m.alloc, at, section, text, calls))
 }
 
 /// Why a run was given up, and where, if its limits were reached.
@@ -101,7 +102,7 @@ pub fn explain<'a>(
     let Page { text, .. } = page;
     Ok(Report {
         verdict: verdict(next),
-        stop: Notice::new(m.alloc, at, text, calls),
+        stop: Notice::new(m.alloc, at, within(m), text, calls),
         remarks: Vec::new(m.alloc),
     })
 }

@@ -30,6 +30,6 @@ mod words;
 
 pub use checker::check;
 pub use remarks::Remark;
-pub use report::{CheckFault, GivenUp, Notice, Report, Verdict};
+pub use report::{CheckFault, GivenUp, Notice, Report, Verdict, Within};
 pub use run::{CELLS, FRAMES};
 pub use source::SourceTexts;

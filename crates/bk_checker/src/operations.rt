@@ -178,8 +178,12 @@ fn say_holders(page: &mut Page, expr: &Expr) -> Result<(), AllocError> {
     match expr {
         Expr::Name { letters, .. } => match page.value_of(letters) {
             Some(x) if !matches!(x, Worth::Number(_) | Worth::Unset(_)) => {
+                let before = page.text.len();
                 page.say(&[b"; "])?;
                 page.say_is(expr, x)?;
+                if is_twice(&page.text, before) {
+                    page.text.truncate(before);
+                }
                 say_setting_of(page, letters, x)
             }
             _ => Ok(()),
@@ -325,10 +329,17 @@ pub fn say_operation(
     say_unfit(page, operator, a, b)?;
     for operand in [a, b] {
         say_shared(page, operand)?;
-        say_uncalled(page, operand)?;
+        if !are_procedures(a.value, b.value) {
+            say_uncalled(page, operand)?;
+        }
         say_source(page, operand)?;
     }
     Ok(())
+}
+
+/// Whether two values are procedures, of which neither is perhaps meant to be called.
+fn are_procedures(x: Worth, y: Worth) -> bool {
+    matches!(x, Worth::Procedure(_)) && matches!(y, Worth::Procedure(_))
 }
 
 /// Whether two values are addresses in one object.

@@ -7,7 +7,7 @@ use crate::mentions::Names;
 use crate::procedures::{
     begins, defined_in, in_function, no_start, on_procedures, remark_arguments, twice,
 };
-use crate::report::Notice;
+use crate::report::{Notice, Within};
 use crate::spelling::{add, add_expr};
 use bk_base::word_text;
 use bk_tree::{Command, Decl, Def, Expr, Init, Operator, Position, Prefix, Section};
@@ -30,6 +30,8 @@ pub struct Remark {
 #[derive(Drop)]
 pub struct Found {
     remarks: Vec<Remark>,
+    /// The number of the section, from 0.
+    section: usize,
     /// The names of the section.
     names: Names,
     /// The routines of the library that the program defines itself, of which nothing is known.
@@ -96,7 +98,13 @@ pub fn make_remark(
     let mut text = Vec::new(alloc);
     add(&mut text, pieces)?;
     found.remarks.push(Remark {
-        notice: Notice::new(alloc, at, text, Vec::new(alloc)),
+        notice: Notice::new(
+            alloc,
+            at,
+            Within::Section(found.section),
+            text,
+            Vec::new(alloc),
+        ),
         unless_noted_from: None,
     })?;
     Ok(())
@@ -577,11 +585,13 @@ fn in_inits(alloc: Global, found: &mut Found, inits: &[Init]) -> Result<(), Allo
 pub fn remarks_on(alloc: Global, sections: &[Section]) -> Result<Vec<Remark>, AllocError> {
     let mut found = Found {
         remarks: Vec::new(alloc),
+        section: 0,
         names: Names::new(alloc),
         own_routines: own_routines(alloc, sections)?,
     };
     let has_start = sections.iter().any(begins);
-    for section in sections {
+    for (number, section) in sections.iter().enumerate() {
+        found.section = number;
         if !has_start {
             no_start(alloc, &mut found, section.decls())?;
         }

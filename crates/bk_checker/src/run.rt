@@ -1,5 +1,5 @@
 //! Runs of the meaning over devices.
-ghost use Rattle.std.specs.Prelude.{◌≡◌, ◌≢◌, ℕ, true, false, IfOk, IfErr, OnOk, OnErr, List, []};
+ghost use Rattle.std.specs.Prelude.{◌≡◌, ◌≢◌, ◌⊎◌, ℕ, true, false, IfOk, IfErr, OnOk, OnErr, List, []};
 ghost use Rattle.std.specs.Bool.{OnTrue};
 ghost use Rattle.std.specs.Io.KnownBytes.{Keeps};
 ghost use Rattle.bk_base.specs.Devices.{Begins};
@@ -81,6 +81,7 @@ fn library<'a, I: ByteIn, O: ByteOut>(
     ensures passes { Begins (O.passed out.old) (O.passed out.new) }
     ensures sound { OnOk result ((I.faults input.new ≡ I.faults input.old) × (O.faults out.new ≡ O.faults out.old)) }
     ensures cause { IfErr result (λ fault. Blames fault (I.faults input.old) (I.faults input.new) (O.faults out.old) (O.faults out.new)) }
+    ensures flushed_first { I.held input.old ≡ [] → I.ended input.old ≡ false → OnOk result ((input.new ≡ input.old) ⊎ (O.passed out.new ≡ O.taken out.new)) }
     ensures within { IfErr result (λ fault. fault ≢ TooDeep) }
 {
     match perform(m.alloc, &mut m.store, routine, values)? {
@@ -119,6 +120,8 @@ fn turn<'a, I: ByteIn, O: ByteOut>(
     ensures passes { Begins (O.passed out.old) (O.passed out.new) }
     ensures sound { OnOk result ((I.faults input.new ≡ I.faults input.old) × (O.faults out.new ≡ O.faults out.old)) }
     ensures cause { IfErr result (λ fault. Blames fault (I.faults input.old) (I.faults input.new) (O.faults out.old) (O.faults out.new)) }
+    // A step leaves the input as it is, or passes on all that was written before it asks for a byte that the input does not hold.
+    ensures flushed_first { I.held input.old ≡ [] → I.ended input.old ≡ false → OnOk result ((input.new ≡ input.old) ⊎ (O.passed out.new ≡ O.taken out.new)) }
     ensures within { IfErr result (λ fault. fault ≢ TooDeep) }
 {
     match next {

@@ -1,5 +1,5 @@
 -- What checking a source comes to: the verdict of its meaning, or a fault of its text, or why there is no verdict.
-use Rattle.std.specs.Prelude.{◌≡◌, ℕ, ◌≤◌, nat_lt, ⊤, Bool, true, false, length, List, [], ◌∷◌, ◌++◌, ◌==◌, map, Option, None, Some, option_map, Result, Ok, Err, Vec, vec_len, codes, decimal, if◌then◌else◌}
+use Rattle.std.specs.Prelude.{◌≡◌, ◌⊎◌, ℕ, ◌≤◌, nat_lt, ⊤, All, IfSome, Bool, true, false, length, List, [], ◌∷◌, ◌++◌, ◌==◌, map, Option, None, Some, option_map, Result, Ok, Err, Vec, vec_len, codes, decimal, if◌then◌else◌}
 use Rattle.std.specs.Global.{Global}
 use Rattle.std.specs.Io.KnownBytes.{Consumes}
 use Rattle.bk_base.specs.declared.source_fault.SourceKind.{SourceKind}
@@ -7,7 +7,7 @@ use Rattle.bk_base.specs.declared.source_fault.SourceKind.TheVariants.{BadByte, 
 use Rattle.bk_tree.specs.Position.{line_in, column_after}
 use Rattle.bk_tree.specs.Tree.{Declarations}
 use Rattle.bk_lines.specs.declared.places.Start.{Start}
-use Rattle.bk_lines.specs.Places.{line_after, LineEnd}
+use Rattle.bk_lines.specs.Places.{line_after, place_text, LineEnd}
 use Rattle.bk_hints.specs.Hints.{Hints}
 use Rattle.bk_checker.specs.declared.report.Verdict.{Verdict}
 use Rattle.bk_checker.specs.declared.report.Verdict.TheVariants as v
@@ -16,7 +16,8 @@ use Rattle.bk_checker.specs.declared.report.CheckFault.TheVariants as x
 use Rattle.bk_checker.specs.declared.remarks.Remark.{Remark}
 use Rattle.bk_checker.specs.declared.report.Report.{Report}
 use Rattle.bk_checker.specs.declared.report.Notice.{Notice}
-use Rattle.bk_checker.specs.Reports.{IsOnItsLine}
+use Rattle.bk_checker.specs.declared.source.SourceText.{SourceText}
+use Rattle.bk_checker.specs.Reports.{IsBefore}
 use Rattle.bk_checker.specs.Checks.{Devices, Checks, ChecksPart, Blames, Flushed}
 use Rattle.bk_filters.specs.declared.kit_fault.KitFault.{KitFault}
 use Rattle.bk_filters.specs.declared.kit_fault.KitFault.TheVariants.{Source}
@@ -68,6 +69,29 @@ pub record StartsAfter (before : List ℕ) (start : Start) : Type 0 where
   pub line_is : start.line ≡ line_after 1 before
   pub column_is : start.column ≡ column_after 1 before
 
+-- This text is a part of what was read of a source, and begins here in it.
+pub record InSource (old new : Option (List ℕ)) (start : Start) (text : List ℕ) : Type 0 where
+  pub before : List ℕ
+  pub later : List ℕ
+  pub delivered : Consumes old new ((before ++ text) ++ later)
+  pub starts : StartsAfter before start
+
+abbrev pub AllInSource : Option (List ℕ) → Option (List ℕ) → List SourceText → Type 0
+AllInSource old new texts = All (λ text. InSource old new text.start text.bytes.items) texts
+
+-- `LINE:COLUMN` of a position in the text of a section, both counted from the source's first byte.
+pub record HasPlace (position : ℕ) (place : List ℕ) (old new : Option (List ℕ)) : Type 0 where
+  pub start : Start
+  pub text : List ℕ
+  pub in_source : InSource old new start text
+  pub before : List ℕ
+  pub is_before : IsBefore start text position before
+  pub is_place : place ≡ place_text start before
+
+-- What is told of a place has this for its place, or no place.
+abbrev pub IsPlacedIn : Option (List ℕ) → Option (List ℕ) → Notice → Type 0
+IsPlacedIn old new notice = (notice.place.items ≡ []) ⊎ HasPlace notice.at notice.place.items old new
+
 -- the kinds of faults of bytes
 abbrev pub is_kind_of_bytes : SourceKind → Bool
 is_kind_of_bytes BadByte = true
@@ -106,15 +130,16 @@ TextHints (Ok report) old new = ⊤
 TextHints (Err (n.Text refusal)) old new = HintsIn refusal old new
 TextHints (Err (n.Run stop)) old new = ⊤
 
--- THE CHECK. What is reported of a stop is on the line of the act. Nothing is done of a source that is refused.
+-- THE CHECK. What is reported of a stop has the place of the act. Nothing is done of a source that is refused.
 abbrev pub ChecksSource : Result Report NotChecked → ℕ → Option (List ℕ) → Option (List ℕ) → Bool → Streams → Streams → Type 0
 ChecksSource (Ok report) turns old new ended before after =
-    ChecksTrees report.verdict report.stop.at turns old new ended before after × IsOnItsLine report.stop × (after.passed ≡ after.taken) × (after.reads ≡ before.reads) × (after.writes ≡ before.writes)
+    ChecksTrees report.verdict report.stop.at turns old new ended before after × IsPlacedIn old new report.stop × (after.passed ≡ after.taken) × (after.reads ≡ before.reads) × (after.writes ≡ before.writes)
 ChecksSource (Err (n.Text refusal)) turns old new ended before after =
     NotAssembled refusal.fault old new ended × HintsIn refusal old new × (after ≡ before)
 ChecksSource (Err (n.Run stop)) turns old new ended before after =
     ((trees : List Declarations) × HasTheseTrees trees old new ended × ChecksPart trees turns (checked_devices before) (checked_devices after))
     × Blames stop.fault before.reads after.reads before.writes after.writes × Flushed stop.fault after.passed after.taken
+    × IfSome stop.stop (IsPlacedIn old new)
 
 -- After a fault of bytes the rest of its line is read, 120 bytes at most, so that the hints show the whole line. `reached` is what was read of
 -- FILE before that.

@@ -1,11 +1,12 @@
 //! The checker.
-ghost use Rattle.std.specs.Prelude.{◌≡◌, [], ◌++◌, None, map, IfOk, IfErr, OnOk, if◌then◌else◌};
+ghost use Rattle.std.specs.Prelude.{◌≡◌, ◌⊎◌, ℕ, List, [], ◌++◌, Option, None, map, IfOk, IfErr, IfSome, OnOk, if◌then◌else◌};
 ghost use Rattle.bk_base.specs.Devices.{Begins};
 ghost use Rattle.bk_tree.specs.Section.{declarations_of};
+ghost use Rattle.bk_checker.specs.Reports.{IsAdded};
 ghost use Rattle.bk_filters.specs.CompilingSection.{trees_in};
 ghost use Rattle.bk_filters.specs.RunningSource.{NotAssembled, ReadsSource};
 ghost use Rattle.bk_filters.specs.Interpreting.{streams};
-ghost use Rattle.bk_kit.specs.Checking.{fails_reading, fails_check, HasTheseTrees, HintsAt, HintsIn, IsCut, ChecksSource, Untouched};
+ghost use Rattle.bk_kit.specs.Checking.{fails_reading, fails_check, HasTheseTrees, HintsAt, HintsIn, IsCut, AllInSource, IsPlacedIn, ChecksSource, Untouched};
 
 use crate::cut::{CutSection, cut_at};
 use bk_base::{ByteIn, ByteOut, Line};
@@ -76,7 +77,7 @@ fn refused(alloc: Global, text: &[u8], start: &Start, fault: KitFault) -> Refusa
     }
 }
 
-/// Adds the tree of a section, if it has one, and its text, which begins here in the source.
+/// Adds the tree of a section and its text, which begins here in the source, if it has a tree.
 fn push_tree(
     section: Option<SectionCode>,
     trees: &mut Vec<Section>,
@@ -84,11 +85,12 @@ fn push_tree(
     text: &[u8],
     texts: &mut SourceTexts,
 ) -> Result<(), AllocError>
-    ensures { OnOk result (map declarations_of trees.new.items ≡ map declarations_of trees.old.items ++ trees_in section) }
+    ensures trees { OnOk result (map declarations_of trees.new.items ≡ map declarations_of trees.old.items ++ trees_in section) }
+    ensures texts { (texts.new.texts.items ≡ texts.old.texts.items) ⊎ IsAdded start.now text.now texts.old.texts.items texts.new.texts.items }
 {
-    texts.push(start, text)?;
     match section {
         Some(section) => {
+            texts.push(start, text, &section.tree)?;
             trees.push(section.tree)?;
             Ok(())
         }
@@ -107,6 +109,7 @@ fn read_trees<C: ByteIn>(
     ensures delivered { ReadsSource (fails_reading result) (C.left source.old) (C.left source.new) }
     ensures failures { C.faults source.new ≡ (if fails_reading result then 1 else 0) }
     ensures hints { IfErr result (λ refusal. HintsIn refusal (C.left source.old) (C.left source.new)) }
+    ensures texts { OnOk result (texts.old.texts.items ≡ [] → AllInSource (C.left source.old) (C.left source.new) texts.new.texts.items) }
 {
     let mut trees = Vec::new(alloc);
     let mut taken = 0;
@@ -133,6 +136,23 @@ fn read_trees<C: ByteIn>(
     }
 }
 
+/// A report beside the texts of its source, in which it has its places.
+fn placed(texts: &SourceTexts, report: Report) -> Report
+    ensures verdict { result.verdict ≡ report.verdict }
+    ensures at { result.stop.at ≡ report.stop.at }
+    ensures placed { (old new : Option (List ℕ)) → AllInSource old new texts.now.texts.items → IsPlacedIn old new result.stop }
+{
+    texts.shown(report)
+}
+
+/// The same of a check that was given up.
+fn placed_given_up(texts: &SourceTexts, given: GivenUp) -> GivenUp
+    ensures fault { result.fault ≡ given.fault }
+    ensures placed { (old new : Option (List ℕ)) → AllInSource old new texts.now.texts.items → IfSome result.stop (IsPlacedIn old new) }
+{
+    texts.shown_given_up(given)
+}
+
 /// Does what a source means, in so many turns, with this input and output: the verdict of its meaning, and what a person is reported of
 /// it. A source that is refused is refused as `run_source` refuses it, and nothing is done of it.
 pub fn check_source<C: ByteIn, I: ByteIn, O: ByteOut>(
@@ -155,7 +175,7 @@ pub fn check_source<C: ByteIn, I: ByteIn, O: ByteOut>(
         Err(refusal) => return Err(NotChecked::Text(refusal)),
     };
     match check(alloc, trees.as_slice(), turns, input, out) {
-        Ok(report) => Ok(texts.shown(report)),
-        Err(given) => Err(NotChecked::Run(texts.shown_given_up(given))),
+        Ok(report) => Ok(placed(&texts, report)),
+        Err(given) => Err(NotChecked::Run(placed_given_up(&texts, given))),
     }
 }

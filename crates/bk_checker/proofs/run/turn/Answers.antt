@@ -1,3 +1,4 @@
+use Rattle.std.proofs.Common.{inl}
 use Rattle.bk_checker.proofs.Terms.{rules, refl, Begins-refl, program_in}
 use Rattle.bk_checker.proofs.Running.{moves_still, reaches_still, exchanged_none, if_err, not_ok}
 use Rattle.bk_checker.proofs.Progress.{stands_not}
@@ -11,6 +12,7 @@ returns-in_err-step-in_default g c = record {
   passes = Begins-refl _;
   sound = not_ok _ c.from_residual.result c.from_residual.ensures.0;
   cause = search (c.from_residual.ensures, rules);
+  flushed_first = λ none going. not_ok _ c.from_residual.result c.from_residual.ensures.0;
   within = search (c.from_residual.ensures, rules);
 }
 
@@ -22,5 +24,6 @@ returns-in_ok-step-in_default g c = record {
   passes = Begins-refl _;
   sound = (refl, refl);
   cause = tt;
+  flushed_first = λ none going. inl refl;
   within = tt;
 }

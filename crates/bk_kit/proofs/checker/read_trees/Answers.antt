@@ -1,13 +1,14 @@
-use Rattle.bk_kit.proofs.Terms.{◌≡◌, ◌++◌, sym, subst, arith, List, map, rules, Declarations, declarations_of, KitFault, trees_in, Compiled, Refuses, HasTheseTrees, is_read_fault, NotAssembled, ReadsSource}
+use Rattle.bk_kit.proofs.Terms.{◌≡◌, ◌⊎◌, ◌++◌, sym, subst, arith, List, [], map, rules, Declarations, declarations_of, KitFault, trees_in, Compiled, Refuses, HasTheseTrees, is_read_fault, NotAssembled, ReadsSource}
 use Rattle.bk_tree.specs.Position.{column_after}
 use Rattle.bk_lines.specs.Places.{line_after}
 use Rattle.bk_filters.proofs.Lemmas.{some_taken, WithTrees, trees_none, not_read, no_memory, not_compiled, trees_go_on, trees_end, stops_reading, has_read}
+use Rattle.bk_checker.specs.Reports.{IsAdded}
 use Rattle.bk_kit.specs.Checking.{HintsAt, IsCut}
-use Rattle.bk_kit.proofs.HintLemmas.{reached_none, reached_on, hinted, not_hinted}
+use Rattle.bk_kit.proofs.HintLemmas.{reached_none, reached_on, hinted, not_hinted, in_source, none_yet, all_later, all_pushed}
 use Rattle.bk_kit.proofs.checker.read_trees.Goals as goal
 
 pub loop-lexer-init : goal.loop-lexer-init
-loop-lexer-init g c = (rw (c.first-line.ensures, c.new-trees.ensures.items) (trees_none _ _), reached_none _ _ c.of_source-start.ensures.line c.of_source-start.ensures.column)
+loop-lexer-init g c = (rw (c.first-line.ensures, c.new-trees.ensures.items) (trees_none _ _), reached_none _ _ c.of_source-start.ensures.line c.of_source-start.ensures.column, λ none. none_yet _ _ _ none)
 
 pub returns-in-Err-clause-refused : goal.returns-in-Err-clause-refused
 returns-in-Err-clause-refused g c =
@@ -56,12 +57,20 @@ loop-lexer-preserved g c =
     let column : c.after-start.result.column ≡ column_after c.loop-lexer.start.column c.in-Ok.lexer.bytes = search rules in
     let read = c.in-Ok.ensures.read in
     let compiled = subst (λ n. Compiled c.in-Ok-compile_section.section c.in-Ok.lexer.bytes n) c.in-Ok.ensures.line c.in-Ok-compile_section.ensures.compiled in
-    let all : map declarations_of c.push_tree.new.trees.items ≡ map declarations_of c.loop-lexer.trees.items ++ trees_in c.in-Ok-compile_section.section.code = search rules in (
+    let all : map declarations_of c.push_tree.new.trees.items ≡ map declarations_of c.loop-lexer.trees.items ++ trees_in c.in-Ok-compile_section.section.code = search rules in
+    let added : (c.push_tree.new.texts.texts.items ≡ c.loop-lexer.texts.texts.items) ⊎ IsAdded c.loop-lexer.start c.in-Ok.lexer.bytes c.loop-lexer.texts.texts.items c.push_tree.new.texts.texts.items = search rules in (
       subst (λ (trees : List Declarations). WithTrees (g.C.ByteIn.left c.args.source.now) (g.C.ByteIn.left c.read_source_section.new.source) c.read_source_section.new.taken c.in-Some.next trees (g.C.ByteIn.faults c.read_source_section.new.source)) (sym all)
           (trees_go_on _ _ _ _ _ c.read_source_section.new.taken c.loop-lexer.line c.loop-lexer.invariant.0.passed c.in-Ok.lexer.bytes read.0 c.read_source_section.ensures.within read.1
           c.in-Ok-compile_section.section compiled (map declarations_of c.loop-lexer.trees.items) c.loop-lexer.invariant.0.trees_are c.in-Some.next (g.C.ByteIn.faults c.read_source_section.new.source) c.in-Some.is (c.in-Ok.ensures.failures c.loop-lexer.invariant.0.readable)),
       reached_on _ _ _ _ c.loop-lexer.invariant.1 _ read.0.delivered _ line column,
+      λ none. all_pushed _ _ _ _ _ _ added (all_later _ _ _ _ _ read.0.delivered (c.loop-lexer.invariant.2 none)) (in_source _ _ _ _ _ c.loop-lexer.invariant.1 read.0.delivered),
     )
+
+pub returns-in-None-clause-texts : goal.returns-in-None-clause-texts
+returns-in-None-clause-texts g c =
+    let delivered = c.in-Ok.ensures.read.0.delivered in
+    let added : (c.push_tree.new.texts.texts.items ≡ c.loop-lexer.texts.texts.items) ⊎ IsAdded c.loop-lexer.start c.in-Ok.lexer.bytes c.loop-lexer.texts.texts.items c.push_tree.new.texts.texts.items = search rules in
+    λ none. all_pushed _ _ _ _ _ _ added (all_later _ _ _ _ _ delivered (c.loop-lexer.invariant.2 none)) (in_source _ _ _ _ _ c.loop-lexer.invariant.1 delivered)
 
 pub returns-in-Err-compile_section-clause-delivered : goal.returns-in-Err-compile_section-clause-delivered
 returns-in-Err-compile_section-clause-delivered g c =
