@@ -14,7 +14,9 @@ use bk_base::{ByteIn, ByteOut, Failed, Line};
 use bk_ocode::print;
 use std::alloc::Global;
 
-/// Writes the code of a section, if it has any.
+/// Writes the code of a section, if it has any. It is a function of its own, so that the loops over statements and bytes have their
+/// registers to themselves.
+#[inline(never)]
 fn put_code<O: ByteOut>(section: &Option<SectionCode>, out: &mut O) -> Result<(), Failed>
     ensures takes { OnOk result (Appends (O.taken out.old) (O.taken out.new) (texts_of (codes_in section.now))) }
     ensures part { OnErr result (AppendsPart (O.taken out.old) (O.taken out.new) (texts_of (codes_in section.now))) }
