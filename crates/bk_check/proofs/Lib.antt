@@ -1,5 +1,6 @@
 mod Terms
 mod Acts
+mod AtOnce
 mod Arguments
 mod Entering
 mod Formals

@@ -1,12 +1,12 @@
 -- The names of the layers below that several of these proofs use.
-pub use Rattle.std.proofs.Common.{◌≡◌, ℕ, zero, suc, refl, drop, ◌<◌, length, ap, ◌∙◌, arith, false, List, [], ◌∷◌, map, ◌-◌, sym, Option, ◌+◌, max, Vec, ◌++◌, subst, Bool, add-one, true, ◌||◌, Result, Ok, Err, IfOk, append_assoc, Some, None, IfSome}
+pub use Rattle.std.proofs.Common.{◌≡◌, ℕ, zero, suc, refl, drop, ◌<◌, length, ap, ◌∙◌, arith, false, List, [], ◌∷◌, map, ◌-◌, sym, Option, ◌+◌, max, Vec, ◌++◌, subst, Bool, add-one, true, ◌||◌, Result, Ok, Err, IfOk, append_assoc, Some, None, IfSome, rules}
 pub use Rattle.std.specs.Prelude.{slice_get, unwrap_or}
 pub use Rattle.bk_lasting.specs.Views.{env_in, procedure_in, body_in}
 pub use Rattle.bk_meaning.proofs.Lemmas.{full_rounds, turn_left, turn_none, full_value, full_target, full_scope, full_act, full_truth, full_for_rounds}
 pub use Rattle.bk_meaning.specs.Blocks.{starts, vec_cells, Start, make_vec, paired, let_values, bind_variables}
 pub use Rattle.bk_meaning.specs.Calls.{formal_cells, bind_formals, run_body, called, returned, call, values, applied}
 pub use Rattle.bk_meaning.specs.Commands.{act_of}
-pub use Rattle.bk_meaning.specs.Environment.{Environment, constant_in, cell, bind, past, past_definition, letters, objects, following, labelled, objects_of_definition}
+pub use Rattle.bk_meaning.specs.Environment.{Environment, constant_in, cell, bind, past, past_command, past_definition, letters, objects, following, labelled, objects_of_definition}
 pub use Rattle.bk_meaning.specs.Expressions.{combined, value_of, target_of, truth_of}
 pub use Rattle.bk_meaning.specs.Full.{full}
 pub use Rattle.bk_meaning.specs.Lasting.{Procedure, Program}

@@ -1,4 +1,5 @@
 pub mod Views
+pub mod Known
 pub mod Plain
 pub mod Resume
 pub mod Worlds

@@ -1,11 +1,11 @@
 //! Commands: what a machine does for each, from its beginning or from a place in it that is sought.
-ghost use Rattle.std.specs.Prelude.{◌≡◌, ℕ, IfOk, List, ◌+◌, ◌≤◌};
+ghost use Rattle.std.specs.Prelude.{◌≡◌, ℕ, IfOk, List, ◌+◌, ◌≤◌, length};
 ghost use Rattle.bk_tree.specs.Tree as t;
 ghost use Rattle.bk_tree.specs.Tree.{command_in, commands_in, expression, expressions_in, declarations_in, step_in, mention};
-ghost use Rattle.bk_meaning.specs.World.{World, with, done};
-ghost use Rattle.bk_meaning.specs.Environment.{past_each};
+ghost use Rattle.bk_meaning.specs.World.{World, with, done, leaves, result as the_result};
+ghost use Rattle.bk_meaning.specs.Environment.{past_each, past_command};
 ghost use Rattle.bk_meaning.specs.Lasting.{Program};
-ghost use Rattle.bk_meaning.specs.Seeking.{Mode};
+ghost use Rattle.bk_meaning.specs.Seeking.{Mode, forwards, seeking};
 ghost use Rattle.bk_meaning.specs.Loops.{step_of as step_of_for};
 ghost use Rattle.bk_meaning.specs.Scopes as s;
 ghost use Rattle.bk_meaning.specs.Calls.{applied};
@@ -13,14 +13,15 @@ ghost use Rattle.bk_meaning.specs.Parts.{acts_at};
 ghost use Rattle.bk_meaning.specs.Commands as c;
 ghost use Rattle.bk_meaning.specs.Full.{full};
 ghost use Rattle.bk_check.specs.Plain.{takes_no_turn};
-ghost use Rattle.bk_check.specs.Views.{mode_in};
+ghost use Rattle.bk_check.specs.Views.{mode_in, sought_in};
 ghost use Rattle.bk_objects.specs.Views.{value_in};
 ghost use Rattle.bk_lasting.specs.Views.{env_in};
 ghost use Rattle.bk_check.specs.Worlds.{Bytes, world};
-ghost use Rattle.bk_check.specs.Resume.{tag, done_tag, Comes, resumed, begun_loop};
-ghost use Rattle.bk_check.specs.Progress.{Within, order_cost, scope_cost, assign_cost};
+ghost use Rattle.bk_check.specs.Resume.{tag, done_tag, done_goes, Comes, resumed, begun_loop};
+ghost use Rattle.bk_check.specs.Progress.{Within, order_cost, scope_cost, assign_cost, done_cost};
 
 use crate::frame::{Continuation, Exit, Next, OnDone, OnTruth, OnValue, Sought, Subject, Thing};
+use crate::going_on::put_first;
 use crate::loops::round;
 use crate::machine::Evaluator;
 use crate::seeking::{at_case, at_default, at_label, has_place};
@@ -130,7 +131,7 @@ fn act_inside<'a>(
             body: inside,
             ..
         } => switch(m, value, inside, mode, env),
-        Command::ResultIs { value, .. } => m.first_value(OnValue::Result, value, env),
+        Command::ResultIs { value, .. } => result_is(m, value, env),
         Command::Simple { word, .. } => Ok(simple(*word)),
         Command::Block {
             decls,
@@ -212,6 +213,27 @@ fn for_command<'a>(
         first,
         env,
     )
+}
+
+/// RESULTIS.
+fn result_is<'a>(
+    m: &mut Evaluator<'a>,
+    value: &'a Expr,
+    env: Env<'a>,
+) -> Result<Next<'a>, AllocError>
+    ensures comes { IfOk result (λ next. (p : Program) (b : Bytes) →
+        Comes p m.new.frames.items next (world m.new b)
+        (resumed p m.old.frames.items (tag done_tag (with ((full p).value (expression value.now) (env_in env.entry) (world m.old b))
+        (λ v w. leaves (the_result v) w))))) }
+    ensures turns { m.new.turns ≤ m.old.turns }
+{
+    match m.at_once(value, &env) {
+        Some(k) => {
+            m.turns = k.1;
+            Ok(Next::Leaves(Exit::Result(k.0)))
+        }
+        None => m.first_value(OnValue::Result, value, env),
+    }
 }
 
 /// SWITCHON.
@@ -348,10 +370,16 @@ pub fn assigned<'a>(
         None => Ok(Next::Gives(Thing::Done)),
         Some(_) => match values.split_first() {
             None => Ok(Next::Gives(Thing::Done)),
-            Some((first, rest)) => {
-                let following = env.again()?.following(count(first)?)?;
-                m.first_value(OnValue::Assigned(dests, there, rest, following), first, env)
-            }
+            Some((first, rest)) => match m.at_once(first, &env) {
+                Some(k) => {
+                    m.turns = k.1;
+                    put_first(m, k.0, dests, there, rest, env)
+                }
+                None => {
+                    let following = env.again()?.following(count(first)?)?;
+                    m.first_value(OnValue::Assigned(dests, there, rest, following), first, env)
+                }
+            },
         },
     }
 }
@@ -369,22 +397,103 @@ pub fn in_order<'a>(
         (resumed p m.old.frames.items (tag done_tag (s.in_order (full p) (commands_in commands.now) (mode_in mode.entry) (env_in env.entry) (world m.old b))))) }
     ensures falls { Within (order_cost commands.now) m.old m.new result }
 {
-    match commands.split_first() {
-        None => Ok(Next::Gives(Thing::Done)),
-        Some((first, rest)) => {
-            let following = env.again()?.following(count_command(first)?)?;
-            match mode {
-                None => m.first_act(OnDone::After(rest, following), first, None, env),
-                Some(sought) => {
-                    if has_place(sought, &env, first) {
-                        m.first_act(OnDone::After(rest, following), first, Some(sought), env)
-                    } else {
-                        Ok(Next::InOrder(rest, Some(sought), following))
-                    }
-                }
-            }
+    match mode {
+        None => first_of(m, commands, None, env),
+        Some(sought) => {
+            let k = passed(sought, commands, env)?;
+            first_of(m, k.0, Some(sought), k.1)
         }
     }
+}
+
+/// The commands from the first one on that a place is in, and what names mean there.
+fn passed<'a>(
+    sought: Sought<'a>,
+    commands: &'a [Command],
+    env: Env<'a>,
+) -> Result<(&'a [Command], Env<'a>), AllocError>
+    ensures same { IfOk result (λ k. (p : Program) (w : World) →
+        s.in_order (full p) (commands_in k.0.now) (seeking (sought_in sought.entry)) (env_in k.1) w
+        ≡ s.in_order (full p) (commands_in commands.now) (seeking (sought_in sought.entry)) (env_in env.entry) w) }
+    ensures fewer { IfOk result (λ k. length k.0.now ≤ length commands.now) }
+{
+    let mut rest = commands;
+    let mut here = env;
+    'passing: while let Some((first, others)) = rest.split_first() {
+        if has_place(sought, &here, first) {
+            break 'passing;
+        }
+        here = here.following(count_command(first)?)?;
+        rest = others;
+    }
+    Ok((rest, here))
+}
+
+/// The first of commands in order, and those after it.
+fn first_of<'a>(
+    m: &mut Evaluator<'a>,
+    commands: &'a [Command],
+    mode: Option<Sought<'a>>,
+    env: Env<'a>,
+) -> Result<Next<'a>, AllocError>
+    ensures comes { IfOk result (λ next. (p : Program) (b : Bytes) →
+        Comes p m.new.frames.items next (world m.new b)
+        (resumed p m.old.frames.items (tag done_tag (s.in_order (full p) (commands_in commands.now) (mode_in mode.entry) (env_in env.entry) (world m.old b))))) }
+    ensures falls { Within (order_cost commands.now) m.old m.new result }
+{
+    match commands.split_first() {
+        None => Ok(Next::Gives(Thing::Done)),
+        Some((first, rest)) => match mode {
+            None => one_of(m, first, rest, None, env),
+            Some(sought) => {
+                if has_place(sought, &env, first) {
+                    one_of(m, first, rest, Some(sought), env)
+                } else {
+                    let following = env.following(count_command(first)?)?;
+                    Ok(Next::InOrder(rest, Some(sought), following))
+                }
+            }
+        },
+    }
+}
+
+/// A command, and those after it. The last one needs no frame.
+fn one_of<'a>(
+    m: &mut Evaluator<'a>,
+    first: &'a Command,
+    rest: &'a [Command],
+    mode: Option<Sought<'a>>,
+    env: Env<'a>,
+) -> Result<Next<'a>, AllocError>
+    ensures comes { IfOk result (λ next. (p : Program) (b : Bytes) →
+        Comes p m.new.frames.items next (world m.new b)
+        (resumed p m.old.frames.items (tag done_tag (with ((full p).act (command_in first.now) (mode_in mode.entry) (env_in env.entry) (world m.old b))
+        (λ _ w. s.in_order (full p) (commands_in rest.now) forwards (past_command (command_in first.now) (env_in env.entry)) w))))) }
+    ensures falls { Within (order_cost rest.now + 2) m.old m.new result }
+{
+    if rest.is_empty() {
+        return act(m, first, mode, env);
+    }
+    let following = env.again()?.following(count_command(first)?)?;
+    act_under(m, OnDone::After(rest, following), first, mode, env)
+}
+
+/// A command is done, and this frame goes on after it.
+fn act_under<'a>(
+    m: &mut Evaluator<'a>,
+    frame: OnDone<'a>,
+    command: &'a Command,
+    mode: Option<Sought<'a>>,
+    env: Env<'a>,
+) -> Result<Next<'a>, AllocError>
+    ensures comes { IfOk result (λ next. (p : Program) (b : Bytes) →
+        Comes p m.new.frames.items next (world m.new b)
+        (resumed p m.old.frames.items (done_goes p frame.entry
+        ((full p).act (command_in command.now) (mode_in mode.entry) (env_in env.entry) (world m.old b))))) }
+    ensures falls { Within (done_cost frame.entry + 1) m.old m.new result }
+{
+    m.frames.push(Continuation::Done(frame))?;
+    act(m, command, mode, env)
 }
 
 /// The commands of a scope, which owns their labels.

@@ -1,10 +1,10 @@
 //! Frames go on with what the parts inside gave.
-ghost use Rattle.std.specs.Prelude.{◌≡◌, IfOk, List, ◌+◌};
-ghost use Rattle.bk_tree.specs.Tree.{command_in, commands_in, expressions_in};
+ghost use Rattle.std.specs.Prelude.{◌≡◌, ◌<◌, IfOk, IfSome, List, [], ◌+◌, Ok};
+ghost use Rattle.bk_tree.specs.Tree.{command_in, commands_in, expression, expressions_in};
 ghost use Rattle.bk_meaning.specs.World.{World, goto, gives, leaves, undefined, done};
 ghost use Rattle.bk_meaning.specs.Scopes.{alone};
 ghost use Rattle.bk_meaning.specs.Causes.{no_place};
-ghost use Rattle.bk_meaning.specs.Parts.{nowhere};
+ghost use Rattle.bk_meaning.specs.Parts.{nowhere, store, acts_at};
 ghost use Rattle.bk_meaning.specs.Lasting.{Program};
 ghost use Rattle.bk_meaning.specs.Full.{full};
 ghost use Rattle.bk_check.specs.Views.{program_in};
@@ -17,11 +17,12 @@ ghost use Rattle.bk_check.specs.Progress.{Within, LeftWithin, Adds, Falls, order
 
 use crate::blocks::named;
 use crate::calls::call;
-use crate::commands::{assigned, choose_case, scope};
+use crate::commands::{assigned, choose_case, in_order, scope};
 use crate::fors::{begin_for, next_for};
 use crate::frame::{
     Continuation, Exit, Next, OnDone, OnTarget, OnTruth, OnValue, Operands, Sought, Subject, Thing,
 };
+use crate::known::{DEPTH, known_target};
 use crate::loops::{further_round, next_round, round};
 use crate::machine::{Evaluator, came};
 use crate::seeking::{has_place, one_has_place};
@@ -80,7 +81,7 @@ fn with_value<'a>(
 
 /// A value goes to the first of these destinations; the assignments after it.
 #[inline(never)]
-fn put_first<'a>(
+pub fn put_first<'a>(
     m: &mut Evaluator<'a>,
     x: Worth,
     dests: &'a [Expr],
@@ -95,21 +96,54 @@ fn put_first<'a>(
     ensures falls { Within (assign_cost dests.now) m.old m.new result }
 {
     match dests.split_first() {
-        Some((first, rest)) => {
-            let following = there.again()?.following(count(first)?)?;
-            m.first_target(
-                OnTarget::Put(first, x, rest, following, values, env),
-                first,
-                there,
-            )
-        }
+        Some((first, rest)) => match last_place(m, first, rest, &there) {
+            Some(k) => {
+                m.turns = k.1;
+                Ok(put_last(m, first, k.0, x))
+            }
+            None => {
+                let following = there.again()?.following(count(first)?)?;
+                m.first_target(
+                    OnTarget::Put(first, x, rest, following, values, env),
+                    first,
+                    there,
+                )
+            }
+        },
         None => Ok(Next::Gives(Thing::Done)),
+    }
+}
+
+/// The place of a destination that is the last one, if it is known at once.
+fn last_place(m: &Evaluator, first: &Expr, rest: &[Expr], there: &Env) -> Option<(Location, u64)>
+    ensures last { IfSome result (λ _. rest.now ≡ []) }
+    ensures value { IfSome result (λ k. (p : Program) (b : Bytes)
+        → (full p).target (expression first.now) (env_in there.now) (world m.now b)
+        ≡ gives (place_in k.0) (record (world m.now b) { turns = k.1 })) }
+    ensures fewer { IfSome result (λ k. k.1 < m.now.turns) }
+{
+    if rest.is_empty() {
+        known_target(&m.store, m.turns, DEPTH, first, there)
+    } else {
+        None
+    }
+}
+
+/// A value goes to the place of a destination, which is the last one.
+fn put_last<'a>(m: &mut Evaluator<'a>, dest: &'a Expr, place: Location, x: Worth) -> Next<'a>
+    ensures comes { (p : Program) (b : Bytes) → Comes p m.new.frames.items result (world m.new b)
+        (resumed p m.old.frames.items (tag done_tag (store (acts_at (expression dest.now)) (place_in place) (value_in x) (world m.old b)))) }
+    ensures falls { Within 0 m.old m.new (Ok result) }
+{
+    match put(&mut m.store, place, x) {
+        Ok(()) => Next::Gives(Thing::Done),
+        Err(reason) => Next::Undefined(Subject::Expr(dest), reason),
     }
 }
 
 /// What goes on with a truth.
 #[inline(never)]
-fn with_truth<'a>(
+pub fn with_truth<'a>(
     m: &mut Evaluator<'a>,
     frame: OnTruth<'a>,
     x: bool,
@@ -122,7 +156,7 @@ fn with_truth<'a>(
     match frame {
         OnTruth::Choice(a, b, env) => {
             if x {
-                Ok(Next::Value(a, env))
+                Ok(m.value_next(a, env))
             } else {
                 let following = env.following(count(a)?)?;
                 Ok(Next::Value(b, following))
@@ -225,7 +259,7 @@ fn with_done<'a>(m: &mut Evaluator<'a>, frame: OnDone<'a>) -> Result<Next<'a>, A
     ensures falls { Within (done_cost frame.entry) m.old m.new result }
 {
     match frame {
-        OnDone::After(commands, env) => Ok(Next::InOrder(commands, None, env)),
+        OnDone::After(commands, env) => in_order(m, commands, None, env),
         OnDone::Body => Ok(Next::Gives(Thing::Value(Worth::Unset(of_body(m))))),
         OnDone::Valof(line) => Ok(Next::Gives(Thing::Value(Worth::Unset(of_valof(m, line))))),
         OnDone::Scope(_, _) => Ok(Next::Gives(Thing::Done)),

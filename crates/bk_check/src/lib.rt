@@ -7,6 +7,7 @@ mod commands;
 mod fors;
 mod frame;
 mod going_on;
+mod known;
 mod loops;
 mod machine;
 mod seeking;

@@ -21,10 +21,13 @@ ghost use Rattle.bk_check.specs.Resume.{tag, done_tag, a_value, a_truth, a_targe
 ghost use Rattle.bk_objects.specs.Views.{outcome_of};
 ghost use Rattle.bk_check.specs.Progress.{Within, Adds, arguments_cost, value_cost, truth_cost, target_cost, done_cost};
 
+use crate::commands::act;
 use crate::frame::{
     Continuation, Next, OnDone, OnTarget, OnTruth, OnValue, Operands, Sought, Subject, Thing,
     subject_of,
 };
+use crate::going_on::with_truth;
+use crate::known::{DEPTH, known, known_arguments, known_truth};
 use crate::seeking::has_place;
 use bk_base::word;
 use bk_lasting::{Env, Sense, count, in_scope};
@@ -57,48 +60,16 @@ pub fn came<'a>(expr: &'a Expr, operands: Operands, came: Computed) -> Next<'a>
     }
 }
 
-/// The value of a name that means this, if it has one.
-fn known_name(store: &Store, sense: Option<Sense>) -> Option<Worth>
-    ensures { IfSome result (λ x. (l : ℕ) (w : World) → w.memory ≡ store.now
-        → Parts.named l (option_map sense_in sense) w ≡ gives (value_in x) w) }
-{
-    match sense {
-        Some(Sense::Constant(word)) => Some(Worth::Number(word)),
-        Some(Sense::Cell(object, offset)) => match read(store, Worth::Address(object, offset)) {
-            Computed::Value(x) => Some(x),
-            Computed::DivideByZero | Computed::Undefined(_) => None,
-        },
-        Some(Sense::Label) | Some(Sense::Foreign) | None => None,
-    }
-}
-
-/// The value of an expression that is a name or a number, if it has one.
-fn known(store: &Store, expr: &Expr, env: &Env) -> Option<Worth>
-    ensures value { IfSome result (λ x. (p : Program) (w : World) → w.memory ≡ store.now
-        → value_of p (full p) (expression expr.now) (env_in env.now) w ≡ gives (value_in x) w) }
-    ensures lasting { IfSome result (λ _. objects (expression expr.now) ≡ 0) }
-{
-    match expr {
-        Expr::Number { word: number, .. } => Some(Worth::Number(*number)),
-        Expr::Name { letters: name, .. } => known_name(store, env.sense(name)),
-        _ => None,
-    }
-}
-
 impl<'a> Evaluator<'a> {
-    /// The value of a name or a number, for which no frame is needed. Where it has none, or no turn is left, the way by a frame
-    /// says why.
-    fn leaf(&self, expr: &Expr, env: &Env) -> Option<Worth>
-        ensures left { IfSome result (λ _. 0 < self.now.turns) }
-        ensures value { IfSome result (λ x. (p : Program) (b : Bytes)
+    /// The value of an expression that is known at once, and the turns that are left after it.
+    pub fn at_once(&self, expr: &Expr, env: &Env) -> Option<(Worth, u64)>
+        ensures value { IfSome result (λ k. (p : Program) (b : Bytes)
             → (full p).value (expression expr.now) (env_in env.now) (world self.now b)
-            ≡ gives (value_in x) (record (world self.now b) { turns = self.now.turns - 1 })) }
+            ≡ gives (value_in k.0) (record (world self.now b) { turns = k.1 })) }
+        ensures fewer { IfSome result (λ k. k.1 < self.now.turns) }
         ensures lasting { IfSome result (λ _. objects (expression expr.now) ≡ 0) }
     {
-        if self.turns == 0 {
-            return None;
-        }
-        known(&self.store, expr, env)
+        known(&self.store, self.turns, DEPTH, expr, env)
     }
 
     /// The operands of an operator, and what it gives.
@@ -117,10 +88,10 @@ impl<'a> Evaluator<'a> {
             (combination (acting (expression expr.now)) operator x)))))) }
         ensures turns { self.new.turns ≤ self.old.turns }
     {
-        match self.leaf(a, &env) {
-            Some(x) => {
-                self.turns -= 1;
-                self.second(expr, operator, x, b, env)
+        match self.at_once(a, &env) {
+            Some(k) => {
+                self.turns = k.1;
+                self.second(expr, operator, k.0, b, env)
             }
             None => self.first(expr, operator, a, b, env),
         }
@@ -162,10 +133,10 @@ impl<'a> Evaluator<'a> {
             (combination (acting (expression expr.now)) operator (value_in x)))))) }
         ensures falls { Within 2 self.old self.new result }
     {
-        match self.leaf(b, &env) {
-            Some(y) => {
-                self.turns -= 1;
-                Ok(self.combined(expr, operator, x, y))
+        match self.at_once(b, &env) {
+            Some(k) => {
+                self.turns = k.1;
+                Ok(self.combined(expr, operator, x, k.0))
             }
             None => self.first_value(OnValue::Right(expr, operator, x), b, env),
         }
@@ -184,7 +155,22 @@ impl<'a> Evaluator<'a> {
         ensures falls { Within (value_cost frame.entry + 2) self.old self.new result }
     {
         self.frames.push(Continuation::Value(frame))?;
-        Ok(Next::Value(expr, env))
+        Ok(self.value_next(expr, env))
+    }
+
+    /// What comes next where a value is asked for: the value itself, if it is known at once.
+    pub fn value_next(&mut self, expr: &'a Expr, env: Env<'a>) -> Next<'a>
+        ensures comes { (p : Program) (b : Bytes) → Comes p self.new.frames.items result (world self.new b)
+            (resumed p self.old.frames.items (tag a_value ((full p).value (expression expr.now) (env_in env.entry) (world self.old b)))) }
+        ensures falls { Within 1 self.old self.new (Ok result) }
+    {
+        match self.at_once(expr, &env) {
+            Some(k) => {
+                self.turns = k.1;
+                Next::Gives(Thing::Value(k.0))
+            }
+            None => Next::Value(expr, env),
+        }
     }
 
     /// A truth is asked for.
@@ -199,8 +185,16 @@ impl<'a> Evaluator<'a> {
             (resumed p self.old.frames.items (truth_goes p frame.entry ((full p).truth (expression expr.now) (env_in env.entry) (world self.old b))))) }
         ensures falls { Within (truth_cost frame.entry + 2) self.old self.new result }
     {
-        self.frames.push(Continuation::Truth(frame))?;
-        Ok(Next::Truth(expr, env))
+        match known_truth(&self.store, self.turns, DEPTH, expr, &env) {
+            Some(k) => {
+                self.turns = k.1;
+                with_truth(self, frame, k.0)
+            }
+            None => {
+                self.frames.push(Continuation::Truth(frame))?;
+                Ok(Next::Truth(expr, env))
+            }
+        }
     }
 
     /// A place is asked for.
@@ -405,6 +399,27 @@ impl<'a> Evaluator<'a> {
             (env_in here.entry) (expression callee.now) (env_in env.entry) (world self.old b))))) }
         ensures falls { Within (arguments_cost items.now) self.old self.new result }
     {
+        let k = known_arguments(&self.store, self.turns, items, before, &here)?;
+        self.turns = k.turns;
+        self.first_argument(at, k.items, here, k.before, callee, env)
+    }
+
+    /// The first of the arguments that are left.
+    fn first_argument(
+        &mut self,
+        at: Position,
+        items: &'a [Expr],
+        here: Env<'a>,
+        before: Vec<Worth>,
+        callee: &'a Expr,
+        env: Env<'a>,
+    ) -> Result<Next<'a>, AllocError>
+        ensures comes { IfOk result (λ next. (p : Program) (b : Bytes) →
+            Comes p self.new.frames.items next (world self.new b)
+            (resumed p self.old.frames.items (tag a_value (applied_after p at (list_value before.items) (expressions_in items.now)
+            (env_in here.entry) (expression callee.now) (env_in env.entry) (world self.old b))))) }
+        ensures falls { Within (arguments_cost items.now) self.old self.new result }
+    {
         match items.split_first() {
             Some((first, rest)) => {
                 let following = here.again()?.following(count(first)?)?;
@@ -454,7 +469,7 @@ impl<'a> Evaluator<'a> {
         self.frames
             .push(Continuation::Done(OnDone::Alone(command, env.again()?)))?;
         let inside = in_scope(self.alloc, command, env)?;
-        Ok(from_place(command, mode, inside))
+        from_place(self, command, mode, inside)
     }
 
     /// An expression that is judged by its value.
@@ -598,19 +613,25 @@ impl<'a> Evaluator<'a> {
 }
 
 /// A command in its scope, or nothing where the place that is sought is not in it.
-fn from_place<'a>(command: &'a Command, mode: Option<Sought<'a>>, env: Env<'a>) -> Next<'a>
-    ensures comes { (p : Program) (fs : List Continuation) (w : World)
-        → Comes p fs result w (resumed p fs (tag done_tag (in_order (full p) (alone (command_in command.now)) (mode_in mode.entry)
-        (env_in env.entry) w))) }
-    ensures falls { Adds 1 (Ok result) }
+fn from_place<'a>(
+    m: &mut Evaluator<'a>,
+    command: &'a Command,
+    mode: Option<Sought<'a>>,
+    env: Env<'a>,
+) -> Result<Next<'a>, AllocError>
+    ensures comes { IfOk result (λ next. (p : Program) (b : Bytes) →
+        Comes p m.new.frames.items next (world m.new b)
+        (resumed p m.old.frames.items (tag done_tag (in_order (full p) (alone (command_in command.now)) (mode_in mode.entry)
+        (env_in env.entry) (world m.old b))))) }
+    ensures falls { Within 1 m.old m.new result }
 {
     match mode {
-        None => Next::Act(command, None, env),
+        None => act(m, command, None, env),
         Some(sought) => {
             if has_place(sought, &env, command) {
-                Next::Act(command, mode, env)
+                act(m, command, mode, env)
             } else {
-                Next::Gives(Thing::Done)
+                Ok(Next::Gives(Thing::Done))
             }
         }
     }

@@ -1,5 +1,6 @@
+use Rattle.bk_check.proofs.Terms.{◌∙◌}
 use Rattle.bk_check.proofs.Resuming.{pushed_value}
 use Rattle.bk_check.proofs.machine.Evaluator.first_value.Goals as goal
 
 pub returns-clause-comes : goal.returns-clause-comes
-returns-clause-comes c = λ p b. pushed_value p _ _ _ _ c.in_ok-push.ensures.items
+returns-clause-comes c = λ p b. c.value_next.ensures.comes p b ∙ pushed_value p _ _ _ _ c.in_ok-push.ensures.items

@@ -4,7 +4,7 @@ use Rattle.bk_meaning.specs.Parts.{fetch, named}
 use Rattle.bk_lasting.specs.Views.{sense_in}
 use Rattle.bk_lasting.specs.declared.env.Sense.{Sense}
 use Rattle.bk_lasting.specs.declared.env.Sense.TheVariants.{Cell}
-use Rattle.bk_check.proofs.machine.known_name.Goals as goal
+use Rattle.bk_check.proofs.known.known_name.Goals as goal
 
 of_cell : (sense : Option Sense) (this : Sense) (object offset l : ℕ) (x : Value) (w : World) → sense ≡ Some this → this ≡ Cell object offset
     → fetch l (address object offset) w ≡ gives x w → named l (option_map sense_in sense) w ≡ gives x w
