@@ -6,7 +6,7 @@ use crate::operands::{
     Operand, bare, say_fault_of, say_no_value, say_operand, say_shared, say_uncalled, written,
 };
 use crate::operations::{
-    say_beside, say_beyond, say_index, say_names, say_operation, say_subscript,
+    say_beside, say_beyond, say_index, say_names, say_operation, say_other_index, say_subscript,
 };
 use crate::setting::{say_by_value, say_no_global, say_setting, say_setting_of, say_unreached};
 use crate::spelling::{add_number, add_ordinal, add_word, operator_symbol, prefix_symbol};
@@ -188,6 +188,14 @@ fn say_no_byte_number(
     Ok(())
 }
 
+/// Adds the values of the names in an index.
+fn say_known_index(page: &mut Page, index: &Expr) -> Result<(), AllocError> {
+    match page.known(index) {
+        Some(value) => say_index(page, written(index, value)),
+        None => say_names(page, index),
+    }
+}
+
 /// Adds why a destination is undefined.
 fn say_destination(
     page: &mut Page,
@@ -214,15 +222,14 @@ fn say_destination(
         }
         _ => page.say(&[b"what has no place"])?,
     }
-    if let Some(index) = destination.index {
-        match page.known(index) {
-            Some(value) => say_index(page, written(index, value))?,
-            None => say_names(page, index)?,
-        }
-    }
     match reason {
-        Reason::Cell(_) | Reason::Byte(_, _) => say_beside(page),
-        _ => Ok(()),
+        Reason::Cell(_) | Reason::Byte(_, _) => {
+            if let Some(index) = destination.index {
+                say_known_index(page, index)?;
+            }
+            say_beside(page)
+        }
+        _ => say_other_index(page, destination.index),
     }
 }
 
@@ -397,19 +404,6 @@ fn is_negative(by: &Option<Box<Expr>>) -> bool {
     }
 }
 
-/// Adds the limit of a FOR, and where it comes from, where it is a number and the variable is none.
-fn say_number(page: &mut Page, variable: Worth, limit: Operand) -> Result<(), AllocError> {
-    match (variable, limit.value) {
-        (Worth::Number(_), _) => Ok(()),
-        (_, Worth::Number(_)) => {
-            page.say(&[b"; "])?;
-            say_operand(page, limit)?;
-            say_setting(page, limit)
-        }
-        _ => Ok(()),
-    }
-}
-
 /// Adds why the test or the step of a FOR is undefined.
 fn say_for(
     page: &mut Page,
@@ -427,8 +421,7 @@ fn say_for(
             };
             let (last, operator) = limit_of(loop_at(page.program, name.at), limit);
             page.say(&[b"`FOR`: "])?;
-            say_operation(page, operator, variable, last)?;
-            say_number(page, x, last)
+            say_operation(page, operator, variable, last)
         }
         _ => say_name(page, &name.letters, reason),
     }

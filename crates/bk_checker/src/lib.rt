@@ -18,6 +18,7 @@ mod operations;
 mod procedures;
 mod remarks;
 mod report;
+mod results;
 mod rounds;
 mod run;
 mod setting;

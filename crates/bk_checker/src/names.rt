@@ -108,31 +108,52 @@ pub fn name_in<'a>(env: &Env<'a>, object: u64, offset: u32) -> Option<&'a [u8]> 
     None
 }
 
-/// What names mean in the innermost call of a procedure.
-pub fn names_in<'m, 'a>(m: &'m Evaluator<'a>, program: &'m [Lasting<'a>]) -> Option<Names<'m, 'a>> {
-    let (at, call, number) = innermost(&m.frames)?;
+/// What names mean outside the body of the procedure whose call is the innermost of these frames.
+fn names_outside<'m, 'a>(
+    program: &'m [Lasting<'a>],
+    frames: &'m [Continuation<'a>],
+) -> Option<Names<'m, 'a>> {
+    let (at, call, number) = innermost(frames)?;
     let procedure = procedure_of(program, number)?;
-    let formals = match m.frames.get(at.saturating_add(1)) {
+    let formals = match frames.get(at.saturating_add(1)) {
         Some(Continuation::Closing(object)) => Some((*object, call.arguments)),
         _ => None,
     };
-    for frame in m.frames.iter().skip(at.saturating_add(1)).rev() {
-        if let Some(env) = env_of(frame) {
-            return Some(Names {
-                env,
-                procedure,
-                formals,
-                call: at,
-                is_outside: false,
-            });
-        }
-    }
     Some(Names {
         env: &procedure.env,
         procedure,
         formals,
         call: at,
         is_outside: true,
+    })
+}
+
+/// What names mean in the innermost call of a procedure.
+pub fn names_in<'m, 'a>(m: &'m Evaluator<'a>, program: &'m [Lasting<'a>]) -> Option<Names<'m, 'a>> {
+    let mut names = names_outside(program, &m.frames)?;
+    for frame in m.frames.iter().skip(names.call.saturating_add(1)).rev() {
+        if let Some(env) = env_of(frame) {
+            names.env = env;
+            names.is_outside = false;
+            return Some(names);
+        }
+    }
+    Some(names)
+}
+
+/// What names mean for the last of these frames, which has names of its own.
+pub fn names_at<'m, 'a>(
+    program: &'m [Lasting<'a>],
+    frames: &'m [Continuation<'a>],
+    env: &'m Env<'a>,
+) -> Option<Names<'m, 'a>> {
+    let names = names_outside(program, frames)?;
+    Some(Names {
+        env,
+        procedure: names.procedure,
+        formals: names.formals,
+        call: names.call,
+        is_outside: false,
     })
 }
 

@@ -1,14 +1,14 @@
 //! Why an operator has no value of its operands.
 
-use crate::made::in_procedure;
+use crate::made::{in_procedure, loop_at};
 use crate::operands::{Operand, bare, say_fault_of, say_operand, say_shared, say_uncalled};
-use crate::setting::{say_setting, say_setting_of};
+use crate::setting::{say_setting, say_setting_of, variable_at};
 use crate::sought::Search;
-use crate::spelling::{add_expr, add_word, has_piece, operator_symbol};
+use crate::spelling::{add_expr, add_number, add_word, has_piece, operator_symbol};
 use crate::values::Page;
 use crate::words::{say_byte, say_cell, say_extent};
 use bk_objects::{Reason, Worth};
-use bk_tree::{Expr, Operator};
+use bk_tree::{Command, Expr, Operator};
 use std::alloc::AllocError;
 
 /// The operand that is meant to be the address, and the other. Of two numbers it is not the one that is a constant.
@@ -64,11 +64,19 @@ pub fn say_subscript(
             say_cell(page, expr, Some(base), object, offset)?;
         }
         Reason::Byte(at, number) => say_byte(page, Some(expr), base, at, number)?,
-        _ => say_no_base(page, operator_symbol(operator), base, index)?,
+        _ => {
+            say_no_base(page, operator_symbol(operator), base, index)?;
+            return say_other_index(page, index.expr);
+        }
     }
     say_index(page, index)?;
-    match reason {
-        Reason::Cell(_) | Reason::Byte(_, _) => say_beside(page),
+    say_beside(page)
+}
+
+/// Adds the values of the names in an index that is not at fault itself; a name that is a constant says nothing then.
+pub fn say_other_index(page: &mut Page, index: Option<&Expr>) -> Result<(), AllocError> {
+    match index {
+        Some(expr) if !page.is_constant(expr) => say_names(page, expr),
         _ => Ok(()),
     }
 }
@@ -94,14 +102,32 @@ pub fn say_index(page: &mut Page, index: Operand) -> Result<(), AllocError> {
     let Some(expr) = index.expr else {
         return Ok(());
     };
-    if let Expr::Name { .. } = bare(expr) {
-        if matches!(index.value, Worth::Number(_)) {
-            page.say(&[b"; "])?;
-            return page.say_is(bare(expr), index.value);
+    match (bare(expr), index.value) {
+        (Expr::Name { letters, .. }, Worth::Number(number)) => {
+            say_once(page, letters, number)?;
+            say_count(page, letters)?;
+            say_setting_of(page, letters, index.value)
         }
-        return Ok(());
+        (Expr::Name { .. }, _) => Ok(()),
+        _ => say_names(page, expr),
     }
-    say_names(page, expr)
+}
+
+/// Adds how far the FOR goes whose variable has this name.
+fn say_count(page: &mut Page, name: &[u8]) -> Result<(), AllocError> {
+    let Some(at) = variable_at(page, name) else {
+        return Ok(());
+    };
+    let Some(Command::For { to, .. }) = loop_at(page.program, at) else {
+        return Ok(());
+    };
+    if at.line().number() != page.at.line().number() {
+        page.say(&[b"; the `FOR` of line "])?;
+        add_number(&mut page.text, at.line().number() as usize)?;
+        page.say(&[b" goes to "])?;
+        page.say_expr(to)?;
+    }
+    say_names(page, to)
 }
 
 /// Adds the value of a name, unless it is there already.
@@ -197,9 +223,9 @@ fn say_holders(page: &mut Page, expr: &Expr) -> Result<(), AllocError> {
     }
 }
 
-/// Adds where the value of an operand that is no number comes from.
-fn say_source(page: &mut Page, operand: Operand) -> Result<(), AllocError> {
-    if matches!(operand.value, Worth::Number(_)) {
+/// Adds where the value of an operand comes from; of a number only where it is beside an operator of order.
+fn say_source(page: &mut Page, operator: Operator, operand: Operand) -> Result<(), AllocError> {
+    if matches!(operand.value, Worth::Number(_)) && !is_order(operator) {
         return Ok(());
     }
     match operand.expr {
@@ -244,6 +270,11 @@ fn compares(operator: Operator) -> bool {
     )
 }
 
+/// Whether an operator compares two values by their order.
+fn is_order(operator: Operator) -> bool {
+    compares(operator) && !matches!(operator, Operator::Equal | Operator::Unequal)
+}
+
 /// Adds why an operator has no value of operands of which each is set and in an object that lives.
 fn say_unfit(
     page: &mut Page,
@@ -279,11 +310,24 @@ fn say_unfit(
             say_wants(page, operator, b)?;
             page.say_character(a.value)
         }
+        _ if compares(operator) => {
+            say_order(page, symbol)?;
+            say_both(page, a, b)
+        }
         _ => {
             page.say(&[b"`", symbol, b"` wants numbers: "])?;
             say_both(page, a, b)
         }
     }
+}
+
+/// Adds what an operator of order compares.
+fn say_order(page: &mut Page, symbol: &[u8]) -> Result<(), AllocError> {
+    page.say(&[
+        b"`",
+        symbol,
+        b"` compares two numbers, or two addresses in one object: ",
+    ])
 }
 
 /// Adds what an operator wants beside a number.
@@ -298,6 +342,11 @@ fn say_wants(page: &mut Page, operator: Operator, number: Operand) -> Result<(),
         Operator::Subtract => page.say(&[
             b", and `-` wants numbers, or an address before a number",
         ]),
+        _ if compares(operator) => {
+            page.say(&[b", and "])?;
+            say_order(page, symbol)?;
+            say_operand(page, number)
+        }
         _ => page.say(&[b", and `", symbol, b"` wants numbers"]),
     }
 }
@@ -312,8 +361,7 @@ pub fn say_operation(
     if say_fault_of(page, a)? || say_fault_of(page, b)? {
         return Ok(());
     }
-    if compares(operator)
-        && !matches!(operator, Operator::Equal | Operator::Unequal)
+    if is_order(operator)
         && is_one(a.value, b.value)
         && (say_beyond(page, a)? || say_beyond(page, b)?)
     {
@@ -332,7 +380,7 @@ pub fn say_operation(
         if !are_procedures(a.value, b.value) {
             say_uncalled(page, operand)?;
         }
-        say_source(page, operand)?;
+        say_source(page, operator, operand)?;
     }
     Ok(())
 }

@@ -2,8 +2,7 @@
 
 use crate::jumps::{Back, back_at, between, label_of};
 use crate::made::{in_procedure, loop_at};
-use crate::names::Names;
-use crate::operands::bare;
+use crate::names::names_at;
 use crate::operations::say_names;
 use crate::sought::{Few, Search, Setter, Setters, is_up_to, place_of};
 use crate::spelling::{add, add_expr, add_number, has_piece};
@@ -12,7 +11,7 @@ use crate::walk::{in_command, in_expr};
 use bk_check::{Continuation, OnDone, OnTruth};
 use bk_lasting::{Env, Sense};
 use bk_objects::{Cell, Worth};
-use bk_tree::{Command, Expr, Name, Position};
+use bk_tree::{Command, Expr, Name, Operator, Position, Prefix};
 use std::alloc::AllocError;
 
 /// How many calls are active where a recursion may be without end.
@@ -118,16 +117,28 @@ fn is_local(page: &Page, name: &[u8]) -> bool {
     }
 }
 
-/// Whether a condition is a relation of a name and a number as they are written.
-fn compared<'a>(condition: &'a Expr) -> Option<&'a [u8]> {
-    match bare(condition) {
-        Expr::Name { letters, .. } => Some(letters),
-        Expr::Binary { left, right, .. } => match (&**left, &**right) {
-            (Expr::Name { letters, .. }, Expr::Number { .. }) => Some(letters),
-            (Expr::Number { .. }, Expr::Name { letters, .. }) => Some(letters),
-            _ => None,
-        },
-        _ => None,
+/// Whether a value depends on names and numbers alone.
+#[cycle(names)]
+fn is_of_names(expr: &Expr) -> bool {
+    match expr {
+        Expr::Name { .. } | Expr::Number { .. } | Expr::Truth { .. } => true,
+        Expr::Parens { inside, .. } => is_of_names(inside),
+        Expr::Unary {
+            prefix: Prefix::Plus | Prefix::Minus | Prefix::Not,
+            operand,
+            ..
+        } => is_of_names(operand),
+        Expr::Binary {
+            operator,
+            left,
+            right,
+            ..
+        } => {
+            !matches!(operator, Operator::Subscript | Operator::Byte)
+                && is_of_names(left)
+                && is_of_names(right)
+        }
+        _ => false,
     }
 }
 
@@ -148,18 +159,69 @@ fn is_constant_in<'a>(page: &Page<'_, 'a>, command: &'a Command, name: &'a [u8])
         && !in_procedure(names.procedure, command.at(), name).is_taken
 }
 
-/// Adds that nothing in a loop sets the one variable of its condition, if that is so.
+/// How many variables a condition has, if nothing in its loop sets one of them; else none.
+fn still<'a>(page: &Page<'_, 'a>, command: &'a Command, names: Few<'a>) -> usize {
+    let mut count: usize = 0;
+    if let [_, _, _, Some(_)] = names.each() {
+        return 0;
+    }
+    for name in names.each() {
+        if let Some(name) = name
+            && page.variable(name).is_some()
+        {
+            if !is_local_number(page, name) || !is_constant_in(page, command, name) {
+                return 0;
+            }
+            count = count.saturating_add(1);
+        }
+    }
+    count
+}
+
+/// Adds that nothing in a loop sets the variables of its condition, if that is so.
 fn say_unset<'a>(
     page: &mut Page<'_, 'a>,
     command: &'a Command,
     condition: &'a Expr,
 ) -> Result<(), AllocError> {
-    match compared(condition) {
-        Some(name) if is_local_number(page, name) && is_constant_in(page, command, name) => {
-            page.say(&[b", and nothing in the loop sets it"])
-        }
-        _ => Ok(()),
+    if !is_of_names(condition) {
+        return Ok(());
     }
+    match still(page, command, names_of(condition)) {
+        0 => Ok(()),
+        1 => page.say(&[b", and nothing in the loop sets it"]),
+        _ => page.say(&[b", and nothing in the loop sets them"]),
+    }
+}
+
+/// What a name is set to in a command, if one place sets it.
+fn only_setter<'a>(command: &'a Command, name: &'a [u8]) -> Option<&'a Expr> {
+    let mut search = Search::new(command.at(), name);
+    in_command(&mut search, command);
+    let Search { setters, .. } = search;
+    match setters.first {
+        Some(Setter { value, .. }) if setters.count == 1 => Some(value),
+        _ => None,
+    }
+}
+
+/// Adds the words of vectors that a loop sets names to, as the next of a list.
+fn say_links<'a>(
+    page: &mut Page<'_, 'a>,
+    command: &'a Command,
+    names: Few<'a>,
+) -> Result<(), AllocError> {
+    for name in names.each() {
+        if let Some(name) = name
+            && let Some(value) = only_setter(command, name)
+            && !is_of_names(value)
+            && let Some(x @ Worth::Address(_, _)) = page.known(value)
+        {
+            page.say(&[b"; "])?;
+            page.say_is(value, x)?;
+        }
+    }
+    Ok(())
 }
 
 /// Adds the values of the names that a loop has in its condition, and of those that it sets.
@@ -184,7 +246,8 @@ fn say_state<'a>(
         }
         None => say_values(page, tested, read)?,
     }
-    say_values(page, assigned, read)
+    say_values(page, assigned, read)?;
+    say_links(page, command, assigned)
 }
 
 /// Adds a loop that has a condition, as it is written.
@@ -249,18 +312,12 @@ fn say_loops(page: &mut Page) -> Result<(), AllocError> {
     let here = page.names;
     let start = b"the turns are used up".len();
     let mut count: usize = 0;
-    for frame in m.frames.iter().rev() {
+    for (i, frame) in m.frames.iter().enumerate().rev() {
         if count < LOOPS
             && let Some((command, env)) = loop_of(frame)
-            && let Some(names) = here
+            && let Some(frames) = m.frames.get(..i)
         {
-            page.names = Some(Names {
-                env,
-                procedure: names.procedure,
-                formals: names.formals,
-                call: names.call,
-                is_outside: false,
-            });
+            page.names = names_at(page.program, frames, env);
             begin_piece(page, start)?;
             say_loop(page, command)?;
             count += 1;

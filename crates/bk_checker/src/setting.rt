@@ -3,14 +3,14 @@
 use crate::made::{arguments_at, in_procedure, seek};
 use crate::operands::{Operand, bare, name_of};
 use crate::operations::is_twice;
-use crate::sought::{Kind, Search, Setters};
-use crate::spelling::{add_expr, add_number, add_ordinal, add_word, has_piece};
+use crate::sought::{Kind, Search, Setters, Words};
+use crate::spelling::{add, add_expr, add_number, add_ordinal, add_word, has_piece};
 use crate::values::{Object, Page};
 use crate::walk::in_expr;
 use bk_check::{Continuation, OnValue};
 use bk_lasting::{GLOBALS_OBJECT, Lasting, Procedure, Sense};
 use bk_objects::Worth;
-use bk_tree::{Expr, Position};
+use bk_tree::{Expr, Operator, Position};
 use std::alloc::AllocError;
 
 /// The number of a line.
@@ -199,12 +199,66 @@ fn say_lasting<'a>(
     Ok(())
 }
 
-/// Adds where an operand that is a name got its value, as far as the text tells.
+/// Adds where an operand that is a name, or a word of a vector, got its value, as far as the text tells.
 pub fn say_setting(page: &mut Page, operand: Operand) -> Result<(), AllocError> {
-    match name_of(operand) {
-        Some(name) => say_setting_of(page, name, operand.value),
-        None => Ok(()),
+    match (name_of(operand), operand.expr) {
+        (Some(name), _) => say_setting_of(page, name, operand.value),
+        (None, Some(expr)) => say_word_setting(page, bare(expr)),
+        (None, None) => Ok(()),
     }
+}
+
+/// The words of vectors that are written like this one: of `!` with a constant that has a name, those with that constant.
+fn words_like<'a>(page: &Page<'_, 'a>, expr: &Expr) -> Option<Words<'a>> {
+    let names = page.names?;
+    let Expr::Binary {
+        operator: Operator::Subscript,
+        left,
+        right,
+        ..
+    } = expr
+    else {
+        return None;
+    };
+    match (&**left, &**right) {
+        (_, Expr::Name { letters, .. }) if page.is_constant(right) => {
+            Some(Words::Field(names.spelled(letters)?))
+        }
+        (Expr::Name { letters, .. }, _) if page.is_constant(left) => {
+            Some(Words::Field(names.spelled(letters)?))
+        }
+        (Expr::Name { letters, .. }, Expr::Number { word, .. }) => {
+            Some(Words::Of(names.spelled(letters)?, Some(*word)))
+        }
+        (Expr::Name { letters, .. }, _) => Some(Words::Of(names.spelled(letters)?, None)),
+        _ => None,
+    }
+}
+
+/// Adds where words like this one are set, if at most two places set them.
+fn say_word_setting(page: &mut Page, expr: &Expr) -> Result<(), AllocError> {
+    let Some(words) = words_like(page, expr) else {
+        return Ok(());
+    };
+    let mut search = Search::sought(Position::first(), b"", Some(words));
+    for lasting in page.program {
+        if let Lasting::Code(procedure) = lasting {
+            seek(&mut search, procedure);
+        }
+    }
+    let Search {
+        words_set,
+        first_word,
+        ..
+    } = search;
+    let mut spelled = Vec::new(page.m.alloc);
+    match (first_word, words) {
+        (Some(first), _) if words_set.count == 1 => add_expr(&mut spelled, first)?,
+        (_, Words::Field(name)) => add(&mut spelled, &[b"`!", name, b"`"])?,
+        (_, Words::Of(name, None)) => add(&mut spelled, &[b"a word of ", name])?,
+        (_, Words::Of(_, Some(_))) => add_expr(&mut spelled, expr)?,
+    }
+    say_setters(page, &spelled, words_set)
 }
 
 /// Adds where a name got its value, as far as the text tells; nothing of a string, which is told itself.
@@ -246,6 +300,12 @@ fn say_once_set(page: &mut Page, name: &[u8], x: Worth) -> Result<(), AllocError
         }
         Object::String(_) | Object::Table | Object::Unknown => Ok(()),
     }
+}
+
+/// Where the variable is declared that a name means.
+pub fn variable_at(page: &Page, name: &[u8]) -> Option<Position> {
+    let (_, object, _) = cell_of(page, name)?;
+    let_of(page, object)
 }
 
 /// Where the LET of a variable is that was made by it.

@@ -112,6 +112,50 @@ impl<'a> Setters<'a> {
     }
 }
 
+/// Words of vectors that are written alike.
+#[derive(Clone, Copy)]
+pub enum Words<'a> {
+    /// Those that have this constant on a side of `!`.
+    Field(&'a [u8]),
+    /// Those of the vector that has this name, with this number if it is one.
+    Of(&'a [u8], Option<u32>),
+}
+
+/// Whether an expression is this name.
+fn is_name(expr: &Expr, name: &[u8]) -> bool {
+    match expr {
+        Expr::Name { letters, .. } => letters.as_slice() == name,
+        _ => false,
+    }
+}
+
+/// Whether an index may be this number.
+fn may_be(index: &Expr, wanted: Option<u32>) -> bool {
+    match (index, wanted) {
+        (Expr::Number { word, .. }, Some(number)) => *word == number,
+        _ => true,
+    }
+}
+
+impl<'a> Words<'a> {
+    /// Whether a destination is one of them.
+    fn has(&self, destination: &Expr) -> bool {
+        let Expr::Binary {
+            operator: Operator::Subscript,
+            left,
+            right,
+            ..
+        } = destination
+        else {
+            return false;
+        };
+        match self {
+            Words::Field(name) => is_name(left, name) || is_name(right, name),
+            Words::Of(name, number) => is_name(left, name) && may_be(right, *number),
+        }
+    }
+}
+
 /// A GOTO.
 #[derive(Clone, Copy)]
 pub struct Jump<'a> {
@@ -147,6 +191,10 @@ pub struct Search<'a> {
     pub set_at: Option<Position>,
     /// Whether its address is taken.
     pub is_taken: bool,
+    /// The words that are sought, where they are set, and the first of them as it is written.
+    pub words: Option<Words<'a>>,
+    pub words_set: Setters<'a>,
+    pub first_word: Option<&'a Expr>,
     /// Where it is a label.
     pub label: Option<Place>,
     /// The GOTOs that are behind the position, up to four.
@@ -185,6 +233,11 @@ fn is_read(expr: &Expr) -> bool {
 impl<'a> Search<'a> {
     /// Nothing is found yet. What is assigned is found from the position on.
     pub fn new(at: Position, name: &'a [u8]) -> Search<'a> {
+        Search::sought(at, name, None)
+    }
+
+    /// The same, with words of vectors that are sought.
+    pub fn sought(at: Position, name: &'a [u8], words: Option<Words<'a>>) -> Search<'a> {
         Search {
             at,
             name,
@@ -200,6 +253,9 @@ impl<'a> Search<'a> {
             setters: Setters::none(),
             set_at: None,
             is_taken: false,
+            words,
+            words_set: Setters::none(),
+            first_word: None,
             label: None,
             first_jump: None,
             second_jump: None,
@@ -329,13 +385,31 @@ impl<'a> Search<'a> {
         }
     }
 
+    /// A destination that is no name is set to a value.
+    fn sets_word(&mut self, destination: &'a Expr, value: &'a Expr) {
+        if let Some(words) = self.words
+            && words.has(destination)
+        {
+            self.words_set.add(Setter {
+                line: destination.at().line().number(),
+                value,
+            });
+            if self.first_word.is_none() {
+                self.first_word = Some(destination);
+            }
+        }
+    }
+
     /// Assignments.
     pub fn assignments(&mut self, destinations: &'a [Expr], values: &'a [Expr]) {
         for (i, destination) in destinations.iter().enumerate() {
-            if let Expr::Name { at, letters } = destination
-                && let Some(value) = values.get(i)
-            {
+            let Some(value) = values.get(i) else {
+                return;
+            };
+            if let Expr::Name { at, letters } = destination {
                 self.sets(letters, *at, value, true);
+            } else {
+                self.sets_word(destination, value);
             }
         }
     }

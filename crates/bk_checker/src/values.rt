@@ -3,6 +3,7 @@
 use crate::made::{Made, formals_at, made_at};
 use crate::names::{Names, env_of, name_in, names_in};
 use crate::operands::bare;
+use crate::results::say_last;
 use crate::sought::Kind;
 use crate::spelling::{
     add, add_character, add_expr, add_number, add_string, add_word, routine_name,
@@ -509,7 +510,8 @@ impl<'m, 'a> Page<'m, 'a> {
                 let name = procedure_name(self.program, u64::from(number));
                 self.say(&[b"the `VALOF` of line "])?;
                 add_number(&mut self.text, line as usize)?;
-                self.say(&[b", of ", name, b", ended without `RESULTIS`"])
+                self.say(&[b", of ", name, b", ended without `RESULTIS`"])?;
+                say_last(self, line, number)
             }
             Origin::Body(line, number) => {
                 let name = procedure_name(self.program, u64::from(number));

@@ -1,6 +1,8 @@
 //! What is wrong with a word or a byte of an object.
 
+use crate::made::Made;
 use crate::operands::{Operand, bare, say_fault_of, say_written};
+use crate::setting::say_setting;
 use crate::sought::Kind;
 use crate::spelling::{add_number, add_word};
 use crate::values::{Object, Page};
@@ -61,7 +63,10 @@ fn say_state(page: &mut Page, object: u64, offset: u32, relative: &[u8]) -> Resu
             [a.is_some(), b.is_some(), c.is_some(), d.is_some()],
         ),
         Some(Cell::Holds(x)) => match x {
-            Worth::Unset(origin) => say_unset(page, relative, origin),
+            Worth::Unset(origin) => {
+                say_unset(page, relative, origin)?;
+                say_set_words(page, object)
+            }
             _ => page.say(&[b", which can't be used here"]),
         },
     }
@@ -216,7 +221,75 @@ pub fn say_cell(
     if matches!(page.object(object), Object::String(_)) {
         page.say(&[b"; `!` gives words, and `%` the bytes of a string"])?;
     }
-    Ok(())
+    say_base_setting(page, base)
+}
+
+/// Adds where an operand got its value that is the address of a word inside an object.
+fn say_base_setting(page: &mut Page, base: Option<Operand>) -> Result<(), AllocError> {
+    match base {
+        Some(operand) if matches!(operand.value, Worth::Address(_, 1..)) => {
+            say_setting(page, operand)
+        }
+        _ => Ok(()),
+    }
+}
+
+/// The words of a vector that are set: how many, the first and the last.
+fn set_words(page: &Page, object: u64, size: u32) -> (u32, u32, u32) {
+    let mut count: u32 = 0;
+    let mut first = 0;
+    let mut last = 0;
+    for i in 0..size {
+        if !matches!(
+            page.m.store.cell(object, i),
+            Some(Cell::Holds(Worth::Unset(_)))
+        ) {
+            if count == 0 {
+                first = i;
+            }
+            last = i;
+            count = count.saturating_add(1);
+        }
+    }
+    (count, first, last)
+}
+
+/// Adds which words of a vector are set, of which another is not.
+fn say_set_words(page: &mut Page, object: u64) -> Result<(), AllocError> {
+    let Object::Made(
+        Made {
+            kind: Kind::Vector,
+            ..
+        },
+    ) = page.object(object)
+    else {
+        return Ok(());
+    };
+    let size = page.m.store.size(object).unwrap_or(0);
+    if size < 2 {
+        return Ok(());
+    }
+    let (count, first, last) = set_words(page, object, u32::try_from(size).unwrap_or(u32::MAX));
+    if count == 0 {
+        return page.say(&[b", nor was any other"]);
+    }
+    if last.saturating_sub(first) >= count {
+        page.say(&[b"; "])?;
+        add_word(&mut page.text, count)?;
+        page.say(&[b" of its "])?;
+        add_number(&mut page.text, size)?;
+        return page.say(&[b" words were"]);
+    }
+    if count == 1 {
+        page.say(&[b"; word "])?;
+        add_word(&mut page.text, first)?;
+        return page.say(&[b" was"]);
+    }
+    page.say(&[b"; words "])?;
+    add_word(&mut page.text, first)?;
+    page.say(&[b" to "])?;
+    add_word(&mut page.text, last)?;
+    page.say(&[b" were"])
 }
 
 /// Whether an object is a variable.

@@ -1,0 +1,88 @@
+//! What a VALOF ends in that ended without RESULTIS.
+
+use crate::operands::bare;
+use crate::spelling::add_number;
+use crate::values::Page;
+use bk_lasting::{Body, Lasting, Procedure};
+use bk_tree::{Command, Expr, Position};
+use std::alloc::AllocError;
+
+/// The command of the VALOF on a line that is the body of a procedure.
+fn command_of<'a>(procedure: &Procedure<'a>, line: u32) -> Option<&'a Command> {
+    let Body::Value(value) = procedure.body else {
+        return None;
+    };
+    match bare(value) {
+        Expr::Valof { at, command } if at.line().number() == line => Some(command),
+        _ => None,
+    }
+}
+
+/// The last of the commands that a command has in it.
+#[cycle(last)]
+fn last_of(command: &Command) -> &Command {
+    match command {
+        Command::Block { commands, .. } => match commands.last() {
+            Some(last) => last_of(last),
+            None => command,
+        },
+        _ => command,
+    }
+}
+
+/// Whether the command of a SWITCHON has a DEFAULT.
+#[cycle(default)]
+fn has_default(command: &Command) -> bool {
+    match command {
+        Command::Default { .. } => true,
+        Command::Label { body, .. } | Command::Case { body, .. } => has_default(body),
+        Command::Block { commands, .. } => one_has_default(commands),
+        _ => false,
+    }
+}
+
+/// Whether one of these commands has it.
+#[cycle(default)]
+fn one_has_default(commands: &[Command]) -> bool {
+    for command in commands {
+        if has_default(command) {
+            return true;
+        }
+    }
+    false
+}
+
+/// The word that a command is known by, and where it is, if it may end with nothing done, or after a last round.
+fn keyword_of(command: &Command) -> Option<(&'static [u8], Position)> {
+    match command {
+        Command::If { at, truth, .. } => Some((if *truth { b"IF" } else { b"UNLESS" }, *at)),
+        Command::Test { at, .. } => Some((b"TEST", *at)),
+        Command::While { at, truth, .. } => Some((if *truth { b"WHILE" } else { b"UNTIL" }, *at)),
+        Command::RepeatWhile { at, .. } | Command::Repeat { at, .. } => Some((b"REPEAT", *at)),
+        Command::For { name, .. } => Some((b"FOR", name.at)),
+        Command::SwitchOn { at, .. } => Some((b"SWITCHON", *at)),
+        _ => None,
+    }
+}
+
+/// Adds the last command of the VALOF on a line in the procedure with a number.
+pub fn say_last(page: &mut Page, line: u32, number: u32) -> Result<(), AllocError> {
+    let Some(Lasting::Code(procedure)) = page.program.get(number as usize) else {
+        return Ok(());
+    };
+    let Some(command) = command_of(procedure, line) else {
+        return Ok(());
+    };
+    let last = last_of(command);
+    let Some((keyword, at)) = keyword_of(last) else {
+        return Ok(());
+    };
+    page.say(&[b"; its last command is the `", keyword, b"` of line "])?;
+    add_number(&mut page.text, at.line().number() as usize)?;
+    match last {
+        Command::SwitchOn { body, .. } if !has_default(body) => {
+            page.say(&[b", which has no `DEFAULT`"])
+        }
+        _ => Ok(()),
+    }
+}
