@@ -1,0 +1,24 @@
+GET "LIBHDR"
+
+LET MONTH(N) = VALOF SWITCHON N INTO
+$( CASE 1:  RESULTIS "January"
+   CASE 2:  RESULTIS "February"
+   CASE 3:  RESULTIS "March"
+   CASE 4:  RESULTIS "April"
+   CASE 9:  RESULTIS "September"
+   DEFAULT: RESULTIS "(none)"
+$)
+
+LET COLUMN(S) BE
+$( WRCH('|')
+   FOR I = 1 TO 9 DO WRCH(S%I)
+   WRCH('|')
+   NEWLINE()
+$)
+
+LET START() BE
+$( COLUMN(MONTH(9))
+   COLUMN(MONTH(1))
+   COLUMN(MONTH(2))
+   COLUMN(MONTH(3))
+$)

@@ -1,0 +1,26 @@
+GET "LIBHDR2"
+GLOBAL $( COUNT:101; TOTAL:102; LARGEST:103 $)
+
+LET RESET() BE
+$( COUNT := 0
+   TOTAL := 0
+   LARGEST := 0
+$)
+
+LET NOTE(X) BE
+$( COUNT := COUNT + 1
+   TOTAL := TOTAL + X
+   IF X > LARGEST DO LARGEST := X
+$)
+
+LET SUMMARY() BE
+   WRITEF("%N items, sum %N, largest %N*N", COUNT, TOTAL, LARGEST)
+
+LET START() BE
+$( WRITES("Statistics*N")
+   FOR I = 1 TO 10 DO NOTE(I * I REM 17)
+   SUMMARY()
+   RESET()
+   NOTE(5)
+   SUMMARY()
+$)

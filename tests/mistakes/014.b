@@ -1,0 +1,25 @@
+GET "LIBHDR"
+GLOBAL $( PUTLINE:201; SETWIDTH:202 $)
+
+LET START() BE
+$( PUTLINE("first")
+   SETWIDTH(20)
+   PUTLINE("second")
+   PUTLINE("third")
+$)
+.
+GET "LIBHDR"
+GLOBAL $( PUTLINE:201; SETWIDTH:202; WIDTH:201 $)
+
+LET PUTLINE(S) BE
+$( WRCH('|')
+   WRITES(S)
+   WRCH('|')
+   NEWLINE()
+$)
+
+LET SETWIDTH(N) BE
+$( IF N < 1 DO N := 1
+   IF N > 72 DO N := 72
+   WIDTH := N
+$)

@@ -1,0 +1,20 @@
+GET "LIBHDR"
+STATIC $( SEED = 12345 $)
+
+LET NEXTVALUE() = VALOF
+$( SEED := (SEED * 1103 + 12345) & #X7FFF
+   RESULTIS SEED REM 6 + 1
+$)
+
+LET START() BE
+$( LET TOTAL = 0
+   LET FIRST = NEXTVALUE()
+   WRITES("first throw ")
+   WRITEN(FIRST)
+   NEWLINE()
+   FOR I = 1 TO 3 DO
+      TOTAL := TOTAL + NEXTVALUE
+   WRITES("three more make ")
+   WRITEN(TOTAL)
+   NEWLINE()
+$)

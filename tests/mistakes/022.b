@@ -1,0 +1,24 @@
+GET "LIBHDR"
+GLOBAL $( ACC:150 $)
+
+LET LOAD(X) BE ACC := X
+LET ADD(X) BE ACC := ACC + X
+LET MULTIPLY(X) BE ACC := ACC * X
+LET HALVE(X) BE ACC := ACC / 2
+LET PRINT(X) BE $( WRITEN(ACC); WRCH(X) $)
+
+LET START() BE
+$( LET OPS = VEC 4
+   LET PROGRAM = TABLE 0, 20, 1, 1, 2, 4, 4, '*N', 3, 0, 4, '*N', -1
+   LET PC = 0
+   OPS!0 := LOAD
+   OPS!1 := ADD
+   OPS!2 := MULTIPLY
+   OPS!3 := HALVE
+   UNTIL PROGRAM!PC < 0 DO
+   $( LET CODE, ARG = PROGRAM!PC, PROGRAM!(PC + 1)
+      PC := PC + 2
+      (OPS!CODE)(ARG)
+   $)
+   WRITES("halt*N")
+$)

@@ -1,0 +1,29 @@
+GET "LIBHDR"
+MANIFEST $( SIZE = 8 $)
+GLOBAL $( Q:130; FRONT:131; BACK:132; COUNT:133 $)
+
+LET PUT(X) BE
+$( IF COUNT = SIZE DO $( WRITES("full*N"); RETURN $)
+   Q!BACK := X
+   BACK := BACK + 1
+   COUNT := COUNT + 1
+$)
+
+LET TAKE() = VALOF
+$( LET X = Q!FRONT
+   FRONT := (FRONT + 1) REM SIZE
+   COUNT := COUNT - 1
+   RESULTIS X
+$)
+
+LET START() BE
+$( LET V = VEC SIZE - 1
+   Q, FRONT, BACK, COUNT := V, 0, 0, 0
+   FOR I = 1 TO 5 DO PUT(I)
+   FOR I = 1 TO 20 DO
+   $( LET X = TAKE()
+      WRITED(X, 4)
+      PUT(X + 5)
+   $)
+   NEWLINE()
+$)

@@ -1,0 +1,36 @@
+GET "LIBHDR2"
+MANIFEST $( HD = 0; NEXT = 1 $)
+GLOBAL $( FREE:150 $)
+
+LET CONS(X, L) = VALOF
+$( LET C = FREE
+   FREE := FREE + 2
+   C!HD, C!NEXT := X, L
+   RESULTIS C
+$)
+
+LET REVERSE(L) = VALOF
+$( LET R = 0
+   UNTIL L = 0 DO
+   $( R := CONS(L!HD, R)
+      L := L!NEXT
+   $)
+   RESULTIS R
+$)
+
+LET REVJOIN(LIST1, LIST2) = VALOF
+$( LET P = REVERSE(LIST2)
+   IF LIST1 = 0 RESULTIS LIST1
+   UNTIL P!NEXT = 0 DO P := P!NEXT
+   P!NEXT := LIST1
+   RESULTIS P
+$)
+
+LET START() BE
+$( LET ARENA = VEC 100
+   LET L = ?
+   FREE := ARENA
+   L := CONS(1, CONS(2, CONS(3, 0)))
+   L := REVJOIN(L, 0)
+   WRITEF("%N*N", L!HD)
+$)

@@ -1,0 +1,22 @@
+GET "LIBHDR2"
+
+LET ISVOWEL(C) BE
+SWITCHON C INTO
+$( CASE 'A': CASE 'E': CASE 'I': CASE 'O': CASE 'U':
+      RETURN
+   DEFAULT:
+      ENDCASE
+$)
+
+LET VOWELS(S) = VALOF
+$( LET N = 0
+   FOR I = 1 TO S%0 DO
+      IF ISVOWEL(S%I) DO N := N + 1
+   RESULTIS N
+$)
+
+LET START() BE
+$( LET W = "EDUCATION"
+   WRITEF("%S: %N letters*N", W, W%0)
+   WRITEF("%N vowels*N", VOWELS(W))
+$)

@@ -1,0 +1,26 @@
+GET "LIBHDR"
+MANIFEST $( LEFT = 0; RIGHT = 1; INFO = 2 $)
+
+LET INDENT(C, N) BE
+   FOR I = 1 TO N DO WRCH(C)
+
+LET NODE(P, L, R, X) = VALOF
+$( P!LEFT, P!RIGHT, P!INFO := L, R, X
+   RESULTIS P
+$)
+
+LET TREE(T, LEVEL) BE
+$( IF T = 0 RETURN
+   TREE(T!RIGHT, LEVEL + 3)
+   INDENT('*S')
+   WRITEN(T!INFO)
+   NEWLINE()
+   TREE(T!LEFT, LEVEL + 3)
+$)
+
+LET START() BE
+$( LET A, B, C = VEC 2, VEC 2, VEC 2
+   INDENT('-', 20)
+   NEWLINE()
+   TREE(NODE(A, NODE(B, 0, 0, 1), NODE(C, 0, 0, 3), 2), 0)
+$)

@@ -1,0 +1,31 @@
+GET "LIBHDR"
+GLOBAL $( LINEV:210; LEN:211; SETUP:212; COLLECT:213 $)
+
+LET COLLECT() = VALOF
+$( LET CH = RDCH()
+   UNTIL CH = '*N' | CH = ENDSTREAMCH DO
+   $( LEN := LEN + 1
+      LINEV%LEN := CH
+      CH := RDCH()
+   $)
+   LINEV%0 := LEN
+   RESULTIS CH
+$)
+
+LET START() BE
+$( SETUP()
+   UNTIL COLLECT() = ENDSTREAMCH DO
+   $( FOR I = LEN TO 1 BY -1 DO WRCH(LINEV%I)
+      NEWLINE()
+      LEN := 0
+   $)
+$)
+.
+GET "LIBHDR"
+GLOBAL $( LINEV:210; LEN:211; SETUP:212 $)
+
+LET SETUP() BE
+$( LET LINEV = VEC 20
+   LINEV%0 := 0
+   LEN := 0
+$)

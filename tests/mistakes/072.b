@@ -1,0 +1,46 @@
+GET "LIBHDR2"
+MANIFEST $( LINK = 0; DATA = 1 $)
+GLOBAL $( FREE:160; QUEUE:161 $)
+
+LET MAKEFREE(V, N) BE
+$( FREE := 0
+   FOR I = 0 TO N - 1 DO
+   $( LET C = V + 2 * I
+      C!LINK := FREE
+      FREE := C
+   $)
+$)
+
+LET GETCELL() = VALOF
+$( LET C = FREE
+   FREE := FREE!LINK
+   RESULTIS C
+$)
+
+LET RELEASE(C) BE
+$( C!LINK := FREE
+   FREE := C
+$)
+
+LET ADD(X) BE
+$( LET C = GETCELL()
+   C!LINK, C!DATA := QUEUE, X
+   QUEUE := C
+$)
+
+LET REMOVE() = VALOF
+$( LET C = QUEUE
+   QUEUE := C!LINK
+   RELEASE(C)
+   RESULTIS C!DATA
+$)
+
+LET START() BE
+$( LET STORE = VEC 7
+   MAKEFREE(STORE, 4)
+   QUEUE := 0
+   ADD(1); ADD(2); ADD(3)
+   WRITEF("%N*N", REMOVE())
+   FOR I = 10 TO 13 DO ADD(I)
+   WRITEF("%N*N", REMOVE())
+$)

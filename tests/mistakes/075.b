@@ -1,0 +1,25 @@
+GET "LIBHDR"
+GLOBAL $( BUFFER:101; LAST:102 $)
+
+LET READLINE() BE
+$( LET N = 0
+   LAST := RDCH()
+   UNTIL LAST = '*N' | LAST = ENDSTREAMCH DO
+   $( N := N + 1
+      BUFFER%N := LAST
+      LAST := RDCH()
+   $)
+   BUFFER%0 := N
+$)
+
+LET START() BE
+$( LET B = VEC 80/BYTESPERWORD
+   LET LINE = 0
+   BUFFER := B
+   $( LINE := LINE + READLINE()
+      WRITEN(LINE)
+      WRCH('*T')
+      WRITES(BUFFER)
+      NEWLINE()
+   $) REPEATUNTIL LAST = ENDSTREAMCH
+$)

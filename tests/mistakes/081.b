@@ -1,0 +1,28 @@
+GET "LIBHDR2"
+GLOBAL $( MOVES:170; TRACE:171; A:172; B:173; C:174 $)
+
+LET INIT() BE
+$( MOVES := 0
+   A := 'A'
+   B := 'B'
+   C := 'C'
+$)
+
+LET MOVEDISC(FROM, TO.PEG) BE
+$( MOVES := MOVES + 1
+   IF TRACE DO WRITEF("move %N*N", MOVES)
+   WRITEF("%C to %C*N", FROM, TO.PEG)
+$)
+
+LET HANOI(N, FROM, TO.PEG, OTHER) BE
+$( IF N = 0 RETURN
+   HANOI(N - 1, FROM, OTHER, TO.PEG)
+   MOVEDISC(FROM, TO.PEG)
+   HANOI(N - 1, OTHER, TO.PEG, FROM)
+$)
+
+LET START() BE
+$( INIT()
+   HANOI(3, A, C, B)
+   WRITEF("%N moves*N", MOVES)
+$)

@@ -1,0 +1,23 @@
+GET "LIBHDR2"
+MANIFEST $( PRIME = 13 $)
+GLOBAL $( TABLE.V:100 $)
+
+LET HASHIN(KEY) = VALOF
+$( LET H = KEY REM PRIME
+   UNTIL TABLE.V!H = 0 DO
+   $( IF TABLE.V!H = KEY RESULTIS H
+      H := H + 1
+      IF H = PRIME DO H := 0
+   $)
+   TABLE.V!H := KEY
+   RESULTIS H
+$)
+
+LET START() BE
+$( LET V = VEC PRIME - 1
+   LET DATA = TABLE 20, 33, 46, 7, -5, 100
+   TABLE.V := V
+   FOR I = 0 TO PRIME - 1 DO V!I := 0
+   FOR I = 0 TO 5 DO
+      WRITEF("%N in slot %N*N", DATA!I, HASHIN(DATA!I))
+$)

@@ -1,0 +1,25 @@
+GET "LIBHDR2"
+GLOBAL $( TOP:100; LIMIT:101 $)
+
+// round up to the size of a block of the buddy store
+LET BLOCKSIZE(WANTED) = VALOF
+$( LET SIZE = 1
+   UNTIL SIZE = WANTED DO
+      SIZE := SIZE + SIZE
+   RESULTIS SIZE
+$)
+
+LET GETBLOCK(N) = VALOF
+$( LET B, S = TOP, BLOCKSIZE(N)
+   IF TOP + S > LIMIT RESULTIS -1
+   TOP := TOP + S
+   RESULTIS B
+$)
+
+LET START() BE
+$( TOP, LIMIT := 0, 1024
+   WRITEF("%N*N", GETBLOCK(32))
+   WRITEF("%N*N", GETBLOCK(128))
+   WRITEF("%N*N", GETBLOCK(100))
+   WRITEF("%N*N", GETBLOCK(64))
+$)

@@ -1,0 +1,24 @@
+GET "LIBHDR"
+GLOBAL $( PRINTTREE:205; INSERT:206 $)
+
+LET START() BE
+$( LET T = VEC 10
+   FOR I = 0 TO 10 DO T!I := 0
+   FOR I = 1 TO 10 DO INSERT(T, I * 7 REM 11)
+   WRITES("The set: ")
+   PRINTTREE(T, 0)
+   NEWLINE()
+$)
+.
+GET "LIBHDR"
+GLOBAL $( INSERT:206 $)
+
+LET INSERT(T, X) BE T!X := 1
+
+LET PRINTTREE(T, I) BE
+$( UNLESS T!I = 0 DO
+   $( WRITEN(I)
+      WRCH('*S')
+   $)
+   IF I < 10 DO PRINTTREE(T, I + 1)
+$)

@@ -1,0 +1,24 @@
+GET "LIBHDR"
+
+LET INBASE(N, BASE) BE
+$( LET DIGITS = "0123456789ABCDEF"
+   LET D = N
+   IF N >= BASE DO INBASE(N / BASE, BASE)
+   WRCH(DIGITS%(D + 1))
+$)
+
+LET SHOW(N) BE
+$( WRITED(N, 6)
+   WRITES("  ")
+   INBASE(N, 16)
+   WRITES("  ")
+   INBASE(N, 8)
+   NEWLINE()
+$)
+
+LET START() BE
+$( SHOW(7)
+   SHOW(10)
+   SHOW(255)
+   SHOW(1980)
+$)
