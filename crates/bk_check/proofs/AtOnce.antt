@@ -80,11 +80,6 @@ pub last_one : (m : Meanings) (cs : List Act) (env : Environment) (u : Outcome D
 last_one m [] env u is = sym (with_done u)
 last_one m (c ∷ cs) env u is = absurd (omega (arith, is))
 
--- the last assignment, where its value and its place are known
-pub last_assigned : (m : Meanings) (v : Value) (x : Expression) (there env : Environment) (es : Expressions) (a : Target) (w after : World) → m.target x there w ≡ gives a after → store (acts_at x) a v after ≡ assigned_to m v (tree.more x tree.none) there es env w
-last_assigned m v x there env es a w after place =
-    sym (ap (λ (u : Outcome Target). with u (λ a w. with (store (acts_at x) a v w) (λ _ w. assigned m tree.none (past x there) es env w))) place ∙ with_done (store (acts_at x) a v after))
-
 assigned_next : (m : Meanings) (v : Value) (x : Expression) (xs : Expressions) (there env : Environment) (e : Expression) (es : Expressions) (w after : World) → m.value e env w ≡ gives v after → past e env ≡ env → assigned_to m v (tree.more x xs) there es env after ≡ assigned m (tree.more x xs) there (tree.more e es) env w
 assigned_next m v x xs there env e es w after known none =
     sym (ap (λ (u : Outcome Value). with u (λ v w. with (m.target x there w) (λ a w. with (store (acts_at x) a v w) (λ _ w. assigned m xs (past x there) es (past e env) w)))) known
@@ -96,8 +91,3 @@ pub assigned_first : (m : Meanings) (v : Value) (dests values : List Expr) (firs
 assigned_first m v [] values first rest there env w after lt is known none = absurd (omega (arith, lt))
 assigned_first m v (d ∷ ds) values first rest there env w after lt is known none =
     rw is (assigned_next m v (expression d) (expressions_in ds) there env (expression first) (expressions_in rest) w after known (past_none (expression first) env none))
-
--- the last of some assignments, where its place is known
-pub last_put : (m : Meanings) (v : Value) (dests : List Expr) (first : Expr) (rest : List Expr) (there env : Environment) (es : Expressions) (a : Target) (w after : World) → dests ≡ first ∷ rest → rest ≡ [] → m.target (expression first) there w ≡ gives a after
-    → store (acts_at (expression first)) a v after ≡ assigned_to m v (expressions_in dests) there es env w
-last_put m v dests first rest there env es a w after is last place = rw (is, last) (last_assigned m v (expression first) there env es a w after place)

@@ -11,7 +11,7 @@ pub use Rattle.bk_meaning.specs.Expressions.{combined, value_of, target_of, trut
 pub use Rattle.bk_meaning.specs.Full.{full}
 pub use Rattle.bk_meaning.specs.Lasting.{Procedure, Program}
 pub use Rattle.bk_meaning.specs.Loops.{for_test, for_rounds_of, for_loop, again}
-pub use Rattle.bk_meaning.specs.Memory.{made, Memory}
+pub use Rattle.bk_meaning.specs.Memory.{made, Memory, cells_living}
 pub use Rattle.bk_meaning.specs.Parts.{Target, acts_at}
 pub use Rattle.bk_meaning.specs.Scopes.{scope_of, alone, in_order}
 pub use Rattle.bk_meaning.specs.Seeking.{Sought, has_place, one_has_place, forwards, the_label, Mode, seeking}

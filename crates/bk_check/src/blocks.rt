@@ -359,6 +359,7 @@ fn make_vector<'a>(
             let object = m.store.made();
             let length = last as usize + 1;
             m.store.make_unset(length, size.at())?;
+            m.most_cells = m.most_cells.max(m.store.cells_in_use());
             named(others, here, names, Worth::Address(object, 0), rest)
         }
     }

@@ -3,7 +3,6 @@ ghost use Rattle.std.specs.Prelude.{◌≡◌, ℕ, IfOk, Some, map, slice_get, 
 ghost use Rattle.bk_objects.specs.declared.worth.Origin.TheVariants.{Argument};
 ghost use Rattle.bk_objects.specs.declared.worth.Worth.TheVariants.{Unset};
 ghost use Rattle.std.specs.Option.{option_map};
-ghost use Rattle.bk_meaning.specs.Environment.{Environment};
 ghost use Rattle.bk_meaning.specs.Lasting.{Program, procedure_of};
 ghost use Rattle.bk_meaning.specs.Calls as c;
 ghost use Rattle.bk_meaning.specs.Causes;

@@ -1,5 +1,5 @@
 //! Values, truths and places that are known at once, with no frame: those of names and numbers, and of operators on these.
-ghost use Rattle.std.specs.Prelude.{◌≡◌, ℕ, IfOk, IfSome, ◌+◌, ◌<◌, ◌≤◌, length};
+ghost use Rattle.std.specs.Prelude.{◌≡◌, ℕ, IfOk, IfSome, ◌<◌, ◌≤◌, length};
 ghost use Rattle.std.specs.Option.{option_map};
 ghost use Rattle.bk_tree.specs.Tree.{Expression, expression, expressions_in};
 ghost use Rattle.bk_meaning.specs.World.{World, gives, with};

@@ -1,5 +1,5 @@
 //! Loops: WHILE, UNTIL, REPEAT, REPEATWHILE and REPEATUNTIL.
-ghost use Rattle.std.specs.Prelude.{◌≡◌, IfOk};
+ghost use Rattle.std.specs.Prelude.{IfOk};
 ghost use Rattle.bk_tree.specs.Parts.{at_command};
 ghost use Rattle.bk_tree.specs.Tree.{command_in, expression};
 ghost use Rattle.bk_meaning.specs.World.{turn};

@@ -1,8 +1,8 @@
 //! Expressions: what a machine does for a value, a truth or a place.
-ghost use Rattle.std.specs.Prelude.{◌≡◌, ℕ, IfOk, IfSome, ◌<◌, ◌-◌, List, ◌+◌, ◌≤◌};
+ghost use Rattle.std.specs.Prelude.{◌≡◌, IfOk, IfSome, ◌<◌, ◌-◌, ◌+◌, ◌≤◌};
 ghost use Rattle.std.specs.Option.{option_map};
 ghost use Rattle.bk_tree.specs.Tree.{expression, expressions_in, command_in};
-ghost use Rattle.bk_meaning.specs.World.{World, gives, given, with};
+ghost use Rattle.bk_meaning.specs.World.{gives, given, with};
 ghost use Rattle.bk_meaning.specs.Lasting.{Program};
 ghost use Rattle.bk_meaning.specs.Parts;
 ghost use Rattle.bk_meaning.specs.Parts.{acts_at as acting};
@@ -44,6 +44,8 @@ pub struct Evaluator<'a> {
     pub store: Store,
     pub calls: u64,
     pub most_calls: u64,
+    /// The most cells that lived where a VEC was made.
+    pub most_cells: usize,
     pub turns: u64,
 }
 

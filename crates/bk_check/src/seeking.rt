@@ -1,7 +1,6 @@
 //! Seeking a label, or the place of a CASE or DEFAULT, in commands.
 ghost use Rattle.std.specs.Prelude.{◌≡◌, Option};
-ghost use Rattle.bk_tree.specs.Tree.{command_in, commands_in, expression};
-ghost use Rattle.bk_meaning.specs.Environment.{constant_in};
+ghost use Rattle.bk_tree.specs.Tree.{command_in, commands_in};
 ghost use Rattle.bk_meaning.specs.Seeking as q;
 ghost use Rattle.bk_check.specs.Views.{sought_in, mode_in};
 ghost use Rattle.bk_lasting.specs.Views.{env_in};

@@ -1,7 +1,8 @@
 -- What was written begins what is written then, whatever is still to be done.
+use Rattle.std.proofs.lemmas.List.{length-replicate}
 use Rattle.bk_meaning.specs.Causes.{no_constant}
 use Rattle.bk_meaning.specs.Operators.{sum_cause}
-use Rattle.bk_checker.proofs.Terms.{ℕ, suc, Bool, not, Option, List, [], ◌∷◌, ◌++◌, map, arith, Expression, Expressions, Command, Starts, expression, expressions_in, command_in, commands_in, declarations_in, definitions_in, starts_in, Value, unset, World, Exit, break, loop, result, Outcome, gives, leaves, undefined, with, given, either, Done, done, Environment, past, past_command, Program, Target, at, byte_at, call, History, history, Grows, After, full, stays, earlier, Adds, adds, with_after, each_way_after, given_after, either_after, Ties, ties, ties_add, AllTied, done_ties, fetch_ties, combined_ties, operate_prefix_ties, judged_ties, address_in_ties, values_ties, call_ties, assigned_ties, store_ties, choose_case_ties, rounds_of_ties, for_loop_ties, for_test_ties, for_step_ties, where_truth_ties, turn_ties, in_order_ties, landing_ties, result_ties, return_ties, case_exit_ties, starts_ties, let_values_ties, bind_variables_ties, declare_all_ties, scope_ties, library_ties, means_tied, value_in, routine_in, Continuation, Next, letters_in, mode_in, start_in, Given, a_value, a_truth, a_target, is_done, done_tag, tag, resumed, resume_given, resume_left, value_goes, truth_goes, target_goes, done_goes, done_left, next_round, next_for, bound_then, defined_then, started_then, starting_then, declared_then, outcome_next, thing_in, exit_in, assigned_to, OnValue, OnValue as v, OnTruth, OnTruth as o, OnTarget, OnTarget as a, OnDone, OnDone as d, Continuation as f, Next as n}
+use Rattle.bk_checker.proofs.Terms.{◌≡◌, ℕ, zero, suc, ◌+◌, ◌<◌, Bool, None, Some, refl, sym, ap, ◌∙◌, append-nil, length, not, Option, List, [], ◌∷◌, ◌++◌, map, arith, Expression, Expressions, Command, Starts, expression, expressions_in, command_in, commands_in, declarations_in, definitions_in, starts_in, Value, unset, World, Exit, break, loop, result, Outcome, gives, leaves, undefined, with, given, either, Done, done, Environment, past, past_command, Program, Target, at, byte_at, call, History, history, Grows, After, full, stays, earlier, Adds, adds, with_after, each_way_after, given_after, either_after, Ties, ties, ties_add, AllTied, done_ties, fetch_ties, combined_ties, operate_prefix_ties, judged_ties, address_in_ties, values_ties, call_ties, assigned_ties, store_ties, choose_case_ties, rounds_of_ties, for_loop_ties, for_test_ties, for_step_ties, where_truth_ties, turn_ties, in_order_ties, landing_ties, result_ties, return_ties, case_exit_ties, starts_ties, let_values_ties, bind_variables_ties, declare_all_ties, scope_ties, library_ties, means_tied, value_in, routine_in, Continuation, Next, letters_in, mode_in, start_in, Given, a_value, a_truth, a_target, is_done, done_tag, tag, resumed, resume_given, resume_left, value_goes, truth_goes, target_goes, done_goes, done_left, next_round, next_for, bound_then, defined_then, started_then, starting_then, declared_then, outcome_next, thing_in, exit_in, assigned_to, OnValue, OnValue as v, OnTruth, OnTruth as o, OnTarget, OnTarget as a, OnDone, OnDone as d, Continuation as f, Next as n}
 use Rattle.bk_tree.specs.Tree.{Mention, mention}
 use Rattle.bk_tree.specs.Tree as t
 use Rattle.bk_meaning.specs.Operators.{sum}
@@ -10,6 +11,13 @@ use Rattle.bk_meaning.specs.Loops.{same_truth, for_loop, round_exit}
 use Rattle.bk_meaning.specs.Blocks as b
 use Rattle.bk_meaning.specs.Scopes.{alone}
 use Rattle.bk_lasting.specs.Views.{env_in}
+use Rattle.bk_meaning.specs.Values.{Cell, holds}
+use Rattle.bk_meaning.specs.Memory.{Memory, living, dead, made, cells_living}
+use Rattle.bk_meaning.specs.World.{turn, turn_of}
+use Rattle.bk_meaning.specs.Parts.{acts_at}
+use Rattle.bk_meaning.specs.Environment.{constant_in}
+use Rattle.bk_meaning.specs.Blocks.{make_vec, vec_cells}
+use Rattle.bk_checker.specs.Limits.{cells_up_to, asked_first, asked}
 use Rattle.bk_check.specs.declared.frame.For.{For}
 use Rattle.bk_check.specs.declared.frame.Let.{Let}
 
@@ -44,6 +52,25 @@ tagged k h y up = up
 
 tag_adds : {A : Type 0} (k : A → Given) (go : World → Outcome A) → Adds go → Adds (λ w. tag k (go w))
 tag_adds k go h = adds _ (λ w. tagged k (history w) (go w) (h.at w))
+
+-- a world's history, with so many cells of a VEC more
+abbrev with_vec : World → ℕ → History
+with_vec w n = record (history w) { most_cells = cells_living w.memory + n }
+
+cells_made : (cells : List Cell) (m : Memory) → cells_living (made cells m) ≡ cells_living m + length cells
+cells_made cells [] = omega arith
+cells_made cells (living old ∷ m) = let more = cells_made cells m in omega (arith, more)
+cells_made cells (dead ∷ m) = cells_made cells m
+
+vec_after : (l spot : ℕ) (size : Option ℕ) (w : World) → 0 < w.turns → 0 < cells_up_to size → After (with_vec w (cells_up_to size)) (turn l w (λ w. make_vec spot size w))
+vec_after l spot None w turns some = absurd (omega (arith, some))
+vec_after l spot (Some k) w turns some = by w.turns turns
+  where
+    by : (i : ℕ) → 0 < i → After (with_vec w (k + 1)) (turn_of l i w (λ w. make_vec spot (Some k) w))
+    by zero lt = absurd (omega (arith, lt))
+    by (suc i) lt =
+        let total : cells_living (made (vec_cells k) w.memory) ≡ cells_living w.memory + (k + 1) = cells_made (vec_cells k) w.memory ∙ ap (λ (x : ℕ). cells_living w.memory + x) (length-replicate (k + 1) (holds unset)) in
+        record { written = []; output = sym (append-nil w.output); taken = []; input = refl; most_calls = omega arith; most_cells = omega (arith, total) }
 
 module _ (p : Program) where
   g : AllTied (full p) (full p)
@@ -203,3 +230,15 @@ module _ (p : Program) where
   -- a call
   pub called_after : (l : ℕ) (c : Value) (vs : List Value) (h : History) (w : World) → Grows h (history w) → After h (tag a_value (call p (full p) l c vs w))
   called_after l c vs h w grows = earlier h (history w) _ grows ((tag_adds a_value _ (ties_add _ _ (call_ties (full p) (full p) g l p c vs))).at w)
+
+  -- a VEC that comes next
+  vec_next : (is : Starts) (here : Environment) (names : List (List ℕ)) (l : Let) (w : World) → 0 < w.turns → 0 < asked_first is here → After (with_vec w (asked_first is here)) (starting_then p is here names l w)
+  vec_next (t.vector i e is) here names l w turns some =
+      with_after _ _ _ (with_after _ _ _ (vec_after i (acts_at e) (constant_in here e) w turns some) (λ v. by _ _ (ties_add _ _ (starts_ties (full p) (full p) g is here)) (λ vs. still (v ∷ vs)))) (λ vs. started l names vs)
+  vec_next t.no_starts here names l w turns some = absurd (omega (arith, some))
+  vec_next (t.value e is) here names l w turns some = absurd (omega (arith, some))
+
+  pub large_after : (fs : List Continuation) (next : Next) (w : World) → 0 < w.turns → 0 < asked next → After (with_vec w (asked next)) (resumed p fs (outcome_next p next w))
+  large_after fs (n.Starts is here names l) w turns some =
+      resumed_after fs _ _ (tagged done_tag _ (starting_then p (starts_in is.now) (env_in here) (letters_in names.now) l.value w) (vec_next (starts_in is.now) (env_in here) (letters_in names.now) l.value w turns some))
+  large_after fs next w turns some = absurd (omega (arith, some))

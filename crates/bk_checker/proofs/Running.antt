@@ -2,7 +2,7 @@
 use Rattle.bk_meaning.specs.Causes.{Cause}
 use Rattle.std.specs.Prelude.{IsErr, ◌⊎◌}
 use Rattle.std.proofs.Common.{inl, inr}
-use Rattle.bk_checker.proofs.Terms.{Blames, ◌≡◌, ℕ, ◌^◌, ◌-◌, Vec, map, Bool, true, false, IsTrue, Result, Ok, Err, IfOk, IfErr, OnOk, OnErr, is_err, arith, List, [], ◌∷◌, ◌++◌, Option, None, Some, refl, sym, ap, subst, ◌∙◌, append_assoc, append-nil, Consumes-nil, Consumes-kept, Consumes-trans, Appends-nil, Appends-trans, Appends-kept, Declarations, Value, address, number, World, End, Outcome, gives, leaves, ends, undefined, going, divide_by_zero, given, globals_object, remembering, Effect, fetch, value_in, routine_in, outcome_of, outcome_in, Program, program_of, first_memory, call, full, History, history, Grows, After, reads_from_the_front, full_call, Continuation, Next, CheckFault, Given, a_value, tag, resume, resumed, outcome_next, Comes, Devices, Exchanged, Follows, Shows, Checks, over, verdict_of, place_of, run_given, Answered, Moves, Begun, Runs, ChecksPart, RunsPart, Reaches, Flushed, Worth, Worth as w, Effect as t, Computed, Computed as k, Thing as g, Next as n, Verdict, Verdict as v, CheckFault as x}
+use Rattle.bk_checker.proofs.Terms.{Blames, ◌≡◌, ℕ, ◌+◌, ◌≤◌, ◌^◌, ◌-◌, Vec, map, Bool, true, false, IsTrue, Result, Ok, Err, IfOk, IfErr, OnOk, OnErr, is_err, arith, List, [], ◌∷◌, ◌++◌, Option, None, Some, refl, sym, ap, subst, ◌∙◌, append_assoc, append-nil, Consumes-nil, Consumes-kept, Consumes-trans, Appends-nil, Appends-trans, Appends-kept, Declarations, Value, address, number, World, End, Outcome, gives, leaves, ends, undefined, going, divide_by_zero, given, globals_object, remembering, Effect, fetch, value_in, routine_in, outcome_of, outcome_in, Program, program_of, first_memory, call, full, History, history, Grows, After, reads_from_the_front, full_call, Continuation, Next, CheckFault, Given, a_value, tag, resume, resumed, outcome_next, Comes, Devices, Exchanged, Follows, Shows, Checks, over, verdict_of, place_of, run_given, Answered, Moves, Begun, Runs, ChecksPart, RunsPart, Reaches, Flushed, Worth, Worth as w, Effect as t, Computed, Computed as k, Thing as g, Next as n, Verdict, Verdict as v, CheckFault as x}
 use Rattle.std.specs.Io.KnownBytes.{Consumes, Appends, Keeps}
 use Rattle.bk_meaning.specs.Memory.{Memory, read}
 use Rattle.std.specs.Global.{Global}
@@ -12,7 +12,12 @@ use Rattle.bk_objects.specs.declared.worth.Origin.TheVariants as o
 use Rattle.bk_objects.specs.declared.worth.Routine.{Routine}
 use Rattle.bk_meaning.specs.Program.{Run, means, run_of, first_world, started, meaning}
 use Rattle.bk_meaning.specs.Turns.{shown, RunGoesOn}
-use Rattle.bk_checker.proofs.Growth.{resumed_after, whole_after, called_after}
+use Rattle.bk_meaning.specs.Memory.{cells_living}
+use Rattle.bk_meaning.specs.Growing.{InItsWorld}
+use Rattle.bk_meaning.proofs.Lemmas.{stays}
+use Rattle.bk_checker.specs.Checks.{ComesToLimit, ComesDeep, RunsDeep, ChecksDeep}
+use Rattle.bk_checker.specs.Limits.{asked, IsTooDeep, IsDeep, StartsDeep}
+use Rattle.bk_checker.proofs.Growth.{resumed_after, whole_after, called_after, large_after}
 use Rattle.bk_check.specs.declared.machine.Evaluator.{Evaluator}
 use Rattle.bk_check.specs.Worlds.{Bytes, world}
 
@@ -117,10 +122,11 @@ moves_then p m next m' next' m'' next'' old mid new first second = record {
 -- a machine before a run is in the first world
 begun_world : (p : Program) (turns : ℕ) (m : Evaluator) (input : List ℕ) → Begun p turns m → world m (record { input = input; output = [] }) ≡ first_world p input turns
 begun_world p turns m input begun =
-    ap (λ (s : Memory). record { memory = s; input = input; output = []; calls = m.calls; most_calls = m.most_calls; turns = m.turns }) begun.store
-    ∙ ap (λ (k : ℕ). record { memory = first_memory p; input = input; output = []; calls = k; most_calls = m.most_calls; turns = m.turns }) begun.calls
-    ∙ ap (λ (k : ℕ). record { memory = first_memory p; input = input; output = []; calls = 0; most_calls = k; turns = m.turns }) begun.most_calls
-    ∙ ap (λ (k : ℕ). record { memory = first_memory p; input = input; output = []; calls = 0; most_calls = 0; turns = k }) begun.has_turns
+    ap (λ (s : Memory). record { memory = s; input = input; output = []; calls = m.calls; most_calls = m.most_calls; most_cells = m.most_cells; turns = m.turns }) begun.store
+    ∙ ap (λ (k : ℕ). record { memory = first_memory p; input = input; output = []; calls = k; most_calls = m.most_calls; most_cells = m.most_cells; turns = m.turns }) begun.calls
+    ∙ ap (λ (k : ℕ). record { memory = first_memory p; input = input; output = []; calls = 0; most_calls = k; most_cells = m.most_cells; turns = m.turns }) begun.most_calls
+    ∙ ap (λ (k : ℕ). record { memory = first_memory p; input = input; output = []; calls = 0; most_calls = 0; most_cells = k; turns = m.turns }) begun.most_cells
+    ∙ ap (λ (k : ℕ). record { memory = first_memory p; input = input; output = []; calls = 0; most_calls = 0; most_cells = 0; turns = k }) begun.has_turns
 
 no_frames : (p : Program) (fs : List Continuation) (u : Outcome Given) → fs ≡ [] → resumed p fs u ≡ u
 unfolding resumed
@@ -164,7 +170,7 @@ given_no_end l why (Some b) e w is = cc
 
 -- the first world, whatever its input
 abbrev some_world : Memory → World
-some_world m = record { memory = m; input = []; output = []; calls = 0; most_calls = 0; turns = 0 }
+some_world m = record { memory = m; input = []; output = []; calls = 0; most_calls = 0; most_cells = 0; turns = 0 }
 
 module _ (sections : List Declarations) (p : Program) (turns : ℕ) (is : p ≡ program_of sections) where
   abbrev starting : List ℕ → Option Value → Run
@@ -271,6 +277,7 @@ still_grows before rest w wrote left = record {
   taken = [];
   input = sym left;
   most_calls = omega arith;
+  most_cells = omega arith;
 }
 
 -- nothing was exchanged
@@ -305,13 +312,14 @@ reaches_either p m next m' old new (Ok last) moves part = reaches_after p m next
 reaches_either p m next m' old new (Err e) moves part = part
 
 -- a part of a text was written
-part_grows : (before part others : List ℕ) (text : List ℕ) (w : World) → text ≡ part ++ others → Grows (shown (before ++ part) w.input 0) (shown (before ++ text) w.input w.most_calls)
+part_grows : (before part others : List ℕ) (text : List ℕ) (w : World) → text ≡ part ++ others → Grows (shown (before ++ part) w.input 0) (record (shown (before ++ text) w.input w.most_calls) { most_cells = w.most_cells })
 part_grows before part others text w whole = record {
   written = others;
   output = ap (λ (l : List ℕ). before ++ l) whole ∙ sym (append_assoc before part others);
   taken = [];
   input = refl;
   most_calls = omega arith;
+  most_cells = omega arith;
 }
 
 pub reaches_part : (p : Program) (m : Evaluator) (spot : ℕ) (r : Routine) (vs : Vec Worth Global) (s : Memory) (text : Vec ℕ Global) (old new : Devices) (part others : List ℕ)
@@ -328,8 +336,11 @@ reaches_part p m spot r vs s text old new part others law whole exchanged = reco
 }
 
 run_goes_on : (h : History) (u : Outcome Value) → After h (tag a_value u) → RunGoesOn h (run_of u)
-run_goes_on h (leaves x w) g = g
-run_goes_on h y g = g
+run_goes_on h (gives v w) g = (w.most_cells, g)
+run_goes_on h (leaves x w) g = (w.most_cells, g)
+run_goes_on h (ends e w) g = (w.most_cells, g)
+run_goes_on h (undefined l why w) g = (w.most_cells, g)
+run_goes_on h (going l w) g = (w.most_cells, g)
 
 pub run_part : (p : Program) (start : Value) (turns : ℕ) (m m' : Evaluator) (first : Next) (old new : Devices)
     → Begun p turns m
@@ -377,6 +388,57 @@ nothing_run p start turns old new exchanged = record {
       let w = first_world p rest turns in
       subst (λ (u : Outcome Value). RunGoesOn (shown [] rest 0) (run_of u)) (sym (full_call p turns nowhere start [] w (omega arith)))
       (run_goes_on (shown [] rest 0) (call p (full p) nowhere start [] w) (called_after p nowhere start [] (shown [] rest 0) w (still_grows [] rest w refl refl)));
+}
+
+-- ---- a limit that was reached
+
+in_world : {A : Type 0} (P : World → Type 0) (h : History) (u : Outcome A) → After h u → ((v : World) → Grows h (history v) → P v) → InItsWorld P u
+in_world P h (gives a v) g on = on v g
+in_world P h (leaves x v) g on = on v g
+in_world P h (ends e v) g on = on v g
+in_world P h (undefined l why v) g on = on v g
+in_world P h (going l v) g on = on v g
+
+untagged : (P : World → Type 0) (u : Outcome Value) → InItsWorld P (tag a_value u) → InItsWorld P u
+untagged P (leaves x w) g = g
+untagged P y g = g
+
+goes_deep : (p : Program) (m : Evaluator) (next : Next) (b : Bytes) → IsTooDeep m next → InItsWorld IsDeep (resumed p m.frames.items (outcome_next p next (world m b)))
+goes_deep p m next b (inl many) =
+    let w = world m b in
+    in_world IsDeep (history w) _ (whole_after p m.frames.items next (history w) w (stays (history w))) (λ v g. let more : m.most_calls ≤ v.most_calls = g.most_calls in inl (omega (arith, more, many.1)))
+goes_deep p m next b (inr large) =
+    in_world IsDeep _ _ (large_after p m.frames.items next (world m b) large.0 large.1) (λ v g. let more : cells_living m.store + asked next ≤ v.most_cells = g.most_cells in inr (omega (arith, more, large.2)))
+
+pub run_deep : (p : Program) (start : Value) (turns : ℕ) (m m' m'' : Evaluator) (first : Next) (old new : Devices)
+    → Begun p turns m
+    → ((b : Bytes) → Comes p m'.frames.items first (world m' b) (resumed p m.frames.items (tag a_value (call p (full p) nowhere start [] (world m b)))))
+    → ComesToLimit p m' first m'' old new → RunsDeep p start turns old new
+run_deep p start turns m m' m'' first old new begun calls limit = record {
+  read = limit.moves.read;
+  delivered = limit.moves.exchanged.delivered;
+  deep = λ rest follows.
+      let input = limit.moves.read ++ rest in
+      let there = world m (record { input = input; output = [] }) in
+      let comes = limit.moves.comes rest [] follows ∙ calls (record { input = input; output = [] }) ∙ no_frames p m.frames.items (tag a_value (call p (full p) nowhere start [] there)) begun.frames in
+      let deep : InItsWorld IsDeep (call p (full p) nowhere start [] there) =
+      untagged IsDeep _ (subst (InItsWorld IsDeep) comes (goes_deep p m'' limit.last (record { input = rest; output = limit.moves.written }) limit.is_deep)) in
+      subst (InItsWorld IsDeep) (
+      ap (λ (x : World). call p (full p) nowhere start [] x) (begun_world p turns m input begun)
+      ∙ sym (full_call p turns nowhere start [] (first_world p input turns) (omega arith))) deep;
+}
+
+-- with what a flush leaves
+pub deep_kept : {goes : List ℕ → Type 0} (old mid : Devices) (taken : Option (List ℕ)) → ComesDeep goes old mid → ComesDeep goes old (record mid { taken = taken })
+deep_kept old mid taken comes = record { read = comes.read; delivered = comes.delivered; deep = comes.deep }
+
+pub checks_deep : (sections : List Declarations) (p : Program) (turns : ℕ) → p ≡ program_of sections → (start : Value) (old new : Devices) → read (first_memory p) (address globals_object 1) ≡ Some start → RunsDeep p start turns old new → ChecksDeep sections turns old new
+checks_deep sections p turns is start old new found runs = record {
+  read = runs.read;
+  delivered = runs.delivered;
+  deep = λ rest follows.
+      subst (λ (q : Program). StartsDeep q (read (first_memory q) (address globals_object 1)) (first_world q (runs.read ++ rest) turns) turns) is
+      (subst (λ (f : Option Value). StartsDeep p f (first_world p (runs.read ++ rest) turns) turns) (sym found) (runs.deep rest follows));
 }
 
 -- ---- results

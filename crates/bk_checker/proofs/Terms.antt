@@ -1,5 +1,5 @@
 -- The names of the layers below that several of these proofs use.
-pub use Rattle.std.proofs.Common.{rules, refl, ◌∙◌, ◌≡◌, sym, ap, ℕ, suc, Bool, not, Option, List, [], ◌∷◌, ◌++◌, map, arith, ◌^◌, ◌-◌, Vec, true, false, IsTrue, Result, Ok, Err, IfOk, IfErr, OnOk, OnErr, is_err, None, Some, subst, append_assoc, append-nil}
+pub use Rattle.std.proofs.Common.{rules, refl, ◌∙◌, ◌≡◌, sym, ap, ℕ, zero, suc, ◌+◌, ◌≤◌, ◌<◌, length, Bool, not, Option, List, [], ◌∷◌, ◌++◌, map, arith, ◌^◌, ◌-◌, Vec, true, false, IsTrue, Result, Ok, Err, IfOk, IfErr, OnOk, OnErr, is_err, None, Some, subst, append_assoc, append-nil}
 pub use Rattle.std.proofs.KnownBytes.{Consumes-nil, Consumes-kept, Consumes-trans, Appends-nil, Appends-trans, Appends-kept, Keeps-refl}
 pub use Rattle.bk_base.specs.DeviceLaws.{Begins-refl, Begins-trans}
 pub use Rattle.bk_check.specs.Resume.{tag, a_value, Given, a_truth, a_target, is_done, done_tag, resume_given, resume_left, value_goes, truth_goes, target_goes, done_goes, done_left, next_round, next_for, bound_then, defined_then, started_then, starting_then, declared_then, outcome_next, thing_in, exit_in, assigned_to, resume, Comes}

@@ -1,5 +1,5 @@
 -- What a check answers: the verdict of the meaning, with the bytes that it reads and writes.
-use Rattle.std.specs.Prelude.{◌≡◌, ◌⊎◌, ℕ, ⊤, Bool, true, false, IsTrue, List, [], ◌++◌, Option, None}
+use Rattle.std.specs.Prelude.{◌≡◌, ◌⊎◌, ℕ, ⊤, Bool, true, false, IsTrue, List, [], ◌++◌, Option, None, Some}
 use Rattle.std.specs.Io.KnownBytes.{Consumes, Appends}
 use Rattle.bk_base.specs.declared.device.ByteIn as reader
 use Rattle.bk_base.specs.declared.device.ByteOut as writer
@@ -22,7 +22,7 @@ use Rattle.bk_check.specs.declared.frame.Next.TheVariants as n
 use Rattle.bk_check.specs.declared.machine.Evaluator.{Evaluator}
 use Rattle.bk_objects.specs.Views.{cause_of}
 use Rattle.bk_objects.specs.declared.computed.Reason.TheVariants as y
-use Rattle.bk_checker.specs.Limits.{IsTooDeep}
+use Rattle.bk_checker.specs.Limits.{IsTooDeep, StartsDeep, GoesDeep}
 use Rattle.bk_checker.specs.declared.report.Verdict.{Verdict}
 use Rattle.bk_checker.specs.declared.report.Verdict.TheVariants as v
 use Rattle.bk_checker.specs.declared.report.CheckFault.{CheckFault}
@@ -80,6 +80,19 @@ Flushed x.Read passed taken = passed ≡ taken
 Flushed x.TooDeep passed taken = passed ≡ taken
 Flushed x.Write passed taken = ⊤
 Flushed x.Memory passed taken = ⊤
+
+-- The limit was reached: whatever follows the bytes that were read, a run with that input goes deep.
+pub record ComesDeep (goes : List ℕ → Type 0) (old new : Devices) : Type 0 where
+  pub read : List ℕ
+  pub delivered : Consumes old.left new.left read
+  pub deep : (rest : List ℕ) → Follows new rest → goes (read ++ rest)
+
+-- so of these sections, and of the call of START
+abbrev pub ChecksDeep : List Declarations → ℕ → Devices → Devices → Type 0
+ChecksDeep sections turns old new = ComesDeep (λ input. GoesDeep sections input turns) old new
+
+abbrev pub RunsDeep : Program → Value → ℕ → Devices → Devices → Type 0
+RunsDeep p start turns old new = ComesDeep (λ input. StartsDeep p (Some start) (first_world p input turns) turns) old new
 
 -- ---- on the way
 
@@ -145,6 +158,7 @@ pub record Begun (p : Program) (turns : ℕ) (m : Evaluator) : Type 0 where
   pub store : m.store ≡ first_memory p
   pub calls : m.calls ≡ 0
   pub most_calls : m.most_calls ≡ 0
+  pub most_cells : m.most_cells ≡ 0
   pub has_turns : m.turns ≡ turns
 
 -- the verdict is that of the call of START

@@ -6,10 +6,10 @@ ghost use Rattle.bk_tree.specs.Section.{declarations_of};
 ghost use Rattle.bk_tree.specs.Tree.{Declarations};
 ghost use Rattle.bk_meaning.specs.Lasting.{program_of as program_in_sections};
 ghost use Rattle.bk_checker.specs.declared.report.Verdict.TheVariants.{NoStart};
-ghost use Rattle.bk_checker.specs.declared.report.CheckFault.TheVariants.{Write};
+ghost use Rattle.bk_checker.specs.declared.report.CheckFault.TheVariants.{Write, TooDeep};
 ghost use Rattle.bk_objects.specs.Views.{value_in};
 ghost use Rattle.bk_check.specs.Views.{program_in};
-ghost use Rattle.bk_checker.specs.Checks.{Checks, Blames, Flushed, Begun, Runs, ChecksPart, RunsPart, devices};
+ghost use Rattle.bk_checker.specs.Checks.{Checks, Blames, Flushed, Begun, Runs, ChecksPart, RunsPart, ChecksDeep, RunsDeep, devices};
 
 use crate::explain::{explain, given_up};
 use crate::remarks::remarks_on;
@@ -36,6 +36,7 @@ fn first_machine<'a>(
         store: first_memory(alloc, program)?,
         calls: 0,
         most_calls: 0,
+        most_cells: 0,
         turns,
     })
 }
@@ -55,6 +56,9 @@ fn check_start<'a, I: ByteIn, O: ByteOut>(
     ensures flushed_where_given_up { IfErr result (λ stop. Flushed stop.fault (O.passed out.new) (O.taken out.new)) }
     ensures part { IfErr result (λ _. (turns : ℕ) → Begun (program_in program.now) turns m.old
         → RunsPart (program_in program.now) (value_in start) turns
+        (devices I.ByteIn O.ByteOut input.old out.old) (devices I.ByteIn O.ByteOut input.new out.new)) }
+    ensures limit { IfErr result (λ stop. stop.fault ≡ TooDeep → (turns : ℕ) → Begun (program_in program.now) turns m.old
+        → RunsDeep (program_in program.now) (value_in start) turns
         (devices I.ByteIn O.ByteOut input.old out.old) (devices I.ByteIn O.ByteOut input.new out.new)) }
     ensures passes { Begins (O.passed out.old) (O.passed out.new) }
     ensures sound { OnOk result ((I.faults input.new ≡ I.faults input.old) × (O.faults out.new ≡ O.faults out.old)) }
@@ -108,6 +112,9 @@ fn check_program<'a, I: ByteIn, O: ByteOut>(
     ensures flushed_where_given_up { IfErr result (λ stop. Flushed stop.fault (O.passed out.new) (O.taken out.new)) }
     ensures part { IfErr result (λ _. (sections : List Declarations) → program_in program.now ≡ program_in_sections sections → ChecksPart sections turns
         (devices I.ByteIn O.ByteOut input.old out.old) (devices I.ByteIn O.ByteOut input.new out.new)) }
+    ensures limit { IfErr result (λ stop. stop.fault ≡ TooDeep → (sections : List Declarations) → program_in program.now ≡ program_in_sections sections
+        → ChecksDeep sections turns
+        (devices I.ByteIn O.ByteOut input.old out.old) (devices I.ByteIn O.ByteOut input.new out.new)) }
     ensures passes { Begins (O.passed out.old) (O.passed out.new) }
     ensures sound { OnOk result ((I.faults input.new ≡ I.faults input.old) × (O.faults out.new ≡ O.faults out.old)) }
     ensures cause { IfErr result (λ stop. Blames stop.fault (I.faults input.old) (I.faults input.new) (O.faults out.old) (O.faults out.new)) }
@@ -136,6 +143,9 @@ pub fn check<I: ByteIn, O: ByteOut>(
     ensures flushed { OnOk result (O.passed out.new ≡ O.taken out.new) }
     ensures flushed_where_given_up { IfErr result (λ stop. Flushed stop.fault (O.passed out.new) (O.taken out.new)) }
     ensures part { IfErr result (λ _. ChecksPart (map declarations_of sections.now) turns
+        (devices I.ByteIn O.ByteOut input.old out.old) (devices I.ByteIn O.ByteOut input.new out.new)) }
+    // *Too deep* comes only where the meaning has more than 16384 calls active at once, or more than 16777216 cells living at a VEC.
+    ensures limit { IfErr result (λ stop. stop.fault ≡ TooDeep → ChecksDeep (map declarations_of sections.now) turns
         (devices I.ByteIn O.ByteOut input.old out.old) (devices I.ByteIn O.ByteOut input.new out.new)) }
     ensures passes { Begins (O.passed out.old) (O.passed out.new) }
     ensures sound { OnOk result ((I.faults input.new ≡ I.faults input.old) × (O.faults out.new ≡ O.faults out.old)) }

@@ -1,17 +1,15 @@
 //! Runs of the meaning over devices.
-ghost use Rattle.std.specs.Prelude.{◌≡◌, ◌≢◌, ◌⊎◌, ℕ, true, false, IfOk, IfErr, OnOk, OnErr, List, []};
+ghost use Rattle.std.specs.Prelude.{◌≡◌, ◌≢◌, ◌⊎◌, true, false, IfOk, IfErr, OnOk, OnErr, []};
 ghost use Rattle.std.specs.Bool.{OnTrue};
 ghost use Rattle.std.specs.Io.KnownBytes.{Keeps};
 ghost use Rattle.bk_base.specs.Devices.{Begins};
-ghost use Rattle.bk_meaning.specs.World.{World};
 ghost use Rattle.bk_meaning.specs.Lasting.{Program};
-ghost use Rattle.bk_check.specs.declared.frame.Continuation.{Continuation};
 ghost use Rattle.bk_check.specs.declared.frame.Next.TheVariants as n;
 ghost use Rattle.bk_check.specs.Views.{program_in};
-ghost use Rattle.bk_check.specs.Resume.{outcome_next, argument_of as argument_in};
+ghost use Rattle.bk_check.specs.Resume.{argument_of as argument_in};
 ghost use Rattle.bk_checker.specs.declared.report.CheckFault.TheVariants.{Write, TooDeep};
 ghost use Rattle.bk_checker.specs.Checks.{Blames, over, verdict_of, Answered, Moves, Reaches, ComesToLimit, devices};
-ghost use Rattle.bk_checker.specs.Limits.{Progresses, asked, IsTooDeep};
+ghost use Rattle.bk_checker.specs.Limits.{Progresses, asked, IsTooDeep, IsTooLarge};
 
 use crate::report::{CheckFault, Verdict};
 use bk_base::{ByteIn, ByteOut, put_all};
@@ -20,8 +18,11 @@ use bk_lasting::{Lasting, constant};
 use bk_objects::{Effect, Origin, Reason, Routine, Worth, perform};
 use bk_tree::{Init, Position};
 
-/// How many frames are at most on the stack of a check.
+/// How many frames are at most on the stack of a check, once more than `CALLS` calls were active.
 pub const FRAMES: usize = 4_194_304;
+
+/// How many calls may be active at once, however many frames these take.
+pub const CALLS: u64 = 16_384;
 
 /// How many cells live at most in a check: the words of the largest store of a run.
 pub const CELLS: usize = 16_777_216;
@@ -171,7 +172,7 @@ pub fn verdict(next: &Next) -> Verdict
     }
 }
 
-/// How many cells a vector has that comes next; none where no vector does.
+/// How many cells a VEC has that comes next; none where no VEC does.
 fn cells_asked(next: &Next) -> usize
     ensures { result ≡ asked next.now }
 {
@@ -184,11 +185,19 @@ fn cells_asked(next: &Next) -> usize
     }
 }
 
-/// Whether there are more frames or cells than the limits of a check, or would be with a vector that comes next.
+/// Whether more cells would live than the limit of a check, with a VEC that comes next.
+fn is_too_large(m: &Evaluator, next: &Next) -> bool
+    ensures { OnTrue result (IsTooLarge m.now next.now) }
+{
+    let asked = cells_asked(next);
+    asked > 0 && m.turns > 0 && m.store.cells_in_use().saturating_add(asked) > CELLS
+}
+
+/// Whether there are more frames than the limit of a check, or would be more cells.
 fn is_too_deep(m: &Evaluator, next: &Next) -> bool
     ensures { OnTrue result (IsTooDeep m.now next.now) }
 {
-    m.frames.len() > FRAMES || m.store.cells_in_use().saturating_add(cells_asked(next)) > CELLS
+    (m.frames.len() > FRAMES && m.most_calls > CALLS) || is_too_large(m, next)
 }
 
 /// Steps up to the end of a run: what ends it.

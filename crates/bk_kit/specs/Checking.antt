@@ -18,7 +18,7 @@ use Rattle.bk_checker.specs.declared.report.Report.{Report}
 use Rattle.bk_checker.specs.declared.report.Notice.{Notice}
 use Rattle.bk_checker.specs.declared.source.SourceText.{SourceText}
 use Rattle.bk_checker.specs.Reports.{IsBefore}
-use Rattle.bk_checker.specs.Checks.{Devices, Checks, ChecksPart, Blames, Flushed}
+use Rattle.bk_checker.specs.Checks.{Devices, Checks, ChecksPart, ChecksDeep, Blames, Flushed}
 use Rattle.bk_filters.specs.declared.kit_fault.KitFault.{KitFault}
 use Rattle.bk_filters.specs.declared.kit_fault.KitFault.TheVariants.{Source}
 use Rattle.bk_filters.specs.FaultLine.{fault_text, line_of}
@@ -137,7 +137,8 @@ ChecksSource (Ok report) turns old new ended before after =
 ChecksSource (Err (n.Text refusal)) turns old new ended before after =
     NotAssembled refusal.fault old new ended × HintsIn refusal old new × (after ≡ before)
 ChecksSource (Err (n.Run stop)) turns old new ended before after =
-    ((trees : List Declarations) × HasTheseTrees trees old new ended × ChecksPart trees turns (checked_devices before) (checked_devices after))
+    ((trees : List Declarations) × HasTheseTrees trees old new ended × ChecksPart trees turns (checked_devices before) (checked_devices after)
+    × (stop.fault ≡ x.TooDeep → ChecksDeep trees turns (checked_devices before) (checked_devices after)))
     × Blames stop.fault before.reads after.reads before.writes after.writes × Flushed stop.fault after.passed after.taken
     × IfSome stop.stop (IsPlacedIn old new)
 

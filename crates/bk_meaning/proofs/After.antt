@@ -1,20 +1,23 @@
 -- What is done in any world only adds to its history: for proofs that follow a run step by step, and need it of what is still
 -- to be done.
-use Rattle.bk_meaning.proofs.Terms.{◌≡◌, ℕ, zero, suc, ◌≤◌, Bool, true, false, List, [], ◌++◌, Option, Some, None, refl, sym, ap, ◌∙◌, append_assoc, arith, append-nil, Memory, World, Exit, Outcome, gives, leaves, ends, undefined, going, each_way, with, given, either, turn, turn_of, closing, changes, calling, writing, History, history, Grows, After, Cause}
+use Rattle.bk_meaning.proofs.Terms.{◌≡◌, ℕ, zero, suc, ◌≤◌, Bool, true, false, List, [], ◌++◌, Option, Some, None, refl, sym, ap, ◌∙◌, append_assoc, arith, append-nil, Cell, Memory, World, Exit, Outcome, gives, leaves, ends, undefined, going, each_way, with, given, either, turn, turn_of, closing, changes, calling, making_vec, writing, History, history, Grows, After, Cause}
 
 pub stays : (h : History) → Grows h h
-stays h = record { written = []; output = sym (append-nil h.output); taken = []; input = refl; most_calls = omega arith }
+stays h = record { written = []; output = sym (append-nil h.output); taken = []; input = refl; most_calls = omega arith; most_cells = omega arith }
 
 pub then_on : (u v w : History) → Grows u v → Grows v w → Grows u w
 then_on u v w a b =
     let am : u.most_calls ≤ v.most_calls = a.most_calls in
     let bm : v.most_calls ≤ w.most_calls = b.most_calls in
+    let ac : u.most_cells ≤ v.most_cells = a.most_cells in
+    let bc : v.most_cells ≤ w.most_cells = b.most_cells in
     record {
       written = a.written ++ b.written;
       output = b.output ∙ ap (λ x. x ++ b.written) a.output ∙ append_assoc u.output a.written b.written;
       taken = a.taken ++ b.taken;
       input = a.input ∙ ap (λ x. a.taken ++ x) b.input ∙ sym (append_assoc a.taken b.taken _);
       most_calls = omega (arith, am, bm);
+      most_cells = omega (arith, ac, bc);
     }
 
 -- from an earlier history
@@ -63,10 +66,13 @@ changes_after l why None w = stays (history w)
 changes_after l why (Some m) w = stays (history w)
 
 pub writing_on : (bytes : List ℕ) (w : World) → Grows (history w) (history (writing bytes w))
-writing_on bytes w = record { written = bytes; output = refl; taken = []; input = refl; most_calls = omega arith }
+writing_on bytes w = record { written = bytes; output = refl; taken = []; input = refl; most_calls = omega arith; most_cells = omega arith }
 
 pub taking_on : (taken rest : List ℕ) (w : World) → w.input ≡ taken ++ rest → Grows (history w) (history (record w { input = rest }))
-taking_on taken rest w is = record { written = []; output = sym (append-nil w.output); taken = taken; input = is; most_calls = omega arith }
+taking_on taken rest w is = record { written = []; output = sym (append-nil w.output); taken = taken; input = is; most_calls = omega arith; most_cells = omega arith }
 
 pub calling_on : (w : World) → Grows (history w) (history (calling w))
-calling_on w = record { written = []; output = sym (append-nil w.output); taken = []; input = refl; most_calls = omega arith }
+calling_on w = record { written = []; output = sym (append-nil w.output); taken = []; input = refl; most_calls = omega arith; most_cells = omega arith }
+
+pub vec_on : (cells : List Cell) (w : World) → Grows (history w) (history (making_vec cells w))
+vec_on cells w = record { written = []; output = sym (append-nil w.output); taken = []; input = refl; most_calls = omega arith; most_cells = omega arith }

@@ -1,5 +1,5 @@
 -- The lemmas of this crate that the proofs of the crates above cite. They import no other file of this folder.
-pub use Rattle.bk_meaning.proofs.After.{Adds, adds, calling_on, changes_after, closing_after, each_way_after, earlier, either_after, given_after, stays, turn_after, with_after}
+pub use Rattle.bk_meaning.proofs.After.{Adds, adds, calling_on, changes_after, closing_after, each_way_after, earlier, either_after, given_after, stays, turn_after, vec_on, with_after}
 pub use Rattle.bk_meaning.proofs.MeaningSpending.{cut_only_without_turns}
 pub use Rattle.bk_meaning.proofs.MeaningTies.{means_tied, only_grows, reads_from_the_front}
 pub use Rattle.bk_meaning.proofs.NoDepth.{full_act, full_call, full_for_rounds, full_rounds, full_scope, full_target, full_truth, full_value, turn_left, turn_none}

@@ -1,7 +1,7 @@
 -- More turns change nothing of what a program means.
-use Rattle.bk_meaning.proofs.Terms.{ℕ, zero, suc, ◌≤◌, List, [], length, Option, Some, None, arith, Expression, Command, Commands, Declarations, Value, address, read, World, Outcome, gives, leaves, ends, undefined, going, Done, Environment, globals_object, Program, program_of, Meanings, nowhere, Mode, turn_for, means_with, no_turn_for, no_turns, means, run_of, first_world, started, call, History, history, sizes, Keeps, InItsWorld, After, Restores, Throughout, OutputOnlyGrows, CallsComeBack, MemoryNeverShrinks, WhatLastsLives, with_turns, shown, RunGoesOn, Continues, the_same, further, MoreTurns, ReadsFromTheFront}
+use Rattle.bk_meaning.proofs.Terms.{ℕ, zero, suc, ◌≤◌, List, [], length, Option, Some, None, refl, sym, arith, append-nil, Expression, Command, Commands, Declarations, Value, address, read, World, Outcome, gives, leaves, ends, undefined, going, Done, Environment, globals_object, Program, program_of, Meanings, nowhere, Mode, turn_for, means_with, no_turn_for, no_turns, means, run_of, first_world, started, call, History, history, Grows, sizes, Keeps, InItsWorld, After, Restores, Throughout, OutputOnlyGrows, CallsComeBack, MemoryNeverShrinks, WhatLastsLives, with_turns, shown, RunGoesOn, Continues, the_same, further, MoreTurns, ReadsFromTheFront}
 use Rattle.bk_tree.specs.Tree as t
-use Rattle.bk_meaning.proofs.After.{stays}
+use Rattle.bk_meaning.proofs.After.{stays, earlier}
 use Rattle.bk_meaning.proofs.Objects.{kept_length, kept_lives, first_lives}
 use Rattle.bk_meaning.proofs.Ties.{Below, gives_more, leaves_more, ends_more, undefined_more, cut, Tied, Ties, ties, gives_tied, cut_tied, going_tied, turn_tied}
 use Rattle.bk_meaning.proofs.NodeTies.{AllTied, value_of_ties, truth_of_ties, target_of_ties, act_of_ties, rounds_of_ties, for_rounds_of_ties, scope_ties, call_ties}
@@ -67,8 +67,15 @@ means_tied p (suc n) zero le = absurd (omega (arith, le))
 means_tied p (suc n) (suc k) le = means_with_tied p (means p n) (means p k) (means_tied p n k (omega (arith, le)))
 
 run_on : (h : History) (u : Outcome Value) → After h u → RunGoesOn h (run_of u)
-run_on h (leaves e x) g = g
-run_on h _ g = g
+run_on h (gives v w) g = (w.most_cells, g)
+run_on h (leaves x w) g = (w.most_cells, g)
+run_on h (ends e w) g = (w.most_cells, g)
+run_on h (undefined l why w) g = (w.most_cells, g)
+run_on h (going l w) g = (w.most_cells, g)
+
+-- what is shown of a world has none of its cells
+shown_on : (w : World) → Grows (shown w.output w.input w.most_calls) (history w)
+shown_on w = record { written = []; output = sym (append-nil w.output); taken = []; input = refl; most_calls = omega arith; most_cells = omega arith }
 
 run_continues : (w : World) (u v : Outcome Value) → Tied w u v → Continues (run_of u) (run_of v)
 run_continues w u v tied = by u v tied.below
@@ -78,7 +85,7 @@ run_continues w u v tied = by u v tied.below
     by _ _ (leaves_more x v n le) = the_same _
     by _ _ (ends_more e v n le) = the_same _
     by _ _ (undefined_more l why w n le) = the_same _
-    by _ _ (cut l x v up) = further _ _ _ _ _ (run_on (history x) v up)
+    by _ _ (cut l x v up) = further _ _ _ _ _ (run_on _ v (earlier _ (history x) v (shown_on x) up))
 
 started_continues : (p : Program) (f : Option Value) (input : List ℕ) (n k : ℕ) → n ≤ k → Continues (started p f (first_world p input n) n) (started p f (first_world p input k) k)
 started_continues p None input n k le = the_same _
@@ -95,7 +102,7 @@ pub called_tied : (p : Program) (place : ℕ) (f : Value) (vs : List Value) (n :
 called_tied p place f vs n w = (call_ties (means p n) (means p n) (self_tied p n) place p f vs).at w w.turns (omega arith)
 
 started_on : (p : Program) (f : Option Value) (input : List ℕ) (n : ℕ) → RunGoesOn (shown [] input 0) (started p f (first_world p input n) n)
-started_on p None input n = stays (history (first_world p input n))
+started_on p None input n = (0, stays (history (first_world p input n)))
 started_on p (Some f) input n = run_on (history (first_world p input n)) _ ((called_tied p nowhere f [] n (first_world p input n)).on)
 
 pub reads_from_the_front : ReadsFromTheFront

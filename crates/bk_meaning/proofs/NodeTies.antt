@@ -1,5 +1,5 @@
 -- Every part of the meaning with fewer turns and with more, if the nodes inside are so.
-use Rattle.bk_meaning.proofs.Terms.{◌≡◌, ℕ, ◌≤◌, Bool, true, false, not, List, [], ◌∷◌, length, Option, Some, None, refl, Operator, Operator as o, Prefix, Prefix as q, Simple, Simple as k, Mention, Expression, Expressions, Command, Commands, Declaration, Declarations, Definition, Definitions, Starts, divides_by_zero, Routine, stop, rdch, wrch, newline, writes, writen, writed, getbyte, putbyte, writef, Value, number, address, procedure, routine, unset, holds, Memory, read, World, given, status, Exit, break, loop, endcase, goto, result, return, Outcome, gives, Done, done, turn, making, calling, writing, sum, truth_of_value, on_numbers, operate, operate_prefix, Environment, Sense, constant, cell, label, foreign, sense_of, bind, following, past, past_each, past_command, past_definition, constant_in, labelled, within_let, objects_of_definitions, Body, command, expression, Procedure, Program, procedure_of, library, writes_text, takes_byte, the_label, the_case, the_default, Mode, forwards, seeking, at_place, has_place, one_has_place, Target, at, byte_at, acts_at, Meanings, Start, with_turns, Cause, sum_cause, no_constant}
+use Rattle.bk_meaning.proofs.Terms.{◌≡◌, ℕ, ◌≤◌, Bool, true, false, not, List, [], ◌∷◌, length, Option, Some, None, refl, Operator, Operator as o, Prefix, Prefix as q, Simple, Simple as k, Mention, Expression, Expressions, Command, Commands, Declaration, Declarations, Definition, Definitions, Starts, divides_by_zero, Routine, stop, rdch, wrch, newline, writes, writen, writed, getbyte, putbyte, writef, Value, number, address, procedure, routine, unset, holds, Memory, read, World, given, status, Exit, break, loop, endcase, goto, result, return, Outcome, gives, Done, done, turn, making, making_vec, calling, writing, sum, truth_of_value, on_numbers, operate, operate_prefix, Environment, Sense, constant, cell, label, foreign, sense_of, bind, following, past, past_each, past_command, past_definition, constant_in, labelled, within_let, objects_of_definitions, Body, command, expression, Procedure, Program, procedure_of, library, writes_text, takes_byte, the_label, the_case, the_default, Mode, forwards, seeking, at_place, has_place, one_has_place, Target, at, byte_at, acts_at, Meanings, Start, with_turns, Cause, sum_cause, no_constant}
 use Rattle.bk_tree.specs.Tree as t
 use Rattle.bk_meaning.specs.Parts
 use Rattle.bk_meaning.specs.Scopes
@@ -8,7 +8,7 @@ use Rattle.bk_meaning.specs.Expressions
 use Rattle.bk_meaning.specs.Loops
 use Rattle.bk_meaning.specs.Blocks
 use Rattle.bk_meaning.specs.Commands as commands
-use Rattle.bk_meaning.proofs.Ties.{gives_more, Tied, Ties, ties, each_way_tied, with_tied, then_ties, either_ties, gives_tied, leaves_tied, ends_tied, undefined_tied, given_tied, either_tied, turn_tied, closing_tied, changes_tied, making_tied, call_tied, at_home}
+use Rattle.bk_meaning.proofs.Ties.{gives_more, Tied, Ties, ties, each_way_tied, with_tied, then_ties, either_ties, gives_tied, leaves_tied, ends_tied, undefined_tied, given_tied, either_tied, turn_tied, closing_tied, changes_tied, making_tied, vec_tied, call_tied, at_home}
 use Rattle.bk_meaning.proofs.After.{writing_on, taking_on}
 use Rattle.bk_meaning.proofs.Objects.{write_keeps, write_byte_keeps}
 
@@ -260,7 +260,7 @@ module _ (m l : Meanings) (g : AllTied m l) where
 
   pub make_vec_ties : (place : ℕ) (k : Option ℕ) → Ties (Blocks.make_vec place k) (Blocks.make_vec place k)
   make_vec_ties place None = ties _ _ (λ w n le. undefined_tied _ w n le)
-  make_vec_ties place (Some k) = ties _ _ (λ w i le. making_tied (Blocks.vec_cells k) w _ _ (gives_tied _ (making (Blocks.vec_cells k) w) i le))
+  make_vec_ties place (Some k) = ties _ _ (λ w i le. vec_tied (Blocks.vec_cells k) w _ _ (gives_tied _ (making_vec (Blocks.vec_cells k) w) i le))
 
   pub starts_ties : (is : Starts) (env : Environment) → Ties (Blocks.starts m is env) (Blocks.starts l is env)
   starts_ties t.no_starts env = ties _ _ (λ w n le. gives_tied [] w n le)

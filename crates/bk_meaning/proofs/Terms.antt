@@ -24,4 +24,4 @@ pub use Rattle.bk_meaning.specs.Program.{turn_for, means_with, no_turn_for, no_t
 pub use Rattle.bk_meaning.specs.Seeking.{Mode, the_label, the_case, the_default, forwards, seeking, at_place, has_place, one_has_place}
 pub use Rattle.bk_meaning.specs.Turns.{with_turns, shown, RunGoesOn, Continues, the_same, further, MoreTurns, ReadsFromTheFront, CutOnlyWithoutTurns}
 pub use Rattle.bk_meaning.specs.Values.{Value, Cell, address, Routine, stop, rdch, wrch, newline, writes, writen, writed, getbyte, putbyte, writef, number, procedure, routine, unset, holds, with_byte}
-pub use Rattle.bk_meaning.specs.World.{World, Exit, End, Outcome, gives, leaves, ends, undefined, going, each_way, with, given, either, turn, turn_of, closing, forgetting, changes, remembering, making, calling, calls_back, Done, status, break, loop, endcase, goto, result, return, done, writing, divide_by_zero, no_start}
+pub use Rattle.bk_meaning.specs.World.{World, Exit, End, Outcome, gives, leaves, ends, undefined, going, each_way, with, given, either, turn, turn_of, closing, forgetting, changes, remembering, making, making_vec, calling, calls_back, Done, status, break, loop, endcase, goto, result, return, done, writing, divide_by_zero, no_start}

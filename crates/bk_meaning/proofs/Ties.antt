@@ -1,6 +1,6 @@
 -- Runs of one tree, with fewer turns and with more; and what each of them only adds to, or leaves as it was.
-use Rattle.bk_meaning.proofs.Terms.{ℕ, zero, suc, ◌+◌, ◌≤◌, Bool, true, false, List, [], length, Option, Some, None, refl, sym, ◌∙◌, arith, append-nil, Value, Cell, Memory, dead_from, World, Exit, End, Outcome, gives, leaves, ends, undefined, going, each_way, with, given, either, turn, turn_of, closing, forgetting, changes, remembering, making, calling, calls_back, returned, History, history, Grows, sizes, ComesBack, After, Restores, with_turns, Cause}
-use Rattle.bk_meaning.proofs.After.{stays, earlier, Adds, adds, each_way_after, closing_after, calling_on}
+use Rattle.bk_meaning.proofs.Terms.{ℕ, zero, suc, ◌+◌, ◌≤◌, Bool, true, false, List, [], length, Option, Some, None, refl, sym, ◌∙◌, arith, append-nil, Value, Cell, Memory, dead_from, World, Exit, End, Outcome, gives, leaves, ends, undefined, going, each_way, with, given, either, turn, turn_of, closing, forgetting, changes, remembering, making, making_vec, calling, calls_back, returned, History, history, Grows, sizes, ComesBack, After, Restores, with_turns, Cause}
+use Rattle.bk_meaning.proofs.After.{stays, earlier, Adds, adds, each_way_after, closing_after, calling_on, vec_on}
 use Rattle.bk_meaning.proofs.Objects.{kept_still, kept_on, sizes-made, closed_keep, KeepsSizes}
 
 -- the same calls and objects
@@ -139,6 +139,10 @@ changes_tied l why (Some m) w n le same = record {
 -- with a new object
 pub making_tied : {A : Type 0} (cells : List Cell) (w : World) (o p : Outcome A) → Tied (making cells w) o p → Tied w o p
 making_tied cells w o p t = from w (making cells w) o p (stays (history w)) (record { calls = refl; kept = sizes-made cells w.memory }) t
+
+-- with a VEC
+pub vec_tied : {A : Type 0} (cells : List Cell) (w : World) (o p : Outcome A) → Tied (making_vec cells w) o p → Tied w o p
+vec_tied cells w o p t = from w (making_vec cells w) o p (vec_on cells w) (record { calls = refl; kept = sizes-made cells w.memory }) t
 
 -- a call, behind which as many are active as before
 pub call_tied : (l : ℕ) (w : World) (u v : Outcome Value) → Tied (calling w) u v → Tied w (returned l w.calls u) (returned l w.calls v)

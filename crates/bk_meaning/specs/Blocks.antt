@@ -4,7 +4,7 @@ use Rattle.bk_tree.specs.Tree as t
 use Rattle.bk_tree.specs.Tree.{Mention, Expression, Expressions, Command, Commands, Declaration, Declarations, Definition, Definitions, Starts}
 use Rattle.bk_meaning.specs.Values.{Value, address, unset, Cell, holds}
 use Rattle.bk_meaning.specs.Causes.{no_constant}
-use Rattle.bk_meaning.specs.World.{World, Outcome, gives, undefined, with, turn, making}
+use Rattle.bk_meaning.specs.World.{World, Outcome, gives, undefined, with, turn, making, making_vec}
 use Rattle.bk_meaning.specs.Environment.{Environment, cell, bind, following, past, past_definition, constant_in, within_let, constants_declared, letters, objects_of_definitions}
 use Rattle.bk_meaning.specs.Parts.{Meanings, acts_at}
 
@@ -15,7 +15,7 @@ vec_cells k = replicate (k + 1) (holds unset)
 
 abbrev pub make_vec : ℕ → Option ℕ → World → Outcome Value
 make_vec l None w = undefined l no_constant w
-make_vec l (Some k) w = gives (address (length w.memory) 0) (making (vec_cells k) w)
+make_vec l (Some k) w = gives (address (length w.memory) 0) (making_vec (vec_cells k) w)
 
 abbrev pub starts : Meanings → Starts → Environment → World → Outcome (List Value)
 starts m t.no_starts env w = gives [] w

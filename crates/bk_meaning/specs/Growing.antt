@@ -11,22 +11,24 @@ use Rattle.bk_meaning.specs.Lasting.{Program, program_of}
 use Rattle.bk_meaning.specs.Calls.{call}
 use Rattle.bk_meaning.specs.Program.{means, first_world}
 
--- what was written, what is left of the input, and the most calls that were active at once
+-- what was written, what is left of the input, the most calls that were active at once, and the most cells that lived where a VEC was made
 pub record History : Type 0 where
   pub output : List ℕ
   pub input : List ℕ
   pub most_calls : ℕ
+  pub most_cells : ℕ
 
 abbrev pub history : World → History
-history w = record { output = w.output; input = w.input; most_calls = w.most_calls }
+history w = record { output = w.output; input = w.input; most_calls = w.most_calls; most_cells = w.most_cells }
 
--- What was written begins what is, what is left of the input ends what was, and the most calls at once never fall.
+-- What was written begins what is, what is left of the input ends what was, and the most calls and cells at once never fall.
 pub record Grows (old new : History) : Type 0 where
   pub written : List ℕ
   pub output : new.output ≡ old.output ++ written
   pub taken : List ℕ
   pub input : old.input ≡ taken ++ new.input
   pub most_calls : old.most_calls ≤ new.most_calls
+  pub most_cells : old.most_cells ≤ new.most_cells
 
 -- how many cells an object has, if it lives
 abbrev pub size_of : Object → Option ℕ

@@ -1,6 +1,6 @@
 -- Memory: objects, which live and die, each a list of cells. An object's number is its place in the list, and is never
 -- given again. None means an act that is undefined.
-use Rattle.std.specs.Prelude.{ℕ, zero, suc, ◌%◌, Bool, cond, is_some, Option, Some, None, option_and_then, List, [], ◌∷◌, ◌++◌, slice_get, slice_set}
+use Rattle.std.specs.Prelude.{ℕ, zero, suc, ◌+◌, ◌%◌, Bool, cond, is_some, Option, Some, None, option_and_then, List, [], ◌∷◌, ◌++◌, length, slice_get, slice_set}
 use Rattle.bk_base.specs.Word.{word_sum, byte_distance, byte_place}
 use Rattle.bk_meaning.specs.Values.{Value, number, address, Cell, holds, value_in, byte_in, with_byte}
 
@@ -10,6 +10,12 @@ pub data Object : Type 0 where
 
 abbrev pub Memory : Type 0
 Memory = List Object
+
+-- how many cells the objects have that live
+abbrev pub cells_living : Memory → ℕ
+cells_living [] = 0
+cells_living (living cells ∷ m) = length cells + cells_living m
+cells_living (dead ∷ m) = cells_living m
 
 -- the cells of a living object
 abbrev pub cells_of : Option Object → Option (List Cell)

@@ -71,7 +71,7 @@ run_of (going l w) = Going w.output w.input w.most_calls l
 
 -- global 1 is called
 abbrev pub first_world : Program → List ℕ → ℕ → World
-first_world p input n = record { memory = first_memory p; input = input; output = []; calls = 0; most_calls = 0; turns = n }
+first_world p input n = record { memory = first_memory p; input = input; output = []; calls = 0; most_calls = 0; most_cells = 0; turns = n }
 
 abbrev pub started : Program → Option Value → World → ℕ → Run
 started p None w n = Ends [] w.input 0 no_start

@@ -14,12 +14,15 @@ with_turns n w = record w { turns = n }
 
 -- what a run shows, and that it goes on from a history
 abbrev pub shown : List ℕ → List ℕ → ℕ → History
-shown bytes left calls = record { output = bytes; input = left; most_calls = calls }
+shown bytes left calls = record { output = bytes; input = left; most_calls = calls; most_cells = 0 }
+
+abbrev pub GoesOnTo : History → List ℕ → List ℕ → ℕ → Type 0
+GoesOnTo old bytes left calls = (cells : ℕ) × Grows old (record (shown bytes left calls) { most_cells = cells })
 
 abbrev pub RunGoesOn : History → Run → Type 0
-RunGoesOn old (Ends bytes left calls e) = Grows old (shown bytes left calls)
-RunGoesOn old (Going bytes left calls at) = Grows old (shown bytes left calls)
-RunGoesOn old (Undefined bytes left calls at why) = Grows old (shown bytes left calls)
+RunGoesOn old (Ends bytes left calls e) = GoesOnTo old bytes left calls
+RunGoesOn old (Going bytes left calls at) = GoesOnTo old bytes left calls
+RunGoesOn old (Undefined bytes left calls at why) = GoesOnTo old bytes left calls
 
 -- a run with fewer turns, and with more
 pub data Continues : Run → Run → Type 0 where

@@ -2,7 +2,7 @@
 use Rattle.std.specs.Prelude.{ℕ, zero, suc, ◌+◌, max, Bool, true, false, Option, Some, None, List, ◌++◌}
 use Rattle.bk_meaning.specs.Values.{Value, Cell}
 use Rattle.bk_meaning.specs.Causes.{Cause}
-use Rattle.bk_meaning.specs.Memory.{Memory, made, dead_from}
+use Rattle.bk_meaning.specs.Memory.{Memory, made, dead_from, cells_living}
 
 pub record World : Type 0 where
   pub memory : Memory
@@ -13,6 +13,8 @@ pub record World : Type 0 where
   -- the calls that are active, those of library routines too, and the most there were at once
   pub calls : ℕ
   pub most_calls : ℕ
+  -- the most cells that lived at once where a VEC was made
+  pub most_cells : ℕ
   -- the turns that are left
   pub turns : ℕ
 
@@ -85,6 +87,10 @@ remembering m w = record w { memory = m }
 
 abbrev pub making : List Cell → World → World
 making cells w = remembering (made cells w.memory) w
+
+-- with a VEC among them
+abbrev pub making_vec : List Cell → World → World
+making_vec cells w = record (making cells w) { most_cells = max w.most_cells (cells_living (made cells w.memory)) }
 
 -- with all objects from number o on dead: those that were made since memory had o of them
 abbrev pub forgetting : ℕ → World → World

@@ -8,8 +8,8 @@ pub use Rattle.std.specs.Option.{option_map}
 pub use Rattle.bk_base.specs.Format.{parts, FormatPart, further, part_at, parts_after}
 pub use Rattle.bk_meaning.specs.Causes.{byte_cause}
 pub use Rattle.bk_meaning.specs.Library.{bytes_from, bytes_cause, written, written_cause}
-pub use Rattle.bk_meaning.specs.Memory.{cells_of, Object, living, dead, Memory, cells_at, made, dead_from, with_cell, read_byte}
+pub use Rattle.bk_meaning.specs.Memory.{cells_of, cells_living, Object, living, dead, Memory, cells_at, made, dead_from, with_cell, read_byte}
 pub use Rattle.bk_meaning.specs.Values.{address, Value, number}
-pub use Rattle.bk_objects.specs.Memories.{memory_of, object_in, found, Laid, cells_living}
+pub use Rattle.bk_objects.specs.Memories.{memory_of, object_in, found, Laid}
 pub use Rattle.bk_objects.specs.Views.{value_in, cell_in}
 pub use Rattle.bk_objects.specs.declared.store.Life.{Life}

@@ -18,12 +18,6 @@ found cells (l ∷ ls) o = cond (l.number == o) (object_in cells l) (found cells
 abbrev pub memory_of : List Cell → List Life → ℕ → Memory
 memory_of cells ls n = map (found cells ls) (range_with_len 0 n)
 
--- how many cells the objects have that live
-abbrev pub cells_living : Memory → ℕ
-cells_living [] = 0
-cells_living (living cells ∷ m) = length cells + cells_living m
-cells_living (dead ∷ m) = cells_living m
-
 -- The numbers grow, from n on, and are below m. The cells are one after another, from place s up to place e, with none between.
 abbrev pub Laid : ℕ → ℕ → List Life → ℕ → ℕ → Type 0
 Laid n s [] m e = (n ≤ m) × (s ≡ e)

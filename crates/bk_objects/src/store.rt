@@ -6,7 +6,7 @@ ghost use Rattle.std.specs.Option.{option_map};
 ghost use Rattle.bk_meaning.specs.Values.{address, holds, unset};
 ghost use Rattle.bk_meaning.specs.Memory as m;
 ghost use Rattle.bk_objects.specs.Views.{cell_in};
-ghost use Rattle.bk_objects.specs.Memories.{Grow, Within, found, cells_living};
+ghost use Rattle.bk_objects.specs.Memories.{Grow, Within, found};
 
 use crate::worth::{Cell, Origin, Worth};
 use bk_tree::Position;
@@ -233,7 +233,7 @@ impl Store {
 
     /// How many cells the objects have that live.
     pub fn cells_in_use(&self) -> usize
-        ensures { result ≡ cells_living self.now }
+        ensures { result ≡ m.cells_living self.now }
     {
         self.cells.len()
     }

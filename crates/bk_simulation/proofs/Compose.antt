@@ -86,6 +86,26 @@ module _ {setting : Setting} {s : State} {own : Placed} {frame calls top : ℕ} 
     moved = moved;
   }
 
+  -- how many cells lived is in no state
+  abbrev pub with_cells : {R : Store → Type 0} {B : Account} (n : ℕ) → Completed setting s B own frame calls top R c d w1 → Completed setting s B own frame calls top R c d (record w1 { most_cells = n })
+  with_cells n a = record {
+    steps = a.steps;
+    paid = a.paid;
+    bases1 = a.bases1;
+    cells1 = a.cells1;
+    hand1 = a.hand1;
+    written1 = a.written1;
+    comes = a.comes;
+    most = a.most;
+    least = a.least;
+    calls_are = a.calls_are;
+    frames = a.frames;
+    room = a.room;
+    bytes = a.bytes;
+    fits = a.fits;
+    moved = a.moved;
+  }
+
   -- a step further, with what it pays
   abbrev pub stepped : {R : Store → Type 0} {B : Account} (mem2 : Memory) (top2 : ℕ) (R2 : Store → Type 0) (c2 : List Stmt) (d2 : ℕ)
       (a : Completed setting s B own frame calls top R c d w1) (cells2 : ℕ → Cell) (hand2 : Option Content) (written2 : List ℕ)

@@ -1,6 +1,6 @@
 -- The values of a LET's variables, definition by definition.
-use Rattle.bk_simulation.proofs.Words.{length-replicate, ◌≡◌, ℕ, zero, suc, ◌+◌, ◌-◌, ◌*◌, ◌<◌, ◌≤◌, Bool, true, false, List, [], ◌∷◌, ◌++◌, Some, sym, ap, ◌∙◌, subst, arith, slice_get, ◌≢◌, length, refl, ⊎_elim, length-append, ◌%◌, ◌^◌, Option, None, FRAME_WORDS, Definitions, Starts, Binding, State, Placed, Inside, Stmt, World, Outcome, gives, making, Environment, past, past_definition, letters, cell, constant_in, history, After, Throughout, Meanings, adds, stays, with_after, turn_after, Content, Variable, Cell, Held, content_of, Word, Temporary, write, below, settle, Value, holds, address, unset, living, made, Local, Stack, Address, Start, paired, let_values, bind_variables, vec_cells, make_vec, Cell_of, acts_at}
-use Rattle.bk_simulation.proofs.Pieces.{Store, BaseOf, Alive, limit, Codes, Applies, StandsCell, Grown, Fits, stands_grown, Like, like_refl, like_on, fits_more, turns_started, turns_defined, turns_of, Setting, Scene, NamedIn, Spot, spots_of, defines_variables, AreStarts, AreDefined, KeepsLabels, variables_bound, AreAt, Configuration, Ready, Account, Ran, went, so, with_ran, OpenCompleted, store_at, named_grown, state, further, ran_same, Completed, named_again, Simulates, completed_more, out_more, turn_there, OpenExited, open_ticked, with_objects, open_configuration, open_ready, open_wider, open_step, open_on, ran_open, Since, since_refl, since_on, IsFree, make, make_fits_in, grown_made, lying, since_cells, since_moved, since_made, make_fits, get_new, get_replicate, Moves, does, untouched, below_at, below_like, settle_like, settle_at, value_run}
+use Rattle.bk_simulation.proofs.Words.{length-replicate, ◌≡◌, ℕ, zero, suc, ◌+◌, ◌-◌, ◌*◌, ◌<◌, ◌≤◌, Bool, true, false, List, [], ◌∷◌, ◌++◌, Some, sym, ap, ◌∙◌, subst, arith, slice_get, ◌≢◌, length, refl, ⊎_elim, length-append, ◌%◌, ◌^◌, Option, None, FRAME_WORDS, Definitions, Starts, Binding, State, Placed, Inside, Stmt, World, Outcome, gives, making, making_vec, Environment, past, past_definition, letters, cell, constant_in, history, After, Throughout, Meanings, adds, stays, vec_on, with_after, turn_after, Content, Variable, Cell, Held, content_of, Word, Temporary, write, below, settle, Value, holds, address, unset, living, made, Local, Stack, Address, Start, paired, let_values, bind_variables, vec_cells, make_vec, Cell_of, acts_at}
+use Rattle.bk_simulation.proofs.Pieces.{Store, BaseOf, Alive, limit, Codes, Applies, StandsCell, Grown, Fits, stands_grown, Like, like_refl, like_on, fits_more, turns_started, turns_defined, turns_of, Setting, Scene, NamedIn, Spot, spots_of, defines_variables, AreStarts, AreDefined, KeepsLabels, variables_bound, AreAt, Configuration, Ready, Account, Ran, went, so, with_ran, OpenCompleted, store_at, named_grown, state, further, ran_same, Completed, named_again, Simulates, completed_more, out_more, turn_there, OpenExited, open_ticked, with_cells, with_objects, open_configuration, open_ready, open_wider, open_step, open_on, ran_open, Since, since_refl, since_on, IsFree, make, make_fits_in, grown_made, lying, since_cells, since_moved, since_made, make_fits, get_new, get_replicate, Moves, does, untouched, below_at, below_like, settle_like, settle_at, value_run}
 use Rattle.bk_tree.specs.Tree as t
 use Rattle.bk_simulation.proofs.Terms.{bind, starts}
 use Rattle.bk_simulation.proofs.WrittenCells.{written}
@@ -51,7 +51,7 @@ open_make {top = top} {h = h} {w1 = w1} b cells more1 a low f =
 
 make_vec_after : (place : ℕ) (k : Option ℕ) (w : World) → After (history w) (make_vec place k w)
 make_vec_after place None w = stays (history w)
-make_vec_after place (Some k) w = stays (history w)
+make_vec_after place (Some k) w = vec_on (vec_cells k) w
 
 pub starts_after : (inner : Meanings) → Throughout (λ A w u. After (history w) u) inner → (is : Starts) (env : Environment) (w : World) → After (history w) (starts inner is env w)
 starts_after inner grows t.no_starts env w = stays (history w)
@@ -63,7 +63,7 @@ starts_after inner grows (t.vector x e is) env w =
 -- ---- a VEC
 
 pub record VecDone (setting : Setting) (s : State) (A : Account) (z : Configuration) (w : World) (c rest : List Stmt) (d k : ℕ) (w1 : World) (a : OpenCompleted setting s A z w c d (z.frame + d) w1) : Type 0 where
-  pub arr : OpenCompleted setting s (record { most = A.most + 2; least = A.least }) z w rest (d + k + 2) (z.frame + (d + k + 2)) (making (vec_cells k) w1)
+  pub arr : OpenCompleted setting s (record { most = A.most + 2; least = A.least }) z w rest (d + k + 2) (z.frame + (d + k + 2)) (making_vec (vec_cells k) w1)
   pub since : Since (z.frame + d) (store_at a) (store_at arr)
   pub stands : Applies setting.codes arr.bases1 (address (length w1.memory) 0) (content_of (arr.cells1 (z.frame + (d + k + 1))))
   pub free : IsFree (store_at arr) (z.frame + (d + k + 1))
@@ -108,8 +108,8 @@ vec_done setting s A z w c rest d k w1 r le fw ec a =
     fits_more setting.codes (make h3 b (vec_cells k)) (b + length (vec_cells k)) (z.frame + (d + k + 2)) (let l = r.low in omega arith)
     (make_fits setting.codes h3 (z.frame + d) b (vec_cells k) f3 (let q = r.high in omega arith) (omega arith) (let l : z.frame ≤ 2 ^ 31 - 65536 = r.low in let f : d + k + 2 ≤ FRAME_WORDS = fw in omega arith)
     (λ i x e. subst (λ y. StandsCell setting.codes a.bases1 y (content_of (cells3 (b + i)))) (sym ((get_replicate (k + 1) i (holds unset) x e).0)) tt) (λ i lt. vec_word i (omega arith))) in
-    let a4 : OpenCompleted setting s A2 z w rest (d + k + 2) (z.frame + (d + k + 2)) (making (vec_cells k) w1) =
-    open_make b (vec_cells k) (z.frame + (d + k + 2)) a3 (omega arith) f4 in
+    let a4 : OpenCompleted setting s A2 z w rest (d + k + 2) (z.frame + (d + k + 2)) (making_vec (vec_cells k) w1) =
+    with_cells _ (open_make b (vec_cells k) (z.frame + (d + k + 2)) a3 (omega arith) f4) in
     record {
       arr = a4;
       since = since_on {top1 = z.frame + d} {h1 = h3} (omega arith) (since_cells h1 like3) (since_made b (vec_cells k) h3 a.fits.long (omega arith));

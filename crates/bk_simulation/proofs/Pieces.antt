@@ -1,6 +1,6 @@
 -- What the proofs of single forms cite of the files below them: those of `Situations.antt`, runs put together, and operators.
 pub use Rattle.bk_simulation.proofs.Situations.{Account, Agree, AgreeWords, Aim, Alive, All, AllBytes, AreActs, AreAt, AreBytes, AreDeclared, AreDefined, AreFrom, AreStarts, AreStores, AreValues, BaseOf, ByTurns, CallAt, Codes, Comes, Completed, CompletedAt, Configuration, Each, Entered, EnteredAny, EnteredBody, Exits, Falls, FallsThose, Fell, FewFrames, Fits, GoesTo, Grown, Handed, Has, HasBytes, IsAct, IsAddress, IsAlone, IsCell, IsCode, IsForLoop, IsFree, IsJump, IsLabelHere, IsLoop, IsOneDeclared, IsScope, IsScopeAt, IsStore, IsValue, IsWord, KeepsLabels, LabelAt, Leads, LeadsTo, Like, LinksFrom, Moved, Moves, NameAt, NamedIn, OpenCompleted, Out, PlaceOf, Ran, Reaches, Ready, Renames, RenamesVariables, SameGlobal, Scene, Setting, Since, Spot, Applies, StandsCell, Stopped, Store, Stretch, Went, agree_bound, alive_is, all_at, all_both, assign_at_moves, assign_byte_moves, assign_moves, at_routine, behind_body, below_at, below_like, by_option, by_test, by_truth, call_settled, call_step, call_stmt, called_argument, called_back, called_cells, called_frame, called_like, called_links, cell_in, closed_fits, closed_moved, comes_on, count, defines_variables, does, each_at, each_back, each_both, each_front, each_itself, each_way_ran, either_way, ending, entering, entry_settled, falls_on, finish_step, fits_above, fits_less, fits_more, formal_is, formals_long, frames_called, further, get_at, get_first, get_new, get_replicate, get_set, global_of, go_on, goal_named, grown_made, here, in_light, in_loop, in_switch, in_valof, inverts, jump_moves, jumps, label_stands, label_stands_one, like_on, like_refl, limit, links_kept, links_settled, links_through, lying, make, make_fits, make_fits_in, moved_above, moved_on, moved_refl, moves_bytes, named_again, named_grown, named_word, negates, next, not_true, object_there, of_light, one, one_base, one_more, operates, own_cell, owning, paying, place_of, pushes, put, ran_from, ran_same, read_byte_at, read_here, ready_in, ready_next, return_goes, return_item_step, return_step, returning, same_global, same_stands, saved_cells, saved_formal, saved_like, saved_links, saved_same, settle_at, settle_like, settled_step, since_cells, since_made, since_moved, since_on, since_refl, so, some_is, some_objects, spots_of, stands_by, stands_grown, start, state, still, store, store_at, sum_applied, switch_moves, there, through_light, turn_behind, turns_among, turns_declared, turns_defined, turns_in, turns_of, turns_one_declared, turns_started, turns_through, untouched, variable_found, variables_bound, went, with_names, with_ran, word_number, write_at, write_byte_at, write_here}
-pub use Rattle.bk_simulation.proofs.Compose.{OpenExited, above, accounted, begun, following, closed_ran, comes_to, completed_more, completed_on, completed_paid, completed_step, completed_turn, links_below, links_like, open_configuration, open_on, open_ready, open_step, open_ticked, open_wider, out_more, outside, ran_first, ran_more, ran_on, ran_open, roomy, stay, stepped, topped, turn_there, with_objects}
+pub use Rattle.bk_simulation.proofs.Compose.{OpenExited, above, accounted, begun, following, closed_ran, comes_to, completed_more, completed_on, completed_paid, completed_step, completed_turn, links_below, links_like, open_configuration, open_on, open_ready, open_step, open_ticked, open_wider, out_more, outside, ran_first, ran_more, ran_on, ran_open, roomy, stay, stepped, topped, turn_there, with_cells, with_objects}
 pub use Rattle.bk_simulation.proofs.NamesBound.{around_named, bound_named, labels_named, not_owned}
 pub use Rattle.bk_simulation.proofs.ProgramRuns.{RunSo, comes_run, goes_on_so, run_after}
 pub use Rattle.bk_simulation.proofs.Simulates.{Destined, Did, HasAddress, HasTruth, Limit, RanDid, Simulates, byte, for_act, for_counts, for_rounds, for_scope, for_truth, for_value, for_values, through, turns_in_round, where_to, word}

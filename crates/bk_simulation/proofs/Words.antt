@@ -54,7 +54,7 @@ pub use Rattle.bk_trans.specs.Scheme.{address_code, by_turns, cases, cases_throu
 pub use Rattle.bk_trans.specs.declared.around.Around.{Around}
 pub use Rattle.bk_trans.specs.declared.around.Goal.{Goal}
 pub use Rattle.bk_trans.specs.declared.around.Target.{Target}
-pub use Rattle.bk_meaning.proofs.Lemmas.{all_declared-next, declared-next, Adds, adds, calling_on, changes_after, closing_after, each_way_after, earlier, either_after, given_after, stays, turn_after, with_after, cut_only_without_turns, library_ties, only_grows, ties_add}
+pub use Rattle.bk_meaning.proofs.Lemmas.{all_declared-next, declared-next, Adds, adds, calling_on, changes_after, closing_after, each_way_after, earlier, either_after, given_after, stays, turn_after, vec_on, with_after, cut_only_without_turns, library_ties, only_grows, ties_add}
 pub use Rattle.bk_meaning.specs.Calls.{applied, bind_formals, call, enter, formal_cells, return_exit, returned, run_body, values}
 pub use Rattle.bk_meaning.specs.Commands.{act_of, assigned, case_exit, choose_case, ended_case}
 pub use Rattle.bk_meaning.specs.Growing.{After, Grows, Throughout, history}
@@ -63,7 +63,7 @@ pub use Rattle.bk_meaning.specs.Memory.{Memory, Object, cell_at, cell_of_byte, c
 pub use Rattle.bk_meaning.specs.Scopes.{alone, in_order, landing, scope_of}
 pub use Rattle.bk_meaning.specs.Seeking.{Mode, Sought, at_place, forwards, is_label, same_place, seeking, has_place, one_has_place, the_case, the_default, the_label}
 pub use Rattle.bk_meaning.specs.Values.{Cell as Cell_of, Value, address, filled, getbyte, holds, newline, number, places, procedure, putbyte, rdch, routine, set_among, stop, unset, value_in, wrch, writed, writef, writen, writes}
-pub use Rattle.bk_meaning.specs.World.{Done, Exit, Outcome, World, break, calling, calls_back, changes, closing, divide_by_zero, done, each_way, either, endcase, ends, forgetting, given, gives, going, goto, leaves, loop, making, remembering, result, return, status, turn, turn_of, undefined, with, writing}
+pub use Rattle.bk_meaning.specs.World.{Done, Exit, Outcome, World, break, calling, calls_back, changes, closing, divide_by_zero, done, each_way, either, endcase, ends, forgetting, given, gives, going, goto, leaves, loop, making, making_vec, remembering, result, return, status, turn, turn_of, undefined, with, writing}
 pub use Rattle.bk_ocode.specs.declared.stmt.Monadic.TheVariants.{Contents, Negate, Not}
 pub use Rattle.bk_base.specs.Decimal.{spelling}
 pub use Rattle.bk_base.specs.Format.{FormatPart, aligned}

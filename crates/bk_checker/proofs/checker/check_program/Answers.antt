@@ -1,6 +1,6 @@
 use Rattle.std.proofs.Common.{inl}
 use Rattle.bk_checker.proofs.Terms.{refl, sym, subst, Keeps-refl, value_in, program_in, CheckFault, Blames, Flushed}
-use Rattle.bk_checker.proofs.Running.{nothing_yet, exchanged_none, exchanged_still, checks_start, checks_part, checks_none, start_found, no_start_found, ok_map, err_map, if_err, on_ok_map}
+use Rattle.bk_checker.proofs.Running.{nothing_yet, exchanged_none, exchanged_still, checks_start, checks_part, checks_deep, checks_none, start_found, no_start_found, ok_map, err_map, if_err, on_ok_map}
 use Rattle.bk_checker.proofs.checker.check_program.Goals as goal
 
 pub returns-in_err-m-clause-part : goal.returns-in_err-m-clause-part
@@ -18,6 +18,12 @@ returns-in-Value-clause-part g c =
     err_map _ _ c.check_start.result (λ stop runs sections is.
     checks_part sections p c.args.turns is (value_in c.in-Value.start) _ _ (start_found p c.args.turns c.in_ok-m.m c.in_ok-m.ensures c.read.result c.read.ensures c.in-Value.start c.in-Value.is) (runs c.args.turns c.in_ok-m.ensures)) c.check_start.ensures.part
 
+pub returns-in-Value-clause-limit : goal.returns-in-Value-clause-limit
+returns-in-Value-clause-limit g c =
+    let p = program_in c.args.program.now in
+    err_map _ _ c.check_start.result (λ stop runs deep sections is.
+    checks_deep sections p c.args.turns is (value_in c.in-Value.start) _ _ (start_found p c.args.turns c.in_ok-m.m c.in_ok-m.ensures c.read.result c.read.ensures c.in-Value.start c.in-Value.is) (runs deep c.args.turns c.in_ok-m.ensures)) c.check_start.ensures.limit
+
 pub returns : goal.returns
 returns g c =
     let p = program_in c.args.program.now in
@@ -28,6 +34,7 @@ returns g c =
       flushed = c.no_start.ensures.flushed;
       flushed_where_given_up = err_map _ _ c.no_start.result (λ stop failed. subst (λ (f : CheckFault). Flushed f (g.O.ByteOut.passed c.no_start.new.out) (g.O.ByteOut.taken c.no_start.new.out)) (sym failed.0) tt) c.no_start.ensures.failed;
       part = if_err c.no_start.result (λ sections is. nothing_yet sections c.args.turns _ _ same);
+      limit = err_map _ _ c.no_start.result (λ stop failed deep. absurd (cc (failed.0, deep))) c.no_start.ensures.failed;
       passes = c.no_start.ensures.passes;
       sound = on_ok_map c.no_start.result (λ same. (refl, same)) c.no_start.ensures.sound;
       cause = err_map _ _ c.no_start.result (λ stop failed. subst (λ (f : CheckFault). Blames f (g.I.ByteIn.faults c.args.input.now) (g.I.ByteIn.faults c.args.input.now) (g.O.ByteOut.faults c.args.out.now) (g.O.ByteOut.faults c.no_start.new.out)) (sym failed.0) (inl refl, failed.1)) c.no_start.ensures.failed;

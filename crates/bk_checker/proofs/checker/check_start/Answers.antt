@@ -1,6 +1,6 @@
-use Rattle.bk_checker.proofs.Terms.{rules, sym, subst, Blames, CheckFault}
+use Rattle.bk_checker.proofs.Terms.{rules, sym, ◌∙◌, subst, Blames, CheckFault}
 use Rattle.bk_base.specs.DeviceLaws.{Begins-trans}
-use Rattle.bk_checker.proofs.Running.{reaches_still, reaches_after, reaches_either, exchanged_none, run_part, run_shows, nothing_run, runs_kept, part_kept, flushed_all, if_err, read_failures}
+use Rattle.bk_checker.proofs.Running.{reaches_still, reaches_after, reaches_either, exchanged_none, run_part, run_shows, nothing_run, run_deep, deep_kept, runs_kept, part_kept, flushed_all, if_err, read_failures}
 use Rattle.bk_checker.proofs.checker.check_start.Goals as goal
 
 pub returns-in_err-first-clause-part : goal.returns-in_err-first-clause-part
@@ -50,3 +50,7 @@ returns-in-Err-clause-flushed_where_given_up g c = flushed_all c.given_up.result
 
 pub returns-in-Err-clause-passes : goal.returns-in-Err-clause-passes
 returns-in-Err-clause-passes g c = Begins-trans _ _ _ c.go-came.ensures.passes c.flush.ensures.passes
+
+pub returns-in-Err-clause-limit : goal.returns-in-Err-clause-limit
+returns-in-Err-clause-limit g c = λ is turns begun.
+    deep_kept _ _ _ (run_deep _ _ turns c.args.m.now c.call.new.m c.go-came.new.m c.in_ok-first.first _ _ begun (rw (c.first.ensures, c.new-arguments.ensures.items) at c.in_ok-first.ensures.comes) (c.in-Err.ensures.limits (sym c.given_up.ensures ∙ is)))
