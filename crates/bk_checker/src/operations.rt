@@ -2,7 +2,7 @@
 
 use crate::made::{in_procedure, loop_at};
 use crate::operands::{Operand, bare, say_fault_of, say_operand, say_shared, say_uncalled};
-use crate::setting::{say_setting, say_setting_of, variable_at};
+use crate::setting::{say_setting, say_setting_of, variable_at, variables_of};
 use crate::sought::Search;
 use crate::spelling::{add_expr, add_number, add_word, has_piece, operator_symbol};
 use crate::values::Page;
@@ -109,7 +109,29 @@ pub fn say_index(page: &mut Page, index: Operand) -> Result<(), AllocError> {
             say_setting_of(page, letters, index.value)
         }
         (Expr::Name { .. }, _) => Ok(()),
-        _ => say_names(page, expr),
+        _ => {
+            say_names(page, expr)?;
+            say_only_variable(page, expr)
+        }
+    }
+}
+
+/// Adds where the variable of an index that is an expression got its value, if that has one.
+fn say_only_variable(page: &mut Page, expr: &Expr) -> Result<(), AllocError> {
+    match variables_of(page, expr).each() {
+        [Some(name), None, _, _] => say_variable_of(page, name),
+        _ => Ok(()),
+    }
+}
+
+/// Adds where a variable got its value that is a number.
+fn say_variable_of(page: &mut Page, name: &[u8]) -> Result<(), AllocError> {
+    match page.variable(name) {
+        Some(x @ Worth::Number(_)) => {
+            say_count(page, name)?;
+            say_setting_of(page, name, x)
+        }
+        _ => Ok(()),
     }
 }
 

@@ -119,7 +119,7 @@ fn in_cases(alloc: Global, found: &mut Found, body: &Command) -> Result<(), Allo
             found,
             fall.at,
             &[
-                b"the commands before this go on into it; `ENDCASE` ends them, and a comment here says that it is meant",
+                b"the commands before this go on into it, since no `ENDCASE` ends them; if that is meant, a comment before this stops the remark",
             ],
         )?;
         if let Some(remark) = found.remarks.get_mut(made) {

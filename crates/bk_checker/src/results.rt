@@ -4,7 +4,7 @@ use crate::operands::bare;
 use crate::spelling::add_number;
 use crate::values::Page;
 use bk_lasting::{Body, Lasting, Procedure};
-use bk_tree::{Command, Expr, Position};
+use bk_tree::{Command, Expr, Position, Simple};
 use std::alloc::AllocError;
 
 /// The command of the VALOF on a line that is the body of a procedure.
@@ -52,6 +52,55 @@ fn one_has_default(commands: &[Command]) -> bool {
     false
 }
 
+/// Whether an ENDCASE of the SWITCHON that a command is in is in the command; no VALOF is looked at.
+#[cycle(endcase)]
+fn has_endcase(command: &Command) -> bool {
+    match command {
+        Command::Simple {
+            word: Simple::EndCase,
+            ..
+        } => true,
+        Command::Label { body, .. }
+        | Command::Case { body, .. }
+        | Command::Default { body, .. }
+        | Command::If { body, .. }
+        | Command::While { body, .. }
+        | Command::For { body, .. }
+        | Command::Repeat { body, .. }
+        | Command::RepeatWhile { body, .. } => has_endcase(body),
+        Command::Test { yes, no, .. } => has_endcase(yes) || has_endcase(no),
+        Command::Block { commands, .. } => one_has_endcase(commands),
+        _ => false,
+    }
+}
+
+/// Whether one is in one of these commands.
+#[cycle(endcase)]
+fn one_has_endcase(commands: &[Command]) -> bool {
+    for command in commands {
+        if has_endcase(command) {
+            return true;
+        }
+    }
+    false
+}
+
+/// Whether nothing goes on after a command.
+#[cycle(leaves)]
+fn leaves(command: &Command) -> bool {
+    match command {
+        Command::ResultIs { .. } | Command::Goto { .. } | Command::Simple { .. } => true,
+        Command::Label { body, .. } | Command::Case { body, .. } | Command::Default { body, .. } =>
+            leaves(body),
+        Command::Test { yes, no, .. } => leaves(yes) && leaves(no),
+        Command::Block { commands, .. } => match commands.last() {
+            Some(last) => leaves(last),
+            None => false,
+        },
+        _ => false,
+    }
+}
+
 /// The word that a command is known by, and where it is, if it may end with nothing done, or after a last round.
 fn keyword_of(command: &Command) -> Option<(&'static [u8], Position)> {
     match command {
@@ -80,9 +129,17 @@ pub fn say_last(page: &mut Page, line: u32, number: u32) -> Result<(), AllocErro
     page.say(&[b"; its last command is the `", keyword, b"` of line "])?;
     add_number(&mut page.text, at.line().number() as usize)?;
     match last {
-        Command::SwitchOn { body, .. } if !has_default(body) => {
-            page.say(&[b", which has no `DEFAULT`"])
-        }
+        Command::SwitchOn { body, .. } => say_switch_end(page, body),
+        _ => Ok(()),
+    }
+}
+
+/// Adds how a SWITCHON with this body may have ended, if the text tells: by a number that no CASE has, or by ENDCASE.
+fn say_switch_end(page: &mut Page, body: &Command) -> Result<(), AllocError> {
+    match (has_default(body), has_endcase(body)) {
+        (false, true) => page.say(&[b", which has no `DEFAULT`, and which `ENDCASE` leaves"]),
+        (true, true) => page.say(&[b", which `ENDCASE` leaves"]),
+        (false, false) if leaves(body) => page.say(&[b", which has no `DEFAULT`"]),
         _ => Ok(()),
     }
 }

@@ -1,9 +1,11 @@
 //! What was going on where the turns of a check were used up.
 
+use crate::depth::is_mostly_one;
 use crate::jumps::{Back, back_at, between, label_of};
 use crate::made::{in_procedure, loop_at};
 use crate::names::names_at;
-use crate::operations::say_names;
+use crate::operations::{is_twice, say_names};
+use crate::setting::say_loop_setter;
 use crate::sought::{Few, Search, Setter, Setters, is_up_to, place_of};
 use crate::spelling::{add, add_expr, add_number, has_piece};
 use crate::values::{Object, Page};
@@ -16,6 +18,9 @@ use std::alloc::AllocError;
 
 /// How many calls are active where a recursion may be without end.
 pub const MANY: u64 = 1000;
+
+/// How many rounds of a loop that follows addresses are looked ahead, and one more.
+const ROUNDS: usize = 101;
 
 /// How many loops are named at most.
 const LOOPS: usize = 3;
@@ -69,11 +74,15 @@ fn say_value_once(page: &mut Page, name: &[u8], is_read: bool) -> Result<(), All
     Ok(())
 }
 
-/// Whether a value is the vector of this name.
+/// Whether a value is the vector or the TABLE of this name.
 fn is_own_vector(page: &Page, name: &[u8], x: Worth) -> bool {
     match x {
         Worth::Address(object, 0) => match page.object(object) {
             Object::Made(made) => made.name == name,
+            Object::Table => match page.table_name(object) {
+                Some(made) => made.name == name,
+                None => false,
+            },
             _ => false,
         },
         _ => false,
@@ -194,14 +203,108 @@ fn say_unset<'a>(
     }
 }
 
-/// What a name is set to in a command, if one place sets it.
-fn only_setter<'a>(command: &'a Command, name: &'a [u8]) -> Option<&'a Expr> {
+/// Where a name is set in a command, if one place sets it.
+fn only_setter<'a>(command: &'a Command, name: &'a [u8]) -> Option<Setter<'a>> {
     let mut search = Search::new(command.at(), name);
     in_command(&mut search, command);
-    let Search { setters, .. } = search;
+    let Search {
+        setters,
+        declared,
+        ..
+    } = search;
     match setters.first {
-        Some(Setter { value, .. }) if setters.count == 1 => Some(value),
+        Some(setter) if setters.count == 1 && declared == 0 => Some(setter),
         _ => None,
+    }
+}
+
+/// Whether two values are one number, or one address.
+fn is_same(x: Worth, y: Worth) -> bool {
+    match (x, y) {
+        (Worth::Number(a), Worth::Number(b)) => a == b,
+        (Worth::Address(a, i), Worth::Address(b, j)) => a == b && i == j,
+        _ => false,
+    }
+}
+
+/// Whether the variables of a value, other than this name, are as they are in each round of a loop.
+fn is_steady<'a>(
+    page: &Page<'_, 'a>,
+    command: &'a Command,
+    name: &'a [u8],
+    value: &'a Expr,
+) -> bool {
+    let names = names_of(value);
+    if let [_, _, _, Some(_)] = names.each() {
+        return false;
+    }
+    for other in names.each() {
+        if let Some(other) = other
+            && other != name
+            && page.variable(other).is_some()
+            && !is_constant_in(page, command, other)
+        {
+            return false;
+        }
+    }
+    true
+}
+
+/// After how many rounds a name has the value again that it has now, where each sets it to this, as the memory is.
+fn rounds_back<'a>(
+    page: &Page<'_, 'a>,
+    command: &'a Command,
+    name: &'a [u8],
+    value: &'a Expr,
+) -> Option<usize> {
+    if !is_steady(page, command, name, value) {
+        return None;
+    }
+    let first = page.variable(name)?;
+    let mut x = first;
+    for i in 1..ROUNDS {
+        x = page.known_where(value, name, x)?;
+        if is_same(x, first) {
+            return Some(i);
+        }
+    }
+    None
+}
+
+/// Adds what the word is that a name is set to next, and that the name comes back to its value over several; `back` is after how many
+/// rounds.
+fn say_link(
+    page: &mut Page,
+    name: &[u8],
+    value: &Expr,
+    back: Option<usize>,
+) -> Result<(), AllocError> {
+    match page.known(value) {
+        Some(x @ Worth::Address(_, _)) => {
+            page.say(&[b"; "])?;
+            page.say_is(value, x)?;
+        }
+        Some(x @ Worth::Number(_)) if back == Some(1) => {
+            let before = page.text.len();
+            page.say(&[b"; "])?;
+            page.say_is(value, x)?;
+            if is_twice(&page.text, before) {
+                page.text.truncate(before);
+            }
+        }
+        _ => {}
+    }
+    match (back, page.variable(name)) {
+        (Some(rounds), Some(first)) if rounds > 1 => {
+            page.say(&[b"; `", name, b" := "])?;
+            page.say_expr(value)?;
+            page.say(&[b"` leads back to "])?;
+            page.say_value(first)?;
+            page.say(&[b" in "])?;
+            add_number(&mut page.text, rounds)?;
+            page.say(&[b" rounds"])
+        }
+        _ => Ok(()),
     }
 }
 
@@ -213,12 +316,38 @@ fn say_links<'a>(
 ) -> Result<(), AllocError> {
     for name in names.each() {
         if let Some(name) = name
-            && let Some(value) = only_setter(command, name)
-            && !is_of_names(value)
-            && let Some(x @ Worth::Address(_, _)) = page.known(value)
+            && let Some(setter) = only_setter(command, name)
+            && !is_of_names(setter.value)
         {
-            page.say(&[b"; "])?;
-            page.say_is(value, x)?;
+            let back = rounds_back(page, command, name, setter.value);
+            say_link(page, name, setter.value, back)?;
+        }
+    }
+    Ok(())
+}
+
+/// Adds where a loop sets the names of its condition that one place of it sets, on another line; none that RDCH gives, or that is the
+/// next of a list.
+fn say_loop_setters<'a>(
+    page: &mut Page<'_, 'a>,
+    command: &'a Command,
+    names: Few<'a>,
+    read: Few<'a>,
+) -> Result<(), AllocError> {
+    for name in names.each() {
+        if let Some(name) = name
+            && page.variable(name).is_some()
+            && !read.has(name)
+            && let Some(setter) = only_setter(command, name)
+            && setter.line != command.at().line().number()
+            && (is_of_names(setter.value)
+                || rounds_back(page, command, name, setter.value).is_none())
+        {
+            let before = page.text.len();
+            say_loop_setter(page, name, setter)?;
+            if is_twice(&page.text, before) {
+                page.text.truncate(before);
+            }
         }
     }
     Ok(())
@@ -243,6 +372,7 @@ fn say_state<'a>(
             say_values(page, names_of(condition), read)?;
             say_unset(page, command, condition)?;
             say_names(page, condition)?;
+            say_loop_setters(page, command, names_of(condition), read)?;
         }
         None => say_values(page, tested, read)?,
     }
@@ -446,14 +576,22 @@ pub fn say_formals(page: &mut Page) -> Result<(), AllocError> {
     Ok(())
 }
 
+/// Adds how many calls are active, of which there are many, and the values of the formals of the innermost.
+fn say_many(page: &mut Page) -> Result<(), AllocError> {
+    page.say(&[b": "])?;
+    add_number(&mut page.text, page.m.calls as usize)?;
+    page.say(&[b" calls are active, perhaps of a recursion without end"])?;
+    say_formals(page)
+}
+
 /// Adds that the turns are used up at a position, and what goes on there.
 pub fn say_turns(page: &mut Page, at: Position) -> Result<(), AllocError> {
     page.say(&[b"the turns are used up"])?;
     if page.m.calls > MANY {
-        page.say(&[b": "])?;
-        add_number(&mut page.text, page.m.calls as usize)?;
-        page.say(&[b" calls are active, perhaps of a recursion without end"])?;
-        say_formals(page)?;
+        say_many(page)?;
+    } else if is_mostly_one(page) {
+        say_many(page)?;
+        say_loops(page)?;
     } else {
         let before = page.text.len();
         if let Some(back) = back_here(page) {

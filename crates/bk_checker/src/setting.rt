@@ -1,16 +1,16 @@
 //! Where a name was set, or might have been.
 
-use crate::made::{arguments_at, in_procedure, seek};
+use crate::made::{arguments_at, in_procedure, loop_at, seek};
 use crate::operands::{Operand, bare, name_of};
-use crate::operations::is_twice;
-use crate::sought::{Kind, Search, Setters, Words};
+use crate::operations::{is_twice, say_names};
+use crate::sought::{Few, Kind, Search, Setter, Setters, Words};
 use crate::spelling::{add, add_expr, add_number, add_ordinal, add_word, has_piece};
 use crate::values::{Object, Page};
 use crate::walk::in_expr;
 use bk_check::{Continuation, OnValue};
 use bk_lasting::{GLOBALS_OBJECT, Lasting, Procedure, Sense};
 use bk_objects::Worth;
-use bk_tree::{Expr, Operator, Position};
+use bk_tree::{Command, Expr, Operator, Position};
 use std::alloc::AllocError;
 
 /// The number of a line.
@@ -69,9 +69,28 @@ fn say_setters(page: &mut Page, name: &[u8], setters: Setters) -> Result<(), All
     }
 }
 
-/// Where the procedures set what a name means in all of them.
-fn setters_of_all<'a>(program: &[Lasting<'a>], name: &'a [u8], cell: (u64, u32)) -> Setters<'a> {
+/// What a procedure has at a position, and where it sets a name, if that may have given this value.
+fn setters_in<'a>(
+    procedure: &Procedure<'a>,
+    at: Position,
+    name: &'a [u8],
+    value: Option<Worth>,
+) -> Search<'a> {
+    let mut search = Search::new(at, name);
+    search.value = value;
+    seek(&mut search, procedure);
+    search
+}
+
+/// Where the procedures set what a name means in all of them, if that may have given this value.
+fn setters_of_all<'a>(
+    program: &[Lasting<'a>],
+    name: &'a [u8],
+    cell: (u64, u32),
+    value: Option<Worth>,
+) -> Setters<'a> {
     let mut search = Search::new(Position::first(), name);
+    search.value = value;
     for lasting in program {
         if let Lasting::Code(procedure) = lasting
             && has_outside(procedure, name, cell)
@@ -107,25 +126,39 @@ fn is_formal(procedure: &Procedure, name: &[u8]) -> bool {
         .any(|formal| formal.letters.as_slice() == name)
 }
 
-/// Adds where the variable of a LET was set, if its name is no other's, and nothing else can set it.
-fn say_variable<'a>(
-    page: &mut Page<'_, 'a>,
+/// Where the variable of a LET was set, if its name is no other's, and nothing else can set it.
+fn setters_of_variable<'a>(
+    page: &Page<'_, 'a>,
     at: Position,
     name: &'a [u8],
-) -> Result<(), AllocError> {
+    value: Option<Worth>,
+) -> Setters<'a> {
     let Some(names) = page.names else {
-        return Ok(());
+        return Setters::none();
     };
     let Search {
         declared,
         is_taken,
         setters,
         ..
-    } = in_procedure(names.procedure, at, name);
-    if declared != 1 || is_taken {
-        return Ok(());
+    } = setters_in(names.procedure, at, name, value);
+    if declared != 1 || is_taken || is_formal(names.procedure, name) {
+        Setters::none()
+    } else {
+        setters
     }
-    say_setters(page, name, setters)
+}
+
+/// Adds where the variable of a LET was set, and where what it was set to was.
+fn say_variable<'a>(
+    page: &mut Page<'_, 'a>,
+    at: Position,
+    name: &'a [u8],
+    x: Worth,
+) -> Result<(), AllocError> {
+    let setters = setters_of_variable(page, at, name, Some(x));
+    say_setters(page, name, setters)?;
+    say_cause(page, name, setters)
 }
 
 /// Whether a command of a procedure sets a name, or takes its address.
@@ -150,8 +183,80 @@ fn call_of_formal<'a>(page: &Page<'_, 'a>, name: &'a [u8]) -> Option<Position> {
     }
 }
 
+/// Adds where the commands of its procedure set a formal, at two places at most, and that the call does, if it has so many arguments.
+fn say_set_formal<'a>(
+    page: &mut Page<'_, 'a>,
+    name: &'a [u8],
+    offset: u32,
+    x: Worth,
+) -> Result<(), AllocError> {
+    let Some(names) = page.names else {
+        return Ok(());
+    };
+    let Search {
+        declared,
+        is_taken,
+        setters,
+        ..
+    } = setters_in(names.procedure, Position::first(), name, Some(x));
+    if declared != 0 || is_taken || setters.count > 2 {
+        return Ok(());
+    }
+    if let Some((_, arguments)) = names.formals
+        && arguments <= offset as usize
+    {
+        return say_setters(page, name, setters);
+    }
+    say_call_and(page, name, setters)
+}
+
+/// Adds that a call sets a formal, and the other places, if they are not all on the line of the act.
+fn say_call_and(page: &mut Page, name: &[u8], setters: Setters) -> Result<(), AllocError> {
+    let here = line(page.at);
+    let Some(first) = setters.first else {
+        return Ok(());
+    };
+    let last = setters.second.unwrap_or(first).line;
+    if first.line == here && last == here {
+        return Ok(());
+    }
+    page.say(&[b"; ", name, b" is set by the call, and on line "])?;
+    add_number(&mut page.text, first.line as usize)?;
+    if setters.count == 1 {
+        return say_source(page, first.value);
+    }
+    if last != first.line {
+        page.say(&[b" and on line "])?;
+        add_number(&mut page.text, last as usize)?;
+    }
+    Ok(())
+}
+
+/// Adds where a formal got its value; where a command of its procedure sets it, nothing of where an object begins, which is named itself.
+fn say_formal<'a>(
+    page: &mut Page<'_, 'a>,
+    name: &'a [u8],
+    offset: u32,
+    x: Worth,
+) -> Result<(), AllocError> {
+    let Some(names) = page.names else {
+        return Ok(());
+    };
+    if !is_set_in(names.procedure, name) {
+        return say_argument(page, name, offset);
+    }
+    match x {
+        Worth::Address(_, 0) => Ok(()),
+        _ => say_set_formal(page, name, offset, x),
+    }
+}
+
 /// Adds which argument a formal is, where there are several, and no command of the procedure sets it.
-fn say_formal<'a>(page: &mut Page<'_, 'a>, name: &'a [u8], offset: u32) -> Result<(), AllocError> {
+fn say_argument<'a>(
+    page: &mut Page<'_, 'a>,
+    name: &'a [u8],
+    offset: u32,
+) -> Result<(), AllocError> {
     let Some(at) = call_of_formal(page, name) else {
         return Ok(());
     };
@@ -192,7 +297,123 @@ fn say_lasting<'a>(
     if is_first(page.program, object, x) {
         return page.say(&[b"; `STATIC` gives ", name, b" that value"]);
     }
-    let setters = setters_of_all(page.program, name, cell);
+    let setters = setters_of_all(page.program, name, cell, Some(x));
+    if setters.count == 1 {
+        return say_setters(page, name, setters);
+    }
+    Ok(())
+}
+
+/// The names of an expression that mean variables; none where it has many names.
+pub fn variables_of<'e>(page: &Page, value: &'e Expr) -> Few<'e> {
+    let mut search = Search::new(value.at(), b"");
+    in_expr(&mut search, value);
+    let Search { beside, .. } = search;
+    let mut variables = Few::none();
+    if let [_, _, _, Some(_)] = beside.each() {
+        return variables;
+    }
+    for name in beside.each() {
+        if let Some(name) = name
+            && page.variable(name).is_some()
+        {
+            variables.add(name);
+        }
+    }
+    variables
+}
+
+/// Adds where the variables of what a name was set to were set, if one place of the procedure that is active sets it; of none that is
+/// where an object begins, which is named itself.
+fn say_cause<'a>(
+    page: &mut Page<'_, 'a>,
+    name: &'a [u8],
+    setters: Setters<'a>,
+) -> Result<(), AllocError> {
+    let Some(Setter { line: set, value }) = setters.first else {
+        return Ok(());
+    };
+    if setters.count != 1 || set == line(page.at) {
+        return Ok(());
+    }
+    let variables = variables_of(page, value);
+    if variables.has(name) {
+        return Ok(());
+    }
+    let is_one = matches!(variables.each(), [Some(_), None, _, _]);
+    for variable in variables.each() {
+        if let Some(variable) = variable
+            && !matches!(page.variable(variable), Some(Worth::Address(_, 0)))
+        {
+            let before = page.text.len();
+            say_source_of(page, variable, is_one)?;
+            if is_twice(&page.text, before) {
+                page.text.truncate(before);
+            }
+        }
+    }
+    Ok(())
+}
+
+/// Whether a name means the same everywhere in the procedure that is active: `outer` says that it means what is outside.
+fn means_one<'a>(page: &Page<'_, 'a>, name: &'a [u8], outer: bool) -> bool {
+    let Some(names) = page.names else {
+        return false;
+    };
+    let declared = in_procedure(names.procedure, Position::first(), name).declared;
+    if outer {
+        declared == 0 && !is_formal(names.procedure, name)
+    } else {
+        declared == 0
+    }
+}
+
+/// Adds where a name was set that another was set to: that its global has another name, or, where it is the only one, the place that
+/// sets it, if there is one.
+fn say_source_of<'a>(
+    page: &mut Page<'_, 'a>,
+    name: &'a [u8],
+    is_one: bool,
+) -> Result<(), AllocError> {
+    let Some((_, object, offset)) = cell_of(page, name) else {
+        return Ok(());
+    };
+    match page.object(object) {
+        Object::Globals if means_one(page, name, true) => match page.other_name(name, offset) {
+            Some(other) => {
+                page.say(&[b"; ", name, b", the global "])?;
+                add_word(&mut page.text, offset)?;
+                page.say(&[b", is also called ", other])
+            }
+            None if is_one => say_only(
+                page,
+                name,
+                setters_of_all(page.program, name, (object, offset), None),
+            ),
+            None => Ok(()),
+        },
+        Object::Static(_) if is_one && means_one(page, name, true) => say_only(
+            page,
+            name,
+            setters_of_all(page.program, name, (object, offset), None),
+        ),
+        Object::Made(made) if is_one => match made.kind {
+            Kind::Variable => say_only(page, name, setters_of_variable(page, made.at, name, None)),
+            Kind::Formals if means_one(page, name, false) => say_argument(page, name, offset),
+            _ => Ok(()),
+        },
+        _ => Ok(()),
+    }
+}
+
+/// Adds where a loop sets a name.
+pub fn say_loop_setter(page: &mut Page, name: &[u8], setter: Setter) -> Result<(), AllocError> {
+    say_lines(page, name, setter.line, None)?;
+    say_source(page, setter.value)
+}
+
+/// Adds where a name is set, if there is one place.
+fn say_only(page: &mut Page, name: &[u8], setters: Setters) -> Result<(), AllocError> {
     if setters.count == 1 {
         return say_setters(page, name, setters);
     }
@@ -256,7 +477,7 @@ fn say_word_setting(page: &mut Page, expr: &Expr) -> Result<(), AllocError> {
         (Some(first), _) if words_set.count == 1 => add_expr(&mut spelled, first)?,
         (_, Words::Field(name)) => add(&mut spelled, &[b"`!", name, b"`"])?,
         (_, Words::Of(name, None)) => add(&mut spelled, &[b"a word of ", name])?,
-        (_, Words::Of(_, Some(_))) => add_expr(&mut spelled, expr)?,
+        (_, Words::Of(_, Some(_)) | Words::Part(_)) => add_expr(&mut spelled, expr)?,
     }
     say_setters(page, &spelled, words_set)
 }
@@ -291,8 +512,8 @@ fn say_once_set(page: &mut Page, name: &[u8], x: Worth) -> Result<(), AllocError
     };
     match page.object(object) {
         Object::Made(made) => match made.kind {
-            Kind::Variable => say_variable(page, made.at, spelled),
-            Kind::Formals => say_formal(page, spelled, offset),
+            Kind::Variable => say_variable(page, made.at, spelled, x),
+            Kind::Formals => say_formal(page, spelled, offset, x),
             Kind::Vector => Ok(()),
         },
         Object::Globals | Object::Static(_) | Object::Entry(_) => {
@@ -350,7 +571,48 @@ pub fn say_unreached(
     if is_taken {
         return Ok(());
     }
-    say_assignment(page, name, setters)
+    say_assignment(page, name, setters)?;
+    match setters.first {
+        Some(setter) if setter.line != line(page.at) => say_for_of(page, setter.value),
+        _ => Ok(()),
+    }
+}
+
+/// Adds from where to where a FOR goes in the procedure that is active, if an expression is its variable and nothing else has its name.
+fn say_for_of<'a>(page: &mut Page<'_, 'a>, value: &'a Expr) -> Result<(), AllocError> {
+    let (Some(names), Expr::Name { letters, .. }) = (page.names, value) else {
+        return Ok(());
+    };
+    let Search {
+        declared,
+        declared_at,
+        ..
+    } = in_procedure(names.procedure, Position::first(), letters);
+    if declared != 1 || is_formal(names.procedure, letters) {
+        return Ok(());
+    }
+    let Some(at) = declared_at else {
+        return Ok(());
+    };
+    let Some(
+        Command::For {
+            from,
+            to,
+            by: None,
+            ..
+        },
+    ) = loop_at(page.program, at)
+    else {
+        return Ok(());
+    };
+    page.say(&[b"; the `FOR ", letters, b"` of line "])?;
+    add_number(&mut page.text, line(at) as usize)?;
+    page.say(&[b" goes from "])?;
+    page.say_expr(from)?;
+    page.say(&[b" to "])?;
+    page.say_expr(to)?;
+    say_names(page, from)?;
+    say_names(page, to)
 }
 
 /// Whether an expression has a name.
@@ -466,7 +728,7 @@ pub fn say_no_global(page: &mut Page, name: &[u8], number: u32) -> Result<(), Al
     let Some((spelled, _, _)) = cell_of(page, name) else {
         return Ok(());
     };
-    let setters = setters_of_all(page.program, spelled, (GLOBALS_OBJECT, number));
+    let setters = setters_of_all(page.program, spelled, (GLOBALS_OBJECT, number), None);
     if setters.count > 0 {
         return say_assignment(page, name, setters);
     }

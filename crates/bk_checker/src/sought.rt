@@ -1,6 +1,8 @@
 //! What is sought in the bodies of procedures, and what is found.
 
+use crate::remarks::number;
 use bk_check::acts_at;
+use bk_objects::Worth;
 use bk_tree::{Command, Expr, Init, Name, Operator, Position, Prefix};
 
 /// What the source makes an object by.
@@ -45,7 +47,7 @@ impl<'a> Few<'a> {
     }
 
     /// Adds a name where there is room for it.
-    fn add(&mut self, name: &'a [u8]) {
+    pub fn add(&mut self, name: &'a [u8]) {
         if self.has(name) {
             return;
         }
@@ -101,6 +103,15 @@ impl<'a> Setters<'a> {
         }
     }
 
+    /// Whether one of the first two is on a line.
+    fn has_line(&self, line: u32) -> bool {
+        match (self.first, self.second) {
+            (Some(first), Some(second)) => first.line == line || second.line == line,
+            (Some(first), None) => first.line == line,
+            _ => false,
+        }
+    }
+
     /// Adds one.
     pub fn add(&mut self, setter: Setter<'a>) {
         self.count = self.count.saturating_add(1);
@@ -119,6 +130,8 @@ pub enum Words<'a> {
     Field(&'a [u8]),
     /// Those of the vector that has this name, with this number if it is one.
     Of(&'a [u8], Option<u32>),
+    /// Those that this name leads to, with `!` before or after it, and its bytes; of those on one line the first.
+    Part(&'a [u8]),
 }
 
 /// Whether an expression is this name.
@@ -126,6 +139,38 @@ fn is_name(expr: &Expr, name: &[u8]) -> bool {
     match expr {
         Expr::Name { letters, .. } => letters.as_slice() == name,
         _ => false,
+    }
+}
+
+/// Whether a destination has a name beside `!`, or before `%`.
+fn is_part(destination: &Expr, name: &[u8]) -> bool {
+    match destination {
+        Expr::Unary {
+            prefix: Prefix::Contents,
+            operand,
+            ..
+        } => is_name(operand, name),
+        Expr::Binary {
+            operator: Operator::Subscript,
+            left,
+            right,
+            ..
+        } => is_name(left, name) || is_name(right, name),
+        Expr::Binary {
+            operator: Operator::Byte,
+            left,
+            ..
+        } => is_name(left, name),
+        _ => false,
+    }
+}
+
+/// Whether a name that is set to an expression may have this value from it: not where that is another number.
+fn may_give(value: &Expr, worth: Worth) -> bool {
+    match (number(value), worth) {
+        (Some(set), Worth::Number(word)) => set == word.cast_signed(),
+        (Some(_), _) => false,
+        (None, _) => true,
     }
 }
 
@@ -140,18 +185,27 @@ fn may_be(index: &Expr, wanted: Option<u32>) -> bool {
 impl<'a> Words<'a> {
     /// Whether a destination is one of them.
     fn has(&self, destination: &Expr) -> bool {
-        let Expr::Binary {
-            operator: Operator::Subscript,
-            left,
-            right,
-            ..
-        } = destination
-        else {
-            return false;
-        };
-        match self {
-            Words::Field(name) => is_name(left, name) || is_name(right, name),
-            Words::Of(name, number) => is_name(left, name) && may_be(right, *number),
+        match (self, destination) {
+            (Words::Part(name), _) => is_part(destination, name),
+            (
+                Words::Field(name),
+                Expr::Binary {
+                    operator: Operator::Subscript,
+                    left,
+                    right,
+                    ..
+                },
+            ) => is_name(left, name) || is_name(right, name),
+            (
+                Words::Of(name, number),
+                Expr::Binary {
+                    operator: Operator::Subscript,
+                    left,
+                    right,
+                    ..
+                },
+            ) => is_name(left, name) && may_be(right, *number),
+            _ => false,
         }
     }
 }
@@ -183,18 +237,23 @@ pub struct Search<'a> {
     /// How far the names beside it are known.
     is_here: bool,
     is_past: bool,
-    /// How many declarations have the name, and the line of the first that is not at the position.
+    /// How many declarations have the name, where the first is, and the line of the first that is not at the position.
     pub declared: usize,
+    pub declared_at: Option<Position>,
     pub other: Option<u32>,
-    /// Where the name is set, and the first position of that.
+    /// Whether a vector has it that is not at the position.
+    pub is_other_vector: bool,
+    /// Where the name is set, and the first position of that; where its value is known, only where it may come from.
     pub setters: Setters<'a>,
     pub set_at: Option<Position>,
+    pub value: Option<Worth>,
     /// Whether its address is taken.
     pub is_taken: bool,
-    /// The words that are sought, where they are set, and the first of them as it is written.
+    /// The words that are sought, where they are set, and the first two of them as they are written.
     pub words: Option<Words<'a>>,
     pub words_set: Setters<'a>,
     pub first_word: Option<&'a Expr>,
+    pub second_word: Option<&'a Expr>,
     /// Where it is a label.
     pub label: Option<Place>,
     /// The GOTOs that are behind the position, up to four.
@@ -249,13 +308,17 @@ impl<'a> Search<'a> {
             is_here: false,
             is_past: false,
             declared: 0,
+            declared_at: None,
             other: None,
+            is_other_vector: false,
             setters: Setters::none(),
             set_at: None,
+            value: None,
             is_taken: false,
             words,
             words_set: Setters::none(),
             first_word: None,
+            second_word: None,
             label: None,
             first_jump: None,
             second_jump: None,
@@ -299,6 +362,9 @@ impl<'a> Search<'a> {
         }
         if letters == self.name {
             self.declared = self.declared.saturating_add(1);
+            if self.declared_at.is_none() {
+                self.declared_at = Some(name.at);
+            }
             if name.at != self.at && self.other.is_none() {
                 self.other = Some(name.at.line().number());
             }
@@ -314,6 +380,8 @@ impl<'a> Search<'a> {
             Init::Vector { size, .. } => {
                 if size.at() == self.at {
                     self.made = Some((letters, Kind::Vector));
+                } else if letters == self.name {
+                    self.is_other_vector = true;
                 }
             }
         }
@@ -366,9 +434,20 @@ impl<'a> Search<'a> {
         }
     }
 
+    /// Whether the value that is sought, if one is, may come from an expression.
+    fn may_come_from(&self, value: &Expr) -> bool {
+        match self.value {
+            Some(worth) => may_give(value, worth),
+            None => true,
+        }
+    }
+
     /// A name is set to a value: by an assignment, or where it is declared.
     fn sets(&mut self, letters: &'a [u8], at: Position, value: &'a Expr, is_assigned: bool) {
-        if letters == self.name && !matches!(value, Expr::Query { .. }) {
+        if letters == self.name
+            && !matches!(value, Expr::Query { .. })
+            && self.may_come_from(value)
+        {
             self.setters.add(Setter {
                 line: at.line().number(),
                 value,
@@ -387,15 +466,16 @@ impl<'a> Search<'a> {
 
     /// A destination that is no name is set to a value.
     fn sets_word(&mut self, destination: &'a Expr, value: &'a Expr) {
+        let line = destination.at().line().number();
         if let Some(words) = self.words
             && words.has(destination)
+            && !(matches!(words, Words::Part(_)) && self.words_set.has_line(line))
         {
-            self.words_set.add(Setter {
-                line: destination.at().line().number(),
-                value,
-            });
+            self.words_set.add(Setter { line, value });
             if self.first_word.is_none() {
                 self.first_word = Some(destination);
+            } else if self.second_word.is_none() {
+                self.second_word = Some(destination);
             }
         }
     }

@@ -33,6 +33,14 @@ pub fn routine_name(routine: Routine) -> &'static [u8] {
     }
 }
 
+/// What a routine of the library is called: a function where it gives a value.
+pub fn routine_kind(routine: Routine) -> &'static [u8] {
+    match routine {
+        Routine::Rdch | Routine::Getbyte => b"function",
+        _ => b"routine",
+    }
+}
+
 /// The symbol of an operator.
 pub fn operator_symbol(operator: Operator) -> &'static [u8] {
     match operator {

@@ -6,7 +6,7 @@ use crate::operands::bare;
 use crate::results::say_last;
 use crate::sought::Kind;
 use crate::spelling::{
-    add, add_character, add_expr, add_number, add_string, add_word, routine_name,
+    add, add_character, add_expr, add_number, add_string, add_word, routine_kind, routine_name,
 };
 use bk_base::word;
 use bk_check::Evaluator;
@@ -446,7 +446,12 @@ impl<'m, 'a> Page<'m, 'a> {
                 let name = procedure_name(self.program, number);
                 self.say(&[b"the procedure ", name])
             }
-            Worth::Routine(routine) => self.say(&[b"the routine ", routine_name(routine)]),
+            Worth::Routine(routine) => self.say(&[
+                b"the ",
+                routine_kind(routine),
+                b" ",
+                routine_name(routine),
+            ]),
             Worth::Unset(origin) => self.say_origin(origin),
         }
     }
@@ -456,7 +461,9 @@ impl<'m, 'a> Page<'m, 'a> {
         match x {
             Worth::Number(_) => self.say(&[b"a number"]),
             Worth::Procedure(_) => self.say(&[b"a procedure"]),
-            Worth::Routine(_) => self.say(&[b"a routine of the library"]),
+            Worth::Routine(routine) => {
+                self.say(&[b"a ", routine_kind(routine), b" of the library"])
+            }
             Worth::Unset(_) => self.say(&[b"not set"]),
             Worth::Address(object, _) => match self.object(object) {
                 Object::Made(made) => match made.kind {
@@ -609,7 +616,12 @@ impl<'m, 'a> Page<'m, 'a> {
 
     /// The value of an expression, if it has no calls and its names have values.
     pub fn known(&self, expr: &Expr) -> Option<Worth> {
-        known_in(self, expr)
+        known_in(self, expr, None)
+    }
+
+    /// The same, where a name has this value.
+    pub fn known_where(&self, expr: &Expr, name: &[u8], value: Worth) -> Option<Worth> {
+        known_in(self, expr, Some((name, value)))
     }
 }
 
@@ -621,18 +633,26 @@ fn given(computed: Computed) -> Option<Worth> {
     }
 }
 
-/// The value of an expression, if it has no calls and its names have values.
+/// The value of a name, if it has one: that which is given here, if it is of this name.
+fn value_in(page: &Page, name: &[u8], given: Option<(&[u8], Worth)>) -> Option<Worth> {
+    match given {
+        Some((other, value)) if other == name => Some(value),
+        _ => page.value_of(name),
+    }
+}
+
+/// The value of an expression, if it has no calls and its names have values, of which one may be given.
 #[cycle(known)]
-fn known_in(page: &Page, expr: &Expr) -> Option<Worth> {
+fn known_in(page: &Page, expr: &Expr, name: Option<(&[u8], Worth)>) -> Option<Worth> {
     match expr {
-        Expr::Name { letters, .. } => page.value_of(letters),
+        Expr::Name { letters, .. } => value_in(page, letters, name),
         Expr::Number { word, .. } => Some(Worth::Number(*word)),
-        Expr::Parens { inside, .. } => known_in(page, inside),
+        Expr::Parens { inside, .. } => known_in(page, inside, name),
         Expr::Unary {
             prefix: Prefix::Contents,
             operand,
             ..
-        } => given(read(&page.m.store, known_in(page, operand)?)),
+        } => given(read(&page.m.store, known_in(page, operand, name)?)),
         Expr::Binary {
             operator,
             left,
@@ -641,8 +661,8 @@ fn known_in(page: &Page, expr: &Expr) -> Option<Worth> {
         } => given(combine(
             &page.m.store,
             *operator,
-            known_in(page, left)?,
-            known_in(page, right)?,
+            known_in(page, left, name)?,
+            known_in(page, right, name)?,
         )),
         _ => None,
     }

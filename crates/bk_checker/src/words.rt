@@ -2,6 +2,7 @@
 
 use crate::made::Made;
 use crate::operands::{Operand, bare, say_fault_of, say_written};
+use crate::parts::say_parts_set;
 use crate::setting::say_setting;
 use crate::sought::Kind;
 use crate::spelling::{add_number, add_word};
@@ -55,7 +56,13 @@ fn say_unset(page: &mut Page, relative: &[u8], origin: Origin) -> Result<(), All
 }
 
 /// Adds what is wrong with a cell of an object that lives; `relative` is what joins a sentence to it.
-fn say_state(page: &mut Page, object: u64, offset: u32, relative: &[u8]) -> Result<(), AllocError> {
+fn say_state(
+    page: &mut Page,
+    base: Option<Operand>,
+    object: u64,
+    offset: u32,
+    relative: &[u8],
+) -> Result<(), AllocError> {
     match page.m.store.cell(object, offset) {
         None => say_extent(page, b"word", page.m.store.size(object).unwrap_or(0)),
         Some(Cell::Places(a, b, c, d)) => say_partly(
@@ -65,7 +72,7 @@ fn say_state(page: &mut Page, object: u64, offset: u32, relative: &[u8]) -> Resu
         Some(Cell::Holds(x)) => match x {
             Worth::Unset(origin) => {
                 say_unset(page, relative, origin)?;
-                say_set_words(page, object)
+                say_set_words(page, base, object)
             }
             _ => page.say(&[b", which can't be used here"]),
         },
@@ -217,7 +224,7 @@ pub fn say_cell(
         page.say(&[b" is "])?;
     }
     say_place(page, base, object, offset, is_called)?;
-    say_state(page, object, offset, relative(is_called))?;
+    say_state(page, base, object, offset, relative(is_called))?;
     if matches!(page.object(object), Object::String(_)) {
         page.say(&[b"; `!` gives words, and `%` the bytes of a string"])?;
     }
@@ -254,8 +261,8 @@ fn set_words(page: &Page, object: u64, size: u32) -> (u32, u32, u32) {
     (count, first, last)
 }
 
-/// Adds which words of a vector are set, of which another is not.
-fn say_set_words(page: &mut Page, object: u64) -> Result<(), AllocError> {
+/// Adds which words of a vector are set, of which another is not, and where.
+fn say_set_words(page: &mut Page, base: Option<Operand>, object: u64) -> Result<(), AllocError> {
     let Object::Made(
         Made {
             kind: Kind::Vector,
@@ -273,6 +280,13 @@ fn say_set_words(page: &mut Page, object: u64) -> Result<(), AllocError> {
     if count == 0 {
         return page.say(&[b", nor was any other"]);
     }
+    say_range(page, size, (count, first, last))?;
+    say_parts_set(page, base, object)
+}
+
+/// Adds which words of a vector of this size are set: how many, the first and the last.
+fn say_range(page: &mut Page, size: usize, set: (u32, u32, u32)) -> Result<(), AllocError> {
+    let (count, first, last) = set;
     if last.saturating_sub(first) >= count {
         page.say(&[b"; "])?;
         add_word(&mut page.text, count)?;
@@ -348,9 +362,15 @@ pub fn say_byte(
     let cell = word::sum(offset, word::distance_of_byte(number));
     match page.m.store.cell(object, cell) {
         None => say_beyond_bytes(page, at, object),
-        Some(Cell::Places(_, _, _, _)) => say_unset(page, relative(is_called), Origin::Never),
+        Some(Cell::Places(_, _, _, _)) => {
+            say_unset(page, relative(is_called), Origin::Never)?;
+            say_parts_set(page, Some(base), object)
+        }
         Some(Cell::Holds(x)) => match x {
-            Worth::Unset(origin) => say_unset(page, relative(is_called), origin),
+            Worth::Unset(origin) => {
+                say_unset(page, relative(is_called), origin)?;
+                say_parts_set(page, Some(base), object)
+            }
             _ => {
                 page.say(&[b", where the word is no number: it is "])?;
                 if matches!(x, Worth::Address(_, _)) && !page.is_text(x) {
