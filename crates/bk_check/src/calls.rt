@@ -185,5 +185,6 @@ pub fn call<'a>(
     }))?;
     m.calls = calls.checked_add(1).ok_or(AllocError)?;
     m.most_calls = m.most_calls.max(m.calls);
+    m.most_cells = m.most_cells.max(m.store.cells_in_use());
     called(m, program, at, expr, callee, values)
 }

@@ -407,7 +407,10 @@ goes_deep : (p : Program) (m : Evaluator) (next : Next) (b : Bytes) → IsTooDee
 goes_deep p m next b (inl many) =
     let w = world m b in
     in_world IsDeep (history w) _ (whole_after p m.frames.items next (history w) w (stays (history w))) (λ v g. let more : m.most_calls ≤ v.most_calls = g.most_calls in inl (omega (arith, more, many.1)))
-goes_deep p m next b (inr large) =
+goes_deep p m next b (inr (inl cells)) =
+    let w = world m b in
+    in_world IsDeep (history w) _ (whole_after p m.frames.items next (history w) w (stays (history w))) (λ v g. let more : m.most_cells ≤ v.most_cells = g.most_cells in inr (omega (arith, more, cells)))
+goes_deep p m next b (inr (inr large)) =
     in_world IsDeep _ _ (large_after p m.frames.items next (world m b) large.0 large.1) (λ v g. let more : cells_living m.store + asked next ≤ v.most_cells = g.most_cells in inr (omega (arith, more, large.2)))
 
 pub run_deep : (p : Program) (start : Value) (turns : ℕ) (m m' m'' : Evaluator) (first : Next) (old new : Devices)

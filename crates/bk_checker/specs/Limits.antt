@@ -35,15 +35,15 @@ abbrev pub asked : Next → ℕ
 asked (n.Starts is here names l) = asked_first (starts_in is.now) (env_in here)
 asked next = 0
 
--- A VEC comes next, with a turn left for it, with which more than 16777216 cells live.
+-- More than 16777216 cells lived, or would live with a VEC that comes next, with a turn left for it.
 abbrev pub IsTooLarge : Evaluator → Next → Type 0
-IsTooLarge m next = (0 < m.turns) × (0 < asked next) × (16777216 < cells_living m.store + asked next)
+IsTooLarge m next = (16777216 < m.most_cells) ⊎ ((0 < m.turns) × (0 < asked next) × (16777216 < cells_living m.store + asked next))
 
--- More than 4194304 parts wait for what is inside them, after more than 16384 calls were active at once; or a VEC is too large.
+-- More than 4194304 parts wait for what is inside them, after more than 16384 calls were active at once; or too many cells live.
 abbrev pub IsTooDeep : Evaluator → Next → Type 0
 IsTooDeep m next = ((4194304 < length m.frames.items) × (16384 < m.most_calls)) ⊎ IsTooLarge m next
 
--- In a world more than 16384 calls were active at once, or more than 16777216 cells lived where a VEC was made.
+-- In a world more than 16384 calls were active at once, or more than 16777216 cells lived where a procedure was called or a VEC was made.
 abbrev pub IsDeep : World → Type 0
 IsDeep w = (16384 < w.most_calls) ⊎ (16777216 < w.most_cells)
 

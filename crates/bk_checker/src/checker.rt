@@ -144,7 +144,7 @@ pub fn check<I: ByteIn, O: ByteOut>(
     ensures flushed_where_given_up { IfErr result (λ stop. Flushed stop.fault (O.passed out.new) (O.taken out.new)) }
     ensures part { IfErr result (λ _. ChecksPart (map declarations_of sections.now) turns
         (devices I.ByteIn O.ByteOut input.old out.old) (devices I.ByteIn O.ByteOut input.new out.new)) }
-    // *Too deep* comes only where the meaning has more than 16384 calls active at once, or more than 16777216 cells living at a VEC.
+    // *Too deep* comes only where the meaning has more than 16384 calls active at once, or more than 16777216 cells living at a call or a VEC.
     ensures limit { IfErr result (λ stop. stop.fault ≡ TooDeep → ChecksDeep (map declarations_of sections.now) turns
         (devices I.ByteIn O.ByteOut input.old out.old) (devices I.ByteIn O.ByteOut input.new out.new)) }
     ensures passes { Begins (O.passed out.old) (O.passed out.new) }

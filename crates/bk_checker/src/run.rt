@@ -185,12 +185,13 @@ fn cells_asked(next: &Next) -> usize
     }
 }
 
-/// Whether more cells would live than the limit of a check, with a VEC that comes next.
+/// Whether more cells live than the limit of a check, or would with a VEC that comes next.
 fn is_too_large(m: &Evaluator, next: &Next) -> bool
     ensures { OnTrue result (IsTooLarge m.now next.now) }
 {
     let asked = cells_asked(next);
-    asked > 0 && m.turns > 0 && m.store.cells_in_use().saturating_add(asked) > CELLS
+    m.most_cells > CELLS
+        || (asked > 0 && m.turns > 0 && m.store.cells_in_use().saturating_add(asked) > CELLS)
 }
 
 /// Whether there are more frames than the limit of a check, or would be more cells.

@@ -11,7 +11,7 @@ use Rattle.bk_meaning.specs.Lasting.{Program, program_of}
 use Rattle.bk_meaning.specs.Calls.{call}
 use Rattle.bk_meaning.specs.Program.{means, first_world}
 
--- what was written, what is left of the input, the most calls that were active at once, and the most cells that lived where a VEC was made
+-- what was written, what is left of the input, the most calls that were active at once, and the most cells that lived where a procedure was called or a VEC was made
 pub record History : Type 0 where
   pub output : List ℕ
   pub input : List ℕ

@@ -13,7 +13,7 @@ pub record World : Type 0 where
   -- the calls that are active, those of library routines too, and the most there were at once
   pub calls : ℕ
   pub most_calls : ℕ
-  -- the most cells that lived at once where a VEC was made
+  -- the most cells that lived at once where a procedure was called or a VEC was made
   pub most_cells : ℕ
   -- the turns that are left
   pub turns : ℕ
@@ -110,7 +110,7 @@ writing bytes w = record w { output = w.output ++ bytes }
 
 -- one call more
 abbrev pub calling : World → World
-calling w = record w { calls = w.calls + 1; most_calls = max w.most_calls (w.calls + 1) }
+calling w = record w { calls = w.calls + 1; most_calls = max w.most_calls (w.calls + 1); most_cells = max w.most_cells (cells_living w.memory) }
 
 -- back to so many
 abbrev pub calls_back : ℕ → World → World
