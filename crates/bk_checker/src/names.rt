@@ -130,8 +130,16 @@ fn names_outside<'m, 'a>(
 
 /// What names mean in the innermost call of a procedure.
 pub fn names_in<'m, 'a>(m: &'m Evaluator<'a>, program: &'m [Lasting<'a>]) -> Option<Names<'m, 'a>> {
-    let mut names = names_outside(program, &m.frames)?;
-    for frame in m.frames.iter().skip(names.call.saturating_add(1)).rev() {
+    names_of(program, &m.frames)
+}
+
+/// What names mean in the innermost call of a procedure among these frames.
+pub fn names_of<'m, 'a>(
+    program: &'m [Lasting<'a>],
+    frames: &'m [Continuation<'a>],
+) -> Option<Names<'m, 'a>> {
+    let mut names = names_outside(program, frames)?;
+    for frame in frames.iter().skip(names.call.saturating_add(1)).rev() {
         if let Some(env) = env_of(frame) {
             names.env = env;
             names.is_outside = false;

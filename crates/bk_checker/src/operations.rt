@@ -2,6 +2,7 @@
 
 use crate::made::{in_procedure, loop_at};
 use crate::operands::{Operand, bare, say_fault_of, say_operand, say_shared, say_uncalled};
+use crate::rounds::{is_same, say_still_loop};
 use crate::setting::{say_setting, say_setting_of, variable_at, variables_of};
 use crate::sought::Search;
 use crate::spelling::{add_expr, add_number, add_word, has_piece, operator_symbol};
@@ -81,7 +82,8 @@ pub fn say_other_index(page: &mut Page, index: Option<&Expr>) -> Result<(), Allo
     }
 }
 
-/// Adds the values of the variables beside an act, in the same command, where they are numbers.
+/// Adds the values of the variables beside an act, in the same command, where they are numbers, and that its loop sets none of its
+/// condition.
 pub fn say_beside(page: &mut Page) -> Result<(), AllocError> {
     let Some(names) = page.names else {
         return Ok(());
@@ -94,7 +96,7 @@ pub fn say_beside(page: &mut Page) -> Result<(), AllocError> {
             say_once(page, name, number)?;
         }
     }
-    Ok(())
+    say_still_loop(page)
 }
 
 /// Adds the values of the names in an index.
@@ -111,17 +113,28 @@ pub fn say_index(page: &mut Page, index: Operand) -> Result<(), AllocError> {
         (Expr::Name { .. }, _) => Ok(()),
         _ => {
             say_names(page, expr)?;
-            say_only_variable(page, expr)
+            say_only_variable(page, expr, index.value)
         }
     }
 }
 
-/// Adds where the variable of an index that is an expression got its value, if that has one.
-fn say_only_variable(page: &mut Page, expr: &Expr) -> Result<(), AllocError> {
-    match variables_of(page, expr).each() {
-        [Some(name), None, _, _] => say_variable_of(page, name),
-        _ => Ok(()),
+/// Adds where the variable of an index that is an expression got its value, if that has one; of more, where the index is negative, those
+/// that are.
+fn say_only_variable(page: &mut Page, expr: &Expr, index: Worth) -> Result<(), AllocError> {
+    let variables = variables_of(page, expr).each();
+    if let [Some(name), None, _, _] = variables {
+        return say_variable_of(page, name);
     }
+    for name in variables {
+        if let Some(name) = name
+            && let (Worth::Number(sum), Some(Worth::Number(part))) = (index, page.variable(name))
+            && sum.cast_signed() < 0
+            && part.cast_signed() < 0
+        {
+            say_variable_of(page, name)?;
+        }
+    }
+    Ok(())
 }
 
 /// Adds where a variable got its value that is a number.
@@ -135,21 +148,35 @@ fn say_variable_of(page: &mut Page, name: &[u8]) -> Result<(), AllocError> {
     }
 }
 
-/// Adds how far the FOR goes whose variable has this name.
+/// Whether the variable of a FOR has the value that it begins with, and not that which it ends with.
+fn is_first_round(page: &Page, name: &[u8], from: &Expr, to: &Expr) -> bool {
+    match (page.variable(name), page.known(from), page.known(to)) {
+        (Some(x), Some(first), Some(last)) => is_same(x, first) && !is_same(x, last),
+        (Some(x), Some(first), None) => is_same(x, first),
+        _ => false,
+    }
+}
+
+/// Adds how far the FOR goes whose variable has this name; of its first round, from where.
 fn say_count(page: &mut Page, name: &[u8]) -> Result<(), AllocError> {
     let Some(at) = variable_at(page, name) else {
         return Ok(());
     };
-    let Some(Command::For { to, .. }) = loop_at(page.program, at) else {
+    let Some(Command::For { from, to, .. }) = loop_at(page.program, at) else {
         return Ok(());
+    };
+    let (goes, end): (&[u8], &Expr) = if is_first_round(page, name, from, to) {
+        (b" goes from ", from)
+    } else {
+        (b" goes to ", to)
     };
     if at.line().number() != page.at.line().number() {
         page.say(&[b"; the `FOR` of line "])?;
         add_number(&mut page.text, at.line().number() as usize)?;
-        page.say(&[b" goes to "])?;
-        page.say_expr(to)?;
+        page.say(&[goes])?;
+        page.say_expr(end)?;
     }
-    say_names(page, to)
+    say_names(page, end)
 }
 
 /// Adds the value of a name, unless it is there already.

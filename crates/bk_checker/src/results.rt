@@ -1,9 +1,12 @@
-//! What a VALOF ends in that ended without RESULTIS.
+//! What a VALOF ends in that ended without RESULTIS, and what a procedure gives.
 
+use crate::made::seek;
 use crate::operands::bare;
+use crate::sought::{Search, Setters};
 use crate::spelling::add_number;
 use crate::values::Page;
 use bk_lasting::{Body, Lasting, Procedure};
+use bk_objects::Worth;
 use bk_tree::{Command, Expr, Position, Simple};
 use std::alloc::AllocError;
 
@@ -132,6 +135,45 @@ pub fn say_last(page: &mut Page, line: u32, number: u32) -> Result<(), AllocErro
         Command::SwitchOn { body, .. } => say_switch_end(page, body),
         _ => Ok(()),
     }
+}
+
+/// Adds what the procedure gives that is called by its name where another name was set, if one place sets that.
+pub fn say_given(page: &mut Page, setters: Setters, x: Worth) -> Result<(), AllocError> {
+    if let Some(setter) = setters.first
+        && setters.count == 1
+        && let Expr::Apply { callee, .. } = bare(setter.value)
+        && let Expr::Name { letters, .. } = &**callee
+        && let Some(Worth::Procedure(number)) = page.known(callee)
+        && let Some(Lasting::Code(procedure)) = page.program.get(number as usize)
+        && procedure.name == letters.as_slice()
+    {
+        return say_result(page, procedure, x);
+    }
+    Ok(())
+}
+
+/// Adds the value of a procedure; of one with VALOF, the line of the first RESULTIS that has this number.
+fn say_result(page: &mut Page, procedure: &Procedure, x: Worth) -> Result<(), AllocError> {
+    let Body::Value(given) = procedure.body else {
+        return Ok(());
+    };
+    if !matches!(bare(given), Expr::Valof { .. }) {
+        page.say(&[b"; ", procedure.name, b" gives `"])?;
+        page.say_expr(given)?;
+        page.say(&[b"`, on line "])?;
+        return add_number(&mut page.text, given.at().line().number() as usize);
+    }
+    let mut search = Search::new(Position::first(), b"");
+    search.value = Some(x);
+    seek(&mut search, procedure);
+    let Search { result_line, .. } = search;
+    let Some(line) = result_line else {
+        return Ok(());
+    };
+    page.say(&[b"; ", procedure.name, b" has `RESULTIS "])?;
+    page.say_value(x)?;
+    page.say(&[b"` on line "])?;
+    add_number(&mut page.text, line as usize)
 }
 
 /// Adds how a SWITCHON with this body may have ended, if the text tells: by a number that no CASE has, or by ENDCASE.

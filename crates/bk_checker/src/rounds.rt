@@ -5,13 +5,13 @@ use crate::jumps::{Back, back_at, between, label_of};
 use crate::made::{in_procedure, loop_at};
 use crate::names::names_at;
 use crate::operations::{is_twice, say_names};
-use crate::setting::say_loop_setter;
+use crate::setting::{say_link_setting, say_loop_setter, say_places, say_setters};
 use crate::sought::{Few, Search, Setter, Setters, is_up_to, place_of};
 use crate::spelling::{add, add_expr, add_number, has_piece};
 use crate::values::{Object, Page};
 use crate::walk::{in_command, in_expr};
 use bk_check::{Continuation, OnDone, OnTruth};
-use bk_lasting::{Env, Sense};
+use bk_lasting::{Env, Lasting, Sense};
 use bk_objects::{Cell, Worth};
 use bk_tree::{Command, Expr, Name, Operator, Position, Prefix};
 use std::alloc::AllocError;
@@ -24,6 +24,9 @@ const ROUNDS: usize = 101;
 
 /// How many loops are named at most.
 const LOOPS: usize = 3;
+
+/// In how many frames the calls are sought whose procedures test globals.
+const NEAR: usize = 40;
 
 /// Of how many formals the values are told at most.
 const FORMALS: usize = 4;
@@ -203,8 +206,8 @@ fn say_unset<'a>(
     }
 }
 
-/// Where a name is set in a command, if one place sets it.
-fn only_setter<'a>(command: &'a Command, name: &'a [u8]) -> Option<Setter<'a>> {
+/// Where a name is set in a command that does not declare it.
+fn setters_of<'a>(command: &'a Command, name: &'a [u8]) -> Setters<'a> {
     let mut search = Search::new(command.at(), name);
     in_command(&mut search, command);
     let Search {
@@ -212,14 +215,21 @@ fn only_setter<'a>(command: &'a Command, name: &'a [u8]) -> Option<Setter<'a>> {
         declared,
         ..
     } = search;
-    match setters.first {
-        Some(setter) if setters.count == 1 && declared == 0 => Some(setter),
-        _ => None,
+    if declared == 0 {
+        setters
+    } else {
+        Setters::none()
     }
 }
 
+/// Where a name is set in a command, if one place sets it.
+fn only_setter<'a>(command: &'a Command, name: &'a [u8]) -> Option<Setter<'a>> {
+    let Setters { count, first, .. } = setters_of(command, name);
+    if count == 1 { first } else { None }
+}
+
 /// Whether two values are one number, or one address.
-fn is_same(x: Worth, y: Worth) -> bool {
+pub fn is_same(x: Worth, y: Worth) -> bool {
     match (x, y) {
         (Worth::Number(a), Worth::Number(b)) => a == b,
         (Worth::Address(a, i), Worth::Address(b, j)) => a == b && i == j,
@@ -321,13 +331,16 @@ fn say_links<'a>(
         {
             let back = rounds_back(page, command, name, setter.value);
             say_link(page, name, setter.value, back)?;
+            if back.is_some() {
+                say_link_setting(page, setter.value)?;
+            }
         }
     }
     Ok(())
 }
 
-/// Adds where a loop sets the names of its condition that one place of it sets, on another line; none that RDCH gives, or that is the
-/// next of a list.
+/// Adds where a loop sets the names of its condition that one place of it sets, on another line, or two; none that RDCH gives, or that
+/// is the next of a list.
 fn say_loop_setters<'a>(
     page: &mut Page<'_, 'a>,
     command: &'a Command,
@@ -338,13 +351,40 @@ fn say_loop_setters<'a>(
         if let Some(name) = name
             && page.variable(name).is_some()
             && !read.has(name)
-            && let Some(setter) = only_setter(command, name)
-            && setter.line != command.at().line().number()
-            && (is_of_names(setter.value)
-                || rounds_back(page, command, name, setter.value).is_none())
         {
             let before = page.text.len();
-            say_loop_setter(page, name, setter)?;
+            let setters = setters_of(command, name);
+            if let Some(setter) = setters.first
+                && setters.count == 1
+                && setter.line != command.at().line().number()
+                && (is_of_names(setter.value)
+                    || rounds_back(page, command, name, setter.value).is_none())
+            {
+                say_loop_setter(page, name, setter)?;
+            } else if setters.count == 2 {
+                say_setters(page, name, setters)?;
+            }
+            if is_twice(&page.text, before) {
+                page.text.truncate(before);
+            }
+        }
+    }
+    Ok(())
+}
+
+/// Adds where the program sets the globals and static words of a condition that its loop does not set itself.
+fn say_outer_setters<'a>(
+    page: &mut Page<'_, 'a>,
+    command: &'a Command,
+    names: Few<'a>,
+) -> Result<(), AllocError> {
+    for name in names.each() {
+        if let Some(name) = name
+            && let Some(Worth::Number(_)) = page.variable(name)
+            && is_constant_in(page, command, name)
+        {
+            let before = page.text.len();
+            say_places(page, name)?;
             if is_twice(&page.text, before) {
                 page.text.truncate(before);
             }
@@ -373,6 +413,7 @@ fn say_state<'a>(
             say_unset(page, command, condition)?;
             say_names(page, condition)?;
             say_loop_setters(page, command, names_of(condition), read)?;
+            say_outer_setters(page, command, names_of(condition))?;
         }
         None => say_values(page, tested, read)?,
     }
@@ -529,6 +570,36 @@ fn loop_here(page: &Page) -> Option<Position> {
     None
 }
 
+/// Adds that nothing in the innermost loop of the procedure that is active sets the variables of its condition, if it is a WHILE, and
+/// that is so.
+pub fn say_still_loop(page: &mut Page) -> Result<(), AllocError> {
+    let Some(at) = loop_here(page) else {
+        return Ok(());
+    };
+    let Some(command) = loop_at(page.program, at) else {
+        return Ok(());
+    };
+    let Command::While { condition, .. } = command else {
+        return Ok(());
+    };
+    let names = names_of(condition);
+    if !is_of_names(condition) || still(page, command, names) == 0 {
+        return Ok(());
+    }
+    page.say(&[b"; nothing in the loop of line "])?;
+    add_number(&mut page.text, at.line().number() as usize)?;
+    let mut before: &[u8] = b" sets ";
+    for name in names.each() {
+        if let Some(name) = name
+            && page.variable(name).is_some()
+        {
+            page.say(&[before, name])?;
+            before = b" or ";
+        }
+    }
+    Ok(())
+}
+
 /// The GOTO that makes the innermost loop of the procedure that is active.
 fn back_here<'a>(page: &Page<'_, 'a>) -> Option<Back<'a>> {
     let back = back_at(page.program, page.at)?;
@@ -576,12 +647,37 @@ pub fn say_formals(page: &mut Page) -> Result<(), AllocError> {
     Ok(())
 }
 
+/// Adds the values of the globals and static words that are numbers, and that the procedures without formals test whose calls are the
+/// innermost.
+fn say_tested_globals(page: &mut Page) -> Result<(), AllocError> {
+    let m = page.m;
+    for frame in m.frames.iter().rev().take(NEAR) {
+        if let Continuation::Returned(call) = frame
+            && let Worth::Procedure(number) = call.callee
+            && let Some(Lasting::Code(procedure)) = page.program.get(number as usize)
+            && procedure.formals.is_empty()
+        {
+            let Search { tested, .. } = in_procedure(procedure, Position::first(), b"");
+            for name in tested.each() {
+                if let Some(name) = name
+                    && let Some(Worth::Number(_)) = page.variable(name)
+                    && !is_local(page, name)
+                {
+                    say_value_once(page, name, false)?;
+                }
+            }
+        }
+    }
+    Ok(())
+}
+
 /// Adds how many calls are active, of which there are many, and the values of the formals of the innermost.
 fn say_many(page: &mut Page) -> Result<(), AllocError> {
     page.say(&[b": "])?;
     add_number(&mut page.text, page.m.calls as usize)?;
     page.say(&[b" calls are active, perhaps of a recursion without end"])?;
-    say_formals(page)
+    say_formals(page)?;
+    say_tested_globals(page)
 }
 
 /// Adds that the turns are used up at a position, and what goes on there.

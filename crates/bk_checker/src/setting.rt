@@ -1,8 +1,10 @@
 //! Where a name was set, or might have been.
 
 use crate::made::{arguments_at, in_procedure, loop_at, seek};
+use crate::names::names_of;
 use crate::operands::{Operand, bare, name_of};
 use crate::operations::{is_twice, say_names};
+use crate::results::say_given;
 use crate::sought::{Few, Kind, Search, Setter, Setters, Words};
 use crate::spelling::{add, add_expr, add_number, add_ordinal, add_word, has_piece};
 use crate::values::{Object, Page};
@@ -51,7 +53,7 @@ fn say_source(page: &mut Page, value: &Expr) -> Result<(), AllocError> {
 }
 
 /// Adds where a name was set, if that is on another line than the act, and at most two places set it.
-fn say_setters(page: &mut Page, name: &[u8], setters: Setters) -> Result<(), AllocError> {
+pub fn say_setters(page: &mut Page, name: &[u8], setters: Setters) -> Result<(), AllocError> {
     let here = line(page.at);
     let Setters {
         count,
@@ -158,6 +160,7 @@ fn say_variable<'a>(
 ) -> Result<(), AllocError> {
     let setters = setters_of_variable(page, at, name, Some(x));
     say_setters(page, name, setters)?;
+    say_given(page, setters, x)?;
     say_cause(page, name, setters)
 }
 
@@ -243,12 +246,43 @@ fn say_formal<'a>(
         return Ok(());
     };
     if !is_set_in(names.procedure, name) {
-        return say_argument(page, name, offset);
+        say_argument(page, name, offset)?;
+        return say_argument_source(page, name, offset);
     }
     match x {
         Worth::Address(_, 0) => Ok(()),
         _ => say_set_formal(page, name, offset, x),
     }
+}
+
+/// The argument that a formal is, and where its call is, where there are several, and no command of the procedure sets it.
+fn argument_of<'a>(
+    page: &Page<'_, 'a>,
+    name: &'a [u8],
+    offset: u32,
+) -> Option<(Position, &'a Expr)> {
+    let at = call_of_formal(page, name)?;
+    let argument = arguments_at(page.program, at)?.get(offset as usize)?;
+    Some((at, argument))
+}
+
+/// Adds where the variables of the argument were set that a formal is, as the procedure says that passes it.
+fn say_argument_source<'a>(
+    page: &mut Page<'_, 'a>,
+    name: &'a [u8],
+    offset: u32,
+) -> Result<(), AllocError> {
+    let (Some(names), Some((_, argument))) = (page.names, argument_of(page, name, offset)) else {
+        return Ok(());
+    };
+    let m = page.m;
+    let Some(frames) = m.frames.get(..names.call) else {
+        return Ok(());
+    };
+    page.names = names_of(page.program, frames);
+    say_sources(page, argument)?;
+    page.names = Some(names);
+    Ok(())
 }
 
 /// Adds which argument a formal is, where there are several, and no command of the procedure sets it.
@@ -257,16 +291,10 @@ fn say_argument<'a>(
     name: &'a [u8],
     offset: u32,
 ) -> Result<(), AllocError> {
-    let Some(at) = call_of_formal(page, name) else {
+    let Some((at, argument)) = argument_of(page, name, offset) else {
         return Ok(());
     };
     let index = offset as usize;
-    let Some(arguments) = arguments_at(page.program, at) else {
-        return Ok(());
-    };
-    let Some(argument) = arguments.get(index) else {
-        return Ok(());
-    };
     page.say(&[b"; ", name, b" is the "])?;
     add_ordinal(&mut page.text, index.saturating_add(1))?;
     page.say(&[b" argument on line "])?;
@@ -299,7 +327,12 @@ fn say_lasting<'a>(
     }
     let setters = setters_of_all(page.program, name, cell, Some(x));
     if setters.count == 1 {
-        return say_setters(page, name, setters);
+        say_setters(page, name, setters)?;
+        if let Some(names) = page.names
+            && is_set_in(names.procedure, name)
+        {
+            return say_given(page, setters, x);
+        }
     }
     Ok(())
 }
@@ -323,8 +356,7 @@ pub fn variables_of<'e>(page: &Page, value: &'e Expr) -> Few<'e> {
     variables
 }
 
-/// Adds where the variables of what a name was set to were set, if one place of the procedure that is active sets it; of none that is
-/// where an object begins, which is named itself.
+/// Adds where the variables of what a name was set to were set, if one place of the procedure that is active sets it.
 fn say_cause<'a>(
     page: &mut Page<'_, 'a>,
     name: &'a [u8],
@@ -336,10 +368,15 @@ fn say_cause<'a>(
     if setters.count != 1 || set == line(page.at) {
         return Ok(());
     }
-    let variables = variables_of(page, value);
-    if variables.has(name) {
+    if variables_of(page, value).has(name) {
         return Ok(());
     }
+    say_sources(page, value)
+}
+
+/// Adds where the variables of a value were set; of none that is where an object begins, which is named itself.
+fn say_sources<'a>(page: &mut Page<'_, 'a>, value: &'a Expr) -> Result<(), AllocError> {
+    let variables = variables_of(page, value);
     let is_one = matches!(variables.each(), [Some(_), None, _, _]);
     for variable in variables.each() {
         if let Some(variable) = variable
@@ -482,6 +519,23 @@ fn say_word_setting(page: &mut Page, expr: &Expr) -> Result<(), AllocError> {
     say_setters(page, &spelled, words_set)
 }
 
+/// Adds where words like this one are set, but for those that have a number.
+pub fn say_link_setting(page: &mut Page, expr: &Expr) -> Result<(), AllocError> {
+    match words_like(page, bare(expr)) {
+        Some(Words::Field(_) | Words::Of(_, None)) => say_word_setting(page, bare(expr)),
+        _ => Ok(()),
+    }
+}
+
+/// Adds where a global or a static word is set, if at most two places set it.
+pub fn say_places(page: &mut Page, name: &[u8]) -> Result<(), AllocError> {
+    let Some((spelled, object, offset)) = cell_of(page, name) else {
+        return Ok(());
+    };
+    let setters = setters_of_all(page.program, spelled, (object, offset), None);
+    say_setters(page, spelled, setters)
+}
+
 /// Adds where a name got its value, as far as the text tells; nothing of a string, which is told itself.
 pub fn say_setting_of(page: &mut Page, name: &[u8], x: Worth) -> Result<(), AllocError> {
     if page.is_text(x) {
@@ -571,7 +625,7 @@ pub fn say_unreached(
     if is_taken {
         return Ok(());
     }
-    say_assignment(page, name, setters)?;
+    say_assignment(page, name, setters, b"")?;
     match setters.first {
         Some(setter) if setter.line != line(page.at) => say_for_of(page, setter.value),
         _ => Ok(()),
@@ -623,17 +677,39 @@ fn has_name(expr: &Expr, name: &[u8]) -> bool {
     beside.has(name)
 }
 
-/// Adds that the first of some assignments to a name was not reached, unless it is on the line of the act, or uses the name itself.
-fn say_assignment(page: &mut Page, name: &[u8], setters: Setters) -> Result<(), AllocError> {
+/// Adds that the first of some assignments to a name was not reached, unless it is on the line of the act, or uses the name itself;
+/// `procedure` is the name of the procedure that has it, where that may be another.
+fn say_assignment(
+    page: &mut Page,
+    name: &[u8],
+    setters: Setters,
+    procedure: &[u8],
+) -> Result<(), AllocError> {
     let Setters { first, .. } = setters;
     match first {
         Some(setter) if setter.line != line(page.at) && !has_name(setter.value, name) => {
             page.say(&[b"; the assignment of line "])?;
             add_number(&mut page.text, setter.line as usize)?;
+            if !procedure.is_empty() && !page.is_here(procedure) {
+                page.say(&[b", in ", procedure, b","])?;
+            }
             page.say(&[b" was not reached"])
         }
         _ => Ok(()),
     }
+}
+
+/// The name of the first procedure that sets what a name means in all of them.
+fn first_to_set<'a>(program: &[Lasting<'a>], name: &'a [u8], cell: (u64, u32)) -> &'a [u8] {
+    for lasting in program {
+        if let Lasting::Code(procedure) = lasting
+            && has_outside(procedure, name, cell)
+            && is_set_in(procedure, name)
+        {
+            return procedure.name;
+        }
+    }
+    b""
 }
 
 /// The procedure that a call evaluates an argument for, and the name of its formal.
@@ -730,7 +806,8 @@ pub fn say_no_global(page: &mut Page, name: &[u8], number: u32) -> Result<(), Al
     };
     let setters = setters_of_all(page.program, spelled, (GLOBALS_OBJECT, number), None);
     if setters.count > 0 {
-        return say_assignment(page, name, setters);
+        let procedure = first_to_set(page.program, spelled, (GLOBALS_OBJECT, number));
+        return say_assignment(page, name, setters, procedure);
     }
     match local_of(page.program, spelled) {
         Some((other, procedure)) => {

@@ -269,8 +269,9 @@ pub struct Search<'a> {
     is_tested: bool,
     /// The names that are set there to what RDCH gives.
     pub read: Few<'a>,
-    /// Whether there is a RESULTIS.
+    /// Whether there is a RESULTIS, and the line of the first that has the value that is sought, written as a number.
     pub has_result: bool,
+    pub result_line: Option<u32>,
 }
 
 /// Whether a place is before another, or is it.
@@ -330,6 +331,7 @@ impl<'a> Search<'a> {
             is_tested: false,
             read: Few::none(),
             has_result: false,
+            result_line: None,
         }
     }
 
@@ -510,6 +512,17 @@ impl<'a> Search<'a> {
         }
     }
 
+    /// A RESULTIS.
+    fn result(&mut self, value: &Expr) {
+        self.has_result = true;
+        if let Some(Worth::Number(word)) = self.value
+            && number(value) == Some(word.cast_signed())
+            && self.result_line.is_none()
+        {
+            self.result_line = Some(value.at().line().number());
+        }
+    }
+
     /// A command. A FOR is at the name of its variable, and another loop at its first symbol.
     pub fn command(&mut self, command: &'a Command) {
         self.begin();
@@ -518,8 +531,8 @@ impl<'a> Search<'a> {
             Command::While { at, .. }
             | Command::Repeat { at, .. }
             | Command::RepeatWhile { at, .. } => Some(*at),
-            Command::ResultIs { .. } => {
-                self.has_result = true;
+            Command::ResultIs { value, .. } => {
+                self.result(value);
                 None
             }
             Command::If { at, .. } | Command::Test { at, .. } => {

@@ -221,7 +221,7 @@ impl<'m, 'a> Page<'m, 'a> {
     }
 
     /// Whether the procedure of this name is active.
-    fn is_here(&self, procedure: &[u8]) -> bool {
+    pub fn is_here(&self, procedure: &[u8]) -> bool {
         if let Some(names) = self.names {
             names.procedure.name == procedure
         } else {

@@ -55,6 +55,20 @@ fn say_unset(page: &mut Page, relative: &[u8], origin: Origin) -> Result<(), All
     }
 }
 
+/// Adds where another procedure makes a vector that a word or a byte is behind.
+fn say_made(page: &mut Page, object: u64, number: u32) -> Result<(), AllocError> {
+    match page.object(object) {
+        Object::Made(made)
+            if matches!(made.kind, Kind::Vector)
+                && number.cast_signed() >= 0
+                && !page.is_here(made.procedure) => {
+            page.say(&[b"; ", made.name, b" is made on line "])?;
+            add_number(&mut page.text, made.at.line().number() as usize)
+        }
+        _ => Ok(()),
+    }
+}
+
 /// Adds what is wrong with a cell of an object that lives; `relative` is what joins a sentence to it.
 fn say_state(
     page: &mut Page,
@@ -64,7 +78,10 @@ fn say_state(
     relative: &[u8],
 ) -> Result<(), AllocError> {
     match page.m.store.cell(object, offset) {
-        None => say_extent(page, b"word", page.m.store.size(object).unwrap_or(0)),
+        None => {
+            say_extent(page, b"word", page.m.store.size(object).unwrap_or(0))?;
+            say_made(page, object, offset)
+        }
         Some(Cell::Places(a, b, c, d)) => say_partly(
             page,
             [a.is_some(), b.is_some(), c.is_some(), d.is_some()],
@@ -361,7 +378,10 @@ pub fn say_byte(
     say_owner(page, Some(base), object, is_called)?;
     let cell = word::sum(offset, word::distance_of_byte(number));
     match page.m.store.cell(object, cell) {
-        None => say_beyond_bytes(page, at, object),
+        None => {
+            say_beyond_bytes(page, at, object)?;
+            say_made(page, object, number)
+        }
         Some(Cell::Places(_, _, _, _)) => {
             say_unset(page, relative(is_called), Origin::Never)?;
             say_parts_set(page, Some(base), object)

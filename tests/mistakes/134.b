@@ -1,0 +1,28 @@
+GET "LIBHDR2"
+GLOBAL $( SPACE:200; FREE:201; LIST:202 $)
+MANIFEST $( KEY = 0; VALUE = 1; NEXT = 2 $)
+
+LET ADD(K, X) BE
+$( LET P = SPACE + FREE
+   FREE := FREE + 3
+   P!KEY, P!VALUE, P!NEXT := K, X, LIST
+   LIST := P
+$)
+
+LET FIND(K) = VALOF
+$( LET P = LIST
+   WHILE P!KEY NE K DO
+      P := P!NEXT
+   RESULTIS P!VALUE
+$)
+
+LET START() BE
+$( LET V = VEC 60
+   SPACE, FREE, LIST := V, 0, 0
+   ADD(3, 300)
+   ADD(7, 700)
+   ADD(11, 1100)
+   WRITEF("7 IS %N*N", FIND(7))
+   WRITEF("3 IS %N*N", FIND(3))
+   WRITEF("5 IS %N*N", FIND(5))
+$)

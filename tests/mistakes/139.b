@@ -1,0 +1,22 @@
+GET "LIBHDR"
+
+LET VOWEL(C) = C = 'A' | C = 'E' | C = 'I' | C = 'O' | C = 'U'
+
+LET VOWELS(S) = VALOF
+$( LET COUNT = 0
+   FOR I = 1 TO GETBYTE(S, 0) DO
+      IF VOWEL(GETBYTE(I, S)) DO COUNT := COUNT + 1
+   RESULTIS COUNT
+$)
+
+LET REPORT(S) BE
+$( WRITES(S)
+   WRITES(" HAS ")
+   WRITEN(VOWELS(S))
+   WRITES(" VOWELS*N")
+$)
+
+LET START() BE
+$( REPORT("CAMBRIDGE")
+   REPORT("OXFORD")
+$)

@@ -1,0 +1,18 @@
+GET "LIBHDR2"
+
+LET FACT(N) = N = 1 -> 1, N * FACT(N-1)
+
+LET CHOOSE(N, K) = FACT(N) / (FACT(K) * FACT(N-K))
+
+LET PASCAL(ROWS) BE
+   FOR N = 1 TO ROWS DO
+   $( FOR I = 1 TO 2 * (ROWS - N) DO WRCH('*S')
+      FOR K = 1 TO N DO
+         WRITED(CHOOSE(N, K), 4)
+      NEWLINE()
+   $)
+
+LET START() BE
+$( WRITES("PASCAL'S TRIANGLE*N")
+   PASCAL(6)
+$)

@@ -1,0 +1,19 @@
+GET "LIBHDR2"
+STATIC $( MOVES = 0 $)
+
+LET MOVE(A, B) BE
+$( MOVES := MOVES + 1
+   WRITEF("MOVE A DISC FROM %C TO %C*N", A, B)
+$)
+
+LET HANOI(N, A, B, C) BE
+$( IF N = 0 RETURN
+   HANOI(N-1, A, C, B)
+   MOVE(A, B)
+   HANOI(N, C, B, A)
+$)
+
+LET START() BE
+$( HANOI(3, 'A', 'B', 'C')
+   WRITEF("%N MOVES*N", MOVES)
+$)

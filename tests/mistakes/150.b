@@ -1,0 +1,29 @@
+GET "LIBHDR"
+MANIFEST $( SIZE = 3 $)
+
+LET FILL(M) BE
+   FOR I = 0 TO SIZE-1 DO
+      FOR J = 0 TO SIZE-1 DO
+         M!(I*SIZE + J) := I + J
+
+LET TRACE(M) = VALOF
+$( LET T = 0
+   FOR I = 0 TO SIZE-1 DO
+      T := T + M!I!I
+   RESULTIS T
+$)
+
+LET PRINT(M) BE
+   FOR I = 0 TO SIZE-1 DO
+   $( FOR J = 0 TO SIZE-1 DO WRITED(M!(I*SIZE + J), 4)
+      NEWLINE()
+   $)
+
+LET START() BE
+$( LET M = VEC SIZE*SIZE-1
+   FILL(M)
+   PRINT(M)
+   WRITES("TRACE ")
+   WRITEN(TRACE(M))
+   NEWLINE()
+$)

@@ -1,0 +1,22 @@
+GET "LIBHDR"
+
+LET DOUBLES(S) = VALOF
+$( LET N = 0
+   FOR I = 1 TO GETBYTE(S, 0) DO
+      IF GETBYTE(S, I) = GETBYTE(S, I+1) DO
+         N := N + 1
+   RESULTIS N
+$)
+
+LET SHOW(S) BE
+$( WRITES(S)
+   WRITES(": ")
+   WRITEN(DOUBLES(S))
+   NEWLINE()
+$)
+
+LET START() BE
+$( SHOW("LETTER")
+   SHOW("BALLOON")
+   SHOW("BOOKKEEPER")
+$)

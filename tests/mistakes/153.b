@@ -1,0 +1,28 @@
+GET "LIBHDR"
+GLOBAL $( LINE:200; LEN:201 $)
+
+LET READLINE() = VALOF
+$( LET C = RDCH()
+   LEN := 0
+   IF C = ENDSTREAMCH RESULTIS FALSE
+   UNTIL C = '*N' | C = ENDSTREAMCH DO
+   $( LEN := LEN + 1
+      PUTBYTE(LINE, LEN, C)
+      C := RDCH()
+   $)
+   PUTBYTE(LINE, 0, LEN)
+   RESULTIS TRUE
+$)
+
+LET START() BE
+$( LET BUFFER = VEC 3
+   LET N = 0
+   LINE := BUFFER
+   WHILE READLINE() DO
+   $( N := N + 1
+      WRITED(N, 4)
+      WRITES("  ")
+      WRITES(LINE)
+      NEWLINE()
+   $)
+$)

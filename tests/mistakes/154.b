@@ -1,0 +1,27 @@
+GET "LIBHDR2"
+MANIFEST $( QSIZE = 4; QLAST = QSIZE+1 $)
+GLOBAL $( Q:200; HEAD:201; TAIL:202 $)
+
+LET STEP(I) = I = QLAST -> 0, I + 1
+
+LET PUT(X) BE
+$( Q!TAIL := X
+   TAIL := STEP(TAIL)
+$)
+
+LET TAKE() = VALOF
+$( LET X = Q!HEAD
+   HEAD := STEP(HEAD)
+   RESULTIS X
+$)
+
+LET START() BE
+$( LET V = VEC QSIZE
+   Q, HEAD, TAIL := V, 0, 0
+   FOR ROUND = 1 TO 5 DO
+   $( PUT(ROUND * 10)
+      PUT(ROUND * 10 + 1)
+      WRITEF("%N ", TAKE())
+      WRITEF("%N*N", TAKE())
+   $)
+$)

@@ -1,0 +1,23 @@
+GET "LIBHDR2"
+
+LET PLUS(A, B) = A + B
+LET MINUS(A, B) = A - B
+LET TIMES(A, B) = A * B
+
+LET FILLOPS(OPS) BE
+$( OPS!1 := PLUS
+   OPS!2 := MINUS
+   OPS!3 := TIMES
+$)
+
+LET APPLY(OPS, I, A, B) = VALOF
+$( LET F = OPS!I
+   RESULTIS F(A, B)
+$)
+
+LET START() BE
+$( LET OPS = VEC 3
+   FILLOPS(OPS)
+   FOR I = 0 TO 2 DO
+      WRITEF("OPERATION %N: %N*N", I, APPLY(OPS, I, 12, 5))
+$)

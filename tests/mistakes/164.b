@@ -1,0 +1,27 @@
+GET "LIBHDR"
+GLOBAL $( LIST:200; SIZE:201 $)
+MANIFEST $( MAXSIZE = 40 $)
+
+LET ADD(X) BE
+$( SIZE := SIZE + 1
+   LIST!SIZE := X
+$)
+
+LET DOUBLEUP() BE
+$( LET I = 1
+   WHILE I <= SIZE DO
+   $( ADD(2 * LIST!I)
+      I := I + 1
+   $)
+$)
+
+LET START() BE
+$( LET V = VEC MAXSIZE
+   LIST, SIZE := V, 0
+   ADD(3)
+   ADD(5)
+   ADD(7)
+   DOUBLEUP()
+   FOR I = 1 TO SIZE DO WRITED(LIST!I, 6)
+   NEWLINE()
+$)

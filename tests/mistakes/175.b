@@ -1,0 +1,21 @@
+GET "LIBHDR"
+
+LET WRITESTRING(S) BE
+$(W FOR I = 1 TO S!0 DO
+       WRCH(GETBYTE(S, I))
+    NEWLINE()
+$)W
+
+LET BOX(S) BE
+$(B LET N = GETBYTE(S, 0)
+    FOR I = 1 TO N DO WRCH('**')
+    NEWLINE()
+    WRITESTRING(S)
+    FOR I = 1 TO N DO WRCH('**')
+    NEWLINE()
+$)B
+
+LET START() BE
+$(1 BOX("REPORT OF JUNE 1972")
+    BOX("END")
+$)1

@@ -1,0 +1,30 @@
+GET "LIBHDR"
+GLOBAL $( WORK:200 $)
+
+LET SETTITLE(S) BE WORK!0 := S
+
+LET TITLE() BE
+$( WRITES("** ")
+   WRITES(WORK!0)
+   WRITES(" ***N")
+$)
+
+LET READNAME() BE
+$( LET N, C = 0, RDCH()
+   UNTIL C = '*N' | C = ENDSTREAMCH DO
+   $( N := N + 1
+      PUTBYTE(WORK, N, C)
+      C := RDCH()
+   $)
+   PUTBYTE(WORK, 0, N)
+$)
+
+LET START() BE
+$( LET V = VEC 20
+   WORK := V
+   SETTITLE("MEMBERS OF THE CLUB")
+   TITLE()
+   READNAME()
+   WRITES(WORK)
+   NEWLINE()
+$)

@@ -1,0 +1,26 @@
+GET "LIBHDR2"
+GLOBAL $( SEED:200; RANDOM:201; TRIES:202 $)
+
+LET RANDOM(N) = VALOF
+$( SEED := (SEED * 25173 + 13849) & 65535
+   RESULTIS SEED REM N + 1
+$)
+
+LET READGUESS() = VALOF
+$( LET N, C = 0, RDCH()
+   WHILE C = '*S' | C = '*N' DO C := RDCH()
+   IF C = ENDSTREAMCH DO STOP(0)
+   WHILE '0' <= C <= '9' DO $( N := 10 * N + C - '0'; C := RDCH() $)
+   RESULTIS N
+$)
+
+LET START() BE
+$( LET SECRET = RANDOM(100)
+   TRIES := 0
+   $( LET G = READGUESS()
+      TRIES := TRIES + 1
+      IF G = SECRET BREAK
+      WRITES(G < SECRET -> "TOO SMALL*N", "TOO BIG*N")
+   $) REPEAT
+   WRITEF("RIGHT AFTER %N TRIES*N", TRIES)
+$)
