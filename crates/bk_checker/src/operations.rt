@@ -184,14 +184,19 @@ fn say_once(page: &mut Page, name: &[u8], number: u32) -> Result<(), AllocError>
     let before = page.text.len();
     page.say(&[b"; ", name, b" is "])?;
     add_word(&mut page.text, number)?;
-    if is_twice(&page.text, before) {
-        page.text.truncate(before);
-    }
+    drop_twice(&mut page.text, before);
     Ok(())
 }
 
+/// Takes away what a text has from a place on, if that is in it before, too.
+pub fn drop_twice(text: &mut Vec<u8>, place: usize) {
+    if is_twice(text, place) {
+        text.truncate(place);
+    }
+}
+
 /// Whether what a text has from a place on, after a semicolon, is in it before that place, too.
-pub fn is_twice(text: &[u8], place: usize) -> bool {
+fn is_twice(text: &[u8], place: usize) -> bool {
     let (Some(before), Some(added)) = (text.get(..place), text.get(place..)) else {
         return false;
     };
@@ -256,9 +261,7 @@ fn say_holders(page: &mut Page, expr: &Expr) -> Result<(), AllocError> {
                 let before = page.text.len();
                 page.say(&[b"; "])?;
                 page.say_is(expr, x)?;
-                if is_twice(&page.text, before) {
-                    page.text.truncate(before);
-                }
+                drop_twice(&mut page.text, before);
                 say_setting_of(page, letters, x)
             }
             _ => Ok(()),

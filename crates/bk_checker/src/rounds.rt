@@ -4,7 +4,7 @@ use crate::depth::is_mostly_one;
 use crate::jumps::{Back, back_at, between, label_of};
 use crate::made::{in_procedure, loop_at};
 use crate::names::names_at;
-use crate::operations::{is_twice, say_names};
+use crate::operations::{drop_twice, say_names};
 use crate::setting::{say_link_setting, say_loop_setter, say_places, say_setters};
 use crate::sought::{Few, Search, Setter, Setters, is_up_to, place_of};
 use crate::spelling::{add, add_expr, add_number, has_piece};
@@ -298,9 +298,7 @@ fn say_link(
             let before = page.text.len();
             page.say(&[b"; "])?;
             page.say_is(value, x)?;
-            if is_twice(&page.text, before) {
-                page.text.truncate(before);
-            }
+            drop_twice(&mut page.text, before);
         }
         _ => {}
     }
@@ -364,9 +362,7 @@ fn say_loop_setters<'a>(
             } else if setters.count == 2 {
                 say_setters(page, name, setters)?;
             }
-            if is_twice(&page.text, before) {
-                page.text.truncate(before);
-            }
+            drop_twice(&mut page.text, before);
         }
     }
     Ok(())
@@ -385,9 +381,7 @@ fn say_outer_setters<'a>(
         {
             let before = page.text.len();
             say_places(page, name)?;
-            if is_twice(&page.text, before) {
-                page.text.truncate(before);
-            }
+            drop_twice(&mut page.text, before);
         }
     }
     Ok(())

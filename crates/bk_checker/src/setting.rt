@@ -3,7 +3,7 @@
 use crate::made::{arguments_at, in_procedure, loop_at, seek};
 use crate::names::names_of;
 use crate::operands::{Operand, bare, name_of};
-use crate::operations::{is_twice, say_names};
+use crate::operations::{drop_twice, say_names};
 use crate::results::say_given;
 use crate::sought::{Few, Kind, Search, Setter, Setters, Words};
 use crate::spelling::{add, add_expr, add_number, add_ordinal, add_word, has_piece};
@@ -384,9 +384,7 @@ fn say_sources<'a>(page: &mut Page<'_, 'a>, value: &'a Expr) -> Result<(), Alloc
         {
             let before = page.text.len();
             say_source_of(page, variable, is_one)?;
-            if is_twice(&page.text, before) {
-                page.text.truncate(before);
-            }
+            drop_twice(&mut page.text, before);
         }
     }
     Ok(())
@@ -543,9 +541,7 @@ pub fn say_setting_of(page: &mut Page, name: &[u8], x: Worth) -> Result<(), Allo
     }
     let before = page.text.len();
     say_once_set(page, name, x)?;
-    if is_twice(&page.text, before) {
-        page.text.truncate(before);
-    }
+    drop_twice(&mut page.text, before);
     Ok(())
 }
 
