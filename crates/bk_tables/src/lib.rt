@@ -9,36 +9,29 @@
 #[cfg(test)]
 mod tests;
 
-use std::hash::{BuildHasher, DefaultHasher, Hasher};
+use std::hash::{BuildHasher, DefaultHasher, FoldHasher, Hasher};
 
-/// Makes the hashers of one table: SipHash, begun with a key of 128 bits.
+/// Makes the hashers of one table: those of the standard library that multiply and fold, begun with a key of 64 bits.
 #[derive(Clone, Copy)]
 pub struct KeyedHashers {
-    keyed: DefaultHasher,
+    keyed: FoldHasher,
 }
 
 impl BuildHasher for KeyedHashers {
-    type Hasher = DefaultHasher;
+    type Hasher = FoldHasher;
 
     ghost build_hasher = { λ hashers. hashers.keyed };
 
     #[inline]
-    fn build_hasher(&self) -> DefaultHasher {
+    fn build_hasher(&self) -> FoldHasher {
         self.keyed
     }
 }
 
-/// Makes a key from words and bytes.
+/// Makes a key from words and bytes, by SipHash.
 #[derive(Clone, Copy)]
 pub struct KeyMaker {
     hasher: DefaultHasher,
-}
-
-/// A hasher, after one word more.
-fn after(hasher: DefaultHasher, word: u64) -> DefaultHasher {
-    let mut longer = hasher;
-    longer.write_u64(word);
-    longer
 }
 
 impl KeyMaker {
@@ -59,12 +52,10 @@ impl KeyMaker {
         self.hasher.write(bytes);
     }
 
-    /// The hashers with the key so far: what was added is hashed as it is, and with one word more.
+    /// The hashers with the key so far, which they hash before all else.
     pub fn hashers(&self) -> KeyedHashers {
-        let first = self.hasher.finish();
-        let second = after(self.hasher, first).finish();
-        KeyedHashers {
-            keyed: after(after(DefaultHasher::new(), first), second),
-        }
+        let mut keyed = FoldHasher::default();
+        keyed.write_u64(self.hasher.finish());
+        KeyedHashers { keyed }
     }
 }
