@@ -6,8 +6,10 @@ mod Entering
 mod Formals
 mod ForLoops
 mod Judging
+mod LandingSteps
 mod Lets
 mod Outcomes
+mod Places
 mod Resuming
 mod Scoped
 mod Seeks

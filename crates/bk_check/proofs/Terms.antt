@@ -1,5 +1,10 @@
 -- The names of the layers below that several of these proofs use.
-pub use Rattle.std.proofs.Common.{◌≡◌, ℕ, zero, suc, refl, drop, ◌<◌, length, ap, ◌∙◌, arith, false, List, [], ◌∷◌, map, ◌-◌, sym, Option, ◌+◌, max, Vec, ◌++◌, subst, Bool, add-one, true, ◌||◌, Result, Ok, Err, IfOk, append_assoc, Some, None, IfSome, rules}
+pub use Rattle.std.proofs.Common.{◌≡◌, ℕ, zero, suc, refl, drop, ◌<◌, length, ap, ◌∙◌, arith, false, List, [], ◌∷◌, map, ◌-◌, sym, Option, ◌+◌, max, Vec, ◌++◌, subst, Bool, add-one, true, ◌||◌, Result, Ok, Err, IfOk, append_assoc, Some, None, IfSome, rules, cond, get_or, OnOk, bytes_eq, ⊎_elim, ◌≤◌}
+pub use Rattle.std.proofs.lemmas.Bool.{cases_Bool, cond-true, cond-false}
+pub use Rattle.std.proofs.lemmas.Cmp.{nat_list_eq_equiv}
+pub use Rattle.std.proofs.lemmas.List.{append-nil, at_drop_more}
+pub use Rattle.std.proofs.lemmas.Slice.Eq.{bytes_eq-Decides}
+pub use Rattle.std.proofs.Math.Path.{fun_ext}
 pub use Rattle.std.specs.Prelude.{slice_get, unwrap_or}
 pub use Rattle.bk_lasting.specs.Views.{env_in, procedure_in, body_in}
 pub use Rattle.bk_meaning.proofs.Lemmas.{full_rounds, turn_left, turn_none, full_value, full_target, full_scope, full_act, full_truth, full_for_rounds}

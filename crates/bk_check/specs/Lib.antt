@@ -2,6 +2,9 @@ pub mod Views
 pub mod Known
 pub mod Plain
 pub mod Resume
+pub mod Scoped
+pub mod Places
+pub mod ScopeView
 pub mod Worlds
 pub mod Fors
 pub mod Progress

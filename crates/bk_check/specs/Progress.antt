@@ -87,6 +87,8 @@ target_cost (a.Put e v xs there es env) = assign_cost xs.now + 2
 abbrev pub done_cost : OnDone → ℕ
 done_cost (d.After cs env) = order_cost cs.now + 1
 done_cost (d.Scope cs env) = order_cost cs.now + 2
+done_cost (d.Landed s) = order_cost s.commands + 2
+done_cost (d.LandedInBlock spot s) = 2
 done_cost (d.Alone c env) = 2
 done_cost (d.Round c env) = 2
 done_cost g = 0

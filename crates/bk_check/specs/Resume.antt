@@ -177,6 +177,8 @@ done_goes p (d.Alone c env) u = tag done_tag (each_way (λ _ w. done w) (lands p
 done_goes p d.Cases u = tag done_tag (ended_case u)
 done_goes p (d.Round c env) u = tag done_tag (again u (next_round p (command_in c.now) (env_in env)))
 done_goes p (d.ForRound f) u = tag done_tag (again u (next_for p f))
+done_goes p (d.Landed s) u = tag done_tag (each_way (λ _ w. done w) (lands p (commands_in s.commands) s.env) u)
+done_goes p (d.LandedInBlock spot s) u = tag done_tag (each_way (λ _ w. done w) (lands p (alone (t.block spot t.no_declarations (commands_in s.commands))) s.env) u)
 
 -- where a part is left
 abbrev pub done_left : Program → OnDone → Exit → World → Outcome Given
@@ -188,6 +190,8 @@ done_left p (d.Alone c env) x w = tag done_tag (lands p (alone (command_in c.now
 done_left p d.Cases x w = tag done_tag (case_exit x w)
 done_left p (d.Round c env) x w = tag done_tag (round_exit (next_round p (command_in c.now) (env_in env)) x w)
 done_left p (d.ForRound f) x w = tag done_tag (round_exit (next_for p f) x w)
+done_left p (d.Landed s) x w = tag done_tag (lands p (commands_in s.commands) s.env x w)
+done_left p (d.LandedInBlock spot s) x w = tag done_tag (lands p (alone (t.block spot t.no_declarations (commands_in s.commands))) s.env x w)
 
 abbrev pub resume_left : Program → Continuation → Exit → World → Outcome Given
 resume_left p (f.Done g) x w = done_left p g x w

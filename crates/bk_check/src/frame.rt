@@ -4,6 +4,7 @@ ghost use Rattle.bk_tree.specs.Tree.{expression};
 ghost use Rattle.bk_meaning.specs.Parts.{acts_at};
 ghost use Rattle.bk_check.specs.Resume.{acts_in, argument_of};
 
+use crate::scopes::Scope;
 use bk_lasting::Env;
 use bk_objects::{FormatPart, Location, Reason, Routine, Worth};
 use bk_tree::{Command, Decl, Def, Expr, Init, Name, Operator, Position, Prefix};
@@ -180,6 +181,10 @@ pub enum OnDone<'a> {
     Round(&'a Command, Env<'a>),
     /// A round of a FOR.
     ForRound(For<'a>),
+    /// The commands of a scope in which a GOTO landed.
+    Landed(Scope<'a>),
+    /// The same of a scope with one command, a block with no declarations at this position.
+    LandedInBlock(Position, Scope<'a>),
 }
 
 /// What is to be done with what the part inside gives.

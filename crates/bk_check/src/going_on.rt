@@ -1,8 +1,7 @@
 //! Frames go on with what the parts inside gave.
-ghost use Rattle.std.specs.Prelude.{◌≡◌, ◌<◌, IfOk, IfSome, List, [], ◌+◌, Ok};
-ghost use Rattle.bk_tree.specs.Tree.{command_in, commands_in, expression, expressions_in};
-ghost use Rattle.bk_meaning.specs.World.{World, goto, gives, leaves, undefined, done};
-ghost use Rattle.bk_meaning.specs.Scopes.{alone};
+ghost use Rattle.std.specs.Prelude.{◌≡◌, ◌<◌, IfOk, IfSome, List, [], Ok};
+ghost use Rattle.bk_tree.specs.Tree.{expression, expressions_in};
+ghost use Rattle.bk_meaning.specs.World.{World, gives, leaves, undefined, done};
 ghost use Rattle.bk_meaning.specs.Causes.{no_place};
 ghost use Rattle.bk_meaning.specs.Parts.{nowhere, store, acts_at};
 ghost use Rattle.bk_meaning.specs.Lasting.{Program};
@@ -11,24 +10,25 @@ ghost use Rattle.bk_check.specs.Views.{program_in};
 ghost use Rattle.bk_objects.specs.Views.{value_in};
 ghost use Rattle.bk_lasting.specs.Views.{env_in};
 ghost use Rattle.bk_check.specs.Worlds.{Bytes, world};
-ghost use Rattle.bk_check.specs.Resume.{tag, done_tag, exit_in, thing_in, lands as landing_in, Comes, resumed, resume_value, resume_truth, resume_target, resume_done, resume_left, resume_given, value_goes, truth_goes, target_goes, done_goes, done_left, assigned_to};
+ghost use Rattle.bk_check.specs.Resume.{tag, done_tag, exit_in, thing_in, Comes, resumed, resume_value, resume_truth, resume_target, resume_done, resume_left, resume_given, value_goes, truth_goes, target_goes, done_goes, done_left, assigned_to};
 ghost use Rattle.bk_objects.specs.Views.{place_in};
-ghost use Rattle.bk_check.specs.Progress.{Within, LeftWithin, Adds, Falls, order_cost, assign_cost, value_cost, truth_cost, target_cost, done_cost, cost_of};
+ghost use Rattle.bk_check.specs.Progress.{Within, LeftWithin, Adds, Falls, assign_cost, value_cost, truth_cost, target_cost, done_cost, cost_of};
 
 use crate::blocks::named;
 use crate::calls::call;
-use crate::commands::{assigned, choose_case, in_order, scope};
+use crate::commands::{assigned, choose_case, in_order};
 use crate::fors::{begin_for, next_for};
 use crate::frame::{
-    Continuation, Exit, Next, OnDone, OnTarget, OnTruth, OnValue, Operands, Sought, Subject, Thing,
+    Continuation, Exit, Next, OnDone, OnTarget, OnTruth, OnValue, Operands, Subject, Thing,
 };
 use crate::known::{DEPTH, known_target};
+use crate::landings::{lands, lands_alone, lands_in_block};
 use crate::loops::{further_round, next_round, round};
 use crate::machine::{Evaluator, came};
-use crate::seeking::{has_place, one_has_place};
+use crate::scopes::Scope;
 use bk_lasting::{Env, Lasting, count, count_command};
 use bk_objects::{Location, Origin, Reason, Worth, prefixed, put};
-use bk_tree::{Command, Expr, Position};
+use bk_tree::{Expr, Position};
 use std::alloc::AllocError;
 
 /// What goes on with a value.
@@ -267,6 +267,8 @@ fn with_done<'a>(m: &mut Evaluator<'a>, frame: OnDone<'a>) -> Result<Next<'a>, A
         OnDone::Cases => Ok(Next::Gives(Thing::Done)),
         OnDone::Round(command, env) => next_round(m, command, env),
         OnDone::ForRound(run) => next_for(m, run),
+        OnDone::Landed(_) => Ok(Next::Gives(Thing::Done)),
+        OnDone::LandedInBlock(_, _) => Ok(Next::Gives(Thing::Done)),
     }
 }
 
@@ -301,7 +303,7 @@ fn with_exit<'a>(
             Exit::Return => Ok(Next::Leaves(Exit::Return)),
         },
         OnDone::Scope(commands, env) => match exit {
-            Exit::Goto(label) => lands(m, commands, env, label),
+            Exit::Goto(label) => lands(m, Scope::new(commands, env), label),
             Exit::Break => Ok(Next::Leaves(Exit::Break)),
             Exit::Loop => Ok(Next::Leaves(Exit::Loop)),
             Exit::EndCase => Ok(Next::Leaves(Exit::EndCase)),
@@ -340,44 +342,22 @@ fn with_exit<'a>(
             Exit::Result(x) => Ok(Next::Leaves(Exit::Result(x))),
             Exit::Return => Ok(Next::Leaves(Exit::Return)),
         },
-    }
-}
-
-/// A GOTO that comes to a scope: it lands at a label of the scope, or goes on outwards.
-fn lands<'a>(
-    m: &mut Evaluator<'a>,
-    commands: &'a [Command],
-    env: Env<'a>,
-    label: &'a [u8],
-) -> Result<Next<'a>, AllocError>
-    ensures comes { IfOk result (λ next. (p : Program) (b : Bytes) →
-        Comes p m.new.frames.items next (world m.new b)
-        (resumed p m.old.frames.items (tag done_tag (landing_in p (commands_in commands.now) (env_in env.entry) (goto label.now) (world m.old b))))) }
-    ensures falls { LeftWithin (Exit.Goto label.entry) (order_cost commands.now + 2) m.old m.new result }
-{
-    if one_has_place(Sought::Label(label), &env, commands) {
-        scope(m, commands, Some(Sought::Label(label)), env)
-    } else {
-        Ok(Next::Leaves(Exit::Goto(label)))
-    }
-}
-
-/// The same at a scope with one command.
-fn lands_alone<'a>(
-    m: &mut Evaluator<'a>,
-    command: &'a Command,
-    env: Env<'a>,
-    label: &'a [u8],
-) -> Result<Next<'a>, AllocError>
-    ensures comes { IfOk result (λ next. (p : Program) (b : Bytes) →
-        Comes p m.new.frames.items next (world m.new b)
-        (resumed p m.old.frames.items (tag done_tag (landing_in p (alone (command_in command.now)) (env_in env.entry) (goto label.now) (world m.old b))))) }
-    ensures falls { LeftWithin (Exit.Goto label.entry) 2 m.old m.new result }
-{
-    if has_place(Sought::Label(label), &env, command) {
-        m.alone(command, Some(Sought::Label(label)), env)
-    } else {
-        Ok(Next::Leaves(Exit::Goto(label)))
+        OnDone::Landed(scope) => match exit {
+            Exit::Goto(label) => lands(m, scope.with_labels(m.alloc)?, label),
+            Exit::Break => Ok(Next::Leaves(Exit::Break)),
+            Exit::Loop => Ok(Next::Leaves(Exit::Loop)),
+            Exit::EndCase => Ok(Next::Leaves(Exit::EndCase)),
+            Exit::Result(x) => Ok(Next::Leaves(Exit::Result(x))),
+            Exit::Return => Ok(Next::Leaves(Exit::Return)),
+        },
+        OnDone::LandedInBlock(at, scope) => match exit {
+            Exit::Goto(label) => lands_in_block(m, at, scope.with_labels(m.alloc)?, label),
+            Exit::Break => Ok(Next::Leaves(Exit::Break)),
+            Exit::Loop => Ok(Next::Leaves(Exit::Loop)),
+            Exit::EndCase => Ok(Next::Leaves(Exit::EndCase)),
+            Exit::Result(x) => Ok(Next::Leaves(Exit::Result(x))),
+            Exit::Return => Ok(Next::Leaves(Exit::Return)),
+        },
     }
 }
 

@@ -8,8 +8,10 @@ mod fors;
 mod frame;
 mod going_on;
 mod known;
+mod landings;
 mod loops;
 mod machine;
+mod scopes;
 mod seeking;
 mod steps;
 
@@ -18,4 +20,5 @@ pub use frame::{
     Call, Continuation, Exit, Next, OnDone, OnTarget, OnTruth, OnValue, Subject, Thing,
 };
 pub use machine::{Evaluator, acts_at};
+pub use scopes::Scope;
 pub use steps::step;

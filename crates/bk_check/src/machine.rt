@@ -44,7 +44,7 @@ pub struct Evaluator<'a> {
     pub store: Store,
     pub calls: u64,
     pub most_calls: u64,
-    /// The most cells that lived where a VEC was made.
+    /// The most cells that lived where a procedure was called or a VEC was made.
     pub most_cells: usize,
     pub turns: u64,
 }

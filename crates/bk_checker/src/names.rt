@@ -56,6 +56,7 @@ fn env_of_done<'m, 'a>(frame: &'m OnDone<'a>) -> Option<&'m Env<'a>> {
         | OnDone::Scope(_, env)
         | OnDone::Alone(_, env)
         | OnDone::Round(_, env) => Some(env),
+        OnDone::Landed(scope) | OnDone::LandedInBlock(_, scope) => Some(scope.env()),
         OnDone::ForRound(run) => Some(&run.env),
         OnDone::Body | OnDone::Valof(_) | OnDone::Cases => None,
     }
