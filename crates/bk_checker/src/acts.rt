@@ -13,7 +13,7 @@ use crate::spelling::{add_number, add_ordinal, add_word, operator_symbol, prefix
 use crate::values::Page;
 use crate::words::{say_byte, say_cell, say_partly};
 use bk_base::word;
-use bk_check::Subject;
+use bk_check::{Continuation, OnValue, Subject};
 use bk_lasting::GLOBALS_OBJECT;
 use bk_objects::{Cell, Origin, Reason, Worth};
 use bk_tree::{Command, Expr, Name, Operator, Position, Prefix};
@@ -427,6 +427,20 @@ fn say_for(
     }
 }
 
+/// Adds an operand of `!` or `%`, in parentheses where it is an operation.
+fn say_whole(page: &mut Page, expr: &Expr) -> Result<(), AllocError> {
+    match expr {
+        Expr::Name { .. } | Expr::Number { .. } | Expr::Parens { .. } | Expr::Apply { .. } => {
+            page.say_expr(expr)
+        }
+        _ => {
+            page.say(&[b"("])?;
+            page.say_expr(expr)?;
+            page.say(&[b")"])
+        }
+    }
+}
+
 /// Adds that something is called that is no procedure.
 fn say_call(
     page: &mut Page,
@@ -455,7 +469,7 @@ fn say_call(
         page.say(&[b"; `"])?;
         page.say_expr(callee)?;
         page.say(&[if page.is_text(x) { b"%" } else { b"!" }])?;
-        page.say_expr(index)?;
+        say_whole(page, index)?;
         page.say(&[if page.is_text(x) {
             b"` is a byte of it"
         } else {
@@ -464,6 +478,36 @@ fn say_call(
     }
     say_shared(page, written(callee, x))?;
     say_setting(page, written(callee, x))
+}
+
+/// What the first operand of `&` or `|` is as a condition, if it decides.
+fn decided(operator: Operator, first: u32) -> Option<&'static [u8]> {
+    match operator {
+        Operator::Both if first == word::truth_of(false) => Some(b"FALSE"),
+        Operator::Either if first == word::truth_of(true) => Some(b"TRUE"),
+        _ => None,
+    }
+}
+
+/// Adds that `&` or `|` evaluates both operands where it is no condition, if the act is in the second and the first decides.
+pub fn say_both(page: &mut Page) -> Result<(), AllocError> {
+    for frame in page.m.frames.iter().rev() {
+        match frame {
+            Continuation::Value(OnValue::Right(expr, operator, Worth::Number(first))) => {
+                if let Expr::Binary { left, .. } = bare(expr)
+                    && let Some(truth) = decided(*operator, *first)
+                {
+                    page.say(&[b"; `"])?;
+                    page.say_expr(left)?;
+                    page.say(&[b"` is ", truth, b", but `", operator_symbol(*operator)])?;
+                    page.say(&[b"` evaluates both operands where it is no condition"])?;
+                }
+            }
+            Continuation::Value(_) | Continuation::Truth(_) | Continuation::Target(_) => {}
+            _ => return Ok(()),
+        }
+    }
+    Ok(())
 }
 
 /// Adds why an act is undefined.

@@ -4,7 +4,7 @@ ghost use Rattle.std.specs.Prelude.{◌≡◌, IfOk};
 ghost use Rattle.bk_check.specs.Resume.{acts_in};
 ghost use Rattle.bk_checker.specs.Checks.{verdict_of, place_of};
 
-use crate::acts::{say_act, say_division};
+use crate::acts::{say_act, say_both, say_division};
 use crate::calls::{add_calls, innermost, within};
 use crate::report::{CheckFault, GivenUp, Notice, Report};
 use crate::rounds::{MANY, say_formals, say_turns};
@@ -91,8 +91,14 @@ pub fn explain<'a>(
     let mut page = Page::new(m, program, at);
     let mut calls = Vec::new(m.alloc);
     match next {
-        Next::Undefined(subject, reason) => say_act(&mut page, subject, *reason)?,
-        Next::DivideByZero(subject) => say_division(&mut page, subject)?,
+        Next::Undefined(subject, reason) => {
+            say_act(&mut page, subject, *reason)?;
+            say_both(&mut page)?;
+        }
+        Next::DivideByZero(subject) => {
+            say_division(&mut page, subject)?;
+            say_both(&mut page)?;
+        }
         Next::Going(at) => say_turns(&mut page, *at)?,
         _ => {}
     }

@@ -1,5 +1,6 @@
 //! The operands of an act: how they are written, their values, and what is wrong with one by itself.
 
+use crate::setting::say_setting;
 use crate::spelling::add_word;
 use crate::values::{Page, callee_name};
 use bk_lasting::{GLOBALS_OBJECT, Lasting, Sense};
@@ -58,6 +59,20 @@ pub fn say_no_value(page: &mut Page, operand: Operand, origin: Origin) -> Result
     page.say_origin(origin)
 }
 
+/// Adds that an operand is the address of an object that is gone, and where it got it; of formals, of the one at this offset.
+pub fn say_dead(
+    page: &mut Page,
+    operand: Operand,
+    object: u64,
+    offset: u32,
+) -> Result<(), AllocError> {
+    page.say_gone(object, offset)?;
+    page.say(&[b", and "])?;
+    say_written(page, operand)?;
+    page.say(&[b" is its address"])?;
+    say_setting(page, operand)
+}
+
 /// Adds what is wrong with an operand by itself: it was never set, or its object is gone. False says that nothing is.
 pub fn say_fault_of(page: &mut Page, operand: Operand) -> Result<bool, AllocError> {
     match operand.value {
@@ -66,10 +81,7 @@ pub fn say_fault_of(page: &mut Page, operand: Operand) -> Result<bool, AllocErro
             Ok(true)
         }
         Worth::Address(object, offset) if page.is_dead(object) => {
-            page.say_gone(object, offset)?;
-            page.say(&[b", and "])?;
-            say_written(page, operand)?;
-            page.say(&[b" is its address"])?;
+            say_dead(page, operand, object, offset)?;
             Ok(true)
         }
         _ => Ok(false),

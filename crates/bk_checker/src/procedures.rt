@@ -307,12 +307,12 @@ pub fn in_function<'a>(
     in_expr(&mut search, body);
     let Search {
         declared,
-        has_result,
+        results,
         set_at,
         ..
     } = search;
     match set_at {
-        Some(at) if declared == 0 && !has_result => make_remark(
+        Some(at) if declared == 0 && results.count == 0 => make_remark(
             alloc,
             found,
             at,

@@ -152,28 +152,42 @@ pub fn say_given(page: &mut Page, setters: Setters, x: Worth) -> Result<(), Allo
     Ok(())
 }
 
-/// Adds the value of a procedure; of one with VALOF, the line of the first RESULTIS that has this number.
+/// Adds what a procedure gives.
+fn say_gives(page: &mut Page, procedure: &Procedure, given: &Expr) -> Result<(), AllocError> {
+    page.say(&[b"; ", procedure.name, b" gives `"])?;
+    page.say_expr(given)?;
+    page.say(&[b"`, on line "])?;
+    add_number(&mut page.text, given.at().line().number() as usize)
+}
+
+/// Adds the value of a procedure; of one with VALOF, the line of the first RESULTIS that has this number, or its only RESULTIS.
 fn say_result(page: &mut Page, procedure: &Procedure, x: Worth) -> Result<(), AllocError> {
     let Body::Value(given) = procedure.body else {
         return Ok(());
     };
     if !matches!(bare(given), Expr::Valof { .. }) {
-        page.say(&[b"; ", procedure.name, b" gives `"])?;
-        page.say_expr(given)?;
-        page.say(&[b"`, on line "])?;
-        return add_number(&mut page.text, given.at().line().number() as usize);
+        return say_gives(page, procedure, given);
     }
     let mut search = Search::new(Position::first(), b"");
     search.value = Some(x);
     seek(&mut search, procedure);
-    let Search { result_line, .. } = search;
-    let Some(line) = result_line else {
-        return Ok(());
-    };
-    page.say(&[b"; ", procedure.name, b" has `RESULTIS "])?;
-    page.say_value(x)?;
-    page.say(&[b"` on line "])?;
-    add_number(&mut page.text, line as usize)
+    let Search {
+        result_line,
+        results,
+        ..
+    } = search;
+    if let Some(line) = result_line {
+        page.say(&[b"; ", procedure.name, b" has `RESULTIS "])?;
+        page.say_value(x)?;
+        page.say(&[b"` on line "])?;
+        return add_number(&mut page.text, line as usize);
+    }
+    match (results.first, x) {
+        (Some(only), Worth::Number(_) | Worth::Address(_, _)) if results.count == 1 => {
+            say_gives(page, procedure, only.value)
+        }
+        _ => Ok(()),
+    }
 }
 
 /// Adds how a SWITCHON with this body may have ended, if the text tells: by a number that no CASE has, or by ENDCASE.

@@ -269,8 +269,8 @@ pub struct Search<'a> {
     is_tested: bool,
     /// The names that are set there to what RDCH gives.
     pub read: Few<'a>,
-    /// Whether there is a RESULTIS, and the line of the first that has the value that is sought, written as a number.
-    pub has_result: bool,
+    /// The values of RESULTIS, and the line of the first that is the value that is sought, written as a number.
+    pub results: Setters<'a>,
     pub result_line: Option<u32>,
 }
 
@@ -330,7 +330,7 @@ impl<'a> Search<'a> {
             tested: Few::none(),
             is_tested: false,
             read: Few::none(),
-            has_result: false,
+            results: Setters::none(),
             result_line: None,
         }
     }
@@ -513,13 +513,14 @@ impl<'a> Search<'a> {
     }
 
     /// A RESULTIS.
-    fn result(&mut self, value: &Expr) {
-        self.has_result = true;
+    fn result(&mut self, value: &'a Expr) {
+        let line = value.at().line().number();
+        self.results.add(Setter { line, value });
         if let Some(Worth::Number(word)) = self.value
             && number(value) == Some(word.cast_signed())
             && self.result_line.is_none()
         {
-            self.result_line = Some(value.at().line().number());
+            self.result_line = Some(line);
         }
     }
 

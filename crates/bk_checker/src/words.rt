@@ -1,7 +1,7 @@
 //! What is wrong with a word or a byte of an object.
 
 use crate::made::Made;
-use crate::operands::{Operand, bare, say_fault_of, say_written};
+use crate::operands::{Operand, bare, say_dead, say_fault_of};
 use crate::parts::say_parts_set;
 use crate::setting::say_setting;
 use crate::sought::Kind;
@@ -196,10 +196,7 @@ fn say_dead_cell(
         Worth::Address(_, place) => place,
         _ => offset,
     };
-    page.say_gone(object, place)?;
-    page.say(&[b", and "])?;
-    say_written(page, operand)?;
-    page.say(&[b" is its address"])
+    say_dead(page, operand, object, place)
 }
 
 /// Adds which word of an object a cell is; nothing where the object is a variable of one word.

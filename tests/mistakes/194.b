@@ -1,0 +1,29 @@
+// CALENDAR - DAY OF THE YEAR
+GET "LIBHDR2"
+
+LET LEAP(Y) = (Y REM 4 = 0 & Y REM 100 ~= 0) | Y REM 400 = 0
+
+LET DAYSIN(M, Y) = VALOF
+$( SWITCHON M INTO
+   $( CASE 4: CASE 6: CASE 9: CASE 11:
+         RESULTIS 30
+      CASE 2:
+         IF LEAP(Y) DO RESULTIS 29
+         ENDCASE
+      DEFAULT:
+         RESULTIS 31
+   $)
+$)
+
+LET DAYOFYEAR(D, M, Y) = VALOF
+$( LET SUM = D
+   FOR I = 1 TO M - 1 DO
+      SUM := SUM + DAYSIN(I, Y)
+   RESULTIS SUM
+$)
+
+LET START() BE
+$( WRITEF("1 February 1976 is day %N*N", DAYOFYEAR(1, 2, 1976))
+   WRITEF("25 December 1976 is day %N*N", DAYOFYEAR(25, 12, 1976))
+   WRITEF("25 December 1977 is day %N*N", DAYOFYEAR(25, 12, 1977))
+$)

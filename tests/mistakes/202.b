@@ -1,0 +1,32 @@
+// report in two sections
+GET "LIBHDR"
+GLOBAL $( PRINTLINE:200; TOTALS:201; RULE:202 $)
+
+LET START() BE
+$( LET V = VEC 2
+   TOTALS := V
+   FOR I = 0 TO 2 DO TOTALS!I := 0
+   RULE()
+   FOR I = 1 TO 4 DO
+      PRINTLINE(I, I * I, I * I * I)
+   RULE()
+   PRINTLINE(TOTALS!0, TOTALS!1, TOTALS!2)
+$)
+.
+GET "LIBHDR"
+GLOBAL $( PRINTLINE:200; TOTALS:201; RULE:202 $)
+
+LET PRINT.LINE(A, B, C) BE
+$( WRITED(A, 8)
+   WRITED(B, 8)
+   WRITED(C, 8)
+   NEWLINE()
+   TOTALS!0 := TOTALS!0 + A
+   TOTALS!1 := TOTALS!1 + B
+   TOTALS!2 := TOTALS!2 + C
+$)
+
+LET RULE() BE
+$( FOR I = 1 TO 24 DO WRCH('-')
+   NEWLINE()
+$)

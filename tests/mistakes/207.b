@@ -1,0 +1,42 @@
+// Histogram of marks
+GET "LIBHDR2"
+MANIFEST $( CLASSES = 10; N = 12 $)
+
+LET LEAST(V) = VALOF
+$( LET M = V!0
+   FOR I = 1 TO N - 1 DO IF V!I < M DO M := V!I
+   RESULTIS M
+$)
+
+AND GREATEST(V) = VALOF
+$( LET M = V!0
+   FOR I = 1 TO N - 1 DO IF V!I > M DO M := V!I
+   RESULTIS M
+$)
+
+LET CLASS(X, LOW, STEP) = VALOF
+$( LET C = (X - LOW) / STEP
+   IF C >= CLASSES DO C := CLASSES - 1
+   RESULTIS C
+$)
+
+LET HISTOGRAM(V) BE
+$( LET COUNT = VEC CLASSES
+   LET LOW = LEAST(V)
+   LET STEP = (GREATEST(V) - LOW) / CLASSES
+   FOR I = 0 TO CLASSES DO COUNT!I := 0
+   FOR I = 0 TO N - 1 DO
+   $( LET C = CLASS(V!I, LOW, STEP)
+      COUNT!C := COUNT!C + 1
+   $)
+   FOR I = 0 TO CLASSES - 1 DO
+   $( WRITEF("%I4 ", LOW + I * STEP)
+      FOR J = 1 TO COUNT!I DO WRCH('**')
+      NEWLINE()
+   $)
+$)
+
+LET START() BE
+$( HISTOGRAM(TABLE 10, 35, 72, 90, 44, 51, 67, 68, 12, 99, 56, 61)
+   HISTOGRAM(TABLE 61, 62, 60, 65, 66, 64, 63, 67, 61, 62, 66, 60)
+$)

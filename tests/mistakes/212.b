@@ -1,0 +1,39 @@
+// Free list of nodes
+GET "LIBHDR2"
+MANIFEST $( LINK = 0; DATA = 1; NODES = 10 $)
+STATIC $( FREELIST = 0; USED = 0 $)
+
+LET INITIALISE(SPACE) BE
+   FOR I = 0 TO NODES - 1 DO
+   $( LET P = SPACE + 2 * I
+      LINK!P := FREELIST
+      FREELIST := P
+   $)
+
+LET NEWNODE(D, L) = VALOF
+$( LET P = FREELIST
+   FREELIST := LINK!P
+   LINK!P := L
+   DATA!P := D
+   USED := USED + 1
+   RESULTIS P
+$)
+
+LET FREENODE(P) BE
+$( LINK!P := FREELIST
+   FREELIST := P
+   USED := USED - 1
+$)
+
+LET START() BE
+$( LET SPACE = VEC 2 * NODES - 1
+   LET LIST = 0
+   FOR I = 1 TO 6 DO LIST := NEWNODE(I * I, LIST)
+   UNTIL LIST = 0 DO
+   $( LET NEXT = LINK!LIST
+      WRITEF("%N*N", DATA!LIST)
+      FREENODE(LIST)
+      LIST := NEXT
+   $)
+   WRITEF("%N nodes in use*N", USED)
+$)

@@ -1,0 +1,28 @@
+// Stock control
+GET "LIBHDR2"
+MANIFEST $( PART = 0; QTY = 1; REORDER = 2; COST = 3
+            SIZE = 3 $)
+
+LET SET(R, P, Q, L, C) BE
+$( R!PART := P
+   R!QTY := Q
+   R!REORDER := L
+   R!COST := C
+$)
+
+LET VALUE(R) = R!QTY * R!COST
+
+LET START() BE
+$( LET BOLT, NUT, WASHER = VEC SIZE - 1, VEC SIZE - 1, VEC SIZE - 1
+   LET STOCK = VEC 2
+   STOCK!0, STOCK!1, STOCK!2 := BOLT, NUT, WASHER
+   SET(BOLT, 1001, 50, 20, 12)
+   SET(NUT, 1002, 10, 40, 5)
+   SET(WASHER, 1003, 400, 100, 1)
+   FOR I = 0 TO 2 DO
+   $( LET R = STOCK!I
+      WRITEF("%I5 %I5 worth %I5", R!PART, R!QTY, VALUE(R))
+      IF R!QTY < R!REORDER DO WRITES("  REORDER")
+      NEWLINE()
+   $)
+$)
