@@ -183,6 +183,8 @@ module _ (p : Program) where
   left_on (d.Valof line) x = tag_adds a_value _ (ties_add _ _ (result_ties (full p) (full p) g x))
   left_on (d.Scope cs env) x = tag_adds done_tag _ (ties_add _ _ (landing_ties (full p) (full p) g (commands_in cs.now) (env_in env) _ _ (λ y. g.scope (commands_in cs.now) (seeking (the_label y)) (env_in env)) x))
   left_on (d.Alone c env) x = tag_adds done_tag _ (ties_add _ _ (landing_ties (full p) (full p) g (alone (command_in c.now)) (env_in env) _ _ (λ y. g.scope (alone (command_in c.now)) (seeking (the_label y)) (env_in env)) x))
+  left_on (d.Landed s) x = tag_adds done_tag _ (ties_add _ _ (landing_ties (full p) (full p) g (commands_in s.commands) s.env _ _ (λ y. g.scope (commands_in s.commands) (seeking (the_label y)) s.env) x))
+  left_on (d.LandedInBlock spot s) x = let b = alone (t.block spot t.no_declarations (commands_in s.commands)) in tag_adds done_tag _ (ties_add _ _ (landing_ties (full p) (full p) g b s.env _ _ (λ y. g.scope b (seeking (the_label y)) s.env) x))
   left_on d.Cases x = tag_adds done_tag _ (ties_add _ _ (case_exit_ties (full p) (full p) g x))
   left_on (d.Round c env) x = tag_adds done_tag _ (round_left _ (ties_add _ _ (next_ties (command_in c.now) (env_in env))) x)
   left_on (d.ForRound k) x = tag_adds done_tag _ (round_left _ (next_for_adds k) x)
