@@ -3,7 +3,7 @@ use Rattle.std.specs.Prelude.{◌≡◌, ◌⊎◌, ℕ, ◌+◌, ◌<◌, List,
 use Rattle.bk_tree.specs.Position.{line_in, bytes_in}
 use Rattle.bk_lines.specs.declared.places.Start.{Start}
 use Rattle.bk_lines.specs.Places.{line_after, place_text}
-use Rattle.bk_checker.specs.declared.report.Notice.{Notice}
+use Rattle.bk_reports.specs.declared.notice.Notice.{Notice}
 use Rattle.bk_checker.specs.declared.source.SourceText.{SourceText}
 
 -- These are the bytes before a position in the text of a section, which begins here in its source, and the position is on that line.

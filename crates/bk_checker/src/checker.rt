@@ -12,13 +12,13 @@ ghost use Rattle.bk_check.specs.Views.{program_in};
 ghost use Rattle.bk_checker.specs.Checks.{Checks, Blames, Flushed, Begun, Runs, ChecksPart, RunsPart, ChecksDeep, RunsDeep, devices};
 
 use crate::explain::{explain, given_up};
-use crate::remarks::remarks_on;
-use crate::report::{GivenUp, Notice, Report, Verdict, Within};
+use crate::report::{GivenUp, Report, Verdict};
 use crate::run::{flush, go, verdict};
 use bk_base::{ByteIn, ByteOut};
 use bk_check::{Evaluator, call};
 use bk_lasting::{GLOBALS_OBJECT, Lasting, first_memory, program_of};
 use bk_objects::{Computed, Worth, read};
+use bk_reports::{Notice, Within, remarks_on};
 use bk_tree::{Position, Section};
 use std::alloc::{AllocError, Global};
 

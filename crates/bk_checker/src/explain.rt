@@ -4,14 +4,13 @@ ghost use Rattle.std.specs.Prelude.{◌≡◌, IfOk};
 ghost use Rattle.bk_check.specs.Resume.{acts_in};
 ghost use Rattle.bk_checker.specs.Checks.{verdict_of, place_of};
 
-use crate::acts::{say_act, say_both, say_division};
-use crate::calls::{add_calls, innermost, within};
-use crate::report::{CheckFault, GivenUp, Notice, Report};
-use crate::rounds::{MANY, say_formals, say_turns};
+use crate::report::{CheckFault, GivenUp, Report};
 use crate::run::{FRAMES, verdict};
-use crate::values::Page;
 use bk_check::{Evaluator, Next, Subject, acts_at};
 use bk_lasting::Lasting;
+use bk_reports::{
+    Limit, Notice, active_section, calls_text, innermost_call, limit_text, stop_text,
+};
 use bk_tree::Position;
 use std::alloc::AllocError;
 
@@ -43,23 +42,14 @@ fn place(next: &Next) -> Position
 
 /// Where the limits of a check were reached, and which.
 fn too_deep<'a>(m: &Evaluator<'a>, program: &[Lasting<'a>]) -> Result<Notice, AllocError> {
-    let (at, section) = innermost(m);
-    let mut page = Page::new(m, program, at);
-    let what: &[u8] = if m.frames.len() > FRAMES {
-        b"a check can't hold more calls, and what they have still to do"
+    let (at, section) = innermost_call(m);
+    let limit = if m.frames.len() > FRAMES {
+        Limit::Calls
     } else {
-        b"the words of the vectors and variables that are in use are more than a check can hold"
+        Limit::Words
     };
-    page.say(&[b"too deep: ", what])?;
-    if m.calls > MANY {
-        say_formals(&mut page)?;
-    }
-    if m.frames.len() > FRAMES || m.calls > MANY {
-        page.say(&[b"; does the recursion end?"])?;
-    }
-    let mut calls = Vec::new(m.alloc);
-    add_calls(&mut calls, m, program)?;
-    let Page { text, .. } = page;
+    let text = limit_text(m, program, at, limit)?;
+    let calls = calls_text(m, program)?;
     Ok(Notice::new(m.alloc, at, section, text, calls))
 }
 
@@ -88,27 +78,15 @@ pub fn explain<'a>(
     ensures { IfOk result (λ report. (report.verdict ≡ verdict_of next.now) × (report.stop.at ≡ place_of next.now)) }
 {
     let at = place(next);
-    let mut page = Page::new(m, program, at);
-    let mut calls = Vec::new(m.alloc);
-    match next {
-        Next::Undefined(subject, reason) => {
-            say_act(&mut page, subject, *reason)?;
-            say_both(&mut page)?;
-        }
-        Next::DivideByZero(subject) => {
-            say_division(&mut page, subject)?;
-            say_both(&mut page)?;
-        }
-        Next::Going(at) => say_turns(&mut page, *at)?,
-        _ => {}
-    }
-    if !page.text.is_empty() {
-        add_calls(&mut calls, m, program)?;
-    }
-    let Page { text, .. } = page;
+    let text = stop_text(m, program, at, next)?;
+    let calls = if text.is_empty() {
+        Vec::new(m.alloc)
+    } else {
+        calls_text(m, program)?
+    };
     Ok(Report {
         verdict: verdict(next),
-        stop: Notice::new(m.alloc, at, within(m), text, calls),
+        stop: Notice::new(m.alloc, at, active_section(m), text, calls),
         remarks: Vec::new(m.alloc),
     })
 }

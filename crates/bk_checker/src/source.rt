@@ -3,10 +3,10 @@ ghost use Rattle.std.specs.Prelude.{◌≡◌, ◌+◌, [], Contains, IfOk, IfSo
 ghost use Rattle.bk_tree.specs.Position.{bytes_in};
 ghost use Rattle.bk_checker.specs.Reports.{IsBefore, IsAdded, IsPlaceIn, IsPlaced};
 
-use crate::remarks::Remark;
-use crate::report::{GivenUp, Notice, Report, Within};
+use crate::report::{GivenUp, Report};
 use bk_lasting::{GLOBALS_OBJECT, count_decls};
 use bk_lines::{Start, put_line, put_place};
+use bk_reports::{Notice, Remark, Within};
 use bk_tree::{Position, Section};
 use std::alloc::{AllocError, Global};
 

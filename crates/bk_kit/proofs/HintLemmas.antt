@@ -6,7 +6,7 @@ use Rattle.bk_lines.specs.Places.{line_after}
 use Rattle.bk_kit.specs.declared.checker.Refusal.{Refusal}
 use Rattle.std.specs.Prelude.{◌⊎◌, IfSome}
 use Rattle.std.proofs.lemmas.List.Elements.{All-weaker, All-contains, All-same, All-push, All-nil}
-use Rattle.bk_checker.specs.declared.report.Notice.{Notice}
+use Rattle.bk_reports.specs.declared.notice.Notice.{Notice}
 use Rattle.bk_checker.specs.declared.source.SourceText.{SourceText}
 use Rattle.bk_checker.specs.Reports.{IsAdded, IsPlaced}
 use Rattle.bk_kit.specs.Checking.{StartsAfter, HintsAt, HintsIn, IsCut, InSource, AllInSource, IsPlacedIn}

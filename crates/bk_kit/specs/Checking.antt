@@ -13,9 +13,9 @@ use Rattle.bk_checker.specs.declared.report.Verdict.{Verdict}
 use Rattle.bk_checker.specs.declared.report.Verdict.TheVariants as v
 use Rattle.bk_checker.specs.declared.report.CheckFault.{CheckFault}
 use Rattle.bk_checker.specs.declared.report.CheckFault.TheVariants as x
-use Rattle.bk_checker.specs.declared.remarks.Remark.{Remark}
+use Rattle.bk_reports.specs.declared.remarks.Remark.{Remark}
 use Rattle.bk_checker.specs.declared.report.Report.{Report}
-use Rattle.bk_checker.specs.declared.report.Notice.{Notice}
+use Rattle.bk_reports.specs.declared.notice.Notice.{Notice}
 use Rattle.bk_checker.specs.declared.source.SourceText.{SourceText}
 use Rattle.bk_checker.specs.Reports.{IsBefore}
 use Rattle.bk_checker.specs.Checks.{Devices, Checks, ChecksPart, ChecksDeep, Blames, Flushed}

@@ -1,6 +1,6 @@
 //! The calls that are active.
 
-use crate::report::Within;
+use crate::notice::Within;
 use crate::spelling::{add, add_number};
 use crate::values::callee_name;
 use bk_check::{Call, Continuation, Evaluator};
@@ -98,7 +98,7 @@ fn procedure_called(frame: &Continuation) -> Option<(Position, u64)> {
 }
 
 /// The section of what is done now: that of the innermost procedure that is active.
-pub fn within(m: &Evaluator) -> Within {
+pub fn active_section(m: &Evaluator) -> Within {
     match m.frames.iter().rev().find_map(procedure_called) {
         Some((_, number)) => Within::Procedure(number),
         None => Within::Section(0),
@@ -106,7 +106,7 @@ pub fn within(m: &Evaluator) -> Within {
 }
 
 /// The position of the innermost call that is active, and its section; the source's first line where none is.
-pub fn innermost(m: &Evaluator) -> (Position, Within) {
+pub fn innermost_call(m: &Evaluator) -> (Position, Within) {
     let mut calls = m.frames.iter().rev().filter_map(procedure_called);
     let at = match calls.next() {
         Some((at, _)) => at,
@@ -118,12 +118,10 @@ pub fn innermost(m: &Evaluator) -> (Position, Within) {
     }
 }
 
-/// Adds the calls that are active, innermost first, so that START is at the end. Equal calls one after another have one line.
-pub fn add_calls<'a>(
-    text: &mut Vec<u8>,
-    m: &Evaluator<'a>,
-    program: &[Lasting<'a>],
-) -> Result<(), AllocError> {
+/// The calls that are active, a line each, innermost first, so that START is at the end; ten lines at most. Equal calls one after another
+/// have one line.
+pub fn calls_text<'a>(m: &Evaluator<'a>, program: &[Lasting<'a>]) -> Result<Vec<u8>, AllocError> {
+    let mut text = Vec::new(m.alloc);
     let mut inner: Option<Call> = None;
     let mut listing = Listing {
         last: None,
@@ -141,15 +139,19 @@ pub fn add_calls<'a>(
                     line: call.at.line().number(),
                     caller: callee_name(program, caller.callee),
                 };
-                take(text, &mut listing, line)?;
+                take(&mut text, &mut listing, line)?;
             }
             inner = Some(*caller);
         }
     }
     match inner {
         Some(call) if listing.last.is_none() => {
-            add(text, &[b"  in ", callee_name(program, call.callee), b"\n"])
+            add(
+                &mut text,
+                &[b"  in ", callee_name(program, call.callee), b"\n"],
+            )?;
         }
-        _ => add_last(text, &listing),
+        _ => add_last(&mut text, &listing)?,
     }
+    Ok(text)
 }

@@ -226,6 +226,8 @@ pub struct Search<'a> {
     pub name: &'a [u8],
     /// A declaration that is at the position.
     pub made: Option<(&'a [u8], Kind)>,
+    /// The block or the FOR that has that declaration.
+    pub scope: Option<&'a Command>,
     /// The arguments of a call that is there.
     pub arguments: Option<&'a [Expr]>,
     /// A loop that is there.
@@ -302,6 +304,7 @@ impl<'a> Search<'a> {
             at,
             name,
             made: None,
+            scope: None,
             arguments: None,
             looping: None,
             vector: None,
@@ -370,6 +373,13 @@ impl<'a> Search<'a> {
             if name.at != self.at && self.other.is_none() {
                 self.other = Some(name.at.line().number());
             }
+        }
+    }
+
+    /// The declarations of a block or a FOR end, before which none was at the position.
+    pub fn declared_in(&mut self, scope: &'a Command) {
+        if self.made.is_some() {
+            self.scope = Some(scope);
         }
     }
 

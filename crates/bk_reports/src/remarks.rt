@@ -4,10 +4,10 @@ use crate::falls::falls;
 use crate::formats::in_format;
 use crate::globals::{on_globals, own_routines};
 use crate::mentions::Names;
+use crate::notice::{Notice, Within};
 use crate::procedures::{
     begins, defined_in, in_function, no_start, on_procedures, remark_arguments, twice,
 };
-use crate::report::{Notice, Within};
 use crate::spelling::{add, add_expr};
 use bk_base::word_text;
 use bk_tree::{Command, Decl, Def, Expr, Init, Operator, Position, Prefix, Section};

@@ -2,10 +2,12 @@
 
 use crate::made::{in_procedure, loop_at};
 use crate::operands::{Operand, bare, say_fault_of, say_operand, say_shared, say_uncalled};
+use crate::results::say_call_result;
 use crate::rounds::{is_same, say_still_loop};
-use crate::setting::{say_setting, say_setting_of, variable_at, variables_of};
+use crate::setting::{say_setting, say_setting_of, variables_of};
 use crate::sought::Search;
 use crate::spelling::{add_expr, add_number, add_word, has_piece, operator_symbol};
+use crate::unset::variable_at;
 use crate::values::Page;
 use crate::words::{say_byte, say_cell, say_extent};
 use bk_objects::{Reason, Worth};
@@ -113,7 +115,8 @@ pub fn say_index(page: &mut Page, index: Operand) -> Result<(), AllocError> {
         (Expr::Name { .. }, _) => Ok(()),
         _ => {
             say_names(page, expr)?;
-            say_only_variable(page, expr, index.value)
+            say_only_variable(page, expr, index.value)?;
+            say_call_result(page, expr, index.value)
         }
     }
 }

@@ -132,7 +132,11 @@ pub fn in_command<'a>(search: &mut Search<'a>, command: &'a Command) {
             body,
             ..
         } => {
+            let is_made = search.made.is_some();
             search.declaration(name);
+            if !is_made {
+                search.declared_in(command);
+            }
             in_expr(search, from);
             in_expr(search, to);
             in_command(search, body);
@@ -143,7 +147,11 @@ pub fn in_command<'a>(search: &mut Search<'a>, command: &'a Command) {
             commands,
             ..
         } => {
+            let is_made = search.made.is_some();
             in_decls(search, decls);
+            if !is_made {
+                search.declared_in(command);
+            }
             in_commands(search, commands);
         }
     }

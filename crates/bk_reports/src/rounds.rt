@@ -5,6 +5,7 @@ use crate::jumps::{Back, back_at, between, label_of};
 use crate::made::{in_procedure, loop_at};
 use crate::names::names_at;
 use crate::operations::{drop_twice, say_names};
+use crate::remarks::number;
 use crate::setting::{say_link_setting, say_loop_setter, say_places, say_setters};
 use crate::sought::{Few, Search, Setter, Setters, is_up_to, place_of};
 use crate::spelling::{add, add_expr, add_number, has_piece};
@@ -21,6 +22,12 @@ pub const MANY: u64 = 1000;
 
 /// How many rounds of a loop that follows addresses are looked ahead, and one more.
 const ROUNDS: usize = 101;
+
+/// How the text begins of where the turns are used up.
+const USED_UP: &[u8] = b"the turns are used up";
+
+/// Among how many objects that were made last the variable of a FOR is sought.
+const RECENT: usize = 100;
 
 /// How many loops are named at most.
 const LOOPS: usize = 3;
@@ -457,11 +464,6 @@ fn say_loop<'a>(page: &mut Page<'_, 'a>, command: &'a Command) -> Result<(), All
             say_conditional(page, keyword, condition, b" that begins on line ", *at)?;
             say_state(page, command, Some(condition))
         }
-        Command::For { at, name, .. } => {
-            page.say(&[b"the `FOR ", &name.letters, b"` of line "])?;
-            add_number(&mut page.text, at.line().number() as usize)?;
-            page.say(&[b" goes on"])
-        }
         _ => {
             page.say(&[b"the `REPEAT` that begins on line "])?;
             add_number(&mut page.text, command.at().line().number() as usize)?;
@@ -471,20 +473,153 @@ fn say_loop<'a>(page: &mut Page<'_, 'a>, command: &'a Command) -> Result<(), All
     }
 }
 
-/// Adds the loops that were to go on, innermost first.
-fn say_loops(page: &mut Page) -> Result<(), AllocError> {
+/// A FOR that goes on.
+#[derive(Clone, Copy)]
+struct Round<'a> {
+    variable: &'a Name,
+    /// The object that is its variable, if that is known.
+    object: Option<u64>,
+    step: u32,
+    body: &'a Command,
+}
+
+/// The object that the source makes at a position, if it was made not long ago, and lives.
+fn object_made(page: &Page, at: Position) -> Option<u64> {
+    let mut object = page.m.store.made();
+    for _ in 0..RECENT {
+        object = object.checked_sub(1)?;
+        if page.m.store.made_at(object) == Some(at) && !page.is_dead(object) {
+            return Some(object);
+        }
+    }
+    None
+}
+
+/// The FOR that a frame is of.
+fn round_of<'a>(frame: &Continuation<'a>) -> Option<Round<'a>> {
+    match frame {
+        Continuation::Done(OnDone::ForRound(run)) => Some(Round {
+            variable: run.name,
+            object: Some(run.object),
+            step: run.step,
+            body: run.body,
+        }),
+        _ => None,
+    }
+}
+
+/// The FOR that a loop is.
+fn round_begun<'a>(page: &Page<'_, 'a>, command: &'a Command) -> Option<Round<'a>> {
+    let Command::For { name, by, body, .. } = command else {
+        return None;
+    };
+    let step = match by {
+        Some(by) => number(by).unwrap_or(1),
+        None => 1,
+    };
+    Some(Round {
+        variable: name,
+        object: object_made(page, name.at),
+        step: step.cast_unsigned(),
+        body,
+    })
+}
+
+/// The line on which the body of a FOR sets its variable, if it does.
+fn set_in_body(round: Round) -> Option<u32> {
+    let mut search = Search::new(round.variable.at, &round.variable.letters);
+    in_command(&mut search, round.body);
+    let Search {
+        setters,
+        declared,
+        ..
+    } = search;
+    match setters.first {
+        Some(Setter { line, .. }) if declared == 0 => Some(line),
+        _ => None,
+    }
+}
+
+/// Whether a FOR may have no end.
+fn is_endless(round: Round) -> bool {
+    round.step == 0 || set_in_body(round).is_some()
+}
+
+/// Adds a FOR that goes on, the value of its variable, and what in it keeps it from its end.
+fn say_round(page: &mut Page, round: Round) -> Result<(), AllocError> {
+    let name: &[u8] = &round.variable.letters;
+    page.say(&[b"the `FOR ", name, b"` of line "])?;
+    add_number(&mut page.text, round.variable.at.line().number() as usize)?;
+    page.say(&[b" goes on"])?;
+    if let Some(object) = round.object
+        && let Some(Cell::Holds(x)) = page.m.store.cell(object, 0)
+    {
+        page.say(&[b"; ", name, b" is "])?;
+        page.say_value(x)?;
+    }
+    if round.step == 0 {
+        return page.say(&[b"; its step is 0"]);
+    }
+    match set_in_body(round) {
+        Some(line) => {
+            page.say(&[b"; ", name, b" is set on line "])?;
+            add_number(&mut page.text, line as usize)
+        }
+        None => Ok(()),
+    }
+}
+
+/// The loop whose round begins at a position, if no frame is of it yet.
+fn loop_begun<'a>(page: &Page<'_, 'a>, at: Position) -> Option<&'a Command> {
+    let command = loop_at(page.program, at)?;
+    if loop_here(page) == Some(at) {
+        None
+    } else {
+        Some(command)
+    }
+}
+
+/// Adds the loop whose round begins at a position, unless it is a FOR that mostly ends: how many that is.
+fn say_begun(page: &mut Page, at: Position) -> Result<usize, AllocError> {
+    let Some(command) = loop_begun(page, at) else {
+        return Ok(0);
+    };
+    let round = round_begun(page, command);
+    match round {
+        Some(round) if is_endless(round) => {
+            begin_piece(page)?;
+            say_round(page, round)?;
+        }
+        Some(_) => return Ok(0),
+        None => {
+            begin_piece(page)?;
+            say_loop(page, command)?;
+        }
+    }
+    Ok(1)
+}
+
+/// Adds the loops that were to go on, innermost first, where a round may begin at this position.
+fn say_loops(page: &mut Page, at: Position) -> Result<(), AllocError> {
     let m = page.m;
     let here = page.names;
-    let start = b"the turns are used up".len();
-    let mut count: usize = 0;
+    let mut count = say_begun(page, at)?;
     for (i, frame) in m.frames.iter().enumerate().rev() {
-        if count < LOOPS
-            && let Some((command, env)) = loop_of(frame)
+        if count >= LOOPS {
+            break;
+        }
+        if let Some((command, env)) = loop_of(frame)
             && let Some(frames) = m.frames.get(..i)
         {
             page.names = names_at(page.program, frames, env);
-            begin_piece(page, start)?;
+            begin_piece(page)?;
             say_loop(page, command)?;
+            count += 1;
+        } else if let Some(round) = round_of(frame)
+            && is_endless(round)
+        {
+            begin_piece(page)?;
+            say_round(page, round)?;
             count += 1;
         }
     }
@@ -492,9 +627,9 @@ fn say_loops(page: &mut Page) -> Result<(), AllocError> {
     Ok(())
 }
 
-/// Adds what is before a loop: a colon, or a semicolon after another.
-fn begin_piece(page: &mut Page, start: usize) -> Result<(), AllocError> {
-    let piece: &[u8] = if page.text.len() == start {
+/// Begins a piece of the text of what goes on.
+fn begin_piece(page: &mut Page) -> Result<(), AllocError> {
+    let piece: &[u8] = if page.text.len() == USED_UP.len() {
         b": "
     } else {
         b"; "
@@ -502,50 +637,22 @@ fn begin_piece(page: &mut Page, start: usize) -> Result<(), AllocError> {
     page.say(&[piece])
 }
 
-/// Adds the innermost FOR that goes on, and the value of its variable.
-fn say_for_loop(page: &mut Page) -> Result<(), AllocError> {
-    let m = page.m;
-    for frame in m.frames.iter().rev() {
-        if let Continuation::Done(OnDone::ForRound(run)) = frame {
-            return say_for_round(page, run.name, run.object, run.step, run.body);
+/// Adds the innermost FOR that goes on.
+fn say_for_loop(page: &mut Page, at: Position) -> Result<(), AllocError> {
+    let begun = match loop_begun(page, at) {
+        Some(command) => round_begun(page, command),
+        None => None,
+    };
+    let round = match begun {
+        Some(round) => Some(round),
+        None => page.m.frames.iter().rev().find_map(round_of),
+    };
+    match round {
+        Some(round) => {
+            begin_piece(page)?;
+            say_round(page, round)
         }
-    }
-    Ok(())
-}
-
-/// Adds a FOR that goes on, the value of its variable, and what in it keeps it from its end.
-fn say_for_round<'a>(
-    page: &mut Page<'_, 'a>,
-    variable: &'a Name,
-    object: u64,
-    step: u32,
-    body: &'a Command,
-) -> Result<(), AllocError> {
-    let name: &'a [u8] = &variable.letters;
-    page.say(&[b": the `FOR ", name, b"` of line "])?;
-    add_number(&mut page.text, variable.at.line().number() as usize)?;
-    page.say(&[b" goes on"])?;
-    if let Some(Cell::Holds(x)) = page.m.store.cell(object, 0) {
-        page.say(&[b"; ", name, b" is "])?;
-        page.say_value(x)?;
-    }
-    if step == 0 {
-        return page.say(&[b"; its step is 0"]);
-    }
-    let mut search = Search::new(variable.at, name);
-    in_command(&mut search, body);
-    let Search {
-        setters,
-        declared,
-        ..
-    } = search;
-    let Setters { first, .. } = setters;
-    match first {
-        Some(Setter { line, .. }) if declared == 0 => {
-            page.say(&[b"; ", name, b" is set on line "])?;
-            add_number(&mut page.text, line as usize)
-        }
-        _ => Ok(()),
+        None => Ok(()),
     }
 }
 
@@ -676,26 +783,20 @@ fn say_many(page: &mut Page) -> Result<(), AllocError> {
 
 /// Adds that the turns are used up at a position, and what goes on there.
 pub fn say_turns(page: &mut Page, at: Position) -> Result<(), AllocError> {
-    page.say(&[b"the turns are used up"])?;
+    page.say(&[USED_UP])?;
     if page.m.calls > MANY {
         say_many(page)?;
     } else if is_mostly_one(page) {
         say_many(page)?;
-        say_loops(page)?;
+        say_loops(page, at)?;
     } else {
         let before = page.text.len();
         if let Some(back) = back_here(page) {
             say_back(page, back)?;
         }
-        say_loops(page)?;
+        say_loops(page, at)?;
         if page.text.len() == before {
-            say_for_loop(page)?;
-        }
-        if page.text.len() == before
-            && let Some(command) = loop_at(page.program, at)
-        {
-            page.say(&[b": "])?;
-            say_loop(page, command)?;
+            say_for_loop(page, at)?;
         }
     }
     page.say(&[b"; `-t 1000000000` gives as many turns as `run` has steps"])

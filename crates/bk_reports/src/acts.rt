@@ -8,8 +8,10 @@ use crate::operands::{
 use crate::operations::{
     say_beside, say_beyond, say_index, say_names, say_operation, say_other_index, say_subscript,
 };
-use crate::setting::{say_by_value, say_no_global, say_setting, say_setting_of, say_unreached};
+use crate::results::say_call_result;
+use crate::setting::{say_setting, say_setting_of};
 use crate::spelling::{add_number, add_ordinal, add_word, operator_symbol, prefix_symbol};
+use crate::unset::{say_by_value, say_no_global, say_unreached};
 use crate::values::Page;
 use crate::words::{say_byte, say_cell, say_partly};
 use bk_base::word;
@@ -537,7 +539,8 @@ pub fn say_division(page: &mut Page, subject: &Subject) -> Result<(), AllocError
         page.say(&[b": "])?;
         page.say_is(right, *y)?;
         if !matches!(bare(right), Expr::Name { .. }) {
-            return say_names(page, right);
+            say_names(page, right)?;
+            return say_call_result(page, right, *y);
         }
         return say_setting(page, written(right, *y));
     }

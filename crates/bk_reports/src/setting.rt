@@ -1,22 +1,22 @@
-//! Where a name was set, or might have been.
+//! Where a name was set.
 
-use crate::made::{arguments_at, in_procedure, loop_at, seek};
+use crate::made::{arguments_at, in_procedure, seek};
 use crate::names::names_of;
 use crate::operands::{Operand, bare, name_of};
-use crate::operations::{drop_twice, say_names};
-use crate::results::say_given;
+use crate::operations::drop_twice;
+use crate::results::{say_call_result, say_given};
 use crate::sought::{Few, Kind, Search, Setter, Setters, Words};
 use crate::spelling::{add, add_expr, add_number, add_ordinal, add_word, has_piece};
 use crate::values::{Object, Page};
-use crate::walk::in_expr;
-use bk_check::{Continuation, OnValue};
-use bk_lasting::{GLOBALS_OBJECT, Lasting, Procedure, Sense};
+use crate::walk::{in_command, in_expr};
+use bk_check::Continuation;
+use bk_lasting::{Lasting, Procedure, Sense};
 use bk_objects::Worth;
-use bk_tree::{Command, Expr, Operator, Position};
+use bk_tree::{Expr, Operator, Position};
 use std::alloc::AllocError;
 
 /// The number of a line.
-fn line(at: Position) -> u32 {
+pub fn line(at: Position) -> u32 {
     at.line().number()
 }
 
@@ -71,21 +71,16 @@ pub fn say_setters(page: &mut Page, name: &[u8], setters: Setters) -> Result<(),
     }
 }
 
-/// What a procedure has at a position, and where it sets a name, if that may have given this value.
-fn setters_in<'a>(
-    procedure: &Procedure<'a>,
-    at: Position,
-    name: &'a [u8],
-    value: Option<Worth>,
-) -> Search<'a> {
-    let mut search = Search::new(at, name);
-    search.value = value;
+/// Where a procedure sets a name, if that may have given this value.
+fn setters_in<'a>(procedure: &Procedure<'a>, name: &'a [u8], value: Worth) -> Search<'a> {
+    let mut search = Search::new(Position::first(), name);
+    search.value = Some(value);
     seek(&mut search, procedure);
     search
 }
 
 /// Where the procedures set what a name means in all of them, if that may have given this value.
-fn setters_of_all<'a>(
+pub fn setters_of_all<'a>(
     program: &[Lasting<'a>],
     name: &'a [u8],
     cell: (u64, u32),
@@ -109,7 +104,7 @@ fn setters_of_all<'a>(
 }
 
 /// Whether a name means this cell in a procedure, which declares no other of the name.
-fn has_outside<'a>(procedure: &Procedure<'a>, name: &'a [u8], cell: (u64, u32)) -> bool {
+pub fn has_outside<'a>(procedure: &Procedure<'a>, name: &'a [u8], cell: (u64, u32)) -> bool {
     match procedure.env.sense(name) {
         Some(Sense::Cell(object, offset)) => {
             (object, offset) == cell
@@ -121,14 +116,14 @@ fn has_outside<'a>(procedure: &Procedure<'a>, name: &'a [u8], cell: (u64, u32)) 
 }
 
 /// Whether a formal of a procedure has a name.
-fn is_formal(procedure: &Procedure, name: &[u8]) -> bool {
+pub fn is_formal(procedure: &Procedure, name: &[u8]) -> bool {
     procedure
         .formals
         .iter()
         .any(|formal| formal.letters.as_slice() == name)
 }
 
-/// Where the variable of a LET was set, if its name is no other's, and nothing else can set it.
+/// Where the variable of a LET or a FOR was set, if nothing in its scope has its name, and nothing else can set it.
 fn setters_of_variable<'a>(
     page: &Page<'_, 'a>,
     at: Position,
@@ -138,13 +133,19 @@ fn setters_of_variable<'a>(
     let Some(names) = page.names else {
         return Setters::none();
     };
+    let Some(scope) = in_procedure(names.procedure, at, name).scope else {
+        return Setters::none();
+    };
+    let mut search = Search::new(at, name);
+    search.value = value;
+    in_command(&mut search, scope);
     let Search {
         declared,
         is_taken,
         setters,
         ..
-    } = setters_in(names.procedure, at, name, value);
-    if declared != 1 || is_taken || is_formal(names.procedure, name) {
+    } = search;
+    if declared != 1 || is_taken {
         Setters::none()
     } else {
         setters
@@ -165,7 +166,7 @@ fn say_variable<'a>(
 }
 
 /// Whether a command of a procedure sets a name, or takes its address.
-fn is_set_in<'a>(procedure: &Procedure<'a>, name: &'a [u8]) -> bool {
+pub fn is_set_in<'a>(procedure: &Procedure<'a>, name: &'a [u8]) -> bool {
     let Search {
         setters,
         is_taken,
@@ -201,7 +202,7 @@ fn say_set_formal<'a>(
         is_taken,
         setters,
         ..
-    } = setters_in(names.procedure, Position::first(), name, Some(x));
+    } = setters_in(names.procedure, name, x);
     if declared != 0 || is_taken || setters.count > 2 {
         return Ok(());
     }
@@ -226,7 +227,8 @@ fn say_call_and(page: &mut Page, name: &[u8], setters: Setters) -> Result<(), Al
     page.say(&[b"; ", name, b" is set by the call, and on line "])?;
     add_number(&mut page.text, first.line as usize)?;
     if setters.count == 1 {
-        return say_source(page, first.value);
+        say_source(page, first.value)?;
+        return say_field_setting(page, first.value);
     }
     if last != first.line {
         page.say(&[b" and on line "])?;
@@ -368,6 +370,7 @@ fn say_cause<'a>(
     if setters.count != 1 || set == line(page.at) {
         return Ok(());
     }
+    say_field_setting(page, value)?;
     if variables_of(page, value).has(name) {
         return Ok(());
     }
@@ -459,7 +462,10 @@ fn say_only(page: &mut Page, name: &[u8], setters: Setters) -> Result<(), AllocE
 pub fn say_setting(page: &mut Page, operand: Operand) -> Result<(), AllocError> {
     match (name_of(operand), operand.expr) {
         (Some(name), _) => say_setting_of(page, name, operand.value),
-        (None, Some(expr)) => say_word_setting(page, bare(expr)),
+        (None, Some(expr)) => {
+            say_word_setting(page, bare(expr))?;
+            say_call_result(page, expr, operand.value)
+        }
         (None, None) => Ok(()),
     }
 }
@@ -517,6 +523,14 @@ fn say_word_setting(page: &mut Page, expr: &Expr) -> Result<(), AllocError> {
     say_setters(page, &spelled, words_set)
 }
 
+/// Adds where the words are set that have this constant on a side of `!`, if an expression is such a word.
+fn say_field_setting(page: &mut Page, expr: &Expr) -> Result<(), AllocError> {
+    match words_like(page, bare(expr)) {
+        Some(Words::Field(_)) => say_word_setting(page, bare(expr)),
+        _ => Ok(()),
+    }
+}
+
 /// Adds where words like this one are set, but for those that have a number.
 pub fn say_link_setting(page: &mut Page, expr: &Expr) -> Result<(), AllocError> {
     match words_like(page, bare(expr)) {
@@ -546,7 +560,7 @@ pub fn say_setting_of(page: &mut Page, name: &[u8], x: Worth) -> Result<(), Allo
 }
 
 /// What a name is in the program, and the cell that it means.
-fn cell_of<'a>(page: &Page<'_, 'a>, name: &[u8]) -> Option<(&'a [u8], u64, u32)> {
+pub fn cell_of<'a>(page: &Page<'_, 'a>, name: &[u8]) -> Option<(&'a [u8], u64, u32)> {
     let names = page.names?;
     let spelled = names.spelled(name)?;
     match names.sense(name)? {
@@ -570,247 +584,5 @@ fn say_once_set(page: &mut Page, name: &[u8], x: Worth) -> Result<(), AllocError
             say_lasting(page, spelled, x, (object, offset))
         }
         Object::String(_) | Object::Table | Object::Unknown => Ok(()),
-    }
-}
-
-/// Where the variable is declared that a name means.
-pub fn variable_at(page: &Page, name: &[u8]) -> Option<Position> {
-    let (_, object, _) = cell_of(page, name)?;
-    let_of(page, object)
-}
-
-/// Where the LET of a variable is that was made by it.
-fn let_of(page: &Page, object: u64) -> Option<Position> {
-    match page.object(object) {
-        Object::Made(made) => Some(made.at),
-        _ => None,
-    }
-}
-
-/// Adds that another variable has the name of one that was never set, or that an assignment to it was not reached; `query` is the line
-/// of the `?` that it has.
-pub fn say_unreached(
-    page: &mut Page,
-    name: &[u8],
-    object: u64,
-    query: u32,
-) -> Result<(), AllocError> {
-    let Some(names) = page.names else {
-        return Ok(());
-    };
-    let Some(spelled) = names.spelled(name) else {
-        return Ok(());
-    };
-    let Some(at) = let_of(page, object) else {
-        return Ok(());
-    };
-    if line(at) != query {
-        return Ok(());
-    }
-    let Search {
-        other,
-        setters,
-        is_taken,
-        ..
-    } = in_procedure(names.procedure, at, spelled);
-    if let Some(other) = other {
-        page.say(&[b"; the ", name, b" of line "])?;
-        add_number(&mut page.text, other as usize)?;
-        return page.say(&[b" is another variable"]);
-    }
-    if is_taken {
-        return Ok(());
-    }
-    say_assignment(page, name, setters, b"")?;
-    match setters.first {
-        Some(setter) if setter.line != line(page.at) => say_for_of(page, setter.value),
-        _ => Ok(()),
-    }
-}
-
-/// Adds from where to where a FOR goes in the procedure that is active, if an expression is its variable and nothing else has its name.
-fn say_for_of<'a>(page: &mut Page<'_, 'a>, value: &'a Expr) -> Result<(), AllocError> {
-    let (Some(names), Expr::Name { letters, .. }) = (page.names, value) else {
-        return Ok(());
-    };
-    let Search {
-        declared,
-        declared_at,
-        ..
-    } = in_procedure(names.procedure, Position::first(), letters);
-    if declared != 1 || is_formal(names.procedure, letters) {
-        return Ok(());
-    }
-    let Some(at) = declared_at else {
-        return Ok(());
-    };
-    let Some(
-        Command::For {
-            from,
-            to,
-            by: None,
-            ..
-        },
-    ) = loop_at(page.program, at)
-    else {
-        return Ok(());
-    };
-    page.say(&[b"; the `FOR ", letters, b"` of line "])?;
-    add_number(&mut page.text, line(at) as usize)?;
-    page.say(&[b" goes from "])?;
-    page.say_expr(from)?;
-    page.say(&[b" to "])?;
-    page.say_expr(to)?;
-    say_names(page, from)?;
-    say_names(page, to)
-}
-
-/// Whether an expression has a name.
-fn has_name(expr: &Expr, name: &[u8]) -> bool {
-    let mut search = Search::new(expr.at(), b"");
-    in_expr(&mut search, expr);
-    let Search { beside, .. } = search;
-    beside.has(name)
-}
-
-/// Adds that the first of some assignments to a name was not reached, unless it is on the line of the act, or uses the name itself;
-/// `procedure` is the name of the procedure that has it, where that may be another.
-fn say_assignment(
-    page: &mut Page,
-    name: &[u8],
-    setters: Setters,
-    procedure: &[u8],
-) -> Result<(), AllocError> {
-    let Setters { first, .. } = setters;
-    match first {
-        Some(setter) if setter.line != line(page.at) && !has_name(setter.value, name) => {
-            page.say(&[b"; the assignment of line "])?;
-            add_number(&mut page.text, setter.line as usize)?;
-            if !procedure.is_empty() && !page.is_here(procedure) {
-                page.say(&[b", in ", procedure, b","])?;
-            }
-            page.say(&[b" was not reached"])
-        }
-        _ => Ok(()),
-    }
-}
-
-/// The name of the first procedure that sets what a name means in all of them.
-fn first_to_set<'a>(program: &[Lasting<'a>], name: &'a [u8], cell: (u64, u32)) -> &'a [u8] {
-    for lasting in program {
-        if let Lasting::Code(procedure) = lasting
-            && has_outside(procedure, name, cell)
-            && is_set_in(procedure, name)
-        {
-            return procedure.name;
-        }
-    }
-    b""
-}
-
-/// The procedure that a call evaluates an argument for, and the name of its formal.
-fn callee_of<'m, 'a>(page: &Page<'m, 'a>) -> Option<(&'m Procedure<'a>, &'a [u8])> {
-    let Continuation::Value(OnValue::Argument(_, _, _, before, callee, _)) = page.m.frames.last()?
-    else {
-        return None;
-    };
-    let Worth::Procedure(number) = page.known(callee)? else {
-        return None;
-    };
-    match page.program.get(number as usize)? {
-        Lasting::Code(procedure) => {
-            Some((procedure, &procedure.formals.get(before.len())?.letters))
-        }
-        _ => None,
-    }
-}
-
-/// Adds that a call passes the value of a name, where its procedure sets the formal.
-pub fn say_by_value(page: &mut Page, name: &[u8]) -> Result<(), AllocError> {
-    match callee_of(page) {
-        Some((procedure, formal)) if is_set_in(procedure, formal) => page.say(&[
-            b"; ",
-            procedure.name,
-            b" gets its value, and sets a formal of its own; `@",
-            name,
-            b"` is its address",
-        ]),
-        _ => Ok(()),
-    }
-}
-
-/// The line of a declaration of this name in the body of a procedure, and the name of that procedure.
-fn local_of<'a>(program: &[Lasting<'a>], name: &'a [u8]) -> Option<(u32, &'a [u8])> {
-    for lasting in program {
-        if let Lasting::Code(procedure) = lasting
-            && let Some(other) = in_procedure(procedure, Position::first(), name).other
-        {
-            return Some((other, procedure.name));
-        }
-    }
-    None
-}
-
-/// Whether a section has a procedure of this name that is no global.
-fn is_own_procedure(program: &[Lasting], name: &[u8]) -> bool {
-    for lasting in program {
-        if let Lasting::Code(procedure) = lasting
-            && procedure.name == name
-            && procedure.global.is_none()
-        {
-            return true;
-        }
-    }
-    false
-}
-
-/// Whether a section has a static word of this name.
-fn is_static(program: &[Lasting], name: &[u8]) -> bool {
-    for lasting in program {
-        if let Lasting::Code(procedure) = lasting
-            && let Some(Sense::Cell(object, _)) = procedure.env.sense(name)
-            && object != GLOBALS_OBJECT
-        {
-            return true;
-        }
-    }
-    false
-}
-
-/// Adds why nothing was assigned to a global, as far as the text tells.
-pub fn say_no_global(page: &mut Page, name: &[u8], number: u32) -> Result<(), AllocError> {
-    if let Some(other) = page.other_number(name, number) {
-        page.say(&[b"; elsewhere ", name, b" is the global "])?;
-        return add_word(&mut page.text, other);
-    }
-    if is_own_procedure(page.program, name) {
-        return page.say(&[
-            b"; the procedure ",
-            name,
-            b" of another section is no global there",
-        ]);
-    }
-    if is_static(page.program, name) {
-        return page.say(&[
-            b"; elsewhere ",
-            name,
-            b" is a static word, which no other section sees",
-        ]);
-    }
-    let Some((spelled, _, _)) = cell_of(page, name) else {
-        return Ok(());
-    };
-    let setters = setters_of_all(page.program, spelled, (GLOBALS_OBJECT, number), None);
-    if setters.count > 0 {
-        let procedure = first_to_set(page.program, spelled, (GLOBALS_OBJECT, number));
-        return say_assignment(page, name, setters, procedure);
-    }
-    match local_of(page.program, spelled) {
-        Some((other, procedure)) => {
-            page.say(&[b"; the ", name, b" of line "])?;
-            add_number(&mut page.text, other as usize)?;
-            page.say(&[b", in ", procedure, b", is another variable"])
-        }
-        None => Ok(()),
     }
 }

@@ -137,11 +137,9 @@ pub fn say_last(page: &mut Page, line: u32, number: u32) -> Result<(), AllocErro
     }
 }
 
-/// Adds what the procedure gives that is called by its name where another name was set, if one place sets that.
-pub fn say_given(page: &mut Page, setters: Setters, x: Worth) -> Result<(), AllocError> {
-    if let Some(setter) = setters.first
-        && setters.count == 1
-        && let Expr::Apply { callee, .. } = bare(setter.value)
+/// Adds what the procedure gives that is called by its name, in a call that has this value.
+pub fn say_call_result(page: &mut Page, call: &Expr, x: Worth) -> Result<(), AllocError> {
+    if let Expr::Apply { callee, .. } = bare(call)
         && let Expr::Name { letters, .. } = &**callee
         && let Some(Worth::Procedure(number)) = page.known(callee)
         && let Some(Lasting::Code(procedure)) = page.program.get(number as usize)
@@ -150,6 +148,14 @@ pub fn say_given(page: &mut Page, setters: Setters, x: Worth) -> Result<(), Allo
         return say_result(page, procedure, x);
     }
     Ok(())
+}
+
+/// Adds what the procedure gives that is called where another name was set, if one place sets that.
+pub fn say_given(page: &mut Page, setters: Setters, x: Worth) -> Result<(), AllocError> {
+    match setters.first {
+        Some(setter) if setters.count == 1 => say_call_result(page, setter.value, x),
+        _ => Ok(()),
+    }
 }
 
 /// Adds what a procedure gives.
