@@ -194,7 +194,10 @@ fn say_no_byte_number(
 fn say_known_index(page: &mut Page, index: &Expr) -> Result<(), AllocError> {
     match page.known(index) {
         Some(value) => say_index(page, written(index, value)),
-        None => say_names(page, index),
+        None => {
+            say_names(page, index)?;
+            say_call_result(page, index, None)
+        }
     }
 }
 
@@ -540,7 +543,7 @@ pub fn say_division(page: &mut Page, subject: &Subject) -> Result<(), AllocError
         page.say_is(right, *y)?;
         if !matches!(bare(right), Expr::Name { .. }) {
             say_names(page, right)?;
-            return say_call_result(page, right, *y);
+            return say_call_result(page, right, Some(*y));
         }
         return say_setting(page, written(right, *y));
     }

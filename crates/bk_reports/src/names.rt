@@ -200,6 +200,28 @@ impl<'m, 'a> Names<'m, 'a> {
         None
     }
 
+    /// The constant that a name would mean if no variable here had it.
+    pub fn hidden_constant(&self, name: &[u8]) -> Option<u32> {
+        let mut is_hidden = self.is_outside
+            && self
+                .procedure
+                .formals
+                .iter()
+                .any(|formal| formal.letters.as_slice() == name);
+        let mut names = &self.env.names;
+        while let Some(node) = names {
+            if node.name == name {
+                match node.sense {
+                    Sense::Constant(word) if is_hidden => return Some(word),
+                    Sense::Constant(_) => return None,
+                    _ => is_hidden = true,
+                }
+            }
+            names = &node.outer;
+        }
+        None
+    }
+
     /// The name of a cell, if one is visible.
     pub fn name_of(&self, object: u64, offset: u32) -> Option<&'a [u8]> {
         name_in(self.env, object, offset)

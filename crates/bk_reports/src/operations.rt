@@ -1,10 +1,12 @@
 //! Why an operator has no value of its operands.
 
 use crate::made::{in_procedure, loop_at};
-use crate::operands::{Operand, bare, say_fault_of, say_operand, say_shared, say_uncalled};
+use crate::operands::{
+    Operand, bare, name_of, say_fault_of, say_operand, say_shared, say_uncalled,
+};
 use crate::results::say_call_result;
 use crate::rounds::{is_same, say_still_loop};
-use crate::setting::{say_setting, say_setting_of, variables_of};
+use crate::setting::{say_hidden, say_setting, say_setting_of, variables_of};
 use crate::sought::Search;
 use crate::spelling::{add_expr, add_number, add_word, has_piece, operator_symbol};
 use crate::unset::variable_at;
@@ -39,7 +41,13 @@ fn say_no_base(
     }
     if matches!(base.value, Worth::Address(_, _)) {
         say_operand(page, index)?;
-        return page.say(&[b", and `", symbol, b"` wants a number after the address"]);
+        page.say(&[b", and `", symbol, b"` wants a number after the address"])?;
+        for operand in [base, index] {
+            if let Some(name) = name_of(operand) {
+                say_hidden(page, name)?;
+            }
+        }
+        return Ok(());
     }
     say_operand(page, base)?;
     page.say(&[b", and `", symbol, b"` wants an address"])?;
@@ -116,7 +124,7 @@ pub fn say_index(page: &mut Page, index: Operand) -> Result<(), AllocError> {
         _ => {
             say_names(page, expr)?;
             say_only_variable(page, expr, index.value)?;
-            say_call_result(page, expr, index.value)
+            say_call_result(page, expr, Some(index.value))
         }
     }
 }
@@ -224,7 +232,10 @@ fn say_part(page: &mut Page, expr: &Expr) -> Result<(), AllocError> {
 pub fn say_names(page: &mut Page, expr: &Expr) -> Result<(), AllocError> {
     match expr {
         Expr::Name { letters, .. } => match page.value_of(letters) {
-            Some(Worth::Number(number)) => say_once(page, letters, number),
+            Some(Worth::Number(number)) => {
+                say_once(page, letters, number)?;
+                say_hidden(page, letters)
+            }
             _ => Ok(()),
         },
         Expr::Parens { inside, .. } => say_names(page, inside),

@@ -137,8 +137,8 @@ pub fn say_last(page: &mut Page, line: u32, number: u32) -> Result<(), AllocErro
     }
 }
 
-/// Adds what the procedure gives that is called by its name, in a call that has this value.
-pub fn say_call_result(page: &mut Page, call: &Expr, x: Worth) -> Result<(), AllocError> {
+/// Adds what the procedure gives that is called by its name, in a call that has this value, where that is known.
+pub fn say_call_result(page: &mut Page, call: &Expr, x: Option<Worth>) -> Result<(), AllocError> {
     if let Expr::Apply { callee, .. } = bare(call)
         && let Expr::Name { letters, .. } = &**callee
         && let Some(Worth::Procedure(number)) = page.known(callee)
@@ -153,7 +153,7 @@ pub fn say_call_result(page: &mut Page, call: &Expr, x: Worth) -> Result<(), All
 /// Adds what the procedure gives that is called where another name was set, if one place sets that.
 pub fn say_given(page: &mut Page, setters: Setters, x: Worth) -> Result<(), AllocError> {
     match setters.first {
-        Some(setter) if setters.count == 1 => say_call_result(page, setter.value, x),
+        Some(setter) if setters.count == 1 => say_call_result(page, setter.value, Some(x)),
         _ => Ok(()),
     }
 }
@@ -167,7 +167,7 @@ fn say_gives(page: &mut Page, procedure: &Procedure, given: &Expr) -> Result<(),
 }
 
 /// Adds the value of a procedure; of one with VALOF, the line of the first RESULTIS that has this number, or its only RESULTIS.
-fn say_result(page: &mut Page, procedure: &Procedure, x: Worth) -> Result<(), AllocError> {
+fn say_result(page: &mut Page, procedure: &Procedure, x: Option<Worth>) -> Result<(), AllocError> {
     let Body::Value(given) = procedure.body else {
         return Ok(());
     };
@@ -175,23 +175,22 @@ fn say_result(page: &mut Page, procedure: &Procedure, x: Worth) -> Result<(), Al
         return say_gives(page, procedure, given);
     }
     let mut search = Search::new(Position::first(), b"");
-    search.value = Some(x);
+    search.value = x;
     seek(&mut search, procedure);
     let Search {
         result_line,
         results,
         ..
     } = search;
-    if let Some(line) = result_line {
+    if let (Some(line), Some(x)) = (result_line, x) {
         page.say(&[b"; ", procedure.name, b" has `RESULTIS "])?;
         page.say_value(x)?;
         page.say(&[b"` on line "])?;
         return add_number(&mut page.text, line as usize);
     }
     match (results.first, x) {
-        (Some(only), Worth::Number(_) | Worth::Address(_, _)) if results.count == 1 => {
-            say_gives(page, procedure, only.value)
-        }
+        (Some(only), None | Some(Worth::Number(_) | Worth::Address(_, _))) if results.count == 1 =>
+            { say_gives(page, procedure, only.value) }
         _ => Ok(()),
     }
 }

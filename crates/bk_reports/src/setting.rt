@@ -464,7 +464,7 @@ pub fn say_setting(page: &mut Page, operand: Operand) -> Result<(), AllocError> 
         (Some(name), _) => say_setting_of(page, name, operand.value),
         (None, Some(expr)) => {
             say_word_setting(page, bare(expr))?;
-            say_call_result(page, expr, operand.value)
+            say_call_result(page, expr, Some(operand.value))
         }
         (None, None) => Ok(()),
     }
@@ -555,6 +555,21 @@ pub fn say_setting_of(page: &mut Page, name: &[u8], x: Worth) -> Result<(), Allo
     }
     let before = page.text.len();
     say_once_set(page, name, x)?;
+    drop_twice(&mut page.text, before);
+    say_hidden(page, name)
+}
+
+/// Adds that a name hides a constant, if it means a variable, and would mean a constant without that.
+pub fn say_hidden(page: &mut Page, name: &[u8]) -> Result<(), AllocError> {
+    let Some(names) = page.names else {
+        return Ok(());
+    };
+    let Some(word) = names.hidden_constant(name) else {
+        return Ok(());
+    };
+    let before = page.text.len();
+    page.say(&[b"; ", name, b" hides the constant ", name, b", "])?;
+    add_word(&mut page.text, word)?;
     drop_twice(&mut page.text, before);
     Ok(())
 }

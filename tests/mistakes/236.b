@@ -1,0 +1,32 @@
+// LIST OF TEMPERATURES, CELLS TAKEN FROM A POOL
+GET "LIBHDR2"
+MANIFEST $( DAY = 0; TEMP = 1; LINK = 2
+            CELLSIZE = 2 $)
+STATIC $( POOL = 0; FREE = 0 $)
+
+LET NEWCELL(D, T, L) = VALOF
+$(  LET C = POOL + FREE
+    FREE := FREE + CELLSIZE
+    DAY!C := D
+    TEMP!C := T
+    LINK!C := L
+    RESULTIS C
+$)
+
+LET WARMEST(L) = VALOF
+$(  LET W = L
+    UNTIL L = 0 DO
+    $(  IF TEMP!L > TEMP!W DO W := L
+        L := LINK!L
+    $)
+    RESULTIS W
+$)
+
+LET START() BE
+$(  LET V = VEC 30
+    LET LIST, W = 0, 0
+    POOL := V
+    FOR I = 1 TO 7 DO LIST := NEWCELL(I, 10 + I * 5 REM 8, LIST)
+    W := WARMEST(LIST)
+    WRITEF("WARMEST: DAY %N WITH %N DEGREES*N", DAY!W, TEMP!W)
+$)

@@ -1,0 +1,41 @@
+// TREE OF NUMBERS, INSERTED THROUGH A POINTER TO A POINTER
+GET "LIBHDR2"
+MANIFEST $( KEY = 0; LEFT = 1; RIGHT = 2; NODESIZE = 3 $)
+STATIC $( ROOT = 0; STORE = 0 $)
+
+LET NEWNODE(K) = VALOF
+$(  LET P = STORE
+    STORE := STORE + NODESIZE
+    KEY!P, LEFT!P, RIGHT!P := K, 0, 0
+    RESULTIS P
+$)
+
+LET INSERT(K) BE
+$(  LET T = @ROOT
+    UNTIL !T = 0 DO
+    $(  LET NODE = !T
+        IF KEY!NODE = K RETURN
+        T := K < KEY!NODE -> @(LEFT!NODE), RIGHT!NODE
+    $)
+    !T := NEWNODE(K)
+$)
+
+LET PRINT(T) BE
+$(  IF T = 0 RETURN
+    PRINT(LEFT!T)
+    WRITEF("%N ", KEY!T)
+    PRINT(RIGHT!T)
+$)
+
+LET START() BE
+$(  LET SPACE = VEC 60
+    LET DATA = TABLE 40, 20, 10, 60, 50, 20, 70, 30, 0
+    LET I = 0
+    STORE := SPACE
+    UNTIL DATA!I = 0 DO
+    $(  INSERT(DATA!I)
+        I := I + 1
+    $)
+    PRINT(ROOT)
+    NEWLINE()
+$)

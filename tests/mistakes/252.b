@@ -1,0 +1,26 @@
+// IS IT A DATE?
+GET "LIBHDR2"
+
+LET LEAP(Y) = Y REM 4 = 0 & Y REM 100 ~= 0 | Y REM 400 = 0
+
+LET MONTHLEN(M, Y) = VALOF
+$(  LET T = TABLE 31, 28, 31, 30, 31, 30,
+                  31, 31, 30, 31, 30, 31
+    IF M = 2 & LEAP(Y) RESULTIS 29
+    RESULTIS T!M
+$)
+
+LET CHECK(D, M, Y) BE
+$(  WRITEF("%I2/%I2/%I4 ", D, M, Y)
+    TEST 1 <= M <= 12
+    THEN WRITES(1 <= D <= MONTHLEN(M, Y) -> "IS A DATE*N", "HAS NO SUCH DAY*N")
+    ELSE WRITES("HAS NO SUCH MONTH*N")
+$)
+
+LET START() BE
+$(  CHECK(30, 6, 1978)
+    CHECK(29, 2, 1980)
+    CHECK(1, 13, 1981)
+    CHECK(25, 12, 1982)
+    CHECK(29, 2, 1983)
+$)

@@ -1,0 +1,34 @@
+// A SLUICE GATE WITH THREE STATES
+GET "LIBHDR2"
+GLOBAL $( STATE:120; SHUT:121; OPENING:122; OPEN:123; TICKS:124 $)
+
+LET SHUT(C) BE
+    IF C = 'O' DO
+    $(  WRITES("MOTOR ON*N")
+        TICKS := 3
+        STATE := OPENING
+    $)
+
+LET OPENING(C) BE
+$(  TICKS := TICKS - 1
+    WRITEF("%N TO GO*N", TICKS)
+    IF TICKS = 0 DO STATE := OPEN
+$)
+
+LET OPEN(C) BE
+    IF C = 'S' DO
+    $(  WRITES("SHUT AGAIN*N")
+        STATE := SHUT
+    $)
+
+LET STEP(C) BE
+    UNLESS C = '*N' DO STATE(C)
+
+LET START() BE
+$(  LET STATE, C = SHUT, RDCH()
+    TICKS := 0
+    UNTIL C = ENDSTREAMCH DO
+    $(  STEP(C)
+        C := RDCH()
+    $)
+$)

@@ -1,0 +1,26 @@
+// PRICE LIST
+GET "LIBHDR2"
+
+LET PAD(S, W, C) BE
+$(  WRITES(S)
+    FOR I = S%0 + 1 TO W DO WRCH(C)
+$)
+
+LET ITEM(NAME, PENCE) BE
+$(  PAD(NAME, 16, '.')
+    WRITED(PENCE / 100, 4)
+    WRCH('.')
+    WRITEN(PENCE / 10 REM 10)
+    WRITEN(PENCE REM 10)
+    NEWLINE()
+$)
+
+LET START() BE
+$(  PAD("ITEM", 16)
+    WRITES("  PRICE*N")
+    PAD("", 23, '=')
+    NEWLINE()
+    ITEM("PAPER TAPE", 145)
+    ITEM("RIBBON", 1209)
+    ITEM("CARDS, 2000", 850)
+$)

@@ -1,0 +1,47 @@
+// PAY OF EACH DEPARTMENT
+GET "LIBHDR2"
+MANIFEST $( DNAME = 0; STAFF = 1; DLINK = 2; DSIZE = 3
+            PNAME = 0; PAY = 1; AGE = 2; PLINK = 3; PSIZE = 4 $)
+STATIC $( SPACE = 0 $)
+
+LET NEW(N) = VALOF
+$(  LET P = SPACE
+    SPACE := SPACE + N
+    RESULTIS P
+$)
+
+LET DEPT(NAME, LINK) = VALOF
+$(  LET D = NEW(DSIZE)
+    DNAME!D, STAFF!D, DLINK!D := NAME, 0, LINK
+    RESULTIS D
+$)
+
+LET JOIN(D, NAME, WAGE, YEARS) BE
+$(  LET P = NEW(PSIZE)
+    PNAME!P, PAY!P, AGE!P := NAME, WAGE, YEARS
+    PLINK!P := STAFF!D
+    STAFF!D := P
+$)
+
+LET COST(D) = VALOF
+$(  LET SUM, P = 0, STAFF!D
+    UNTIL P = 0 DO
+    $(  SUM := SUM + PAY!P
+        P := DLINK!P
+    $)
+    RESULTIS SUM
+$)
+
+LET START() BE
+$(  LET V, D = VEC 200, 0
+    SPACE := V
+    D := DEPT("SALES", D)
+    JOIN(D, "BROWN", 210, 34)
+    JOIN(D, "GREEN", 245, 51)
+    D := DEPT("WORKS", D)
+    JOIN(D, "SMITH", 190, 27)
+    UNTIL D = 0 DO
+    $(  WRITEF("%S %N*N", DNAME!D, COST(D))
+        D := DLINK!D
+    $)
+$)

@@ -1,0 +1,33 @@
+// A SMALL LIBRARY FOR VECTORS, AND ITS USER
+GET "LIBHDR2"
+GLOBAL $( SORT:301; REVERSE:302 $)
+
+LET EXCHANGE(P, Q) BE
+$(  LET T = !P
+    !P := !Q
+    !Q := T
+$)
+
+LET SORT(V, N) BE
+    FOR I = 1 TO N - 1 DO
+        FOR J = I TO 1 BY -1 DO
+            IF V!J < V!(J-1) DO EXCHANGE(V + J, V + J - 1)
+
+LET REVERSE(V, N) BE
+    FOR I = 0 TO N / 2 - 1 DO EXCHANGE(V + I, V + N - 1 - I)
+
+LET SHOWALL(V, N) BE
+$(  FOR I = 0 TO N - 1 DO WRITEF("%I4", V!I)
+    NEWLINE()
+$)
+.
+GET "LIBHDR2"
+GLOBAL $( SORT:301; REVERSE:302; SHOWALL:303 $)
+
+LET START() BE
+$(  LET V = TABLE 31, 41, 59, 26, 53, 58, 97, 93
+    SORT(V, 8)
+    REVERSE(V, 8)
+    WRITES("LARGEST FIRST:*N")
+    SHOWALL(V, 8)
+$)

@@ -1,0 +1,26 @@
+// COUNTS THOSE WHO FAILED AND THOSE WHO PASSED
+GET "LIBHDR2"
+MANIFEST $( PASS = 40 $)
+
+LET MEAN(V) = VALOF
+$(  LET SUM, N = 0, 0
+    UNTIL V!N < 0 DO
+    $(  SUM := SUM + V!N
+        N := N + 1
+    $)
+    RESULTIS N = 0 -> 0, SUM / N
+$)
+
+LET START() BE
+$(  LET COUNT = VEC 1
+    LET MARKS = TABLE 12, 55, 39, 71, 40, 90, -1
+    LET I = 0
+    COUNT!0, COUNT!1 := 0, 0
+    UNTIL MARKS!I < 0 DO
+    $(  LET PASSED = MARKS!I >= PASS
+        COUNT!PASSED := COUNT!PASSED + 1
+        I := I + 1
+    $)
+    WRITEF("%N FAILED, %N PASSED*N", COUNT!0, COUNT!1)
+    WRITEF("MEAN %N*N", MEAN(MARKS))
+$)
