@@ -223,15 +223,19 @@ void *memset(void *target, int value, size count) {
 
 // ---- memory
 
-// Before each block lie 16 bytes that have its size, without them. A block of up to LARGEST bytes has the size of a class, is cut from a piece
-// of PIECE bytes, and goes to the list of its class when it is given back. A greater one is a mapping of its own, and goes back to the system.
+// Before each block lie 16 bytes: its size, without them, and the list to which it goes when it is given back. A block of up to LARGEST bytes has
+// the size of a class, and is cut from a piece of PIECE bytes. A greater one is a mapping of its own, has no list, and goes back to the system.
 enum { HEAD = 16, STEPS = 64, PAGE = 4096 };
 #define LARGEST ((size)1 << 17)
 #define PIECE ((size)1 << 20)
 
 struct block {
     size bytes;
-    struct block *next;
+    // of a block that was given back: the next one in its list
+    union {
+        struct block *next;
+        struct block **list;
+    };
 };
 
 // classes of 16, 32, .. 1024 bytes, and then four for each power of two
@@ -239,16 +243,17 @@ static struct block *given_back[STEPS + 4 * 7 + 1];
 static byte *piece;
 static size piece_left;
 
-// The class of a size of at least 1, and the size of that class.
-static unsigned class_of(size bytes, size *whole) {
-    if (bytes <= 16 * STEPS) {
-        *whole = (bytes + 15) & ~(size)15;
-        return (unsigned)(*whole / 16 - 1);
-    }
+// The class of a size of at least 1.
+static unsigned class_of(size bytes) {
+    if (bytes <= 16 * STEPS) return (unsigned)((bytes - 1) / 16);
     unsigned power = 63 - (unsigned)__builtin_clzl(bytes - 1);
-    size step = (size)1 << (power - 2);
-    *whole = (bytes + step - 1) & ~(step - 1);
-    return STEPS + 4 * (power - 10) + (unsigned)((*whole >> (power - 2)) - 5);
+    return STEPS + 4 * (power - 10) + (unsigned)(((bytes - 1) >> (power - 2)) - 4);
+}
+
+// The size of a class.
+static size size_of(unsigned class) {
+    if (class < STEPS) return 16 * (class + 1);
+    return (size)(class % 4 + 5) << (class / 4 - STEPS / 4 + 8);
 }
 
 static void *map(size bytes) {
@@ -256,50 +261,64 @@ static void *map(size bytes) {
     return found < 0 && -4096 < found ? 0 : (void *)found;
 }
 
-void *malloc(size bytes) {
-    struct block *block;
-    if (bytes > LARGEST) {
-        if (bytes > (size)1 << 62) goto none;
-        size whole = (bytes + HEAD + PAGE - 1) & ~(size)(PAGE - 1);
-        block = map(whole);
-        if (!block) goto none;
-        block->bytes = whole - HEAD;
-        return (byte *)block + HEAD;
+// What is rare is apart, so that what is not saves no registers.
+#define RARE static __attribute__((noinline, cold))
+
+// A block of more than LARGEST bytes.
+RARE void *malloc_large(size bytes) {
+    size whole = (bytes + HEAD + PAGE - 1) & ~(size)(PAGE - 1);
+    struct block *block = bytes > (size)1 << 62 ? 0 : map(whole);
+    if (!block) {
+        error = OUT_OF_MEMORY;
+        return 0;
     }
-    size whole;
-    unsigned class = class_of(bytes ? bytes : 1, &whole);
-    block = given_back[class];
-    if (block) {
-        given_back[class] = block->next;
-        return (byte *)block + HEAD;
-    }
+    block->bytes = whole - HEAD;
+    block->list = 0;
+    return (byte *)block + HEAD;
+}
+
+// A block that is cut from a piece.
+RARE void *malloc_new(unsigned class) {
+    size whole = size_of(class);
     if (piece_left < whole + HEAD) {
         byte *new = map(PIECE);
-        if (!new) goto none;
+        if (!new) {
+            error = OUT_OF_MEMORY;
+            return 0;
+        }
         piece = new;
         piece_left = PIECE;
     }
-    block = (struct block *)piece;
+    struct block *block = (struct block *)piece;
     piece += whole + HEAD;
     piece_left -= whole + HEAD;
     block->bytes = whole;
+    block->list = &given_back[class];
     return (byte *)block + HEAD;
-none:
-    error = OUT_OF_MEMORY;
-    return 0;
 }
+
+void *malloc(size bytes) {
+    if (bytes > LARGEST) return malloc_large(bytes);
+    struct block **list = &given_back[class_of(bytes ? bytes : 1)];
+    struct block *block = *list;
+    if (!block) return malloc_new((unsigned)(list - given_back));
+    *list = block->next;
+    block->list = list;
+    return (byte *)block + HEAD;
+}
+
+RARE void free_large(struct block *block) { call(MUNMAP, (long)block, (long)(block->bytes + HEAD), 0, 0, 0, 0); }
 
 void free(void *given) {
     if (!given) return;
     struct block *block = (struct block *)((byte *)given - HEAD);
-    size whole = block->bytes;
-    if (whole > LARGEST) {
-        call(MUNMAP, (long)block, (long)(whole + HEAD), 0, 0, 0, 0);
+    struct block **list = block->list;
+    if (!list) {
+        free_large(block);
         return;
     }
-    unsigned class = class_of(whole, &whole);
-    block->next = given_back[class];
-    given_back[class] = block;
+    block->next = *list;
+    *list = block;
 }
 
 void *realloc(void *given, size bytes) {
