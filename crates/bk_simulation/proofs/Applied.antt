@@ -1,6 +1,5 @@
 -- Calls, for a value or not: the arguments, then the procedure, then its frame or a routine of the library.
-use Rattle.bk_simulation.proofs.Words.{◌≡◌, ℕ, suc, ◌+◌, ◌-◌, ◌*◌, ◌<◌, ◌≤◌, ◌^◌, max, nat_lt, Bool, true, false, List, ◌∷◌, length, Some, None, refl, sym, ap, ◌∙◌, subst, arith, option_map_or, slice_get_within, FRAME_WORDS, Expression, Expressions, Command, Word, Cell, content_of, below, settle, Placed, Callables, Inside, State, slot, can_be_called, Stmt, Stack, Value, procedure, routine, World, Exit, Outcome, calling, calls_back, Environment, past, procedure_of, history, After, Throughout, forwards, scope_of, alone, Meanings, enter, call, applied, adds, stays, with_after, closing_after, library, ties_add, library_ties, earlier, calling_on, each_way_after}
-use Rattle.bk_simulation.proofs.Pieces.{by_option, Moves, call_step, at_routine, entering, does, call_stmt, frames_called, Like, like_on, Applies, moved_on, fits_above, moved_above, stands_grown, below_like, settle_like, moves_bytes, turns_of, turns_among, Setting, CallAt, IsValue, AreValues, count, Configuration, start, FewFrames, Ready, Account, one, comes_on, Ran, went, each_way_ran, with_ran, CompletedAt, there, Out, next, ready_next, stay, roomy, completed_step, completed_on, ran_on, Simulates, for_values, value_run, called_cells, called_like, called_argument, called_frame, called_back, called_links}
+use Rattle.bk_simulation.proofs.Pieces.{by_option, Moves, call_step, at_routine, entering, does, call_stmt, frames_called, Like, like_on, Applies, moved_on, fits_above, moved_above, stands_grown, below_like, settle_like, moves_bytes, turns_of, turns_among, Setting, CallAt, IsValue, AreValues, count, Configuration, start, FewFrames, Ready, Account, one, comes_on, Ran, went, each_way_ran, with_ran, CompletedAt, there, Out, next, ready_next, stay, roomy, completed_step, completed_on, ran_on, Simulates, for_values, value_run, called_cells, called_like, called_argument, called_frame, called_back, called_links, ◌≡◌, ℕ, suc, ◌+◌, ◌-◌, ◌*◌, ◌<◌, ◌≤◌, ◌^◌, max, nat_lt, Bool, true, false, List, ◌∷◌, length, Some, None, refl, sym, ap, ◌∙◌, subst, arith, option_map_or, slice_get_within, FRAME_WORDS, Expression, Expressions, Command, Word, Cell, content_of, below, settle, Placed, Callables, Inside, State, slot, can_be_called, Stmt, Stack, Value, procedure, routine, World, Exit, Outcome, calling, calls_back, Environment, past, procedure_of, history, After, Throughout, forwards, scope_of, alone, Meanings, enter, call, applied, adds, stays, with_after, closing_after, library, ties_add, library_ties, earlier, calling_on, each_way_after}
 use Rattle.bk_ocode.specs.OcodeState as ocode
 use Rattle.bk_meaning.specs.Values as value
 use Rattle.bk_meaning.specs.Lasting.{Program}

@@ -1,7 +1,5 @@
 -- Assignments: each value, its destination, and the word or byte that is stored.
-use Rattle.bk_meaning.specs.Causes.{cell_cause, set_byte_cause}
-use Rattle.bk_meaning.specs.Operators.{sum_cause}
-use Rattle.bk_simulation.proofs.Words.{false, ◌≡◌, ℕ, ◌+◌, ◌-◌, ◌*◌, ◌<◌, ◌≤◌, true, List, ◌∷◌, Option, Some, None, refl, sym, ap, ◌∙◌, subst, arith, ◌%◌, ◌^◌, word_sum, byte_distance, Content, Variable, Cell, Held, content_of, kind_of, write, below, Word, Placed, Inside, State, named_place, has_word, Local, Static, Stmt, Assign, AssignAt, AssignByte, Address, Dyadic, Expression, Expressions, Value, address, holds, Memory, write_byte, Environment, past, Sense, constant, cell, sense_of, World, changes, remembering, Outcome, gives, given, with, history, Meanings, at, store as put_value, address_named, assigned, Adds, adds, stays, with_after, changes_after, sum}
+use Rattle.bk_simulation.proofs.Words.{false, ◌≡◌, ℕ, ◌+◌, ◌-◌, ◌*◌, ◌<◌, ◌≤◌, true, List, ◌∷◌, Option, Some, None, refl, sym, ap, ◌∙◌, subst, arith, ◌%◌, ◌^◌, word_sum, byte_distance, Content, Variable, Cell, Held, content_of, kind_of, write, below, Word, Placed, Inside, State, named_place, has_word, Local, Static, Stmt, Assign, AssignAt, AssignByte, Address, Dyadic, Expression, Expressions, Value, address, holds, Memory, write_byte, Environment, past, Sense, constant, cell, sense_of, World, changes, remembering, Outcome, gives, given, with, history, Meanings, at, store as put_value, address_named, assigned, Adds, adds, stays, with_after, changes_after, sum, cell_cause, set_byte_cause, sum_cause}
 use Rattle.bk_simulation.proofs.Pieces.{by_option, Moves, assign_moves, assign_at_moves, assign_byte_moves, does, AreBytes, write_byte_at, BaseOf, Like, Applies, Store, Moved, Fits, moved_on, fits_above, fits_more, fits_less, moved_above, below_like, variable_found, put, write_here, write_at, turns_of, turns_among, Setting, Stretch, ByTurns, AreFrom, AreStores, IsStore, named_word, IsValue, Configuration, store, state, start, place_of, Ready, Account, further, went, with_ran, CompletedAt, store_at, there, Has, next, ready_next, NameAt, Ran, Out, stay, stepped, completed_more, completed_on, ran_on, comes_to, ran_more, above, Simulates, for_value, Destined, word, through, byte, RanDid, HasAddress, one_run, dyadic_topped, Two, for_two, two_run, pushes_item, named_at, ready_at, sum_applied}
 use Rattle.bk_simulation.proofs.Terms.{Variable as Named, Target, byte_at, Dyadic as two}
 use Rattle.bk_tree.specs.Tree as t

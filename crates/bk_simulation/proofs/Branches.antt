@@ -1,6 +1,5 @@
 -- IF, UNLESS and TEST.
-use Rattle.bk_simulation.proofs.Words.{◌≡◌, ℕ, ◌+◌, ◌-◌, ◌*◌, ◌≤◌, Bool, true, false, not, ◌||◌, cond, List, ◌∷◌, refl, sym, ap, ◌∙◌, subst, arith, Option, Some, pos, State, Stmt, Label, Jump, GiveResult, Finish, Expression, Command, Environment, past, past_command, Sought, Mode, forwards, seeking, has_place, same_place, at_place, World, done, with, either, Exit, break, result, status, leaves, ends, history, Meanings, same_truth, where_truth, Adds, adds, stays, either_after, Status, Content, content_of, from_label}
-use Rattle.bk_simulation.proofs.Pieces.{by_test, turns_of, turns_in, same_stands, Setting, LabelAt, IsJump, IsAct, Entered, IsValue, PlaceOf, Configuration, start, Ready, Account, went, with_ran, CompletedAt, next, ready_next, here, Stopped, Handed, Leads, still, stay, completed_on, ran_on, ran_more, completed_more, comes_to, ran_first, Simulates, for_truth, where_to, Did, RanDid, landed_on, jumped_on, result_on, or_second, finish_step, one_run}
+use Rattle.bk_simulation.proofs.Pieces.{by_test, turns_of, turns_in, same_stands, Setting, LabelAt, IsJump, IsAct, Entered, IsValue, PlaceOf, Configuration, start, Ready, Account, went, with_ran, CompletedAt, next, ready_next, here, Stopped, Handed, Leads, still, stay, completed_on, ran_on, ran_more, completed_more, comes_to, ran_first, Simulates, for_truth, where_to, Did, RanDid, landed_on, jumped_on, result_on, or_second, finish_step, one_run, ◌≡◌, ℕ, ◌+◌, ◌-◌, ◌*◌, ◌≤◌, Bool, true, false, not, ◌||◌, cond, List, ◌∷◌, refl, sym, ap, ◌∙◌, subst, arith, Option, Some, pos, State, Stmt, Label, Jump, GiveResult, Finish, Expression, Command, Environment, past, past_command, Sought, Mode, forwards, seeking, has_place, same_place, at_place, World, done, with, either, Exit, break, result, status, leaves, ends, history, Meanings, same_truth, where_truth, Adds, adds, stays, either_after, Status, Content, content_of, from_label}
 
 -- ---- Commands without parts, and places that may be sought: GOTO, BREAK, LOOP, ENDCASE, RETURN, FINISH, RESULTIS; labels, CASE, DEFAULT.
 

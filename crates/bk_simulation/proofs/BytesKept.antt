@@ -1,6 +1,5 @@
 -- In a run of OCODE the bytes of words that are partly set are bytes.
-use Rattle.bk_simulation.proofs.Lists.{either_way, by_option}
-use Rattle.bk_simulation.proofs.Words.{◌≡◌, ℕ, ◌+◌, ◌-◌, ◌<◌, ◌^◌, ◌==◌, ◌%◌, nat_lt, Bool, true, false, List, [], ◌∷◌, ◌++◌, length, Option, Some, None, subst, if◌then◌else◌, option_map, option_map_or, word_sum, byte_distance, byte_place, Content, Unset, Word, Variable, Temporary, Link, Cell, Free, Held, content_of, kind_of, byte_in, with_byte, write, below, settle, Placed, Callables, Routine, Stop, Rdch, Wrch, Newline, Writes, Writen, Writed, Getbyte, Putbyte, Writef, Control, Inside, Following, At, State, Next, Goes, Wild, on, slot, on_number, operated, named_place, has_word, from_label, jump, jump_with, case_label, can_be_called, tells, dyadic_word, routine_step, step_by, step_in, step_from, Rest, in_hand, resumed, resumed_by, Program, program_step, kept, variable_in, variable_at, byte_at, word_with_byte_at, string_at, Stmt, Load, Monadic, Dyadic, LoadByte, Assign, AssignAt, AssignByte, Jump, JumpIf, Label, GiveResult, TakeResult, Stack, Store, Entry, Save, CallFunction, CallRoutine, ReturnItem, Return, EndProcedure, Switch, Finish, DataLabel, DataNumber, DataAddress, Globals, on_number-holds, on_some-holds, if-holds, Contents, Negate, Not}
+use Rattle.bk_simulation.proofs.Lists.{either_way, by_option, ◌≡◌, ℕ, ◌+◌, ◌-◌, ◌<◌, ◌^◌, ◌==◌, ◌%◌, nat_lt, Bool, true, false, List, [], ◌∷◌, ◌++◌, length, Option, Some, None, subst, if◌then◌else◌, option_map, option_map_or, word_sum, byte_distance, byte_place, Content, Unset, Word, Variable, Temporary, Link, Cell, Free, Held, content_of, kind_of, byte_in, with_byte, write, below, settle, Placed, Callables, Routine, Stop, Rdch, Wrch, Newline, Writes, Writen, Writed, Getbyte, Putbyte, Writef, Control, Inside, Following, At, State, Next, Goes, Wild, on, slot, on_number, operated, named_place, has_word, from_label, jump, jump_with, case_label, can_be_called, tells, dyadic_word, routine_step, step_by, step_in, step_from, Rest, in_hand, resumed, resumed_by, Program, program_step, kept, variable_in, variable_at, byte_at, word_with_byte_at, string_at, Stmt, Load, Monadic, Dyadic, LoadByte, Assign, AssignAt, AssignByte, Jump, JumpIf, Label, GiveResult, TakeResult, Stack, Store, Entry, Save, CallFunction, CallRoutine, ReturnItem, Return, EndProcedure, Switch, Finish, DataLabel, DataNumber, DataAddress, Globals, on_number-holds, on_some-holds, if-holds, Contents, Negate, Not}
 use Rattle.bk_ocode.specs.OcodeStep.{push, call, return, read_byte}
 use Rattle.bk_simulation.proofs.CellBytes.{IsByte, AreBytes, byte_is, four_are_bytes, byte_low}
 use Rattle.bk_simulation.proofs.Moves.{Moves, settled, going}

@@ -1,8 +1,6 @@
 -- Calls of procedures: their frame, their body, and back. A procedure is called: into its frame, through its body, and back.
-use Rattle.bk_simulation.proofs.Words.{◌≡◌, ℕ, ◌+◌, ◌-◌, ◌*◌, ◌≤◌, Bool, List, ◌∷◌, length, Option, Some, None, refl, ap, arith, slice_get, suc, ◌<◌, ◌^◌, ◌≢◌, true, false, sym, ◌∙◌, subst, zero, Command, Expression, Expressions, Content, Word, content_of, Temporary, Link, Cell, Held, write, below, Inside, State, Goes, At, in_hand, program_step, Stmt, ReturnItem, Return, Entry, Save, Value, unset, World, Exit, return, Outcome, gives, each_way, closing, forgetting, Done, calls_back, Environment, past, Body, command, expression, Procedure, procedure_of, history, After, Throughout, forwards, scope_of, alone, Meanings, return_exit, run_body, bind_formals, values, adds, stays, each_way_after, with_after, FRAME_WORDS, max, nat_lt, [], ◌++◌, ⊎_elim, inl, inr, append-nil, option_map_or, slice_get_within, Placed, Callables, slot, can_be_called, procedure, holds, making, calling, formal_cells, enter, closing_after, ltb-false, ltb-true, IsCallAt, drop, Cell_of}
-use Rattle.bk_simulation.proofs.Pieces.{by_test, by_option, Applies, BaseOf, Grown, Like, like_refl, Moved, Fits, moved_on, fits_above, moved_above, Alive, StandsCell, Store, fits_more, turns_of, turns_through, Setting, Scene, IsAlone, IsValue, CallAt, AreValues, count, Configuration, start, Ready, Account, Ran, went, each_way_ran, so, CompletedAt, there, Has, Out, store, state, FewFrames, Comes, comes_on, one, with_ran, next, ready_next, here, go_on, falls_on, ran_from, completed_more, roomy, links_below, stay, completed_on, ran_on, ran_more, above, Simulates, for_scope, RanDid, for_value, for_values, value_run, Moves, returning, return_item_step, entering, does, call_stmt, call_step, call_settled, entry_settled, LinksFrom, links_kept, frames_called, untouched, below_at, below_like, HasBytes, moves_bytes, make, grown_made, lying, Since, since_on, since_made, since_moved, closed_moved, closed_fits, make_fits, IsFree, get_new, called_cells, saved_cells, called_argument, called_frame, called_back, called_links, saved_links, saved_same, saved_like, saved_formal, formals_long, formal_is, NamedIn}
+use Rattle.bk_simulation.proofs.Pieces.{by_test, by_option, Applies, BaseOf, Grown, Like, like_refl, Moved, Fits, moved_on, fits_above, moved_above, Alive, StandsCell, Store, fits_more, turns_of, turns_through, Setting, Scene, IsAlone, IsValue, CallAt, AreValues, count, Configuration, start, Ready, Account, Ran, went, each_way_ran, so, CompletedAt, there, Has, Out, store, state, FewFrames, Comes, comes_on, one, with_ran, next, ready_next, here, go_on, falls_on, ran_from, completed_more, roomy, links_below, stay, completed_on, ran_on, ran_more, above, Simulates, for_scope, RanDid, for_value, for_values, value_run, Moves, returning, return_item_step, entering, does, call_stmt, call_step, call_settled, entry_settled, LinksFrom, links_kept, frames_called, untouched, below_at, below_like, HasBytes, moves_bytes, make, grown_made, lying, Since, since_on, since_made, since_moved, closed_moved, closed_fits, make_fits, IsFree, get_new, called_cells, saved_cells, called_argument, called_frame, called_back, called_links, saved_links, saved_same, saved_like, saved_formal, formals_long, formal_is, NamedIn, ◌≡◌, ℕ, ◌+◌, ◌-◌, ◌*◌, ◌≤◌, Bool, List, ◌∷◌, length, Option, Some, None, refl, ap, arith, slice_get, suc, ◌<◌, ◌^◌, ◌≢◌, true, false, sym, ◌∙◌, subst, zero, Command, Expression, Expressions, Content, Word, content_of, Temporary, Link, Cell, Held, write, below, Inside, State, Goes, At, in_hand, program_step, Stmt, ReturnItem, Return, Entry, Save, Value, unset, World, Exit, return, Outcome, gives, each_way, closing, forgetting, Done, calls_back, Environment, past, Body, command, expression, Procedure, procedure_of, history, After, Throughout, forwards, scope_of, alone, Meanings, return_exit, run_body, bind_formals, values, adds, stays, each_way_after, with_after, FRAME_WORDS, max, nat_lt, [], ◌++◌, ⊎_elim, inl, inr, append-nil, option_map_or, slice_get_within, Placed, Callables, slot, can_be_called, procedure, holds, making, calling, formal_cells, enter, closing_after, ltb-false, ltb-true, IsCallAt, drop, Cell_of, written}
 use Rattle.bk_meaning.specs.Lasting.{Program}
-use Rattle.bk_simulation.proofs.WrittenCells.{written}
 use Rattle.bk_tree.specs.Tree as t
 
 -- ---- The arguments of a call, from left to right.

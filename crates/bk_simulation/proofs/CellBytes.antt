@@ -1,6 +1,5 @@
 -- Bytes of cells of the meaning, and of contents of OCODE.
-use Rattle.bk_simulation.proofs.Lists.{either_way, by_option}
-use Rattle.bk_simulation.proofs.Words.{◌≡◌, ℕ, zero, suc, ◌+◌, ◌<◌, ◌%◌, ◌^◌, ◌==◌, Bool, true, false, cond, List, Option, Some, None, refl, sym, ap, ◌∙◌, subst, if◌then◌else◌, arith, option_and_then, option_map, word_sum, word_with_byte, byte_distance, byte_place, Value, number, address, unset, holds, places, filled, set_among, Memory, cell_at, with_cell, cell_of_byte, read_byte, write_byte, Content, Unset, Partly, Word, Variable, Held, byte_in, four_bytes, with_byte, variable_at, byte_at, word_with_byte_at, word_byte-small, word_byte-packed_0, word_byte-packed_1, word_byte-packed_2, word_byte-packed_3, Cell_of}
+use Rattle.bk_simulation.proofs.Lists.{either_way, by_option, ◌≡◌, ℕ, zero, suc, ◌+◌, ◌<◌, ◌%◌, ◌^◌, ◌==◌, Bool, true, false, cond, List, Option, Some, None, refl, sym, ap, ◌∙◌, subst, if◌then◌else◌, arith, option_and_then, option_map, word_sum, word_with_byte, byte_distance, byte_place, Value, number, address, unset, holds, places, filled, set_among, Memory, cell_at, with_cell, cell_of_byte, read_byte, write_byte, Content, Unset, Partly, Word, Variable, Held, byte_in, four_bytes, with_byte, variable_at, byte_at, word_with_byte_at, word_byte-small, word_byte-packed_0, word_byte-packed_1, word_byte-packed_2, word_byte-packed_3, Cell_of}
 use Rattle.bk_meaning.specs.Values as value
 use Rattle.bk_simulation.proofs.Memory.{Store, HoldsByte, Codes, Applies, StandsCell, Moved, Fits}
 use Rattle.bk_simulation.proofs.WrittenCells.{FoundAt, found_at, write_at, put, variable_found}

@@ -1,6 +1,5 @@
 -- How runs compose: another account, a step more, a part behind another; and parts in which objects are made that die at their end.
-use Rattle.bk_simulation.proofs.Words.{◌≡◌, ℕ, suc, ◌+◌, ◌-◌, ◌*◌, ◌<◌, ◌≤◌, List, ◌∷◌, length, Option, None, refl, sym, ◌∙◌, subst, arith, FRAME_WORDS, Binding, Content, Temporary, Cell, Held, content_of, write, below, Placed, State, Stmt, Around, meant, goal_in, Value, Memory, Environment, World, Exit, goto, Outcome, turn, closing, forgetting, remembering, history, adds, stays}
-use Rattle.bk_simulation.proofs.Situations.{Moves, LinksFrom, links_kept, moves_bytes, Like, like_on, Applies, Store, Moved, Fits, moved_refl, moved_on, fits_above, fits_more, fits_less, moved_less, stands_grown, Since, since_on, since_cells, since_moved, closed_moved, closed_fits, pushed_like, pushed_at, Setting, Scene, Exits, IsLabelHere, KeepsLabels, Configuration, store, state, start, FewFrames, Ready, Account, further, paying, here, comes_on, one, Ran, went, each_way_ran, ran_from, so, turn_behind, Completed, CompletedAt, OpenCompleted, store_at, there, Has, GoesTo, Leads, Exited, Out, next, NamedIn}
+pub use Rattle.bk_simulation.proofs.Situations.{Moves, LinksFrom, links_kept, moves_bytes, Like, like_on, Applies, Store, Moved, Fits, moved_refl, moved_on, fits_above, fits_more, fits_less, moved_less, stands_grown, Since, since_on, since_cells, since_moved, closed_moved, closed_fits, pushed_like, pushed_at, Setting, Scene, Exits, IsLabelHere, KeepsLabels, Configuration, store, state, start, FewFrames, Ready, Account, further, paying, here, comes_on, one, Ran, went, each_way_ran, ran_from, so, turn_behind, Completed, CompletedAt, OpenCompleted, store_at, there, Has, GoesTo, Leads, Exited, Out, next, NamedIn, ◌≡◌, ℕ, suc, ◌+◌, ◌-◌, ◌*◌, ◌<◌, ◌≤◌, List, ◌∷◌, length, Option, None, refl, sym, ◌∙◌, subst, arith, FRAME_WORDS, Binding, Content, Temporary, Cell, Held, content_of, write, below, Placed, State, Stmt, Around, meant, goal_in, Value, Memory, Environment, World, Exit, goto, Outcome, turn, closing, forgetting, remembering, history, adds, stays, by_test, not_true, same_stands_one, IsAct, AreActs, Entered, EnteredAny, with_ran, named_again, ready_in, ready_next, Bool, true, false, ◌||◌, cond, ap, Command, Commands, past_command, Sought, Mode, forwards, seeking, has_place, one_has_place, with, either, Meanings, in_order, Adds, with_after, either_after, by_option, label_moves, jump_moves, taken_moves, passed_moves, give_result_moves, does, below_like, judged_word, LabelAt, still, ◌==◌, not, Some, option_map_or, Unset, Word, settle, Inside, Goal, from_label, Jump, JumpIf, Label, GiveResult, TakeResult, Stack, truth_of_value, given, judged, drop, truth_cause, contents_moves, dyadic_moves, load_byte_moves, dyadic_ends, one_off, pushed, BaseOf, Grown, read_at, variable_found, read_here, read_byte_at, operates, sum_applied, PrefixedAs, OperatedAs, IsValue, named_word, IsJump, place_of, NameAt, turns_of, IsWord, on_number, step_by, slot, Goes, ◌++◌, ◌^◌, option_map, signed, word_of, truth, Operator, dyadic_word, named_place, DivideByZero, Monadic, Dyadic, LoadByte, Number, True, False, Query, Load, Address, Text, infix_code, variable, push, truth_value, number, address, unset, read, read_byte, gives, ends, undefined, sum, operate, operate_prefix, fetch, named, combined, Expression, past, Sense, constant, cell, sense_of, of_z-to_z, Bound, bound_in, Local, Static, Target, w32, Cause, cell_cause, byte_cause, sum_cause}
 
 -- ---- one arrival
 

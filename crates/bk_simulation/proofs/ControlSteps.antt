@@ -1,8 +1,5 @@
 -- Steps that move control from where a run has come to: LAB, jumps, tests, results.
-use Rattle.bk_meaning.specs.Operators.{truth_cause}
-use Rattle.bk_simulation.proofs.Words.{◌≡◌, ℕ, suc, ◌+◌, ◌-◌, ◌<◌, ◌≤◌, ◌==◌, Bool, true, false, not, List, ◌∷◌, length, Option, Some, None, refl, ap, ◌∙◌, subst, arith, option_map_or, Content, Unset, Word, Cell, content_of, below, settle, Placed, Inside, State, Goal, from_label, Stmt, Jump, JumpIf, Label, GiveResult, TakeResult, Stack, Value, truth_of_value, World, Exit, given, forgetting, judged, drop}
-use Rattle.bk_simulation.proofs.Situations.{by_option, Moves, label_moves, jump_moves, taken_moves, passed_moves, give_result_moves, does, Like, Applies, Store, Moved, below_like, judged_word, Setting, Scene, LabelAt, Configuration, state, Ready, Account, paying, Ran, went, Completed, CompletedAt, OpenCompleted, there, Has, GoesTo, Exited, Out, still}
-use Rattle.bk_simulation.proofs.Compose.{accounted, stepped, links_below, completed_more, completed_paid, topped, closed_arrival}
+use Rattle.bk_simulation.proofs.Compose.{accounted, stepped, links_below, completed_more, completed_paid, topped, closed_arrival, by_option, Moves, label_moves, jump_moves, taken_moves, passed_moves, give_result_moves, does, Like, Applies, Store, Moved, below_like, judged_word, Setting, Scene, LabelAt, Configuration, state, Ready, Account, paying, Ran, went, Completed, CompletedAt, OpenCompleted, there, Has, GoesTo, Exited, Out, still, ◌≡◌, ℕ, suc, ◌+◌, ◌-◌, ◌<◌, ◌≤◌, ◌==◌, Bool, true, false, not, List, ◌∷◌, length, Option, Some, None, refl, ap, ◌∙◌, subst, arith, option_map_or, Content, Unset, Word, Cell, content_of, below, settle, Placed, Inside, State, Goal, from_label, Stmt, Jump, JumpIf, Label, GiveResult, TakeResult, Stack, Value, truth_of_value, World, Exit, given, forgetting, judged, drop, truth_cause}
 use Rattle.bk_simulation.proofs.Simulates.{where_to, HasTruth}
 
 -- at a LAB: on behind it, which pays

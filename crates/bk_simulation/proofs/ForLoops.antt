@@ -1,6 +1,5 @@
 -- FOR as a command.
-use Rattle.bk_meaning.specs.Causes.{cell_cause, no_constant}
-use Rattle.bk_simulation.proofs.Words.{◌≡◌, ◌≢◌, ℕ, zero, suc, ◌+◌, ◌-◌, ◌*◌, ◌<◌, ◌≤◌, ◌^◌, Bool, true, false, cond, List, [], ◌∷◌, ◌++◌, length, Some, None, refl, sym, ap, ◌∙◌, subst, arith, ⊎_elim, not, nat_lt, pos, int_lt, bytes_eq-Decides, FRAME_WORDS, Bound, Binding, bound_in, bind as bind_bound, Content, Cell, Variable, Held, content_of, below, settle, Word, State, Local, Stmt, Label, Load, JumpIf, Jump, Store as Store_stmt, Stack, Number, Dyadic, Assign, variable, test_of_step, goal, Mention, Expression, Expressions, Command, Value, holds, number, address, Environment, cell, past, World, Outcome, Done, done, given, with, either, making, Exit, break, loop, turn, history, Meanings, fetch, store as put_value, at, Sought, forwards, step_of, for_test, for_rounds_of, for_loop, round_exit, for_step, relation, Adds, adds, with_after, given_after, closing_after, stays, each_way_after, turn_after, changes_after, either_after, scope_of, alone, nat_tests, ints, signed, word_of, from_label, read, operate, judged, slice_get, Cell_of}
+use Rattle.bk_simulation.proofs.Words.{◌≡◌, ◌≢◌, ℕ, zero, suc, ◌+◌, ◌-◌, ◌*◌, ◌<◌, ◌≤◌, ◌^◌, Bool, true, false, cond, List, [], ◌∷◌, ◌++◌, length, Some, None, refl, sym, ap, ◌∙◌, subst, arith, ⊎_elim, not, nat_lt, pos, int_lt, bytes_eq-Decides, FRAME_WORDS, Bound, Binding, bound_in, bind as bind_bound, Content, Cell, Variable, Held, content_of, below, settle, Word, State, Local, Stmt, Label, Load, JumpIf, Jump, Store as Store_stmt, Stack, Number, Dyadic, Assign, variable, test_of_step, goal, Mention, Expression, Expressions, Command, Value, holds, number, address, Environment, cell, past, World, Outcome, Done, done, given, with, either, making, Exit, break, loop, turn, history, Meanings, fetch, store as put_value, at, Sought, forwards, step_of, for_test, for_rounds_of, for_loop, round_exit, for_step, relation, Adds, adds, with_after, given_after, closing_after, stays, each_way_after, turn_after, changes_after, either_after, scope_of, alone, nat_tests, ints, signed, word_of, from_label, read, operate, judged, slice_get, Cell_of, cell_cause, no_constant}
 use Rattle.bk_simulation.proofs.Pieces.{by_option, by_test, jump_moves, does, BaseOf, Alive, Like, like_on, Applies, StandsCell, Store, Moved, moved_on, fits_above, fits_more, stands_grown, below_at, below_like, settle_like, settle_at, read_here, make, make_fits, Since, since_refl, since_on, since_cells, since_made, grown_made, lying, since_moved, get_new, turns_of, turns_in, turns_through, Setting, Scene, in_loop, IsAlone, KeepsLabels, LabelAt, IsAct, IsForLoop, behind_body, some_objects, Configuration, store, state, start, named_grown, Ready, Account, further, went, ran_from, CompletedAt, OpenCompleted, there, next, ready_next, each_way_ran, with_ran, so, Out, Has, begun, stay, links_like, with_objects, stepped, following, completed_more, comes_to, open_configuration, open_ready, open_step, open_on, ran_open, closed_ran, completed_turn, turn_there, ran_more, outside, completed_on, topped, above, Simulates, Limit, where_to, RanDid, for_scope, for_counts, label_on, landed_on, closes, caught_at, tested, bound_named, operates, dyadic_run, for_two, two_run, Two, RanValue, pushes_item, same_number, NameAt}
 use Rattle.bk_simulation.proofs.Terms.{Bound as b, bind, Operator as op, Dyadic as two}
 use Rattle.bk_tree.specs.Tree as t

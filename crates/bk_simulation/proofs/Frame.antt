@@ -4,8 +4,7 @@ use Rattle.bk_meaning.specs.World as world
 use Rattle.bk_simulation.proofs.Moves.{Moves}
 use Rattle.bk_simulation.proofs.FramesKept.{AtMostFrames}
 use Rattle.bk_simulation.proofs.BytesKept.{AllBytes, InHand, HasBytes}
-use Rattle.bk_simulation.proofs.Memory.{Applies, Store, Grown, Moved, Fits, fits_more}
-use Rattle.bk_simulation.proofs.MadeObjects.{Since}
+use Rattle.bk_simulation.proofs.MadeObjects.{Since, Applies, Store, Grown, Moved, Fits, fits_more}
 pub use Rattle.bk_simulation.proofs.Laid.{place_of, IsWord, NameAt, NamedIn}
 use Rattle.bk_simulation.proofs.Laid.{Setting, Scene, goal_named, IsLabelHere}
 

@@ -1,13 +1,11 @@
 -- Declarations are laid where the scheme puts them, before what is laid in their scope: MANIFEST, STATIC, GLOBAL and LET.
 use Rattle.bk_simulation.proofs.Words.{declared-next, Part, static_item, term_named, parts, ◌≡◌, ℕ, ◌+◌, ◌<◌, ◌≤◌, Bool, true, false, List, [], ◌∷◌, ◌++◌, cond, refl, sym, ap, ◌∙◌, subst, arith, append_assoc, length, Option, Some, None, le-ltb, suc, ◌^◌, slice_get, Sort, Items, Declaration, Declarations, Definitions, Expression, Starts, Enclosing, Binding, bind_all, bound_in, procedures_in_scope, manifests_in_scope, statics_in_scope, globals_in_scope, place_after_defined, scope_after_one, place_after_one, scope_after, place_after_all, labels_in_scope, SoundDeclared, SoundOneDeclared, SoundStarted, SoundDefined, HasWord, StaticsSound, Spot, procedures_in, after_one_declared, Stmt, Store, Address, Stack, DataLabel, DataNumber, after_definitions, after_declaration, after_declarations, has_variables, after_starts, labels_of_declaration, labels, labels_of_procedure, labels_of_definition, definitions_named, declaration_named, declarations_named, meant, worth, starts_named, definition_named, statics_named, parts_of_definitions, parts_of_declaration, parts_of_declarations, parts_of_starts, parts_of_definition, parts_of_items, outermost, definitions_code, declaration_code, declarations_code, value_code, starts_code, goal, goal_of, Around as Surroundings, Named, Environment, bind_procedures, within_let, objects_of_definitions, objects_of_declaration, objects_of_declarations, objects, objects_of_command, objects_of_starts, count, constant_in, Lasting, declared, all_declared, of_items, of_declaration, of_declarations, of_definitions, of_starts, command, expression, words, static_words, VEC_NUMBER, constant_word, labels_of, with_formals, within, words_of_vector, words_of_start, place_after, deeper, Local, unwrap_or, signed, Placed, item_words, Goal, first_bytes, EndProcedure, Return, ReturnItem, command_code, foreign, letters, bind_formals, false≢true, of_command, in_scope, of_expression, bind_each, procedure_code, command_named, parts_in, same_defined, RegularItems, RegularDeclaration, RegularDeclarations, RegularDefinitions, RegularStarts, Regular, inl, inr, bind, is_global, procedure_in_scope, Target, after_definition, target_of_word, AllFound, AmongProcedures, Looked, look_procedure}
-use Rattle.bk_simulation.proofs.Forms.{turns_one_declared, turns_declared, turns_defined, turns_started, of_light, in_light, with_names, Setting, Scene, Exits, Spot as Slot, NamedIn, defines_variables, variables_bound, Renames, IsOneDeclared, AreDeclared, AreDefined, pushes, AreStarts, IsCode, IsAlone, Agree, there_in, IsNumbered, passed, written, Home, home, Bases, no_bases, bases_so, bases_of, bases_under, bases_some, Lies, both_bases, new_base, then_bases, lie, bases_within, data_at, FoundParts, found_front, found_back, DataIn, data_within, within_at, HasWords, Around, InNames, joined_two, around_deeper, constants_agree, words_manifests, words_statics, words_globals, words_procedures, BaseOf, constant_small, InData}
-use Rattle.bk_simulation.proofs.LaidAssigned.{Doing, words_labels, alone_lies, names_bound}
+use Rattle.bk_simulation.proofs.LaidAssigned.{Doing, words_labels, alone_lies, names_bound, ValofsLie, laid_code}
 use Rattle.bk_simulation.proofs.Renamed.{static_places, AreBases, renames_manifests, renames_statics, renames_globals, AreProcedures, from_spots, spots_in, variables_in, spots_words, renames_procedures, renames_variables, bound_agree, next_bound, foreign_spots, foreign_agree, foreign_mean, hidden_are, slots_of, itself}
-use Rattle.bk_simulation.proofs.LaidValues.{ValofsLie, laid_code}
 use Rattle.bk_simulation.proofs.LaidActs.{BlocksLie, laid_act}
 use Rattle.bk_simulation.proofs.Terms.{procedure, Sort as sort, Bound as b}
 use Rattle.bk_simulation.proofs.LaidProcedures.{scene_of, body_lies, formals_around, words_formals, agree_formals, procedure_bases}
-use Rattle.bk_simulation.proofs.HeldData.{statement_data, statement_below, items_are, worth_is, words_paid, word_base}
+use Rattle.bk_simulation.proofs.HeldData.{statement_data, statement_below, items_are, worth_is, words_paid, word_base, turns_one_declared, turns_declared, turns_defined, turns_started, of_light, in_light, with_names, Setting, Scene, Exits, Spot as Slot, NamedIn, defines_variables, variables_bound, Renames, IsOneDeclared, AreDeclared, AreDefined, pushes, AreStarts, IsCode, IsAlone, Agree, there_in, IsNumbered, passed, written, Home, home, Bases, no_bases, bases_so, bases_of, bases_under, bases_some, Lies, both_bases, new_base, then_bases, lie, bases_within, data_at, FoundParts, found_front, found_back, DataIn, data_within, within_at, HasWords, Around, InNames, joined_two, around_deeper, constants_agree, words_manifests, words_statics, words_globals, words_procedures, BaseOf, constant_small, InData}
 use Rattle.bk_tree.specs.Tree as t
 use Rattle.bk_scope.specs.Spots as spot
 use Rattle.bk_scope.specs.Places as place

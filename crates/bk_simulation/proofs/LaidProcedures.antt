@@ -1,10 +1,8 @@
 -- Procedures are laid where the scheme puts them, where their bodies are: their ENTRY and SAVE, and what their formals are.
-use Rattle.bk_simulation.proofs.Words.{◌≡◌, ℕ, suc, ◌+◌, ◌-◌, ◌<◌, ◌≤◌, ◌^◌, false, List, [], ◌∷◌, ◌++◌, length, Option, Some, None, cond, refl, sym, ap, ap₂, ◌∙◌, subst, arith, slice_get, drop, bytes_eq-Decides, FRAME_WORDS, Mention, Bound, Binding, bound_in, bind, with_formals, Callable, next_depth, depth_after, Placed, Program, IsWellPlaced, item_words, Stmt, Entry, Save, EndProcedure, DataLabel, DataAddress, Target, meant, variable, outermost, procedure_code, word_code, Named, Sense, Environment, cell, foreign, bind_each, sense_in, global_named, letters, Body, command, expression, Lasting, code, of_command, of_expression, in_scope, bind_formals, Part, data_code, entries_of, entry_of, entry_setting, joined, map, map-append}
-use Rattle.bk_simulation.proofs.Forms.{words_bound, BaseOf, Codes, with_names, Setting, Scene, IsWord, NamedIn, bound_named, IsBody, InData, HeldWord, HeldList, Agree, SameGlobal, global_of, same_global, own_cell, agree_bound, settings, setting_of, Follow, FollowWords, there_in, bases_under, IsNumbered, first_of, passed, written, Home, Suits, Bases, FoundParts, DataIn, data_within, HasWords, joined_two, place_of}
 use Rattle.bk_simulation.proofs.Terms.{Bound as b, procedure}
 use Rattle.bk_scope.specs.Places.{kept}
 use Rattle.bk_meaning.specs.Environment as m
-use Rattle.bk_simulation.proofs.HeldData.{statement_data, statement_below, word_paid, bound_global, IsCalled, word_base}
+use Rattle.bk_simulation.proofs.HeldData.{statement_data, statement_below, word_paid, bound_global, IsCalled, word_base, words_bound, BaseOf, Codes, with_names, Setting, Scene, IsWord, NamedIn, bound_named, IsBody, InData, HeldWord, HeldList, Agree, SameGlobal, global_of, same_global, own_cell, agree_bound, settings, setting_of, Follow, FollowWords, there_in, bases_under, IsNumbered, first_of, passed, written, Home, Suits, Bases, FoundParts, DataIn, data_within, HasWords, joined_two, place_of, ◌≡◌, ℕ, suc, ◌+◌, ◌-◌, ◌<◌, ◌≤◌, ◌^◌, false, List, [], ◌∷◌, ◌++◌, length, Option, Some, None, cond, refl, sym, ap, ap₂, ◌∙◌, subst, arith, slice_get, drop, bytes_eq-Decides, FRAME_WORDS, Mention, Bound, Binding, bound_in, bind, with_formals, Callable, next_depth, depth_after, Placed, Program, IsWellPlaced, item_words, Stmt, Entry, Save, EndProcedure, DataLabel, DataAddress, Target, meant, variable, outermost, procedure_code, word_code, Named, Sense, Environment, cell, foreign, bind_each, sense_in, global_named, letters, Body, command, expression, Lasting, code, of_command, of_expression, in_scope, bind_formals, Part, data_code, entries_of, entry_of, entry_setting, joined, map, map-append}
 
 -- ---- along a section
 

@@ -1,6 +1,5 @@
 -- A program whose procedures are laid, and that holds what lasts, does what its sections mean.
-use Rattle.bk_simulation.proofs.Words.{◌≡◌, ℕ, ◌<◌, ◌^◌, List, Some, refl, ap, ◌∙◌, ⊎_elim, FRAME_WORDS, Declarations, option_map, number_in, Program, first_state, procedure, stop, program_of, means, meaning, IsWellPlaced, library_routine, DoesFrom, StartsSo, with_start, without_start}
-use Rattle.bk_simulation.proofs.Forms.{Codes, BaseOf, Setting, Simulates, Procedures, named_there, KnowsLibrary, calls_of, NoStart, HasStart, called_at, does_from, first_store, start_there, library_word, HoldsLasting}
+use Rattle.bk_simulation.proofs.Forms.{Codes, BaseOf, Setting, Simulates, Procedures, named_there, KnowsLibrary, calls_of, NoStart, HasStart, called_at, does_from, first_store, start_there, library_word, HoldsLasting, ◌≡◌, ℕ, ◌<◌, ◌^◌, List, Some, refl, ap, ◌∙◌, ⊎_elim, FRAME_WORDS, Declarations, option_map, number_in, Program, first_state, procedure, stop, program_of, means, meaning, IsWellPlaced, library_routine, DoesFrom, StartsSo, with_start, without_start}
 use Rattle.bk_meaning.specs.Values as value
 use Rattle.bk_simulation.proofs.All.{alone_runs, alone_adds, simulates}
 

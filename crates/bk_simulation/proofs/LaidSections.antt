@@ -1,7 +1,5 @@
 -- What lasts of a section lies where the scheme puts it.
-use Rattle.bk_simulation.proofs.Words.{declared-next, Part, true, ◌≡◌, ℕ, ◌+◌, ◌≤◌, false, List, [], ◌∷◌, ◌++◌, cond, refl, sym, ap, ◌∙◌, subst, arith, false≢true, Sort, Items, Declaration, Declarations, Definitions, Enclosing, Binding, scope_after_one, place_after_one, SoundDeclared, SoundOneDeclared, Spot, after_one_declared, beginning, joined, Placed, AreFaultless, Stmt, Store, Target, after_definitions, after_declaration, has_variables, labels_of_declaration, definitions_named, declaration_named, declarations_named, named_tree, target_of, parts_of_declaration, parts_of_declarations, definitions_code, declaration_code, scheme, scheme_is_accepted, targets_found, objects_of_declaration, objects_of_declarations, declared, of_declaration, of_declarations, section_sound, IsAccepted, RegularDeclarations, RegularDefinitions, DefineNoVariables, DeclareNoVariables, append_assoc, Bound, depth_after, Placement, item_words, Globals, static_item, static_table, label_place, procedure_code, data_code, word_code, entries_of, section_code, AllFound}
-use Rattle.bk_simulation.proofs.Forms.{turns_declared, turns_defined, with_names, Setting, Scene, FoundParts, found_front, found_back, data_of_parts, IsNumbered, passed, home, Bases, no_bases, bases_of, bases_so, data_at, written, within_at}
-use Rattle.bk_simulation.proofs.LaidAssigned.{Doing}
+use Rattle.bk_simulation.proofs.LaidAssigned.{Doing, turns_declared, turns_defined, with_names, Setting, Scene, FoundParts, found_front, found_back, data_of_parts, IsNumbered, passed, home, Bases, no_bases, bases_of, bases_so, data_at, written, within_at, declared-next, Part, true, ◌≡◌, ℕ, ◌+◌, ◌≤◌, false, List, [], ◌∷◌, ◌++◌, cond, refl, sym, ap, ◌∙◌, subst, arith, false≢true, Sort, Items, Declaration, Declarations, Definitions, Enclosing, Binding, scope_after_one, place_after_one, SoundDeclared, SoundOneDeclared, Spot, after_one_declared, beginning, joined, Placed, AreFaultless, Stmt, Store, Target, after_definitions, after_declaration, has_variables, labels_of_declaration, definitions_named, declaration_named, declarations_named, named_tree, target_of, parts_of_declaration, parts_of_declarations, definitions_code, declaration_code, scheme, scheme_is_accepted, targets_found, objects_of_declaration, objects_of_declarations, declared, of_declaration, of_declarations, section_sound, IsAccepted, RegularDeclarations, RegularDefinitions, DefineNoVariables, DeclareNoVariables, append_assoc, Bound, depth_after, Placement, item_words, Globals, static_item, static_table, label_place, procedure_code, data_code, word_code, entries_of, section_code, AllFound}
 use Rattle.bk_simulation.proofs.LaidProcedures.{scene_of, all_passed}
 use Rattle.bk_simulation.proofs.LaidDeclarations.{Later, inner, first_defined, constants_bases, behind_constants, let_bases, behind_one}
 use Rattle.bk_simulation.proofs.LaidBlocks.{valofs_lie, blocks_lie}

@@ -1,13 +1,12 @@
 -- Each expression of an accepted section is laid where the scheme puts it, for a value and for a jump. That VALOFs are is taken here as
 -- an argument.
 use Rattle.bk_simulation.proofs.Words.{ap, Operator, Binding, Environment, Lasting, past, ◌≡◌, ℕ, ◌+◌, ◌≤◌, true, false, not, List, [], ◌∷◌, ◌++◌, length, map, Bool, Some, refl, sym, ◌∙◌, subst, arith, slice_get, false≢true, first_bytes, signed, at_expression, size, Expression, Expressions, Command, Enclosing, Role, bound_in, parenthesised, deeper, Sound, SoundEach, HaveWords, Spot, Datum, item_words, Static, Stmt, DataLabel, DataNumber, Number, Query, Address, Text, Monadic, Dyadic, Assign, AssignAt, AssignByte, Label, GiveResult, TakeResult, CallFunction, labels, labels_if, meant, term_named, terms_named, condition_named, lvalue_named, words_named, static_table, parts, parts_each, parts_if, parts_at, push, infix_code, truth_value, value_code, each_code, jump_code, address_code, store_code, variable, data_code, Named, objects, objects_of_each, of_expression, of_each, constant_words, text_words, Part, cond, is_in, role_of_operands, place_of_second, addressed, Regular, RegularEach}
-use Rattle.bk_simulation.proofs.Forms.{turns_of, turns_among, with_names, Setting, Scene, Aim, pushes, jumps, ending, count, LabelAt, IsCode, AreValues, IsAddress, IsStore, InData, Agree, IsNumbered, passed, at_depth, written, label_at, call_at, home, no_bases, new_base, both_bases, three_bases, bases_so, Lies, lie, lies_behind, data_at, FoundParts, found_front, found_back, DataIn, within_at, coded, own_parts, role, level, HasWords, Around, around_deeper, InNames, plain_laid, leaf_on, leaf_lies, pushed_depth, truth_depth, infix_on, joined_two, joined_three, joined_choice, call_lies}
 use Rattle.bk_simulation.proofs.Terms.{Operator as o, Prefix as q, Dyadic as two, Monadic as w}
 use Rattle.bk_tree.specs.Tree as t
 use Rattle.bk_scope.specs.declared.role.Role.TheVariants.{Address as Addressed, Value}
 use Rattle.bk_scope.specs.Faults.{assigned}
 use Rattle.bk_scope.specs.Spots as spot
-use Rattle.bk_simulation.proofs.HeldData.{words_paid, statement_data, statement_below, items_are, words_small, words_agree, datum_paid}
+use Rattle.bk_simulation.proofs.HeldData.{words_paid, statement_data, statement_below, items_are, words_small, words_agree, datum_paid, turns_of, turns_among, with_names, Setting, Scene, Aim, pushes, jumps, ending, count, LabelAt, IsCode, AreValues, IsAddress, IsStore, InData, Agree, IsNumbered, passed, at_depth, written, label_at, call_at, home, no_bases, new_base, both_bases, three_bases, bases_so, Lies, lie, lies_behind, data_at, FoundParts, found_front, found_back, DataIn, within_at, coded, own_parts, role, level, HasWords, Around, around_deeper, InNames, plain_laid, leaf_on, leaf_lies, pushed_depth, truth_depth, infix_on, joined_two, joined_three, joined_choice, call_lies}
 
 -- the words of a TABLE
 table_held : (setting : Setting) (sc : Scene) (n l : ℕ) (es : Expressions) (i : ℕ) (ns : List Named) → Agree ns sc.bindings → HasWords sc.bindings → RegularEach es → HaveWords sc.bindings es → DataIn sc.own (data_code (static_table n (words_named sc.bindings es)))

@@ -1,11 +1,9 @@
 -- The store before START is called fits what lasts.
-use Rattle.bk_simulation.proofs.Words.{◌≡◌, ◌≢◌, ℕ, zero, suc, ◌+◌, ◌-◌, ◌<◌, ◌≤◌, ◌==◌, nat_le, Bool, true, false, List, [], ◌∷◌, ◌++◌, length, map, fold, replicate, Option, Some, None, refl, sym, ap, ◌∙◌, subst, if◌then◌else◌, arith, ◌⊎◌, ⊎_elim, inl, inr, slice_get, eq-eqb, length-append, slice_set, option_and_then, option_map_or, length-map, slice_get_within, FRAME_WORDS, GLOBAL_NUMBER, Unset, Word, Variable, Link, Cell, Free, Held, content_of, Content, global_place, Placed, Placement, Program, Datum, is_in, datum_word, GlobalSetting, entry_setting, stmt_globals, globals_of, all_data, all_globals, unset_cells, with_global, first_cells, chosen-true, chosen-false, number, address, procedure, routine, unset, holds, places, value_in, stop, rdch, wrch, newline, writes, writen, writed, getbyte, putbyte, writef, Object, living, cells_at, Procedure, Lasting, global_vector, words, code, library_cells, set_global, procedures_set, global_cells, entry_cells, object_of, objects_from, first_memory, IsWellPlaced, AreFaultless, GlobalEntry, Stmt, Globals, and_from, and_right, le-leb, length-replicate, length-set, lt-leb, lt-ltb, library_globals, InRange}
-use Rattle.bk_simulation.proofs.Pieces.{either_way, by_option, Codes, BaseOf, Alive, IsCell, Fits, get_at, StandsCell, alive_is, cell_in, object_there, get_set, get_replicate, AreBytes, AllBytes, Setting, untouched}
+use Rattle.bk_simulation.proofs.Pieces.{either_way, by_option, Codes, BaseOf, Alive, IsCell, Fits, get_at, StandsCell, alive_is, cell_in, object_there, get_set, get_replicate, AreBytes, AllBytes, Setting, untouched, ◌≡◌, ◌≢◌, ℕ, zero, suc, ◌+◌, ◌-◌, ◌<◌, ◌≤◌, ◌==◌, nat_le, Bool, true, false, List, [], ◌∷◌, ◌++◌, length, map, fold, replicate, Option, Some, None, refl, sym, ap, ◌∙◌, subst, if◌then◌else◌, arith, ◌⊎◌, ⊎_elim, inl, inr, slice_get, eq-eqb, length-append, slice_set, option_and_then, option_map_or, length-map, slice_get_within, FRAME_WORDS, GLOBAL_NUMBER, Unset, Word, Variable, Link, Cell, Free, Held, content_of, Content, global_place, Placed, Placement, Program, Datum, is_in, datum_word, GlobalSetting, entry_setting, stmt_globals, globals_of, all_data, all_globals, unset_cells, with_global, first_cells, chosen-true, chosen-false, number, address, procedure, routine, unset, holds, places, value_in, stop, rdch, wrch, newline, writes, writen, writed, getbyte, putbyte, writef, Object, living, cells_at, Procedure, Lasting, global_vector, words, code, library_cells, set_global, procedures_set, global_cells, entry_cells, object_of, objects_from, first_memory, IsWellPlaced, AreFaultless, GlobalEntry, Stmt, Globals, and_from, and_right, le-leb, length-replicate, length-set, lt-leb, lt-ltb, library_globals, InRange, written}
 use Rattle.bk_ocode.specs.ProgramStart.{is_global}
 use Rattle.bk_meaning.specs.Values as value
 use Rattle.bk_simulation.proofs.StartRuns.{FirstStore}
 use Rattle.bk_simulation.proofs.ProgramEnds.{NoStart, HasStart}
-use Rattle.bk_simulation.proofs.WrittenCells.{written}
 
 -- ---- The store before START is called has what lasts.
 

@@ -1,9 +1,7 @@
 -- The values of a LET's variables, definition by definition.
-use Rattle.bk_simulation.proofs.Words.{length-replicate, ◌≡◌, ℕ, zero, suc, ◌+◌, ◌-◌, ◌*◌, ◌<◌, ◌≤◌, Bool, true, false, List, [], ◌∷◌, ◌++◌, Some, sym, ap, ◌∙◌, subst, arith, slice_get, ◌≢◌, length, refl, ⊎_elim, length-append, ◌%◌, ◌^◌, Option, None, FRAME_WORDS, Definitions, Starts, Binding, State, Placed, Inside, Stmt, World, Outcome, gives, making, making_vec, Environment, past, past_definition, letters, cell, constant_in, history, After, Throughout, Meanings, adds, stays, vec_on, with_after, turn_after, Content, Variable, Cell, Held, content_of, Word, Temporary, write, below, settle, Value, holds, address, unset, living, made, Local, Stack, Address, Start, paired, let_values, bind_variables, vec_cells, make_vec, Cell_of, acts_at}
-use Rattle.bk_simulation.proofs.Pieces.{Store, BaseOf, Alive, limit, Codes, Applies, StandsCell, Grown, Fits, stands_grown, Like, like_refl, like_on, fits_more, turns_started, turns_defined, turns_of, Setting, Scene, NamedIn, Spot, spots_of, defines_variables, AreStarts, AreDefined, KeepsLabels, variables_bound, AreAt, Configuration, Ready, Account, Ran, went, so, with_ran, OpenCompleted, store_at, named_grown, state, further, ran_same, Completed, named_again, Simulates, completed_more, out_more, turn_there, OpenExited, open_ticked, with_cells, with_objects, open_configuration, open_ready, open_wider, open_step, open_on, ran_open, Since, since_refl, since_on, IsFree, make, make_fits_in, grown_made, lying, since_cells, since_moved, since_made, make_fits, get_new, get_replicate, Moves, does, untouched, below_at, below_like, settle_like, settle_at, value_run}
+use Rattle.bk_simulation.proofs.Pieces.{Store, BaseOf, Alive, limit, Codes, Applies, StandsCell, Grown, Fits, stands_grown, Like, like_refl, like_on, fits_more, turns_started, turns_defined, turns_of, Setting, Scene, NamedIn, Spot, spots_of, defines_variables, AreStarts, AreDefined, KeepsLabels, variables_bound, AreAt, Configuration, Ready, Account, Ran, went, so, with_ran, OpenCompleted, store_at, named_grown, state, further, ran_same, Completed, named_again, Simulates, completed_more, out_more, turn_there, OpenExited, open_ticked, with_cells, with_objects, open_configuration, open_ready, open_wider, open_step, open_on, ran_open, Since, since_refl, since_on, IsFree, make, make_fits_in, grown_made, lying, since_cells, since_moved, since_made, make_fits, get_new, get_replicate, Moves, does, untouched, below_at, below_like, settle_like, settle_at, value_run, length-replicate, ◌≡◌, ℕ, zero, suc, ◌+◌, ◌-◌, ◌*◌, ◌<◌, ◌≤◌, Bool, true, false, List, [], ◌∷◌, ◌++◌, Some, sym, ap, ◌∙◌, subst, arith, slice_get, ◌≢◌, length, refl, ⊎_elim, length-append, ◌%◌, ◌^◌, Option, None, FRAME_WORDS, Definitions, Starts, Binding, State, Placed, Inside, Stmt, World, Outcome, gives, making, making_vec, Environment, past, past_definition, letters, cell, constant_in, history, After, Throughout, Meanings, adds, stays, vec_on, with_after, turn_after, Content, Variable, Cell, Held, content_of, Word, Temporary, write, below, settle, Value, holds, address, unset, living, made, Local, Stack, Address, Start, paired, let_values, bind_variables, vec_cells, make_vec, Cell_of, acts_at, written}
 use Rattle.bk_tree.specs.Tree as t
 use Rattle.bk_simulation.proofs.Terms.{bind, starts}
-use Rattle.bk_simulation.proofs.WrittenCells.{written}
 
 -- ---- Words that wait on the frame become the objects of variables.
 

@@ -1,8 +1,5 @@
 -- The routines of the library are called: each does its step, and goes back.
-use Rattle.bk_meaning.specs.Causes.{argument, byte_cause, set_byte_cause, of_arguments}
-use Rattle.bk_meaning.specs.Library.{string_cause, written_cause, format_cause}
-use Rattle.bk_simulation.proofs.Words.{ltb-true, ◌≡◌, ◌≢◌, ℕ, suc, ◌+◌, ◌-◌, ◌*◌, ◌<◌, ◌≤◌, ◌%◌, ◌^◌, ◌==◌, nat_lt, Bool, false, List, [], ◌∷◌, length, Option, Some, None, refl, sym, ap, ◌∙◌, subst, if◌then◌else◌, arith, slice_get, zero, ◌++◌, option_and_then, option_map, Status, signed, word_sum, byte_distance, Content, Word, Variable, Cell, Held, content_of, write, number_in, variable_in, variable_at, byte_at, word_with_byte_at, string_at, bytes_from, At, State, Ends, slot, on_number, on_some, tells, routine_step, step, Program, in_hand, program_step, Stmt, Value, number, address, procedure, routine, unset, read_byte, write_byte, World, Outcome, gives, given, with, changes, writing, remembering, calls_back, spelling, aligned, FormatPart, format_bytes, in_front, library, writes_text, takes_byte, eqb-true}
-use Rattle.bk_simulation.proofs.Pieces.{by_option, by_truth, return_goes, call_stmt, Applies, Store, Moved, Fits, moved_on, moved_refl, Codes, untouched, AreBytes, read_byte_at, write_byte_at, word_number, HasBytes, Setting, CallAt, Configuration, store, Ready, Account, Comes, Ran, went}
+use Rattle.bk_simulation.proofs.Pieces.{by_option, by_truth, return_goes, call_stmt, Applies, Store, Moved, Fits, moved_on, moved_refl, Codes, untouched, AreBytes, read_byte_at, write_byte_at, word_number, HasBytes, Setting, CallAt, Configuration, store, Ready, Account, Comes, Ran, went, ltb-true, ◌≡◌, ◌≢◌, ℕ, suc, ◌+◌, ◌-◌, ◌*◌, ◌<◌, ◌≤◌, ◌%◌, ◌^◌, ◌==◌, nat_lt, Bool, false, List, [], ◌∷◌, length, Option, Some, None, refl, sym, ap, ◌∙◌, subst, if◌then◌else◌, arith, slice_get, zero, ◌++◌, option_and_then, option_map, Status, signed, word_sum, byte_distance, Content, Word, Variable, Cell, Held, content_of, write, number_in, variable_in, variable_at, byte_at, word_with_byte_at, string_at, bytes_from, At, State, Ends, slot, on_number, on_some, tells, routine_step, step, Program, in_hand, program_step, Stmt, Value, number, address, procedure, routine, unset, read_byte, write_byte, World, Outcome, gives, given, with, changes, writing, remembering, calls_back, spelling, aligned, FormatPart, format_bytes, in_front, library, writes_text, takes_byte, eqb-true, argument, byte_cause, set_byte_cause, of_arguments, string_cause, written_cause, format_cause}
 use Rattle.bk_base.specs.Format.{parts}
 use Rattle.bk_ocode.specs.OcodeState as ocode
 use Rattle.bk_ocode.specs.OcodeStep.{return, read_byte as takes_input}

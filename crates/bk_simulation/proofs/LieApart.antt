@@ -1,6 +1,5 @@
 -- What lasts of a program lies apart: two objects with words have different bases.
-use Rattle.bk_simulation.proofs.Words.{◌≡◌, ℕ, zero, suc, ◌+◌, ◌≤◌, Bool, true, false, cond, List, [], ◌∷◌, Option, Some, None, slice_get, eq-eqb, refl, sym, ap, ◌∙◌, subst, arith, Declarations, Placed, Program, Datum, is_in, all_data, data_of, objects_of_declarations, Lasting, global_vector, words, code, of_declarations, of_sections}
-use Rattle.bk_simulation.proofs.Forms.{by_option, with_names, data_with, data_both, data_is, with_base, base_both, Setting}
+use Rattle.bk_simulation.proofs.Forms.{by_option, with_names, data_with, data_both, data_is, with_base, base_both, Setting, ◌≡◌, ℕ, zero, suc, ◌+◌, ◌≤◌, Bool, true, false, cond, List, [], ◌∷◌, Option, Some, None, slice_get, eq-eqb, refl, sym, ap, ◌∙◌, subst, arith, Declarations, Placed, Program, Datum, is_in, all_data, data_of, objects_of_declarations, Lasting, global_vector, words, code, of_declarations, of_sections}
 use Rattle.bk_simulation.proofs.LastingFits.{HasWords}
 use Rattle.bk_simulation.proofs.SectionsLie.{SectionsLie, HasAll, all_bases, others_suit, first_suits, no_names, none_mean}
 use Rattle.bk_simulation.proofs.ProgramLaid.{Together, LieApart, pay_of, own_bases, lie_together, setting_together, has_all}

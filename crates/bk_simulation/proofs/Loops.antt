@@ -1,6 +1,5 @@
 -- Scopes: commands that own their labels; and VALOF. WHILE, UNTIL, REPEAT, REPEATWHILE and REPEATUNTIL. SWITCHON.
-use Rattle.bk_simulation.proofs.Words.{◌≡◌, ℕ, ◌+◌, ◌≤◌, Bool, true, false, List, refl, sym, ◌∙◌, subst, arith, ◌-◌, ◌*◌, ◌∷◌, Some, bound_in, State, Stmt, meant, goal_in, Commands, Command, Environment, labelled, Sought, the_label, Mode, seeking, one_has_place, forwards, World, Exit, goto, leaves, either, break, result, return, history, Meanings, landing, scope_of, alone, Adds, adds, stays, either_after, Unset, option_map_or, Label, TakeResult, Around, Value, result_exit, result_of, cond, suc, Jump, goal, Expression, past, past_command, has_place, loop, Outcome, Done, done, turn, round_exit, again, same_truth, where_truth, rounds_of, with_after, turn_after, each_way_after, None, ap, below, from_label, case_label, Case, Switch, number, the_case, the_default, is_label, endcase, with, case_exit, ended_case, choose_case, labels_of_each, acts_at}
-use Rattle.bk_simulation.proofs.Pieces.{by_test, not_true, turns_through, turns_in, turns_of, label_stands_one, same_stands, Setting, Scene, owning, goal_named, IsLabelHere, IsScopeAt, EnteredAny, Exits, in_valof, LabelAt, IsScope, in_loop, IsJump, IsAct, IsLoop, Entered, EnteredBody, in_switch, Configuration, start, Ready, Account, went, each_way_ran, CompletedAt, GoesTo, Leads, Out, next, ready_in, ready_next, Ran, so, Has, Handed, paying, with_ran, there, comes_to, outside, completed_turn, completed_on, turn_there, ran_on, stay, completed_more, ran_first, links_below, completed_paid, Simulates, for_scope, RanDid, for_act, turns_in_round, for_rounds, HasTruth, for_value, caught_at, label_on, taken_on, landed_on, jump_on, jumped_on, order_run, ready_at, not_owned, around_named, Applies, some_is, switch_moves, below_like, one_run, labels_named}
+use Rattle.bk_simulation.proofs.Pieces.{by_test, not_true, turns_through, turns_in, turns_of, label_stands_one, same_stands, Setting, Scene, owning, goal_named, IsLabelHere, IsScopeAt, EnteredAny, Exits, in_valof, LabelAt, IsScope, in_loop, IsJump, IsAct, IsLoop, Entered, EnteredBody, in_switch, Configuration, start, Ready, Account, went, each_way_ran, CompletedAt, GoesTo, Leads, Out, next, ready_in, ready_next, Ran, so, Has, Handed, paying, with_ran, there, comes_to, outside, completed_turn, completed_on, turn_there, ran_on, stay, completed_more, ran_first, links_below, completed_paid, Simulates, for_scope, RanDid, for_act, turns_in_round, for_rounds, HasTruth, for_value, caught_at, label_on, taken_on, landed_on, jump_on, jumped_on, order_run, ready_at, not_owned, around_named, Applies, some_is, switch_moves, below_like, one_run, labels_named, ◌≡◌, ℕ, ◌+◌, ◌≤◌, Bool, true, false, List, refl, sym, ◌∙◌, subst, arith, ◌-◌, ◌*◌, ◌∷◌, Some, bound_in, State, Stmt, meant, goal_in, Commands, Command, Environment, labelled, Sought, the_label, Mode, seeking, one_has_place, forwards, World, Exit, goto, leaves, either, break, result, return, history, Meanings, landing, scope_of, alone, Adds, adds, stays, either_after, Unset, option_map_or, Label, TakeResult, Around, Value, result_exit, result_of, cond, suc, Jump, goal, Expression, past, past_command, has_place, loop, Outcome, Done, done, turn, round_exit, again, same_truth, where_truth, rounds_of, with_after, turn_after, each_way_after, None, ap, below, from_label, case_label, Case, Switch, number, the_case, the_default, is_label, endcase, with, case_exit, ended_case, choose_case, labels_of_each, acts_at}
 use Rattle.bk_simulation.proofs.Branches.{jump_evaluation}
 use Rattle.bk_tree.specs.Tree as t
 

@@ -1,7 +1,7 @@
 -- Objects that are made, what is done with them, and their death.
 use Rattle.bk_simulation.proofs.Words.{◌≡◌, ◌≢◌, ℕ, zero, suc, ◌+◌, ◌<◌, ◌≤◌, List, [], ◌∷◌, ◌++◌, length, Option, Some, None, refl, sym, ap, ◌∙◌, subst, arith, ◌⊎◌, ⊎_elim, inl, inr, slice_get, length-append, option_and_then, slice_set, slice_get_within, holds, places, Object, living, Memory, cells_of, cells_at, made, dead_from, Content, Variable, Cell, Held, content_of, replicate, Cell_of}
 use Rattle.bk_ocode.specs.Cells as ocode
-use Rattle.bk_simulation.proofs.Memory.{Like, like_refl, like_on, BaseOf, size_in, Alive, IsCell, Store, limit, Grown, Moved, get_at, alive_within, one_base, Codes, StandsCell, Fits, based, stands_grown, fits_more, fits_less}
+pub use Rattle.bk_simulation.proofs.Memory.{Like, like_refl, like_on, BaseOf, size_in, Alive, IsCell, Store, limit, Grown, Moved, get_at, alive_within, one_base, Codes, StandsCell, Fits, based, stands_grown, fits_more, fits_less, cell_alive, Applies}
 
 -- ---- What stands at a place of a list behind which something was put, or in which something was set.
 

@@ -1,6 +1,5 @@
 -- The relation of memory: each object of the meaning has a base, and the words from a living object's base are its cells.
-use Rattle.bk_simulation.proofs.Lists.{by_option}
-use Rattle.bk_simulation.proofs.Words.{◌≡◌, ◌≢◌, ℕ, zero, suc, ◌+◌, ◌-◌, ◌<◌, ◌≤◌, ◌%◌, ◌^◌, List, [], ◌∷◌, length, Option, Some, None, refl, sym, ap, ◌∙◌, subst, arith, option_and_then, slice_get_within, Value, number, address, procedure, routine, unset, holds, places, Memory, cells_of, cells_at, cell_at, Content, Word, Variable, Link, Cell, Held, content_of, byte_in, slice_get}
+use Rattle.bk_simulation.proofs.Lists.{by_option, ◌≡◌, ◌≢◌, ℕ, zero, suc, ◌+◌, ◌-◌, ◌<◌, ◌≤◌, ◌%◌, ◌^◌, List, [], ◌∷◌, length, Option, Some, None, refl, sym, ap, ◌∙◌, subst, arith, option_and_then, slice_get_within, Value, number, address, procedure, routine, unset, holds, places, Memory, cells_of, cells_at, cell_at, Content, Word, Variable, Link, Cell, Held, content_of, byte_in, slice_get}
 use Rattle.bk_meaning.specs.Values as value
 
 -- the words of procedures, by their numbers, and of the routines of the library

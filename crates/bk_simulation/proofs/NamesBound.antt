@@ -1,6 +1,5 @@
 -- Names that come into scope: one more, and the labels of a scope.
-use Rattle.bk_simulation.proofs.Words.{◌≡◌, ℕ, ◌+◌, Bool, true, false, cond, List, [], ◌∷◌, ◌++◌, Option, Some, refl, sym, ap, ◌∙◌, subst, bytes_eq, bytes_eq-Decides, Command, Commands, Bound, Binding, bound_in, bind as bind_bound, labels_of, labels_of_each, labels_in_scope, meant, variable, Environment, Sense, constant, cell, label, sense_in, bind_each, the_label, has_place, one_has_place, Around, or_parts}
-use Rattle.bk_simulation.proofs.Situations.{by_test, not_true, Exits, Scene, owning, place_of, NameAt, IsWord, NamedIn}
+use Rattle.bk_simulation.proofs.Situations.{by_test, not_true, Exits, Scene, owning, place_of, NameAt, IsWord, NamedIn, ◌≡◌, ℕ, ◌+◌, Bool, true, false, cond, List, [], ◌∷◌, ◌++◌, Option, Some, refl, sym, ap, ◌∙◌, subst, bytes_eq, bytes_eq-Decides, Command, Commands, Bound, Binding, bound_in, bind as bind_bound, labels_of, labels_of_each, labels_in_scope, meant, variable, Environment, Sense, constant, cell, label, sense_in, bind_each, the_label, has_place, one_has_place, Around, or_parts}
 use Rattle.bk_tree.specs.Tree as t
 use Rattle.bk_scope.specs.declared.bound.Bound.TheVariants.{Label}
 use Rattle.bk_meaning.specs.Environment.{bind}

@@ -1,10 +1,7 @@
 -- The operators of the meaning on values, and those of OCODE on the words that stand for them.
-use Rattle.bk_meaning.specs.Causes.{Cause}
-use Rattle.bk_simulation.proofs.Lists.{by_option}
-use Rattle.bk_simulation.proofs.Words.{◌≡◌, ◌≢◌, ℕ, ◌+◌, ◌-◌, ◌<◌, ◌≤◌, ◌%◌, ◌^◌, ◌==◌, nat_lt, nat_le, Bool, true, false, not, cond, pos, int_lt, List, length, Option, Some, None, refl, sym, ap, ◌∙◌, subst, if◌then◌else◌, arith, int_le, option_map, ints, nat_tests, signed, truth, word_sum, word_difference, word_quotient, word_remainder, word_less, word_greater, word_at_most, word_at_least, word_negation, word_not, infix_word, Operator, Value, number, address, procedure, routine, unset, cells_at, lives, World, Outcome, gives, ends, undefined, divide_by_zero, given, either, sum, difference, lies_within, truth_of_value, equals_zero, equal, ordered, on_numbers, truth_number, operate, operate_prefix, Content, Word, Cell, quotient, dyadic_word, cond_some, leb-true, eqb-true}
+use Rattle.bk_simulation.proofs.Lists.{by_option, ◌≡◌, ◌≢◌, ℕ, ◌+◌, ◌-◌, ◌<◌, ◌≤◌, ◌%◌, ◌^◌, ◌==◌, nat_lt, nat_le, Bool, true, false, not, cond, pos, int_lt, List, length, Option, Some, None, refl, sym, ap, ◌∙◌, subst, if◌then◌else◌, arith, int_le, option_map, ints, nat_tests, signed, truth, word_sum, word_difference, word_quotient, word_remainder, word_less, word_greater, word_at_most, word_at_least, word_negation, word_not, infix_word, Operator, Value, number, address, procedure, routine, unset, cells_at, lives, World, Outcome, gives, ends, undefined, divide_by_zero, given, either, sum, difference, lies_within, truth_of_value, equals_zero, equal, ordered, on_numbers, truth_number, operate, operate_prefix, Content, Word, Cell, quotient, dyadic_word, cond_some, leb-true, eqb-true, Cause}
 use Rattle.bk_simulation.proofs.Terms.{Operator as o, Prefix as q, within, Dyadic, Dyadic as d}
-use Rattle.bk_simulation.proofs.Memory.{BaseOf, Alive, Codes, Applies, Fits, one_base}
-use Rattle.bk_simulation.proofs.MadeObjects.{alive_from}
+use Rattle.bk_simulation.proofs.MadeObjects.{alive_from, BaseOf, Alive, Codes, Applies, Fits, one_base}
 
 -- the operator of OCODE for each but `!` and `%`
 abbrev pub dyadic_of : Operator → Option Dyadic

@@ -1,10 +1,6 @@
 -- What is done with one value and with two: `!`, `@`, signs, NOT, and the operators. Truth where it is asked for: values, NOT, `&` and `|`; and `->`.
-use Rattle.bk_meaning.specs.Causes.{Cause, cell_cause, byte_cause}
-use Rattle.bk_meaning.specs.Operators.{sum_cause}
-use Rattle.bk_simulation.proofs.Words.{on_number, step_by, slot, Goes, ◌≡◌, ℕ, ◌+◌, ◌<◌, ◌≤◌, List, ◌∷◌, ◌++◌, Option, Some, None, refl, sym, ap, subst, arith, ◌-◌, ◌*◌, ◌^◌, Bool, true, false, length, ◌∙◌, option_map, signed, word_of, truth as truth_word, Operator, Word, content_of, Content, Unset, Temporary, Held, write, below, Inside, State, dyadic_word, named_place, DivideByZero, Stmt, Monadic, Dyadic, LoadByte, Number, True, False, Query, Load, Address, Text, infix_code, variable, push, truth_value, Value, number, address, unset, read, read_byte, World, Outcome, gives, ends, undefined, given, with, sum, operate, operate_prefix, fetch, Meanings, named, combined, Expression, past, Sense, constant, cell, sense_of, Adds, adds, with_after, of_z-to_z, Bound, bound_in, Local, Static, Target, meant, not, from_label, Label, GiveResult, TakeResult, Environment, either, history, stays, either_after, w32}
-use Rattle.bk_simulation.proofs.Situations.{by_option, contents_moves, dyadic_moves, load_byte_moves, Moves, dyadic_ends, does, one_off, pushed, Applies, fits_more, BaseOf, Grown, Store, read_at, variable_found, read_here, read_byte_at, operates, sum_applied, PrefixedAs, OperatedAs, Setting, IsValue, named_word, Scene, LabelAt, IsJump, Configuration, Account, there, Has, went, start, Ready, Ran, with_ran, CompletedAt, Out, next, ready_next, store, state, place_of, NameAt, Completed, turns_of, IsWord}
 use Rattle.bk_simulation.proofs.Terms.{Dyadic as Two_word, Monadic as Monadic_word, Variable as Named, Operator as o, Prefix as q, Dyadic as two, Monadic as m, Bound as b}
-use Rattle.bk_simulation.proofs.Compose.{topped, completed_more, completed_on, ran_on, ran_first, ran_more, above, stay}
+use Rattle.bk_simulation.proofs.Compose.{topped, completed_more, completed_on, ran_on, ran_first, ran_more, above, stay, by_option, contents_moves, dyadic_moves, load_byte_moves, Moves, dyadic_ends, does, one_off, pushed, Applies, fits_more, BaseOf, Grown, Store, read_at, variable_found, read_here, read_byte_at, operates, sum_applied, PrefixedAs, OperatedAs, Setting, IsValue, named_word, Scene, LabelAt, IsJump, Configuration, Account, there, Has, went, start, Ready, Ran, with_ran, CompletedAt, Out, next, ready_next, store, state, place_of, NameAt, Completed, turns_of, IsWord, on_number, step_by, slot, Goes, ◌≡◌, ℕ, ◌+◌, ◌<◌, ◌≤◌, List, ◌∷◌, ◌++◌, Option, Some, None, refl, sym, ap, subst, arith, ◌-◌, ◌*◌, ◌^◌, Bool, true, false, length, ◌∙◌, option_map, signed, word_of, truth as truth_word, Operator, Word, content_of, Content, Unset, Temporary, Held, write, below, Inside, State, dyadic_word, named_place, DivideByZero, Stmt, Monadic, Dyadic, LoadByte, Number, True, False, Query, Load, Address, Text, infix_code, variable, push, truth_value, Value, number, address, unset, read, read_byte, World, Outcome, gives, ends, undefined, given, with, sum, operate, operate_prefix, fetch, Meanings, named, combined, Expression, past, Sense, constant, cell, sense_of, Adds, adds, with_after, of_z-to_z, Bound, bound_in, Local, Static, Target, meant, not, from_label, Label, GiveResult, TakeResult, Environment, either, history, stays, either_after, w32, Cause, cell_cause, byte_cause, sum_cause}
 use Rattle.bk_simulation.proofs.Simulates.{Simulates, for_value, for_truth, where_to, HasTruth}
 use Rattle.bk_simulation.proofs.ControlSteps.{label_on, landed_on, result_on, taken_on}
 

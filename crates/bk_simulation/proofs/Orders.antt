@@ -1,8 +1,6 @@
 -- Commands in order, and what seeking finds in them.
-use Rattle.bk_simulation.proofs.Words.{◌≡◌, Bool, true, false, ◌||◌, cond, List, refl, sym, ap, ◌∙◌, subst, arith, Stmt, Command, Commands, Environment, past_command, Sought, Mode, forwards, seeking, has_place, one_has_place, World, with, either, history, Meanings, in_order, Adds, adds, stays, with_after, either_after}
-use Rattle.bk_simulation.proofs.Situations.{by_test, not_true, same_stands_one, Setting, IsAct, AreActs, Entered, EnteredAny, Configuration, start, Ready, went, with_ran, next, named_again, ready_in, ready_next}
 use Rattle.bk_tree.specs.Tree as t
-use Rattle.bk_simulation.proofs.Compose.{stay, comes_to, ran_first, ran_more, completed_more}
+use Rattle.bk_simulation.proofs.Compose.{stay, comes_to, ran_first, ran_more, completed_more, by_test, not_true, same_stands_one, Setting, IsAct, AreActs, Entered, EnteredAny, Configuration, start, Ready, went, with_ran, next, named_again, ready_in, ready_next, ◌≡◌, Bool, true, false, ◌||◌, cond, List, refl, sym, ap, ◌∙◌, subst, arith, Stmt, Command, Commands, Environment, past_command, Sought, Mode, forwards, seeking, has_place, one_has_place, World, with, either, history, Meanings, in_order, Adds, adds, stays, with_after, either_after}
 use Rattle.bk_simulation.proofs.Simulates.{Simulates, for_act, for_scope, Did, RanDid}
 
 pub or_second : (a b : Bool) → (a || b) ≡ true → a ≡ false → b ≡ true

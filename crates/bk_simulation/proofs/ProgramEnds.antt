@@ -1,6 +1,5 @@
 -- How the program ends where the call of START ends, comes on or falls.
-use Rattle.bk_simulation.proofs.Words.{◌≡◌, ℕ, zero, suc, ◌+◌, ◌*◌, ◌≤◌, List, ◌++◌, Option, Some, None, refl, sym, ap, ◌∙◌, subst, arith, ◌⊎◌, ⊎_elim, inl, inr, max, [], ◌∷◌, length, FRAME_WORDS, State, Goes, Ends, At, global_place, program_step, run, HasFrames, Value, procedure, address, World, Outcome, gives, leaves, ends, undefined, going, status, calling, making, Run, Going, Undefined, run_of, first_world, started, means, option_map, number_in, Unset, Word, content_of, first_cells, first_state, Entry, read, Environment, globals_object, Procedure, procedure_of, first_memory, history, After, Meanings, enter, call, run_body, bind_formals, formal_cells, closing_after, End, settled, end_of, IsTooHigh, EndsWithin, ComesWithin, RunsOut, DoesEnd, Does, DoesFrom, drop, returned, nowhere}
-use Rattle.bk_simulation.proofs.Pieces.{settled_step, entry_settled, Setting, FewFrames, Account, Reaches, Stopped, Fell, FallsThose, Ran, Went, Falls, state, run_after, goes_on_so, RunSo, comes_run, roomy, Simulates, by_option}
+use Rattle.bk_simulation.proofs.Pieces.{settled_step, entry_settled, Setting, FewFrames, Account, Reaches, Stopped, Fell, FallsThose, Ran, Went, Falls, state, run_after, goes_on_so, RunSo, comes_run, roomy, Simulates, by_option, ◌≡◌, ℕ, zero, suc, ◌+◌, ◌*◌, ◌≤◌, List, ◌++◌, Option, Some, None, refl, sym, ap, ◌∙◌, subst, arith, ◌⊎◌, ⊎_elim, inl, inr, max, [], ◌∷◌, length, FRAME_WORDS, State, Goes, Ends, At, global_place, program_step, run, HasFrames, Value, procedure, address, World, Outcome, gives, leaves, ends, undefined, going, status, calling, making, Run, Going, Undefined, run_of, first_world, started, means, option_map, number_in, Unset, Word, content_of, first_cells, first_state, Entry, read, Environment, globals_object, Procedure, procedure_of, first_memory, history, After, Meanings, enter, call, run_body, bind_formals, formal_cells, closing_after, End, settled, end_of, IsTooHigh, EndsWithin, ComesWithin, RunsOut, DoesEnd, Does, DoesFrom, drop, returned, nowhere}
 use Rattle.bk_meaning.specs.World as world
 use Rattle.bk_simulation.proofs.Terms.{Ends as Finishes, Program}
 use Rattle.bk_simulation.proofs.Calls.{AnyExit, AloneRuns, body_after, IsProcedure, Procedures}

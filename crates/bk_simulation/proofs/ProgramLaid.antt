@@ -1,6 +1,5 @@
 -- A program whose sections stand for accepted ones is laid.
-use Rattle.bk_simulation.proofs.Words.{◌≡◌, ℕ, zero, suc, ◌+◌, ◌<◌, ◌≤◌, ◌^◌, List, [], ◌∷◌, ◌++◌, length, Option, Some, None, refl, sym, ap, subst, arith, slice_get, append_assoc, FRAME_WORDS, Declarations, Placed, Program, AreFaultless, IsWellPlaced, scheme_is_accepted, stop, Lasting, Procedure, global_vector, words, code, of_sections, program_of, procedure_of, procedure_in, AreAccepted, Represent}
-use Rattle.bk_simulation.proofs.Forms.{all_at, each_at, one_more, each_itself, Codes, BaseOf, one_base, Setting, HeldWord, HeldOne, HeldList, IsProcedure, library_word, IsSized, HoldsEntry, HoldsOne, InData, all_set_same, FollowWords, AreBelow, AreSet}
+use Rattle.bk_simulation.proofs.Forms.{all_at, each_at, one_more, each_itself, Codes, BaseOf, one_base, Setting, HeldWord, HeldOne, HeldList, IsProcedure, library_word, IsSized, HoldsEntry, HoldsOne, InData, all_set_same, FollowWords, AreBelow, AreSet, ◌≡◌, ℕ, zero, suc, ◌+◌, ◌<◌, ◌≤◌, ◌^◌, List, [], ◌∷◌, ◌++◌, length, Option, Some, None, refl, sym, ap, subst, arith, slice_get, append_assoc, FRAME_WORDS, Declarations, Placed, Program, AreFaultless, IsWellPlaced, scheme_is_accepted, stop, Lasting, Procedure, global_vector, words, code, of_sections, program_of, procedure_of, procedure_in, AreAccepted, Represent}
 use Rattle.bk_meaning.specs.Values as value
 use Rattle.bk_simulation.proofs.LaidPrograms.{setting, AreLaid}
 use Rattle.bk_simulation.proofs.SectionsLie.{SectionsLie, weights, sections_lie, all_bases, all_entries, all_counted, all_placed, HasAll, all_held, sections_set}

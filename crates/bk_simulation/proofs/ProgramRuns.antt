@@ -1,6 +1,5 @@
 -- Counted runs of settled states are runs of the program, in as many frames.
-use Rattle.bk_simulation.proofs.Words.{inl, inr, ◌≡◌, ◌≢◌, ℕ, zero, suc, ◌+◌, ◌≤◌, ◌==◌, Bool, true, false, List, [], ◌∷◌, Option, Some, None, refl, sym, ap, ◌∙◌, subst, if◌then◌else◌, arith, slice_get, ◌++◌, pos, append_assoc, append-nil, option_map_or, FRAME_WORDS, Temporary, Held, next_depth, Placement, Placed, State, Next, Goes, Ends, Wild, Rest, rest_of, or_rest, rests, in_hand, resumed, resumed_by, find_rest, label_rest, Program, program_step, run, then_run, Stmt, Entry, Label, CallFunction, CallRoutine, IsWellPlaced, Status, step, InRange, steps_grow, Begin}
-use Rattle.bk_simulation.proofs.Situations.{settled, settled_step, going, IsRest, LinksFrom, links_kept, untouched, Setting, FewFrames, Comes, here, go_on}
+use Rattle.bk_simulation.proofs.Situations.{settled, settled_step, going, IsRest, LinksFrom, links_kept, untouched, Setting, FewFrames, Comes, here, go_on, inl, inr, ◌≡◌, ◌≢◌, ℕ, zero, suc, ◌+◌, ◌≤◌, ◌==◌, Bool, true, false, List, [], ◌∷◌, Option, Some, None, refl, sym, ap, ◌∙◌, subst, if◌then◌else◌, arith, slice_get, ◌++◌, pos, append_assoc, append-nil, option_map_or, FRAME_WORDS, Temporary, Held, next_depth, Placement, Placed, State, Next, Goes, Ends, Wild, Rest, rest_of, or_rest, rests, in_hand, resumed, resumed_by, find_rest, label_rest, Program, program_step, run, then_run, Stmt, Entry, Label, CallFunction, CallRoutine, IsWellPlaced, Status, step, InRange, steps_grow, Begin}
 
 -- ---- a rest that takes up a result has slot 2 at least
 

@@ -1,6 +1,5 @@
 -- The globals that a section sets are those of the one GLOBAL at its end; settings, section by section.
-use Rattle.bk_simulation.proofs.Words.{◌≡◌, ℕ, suc, ◌+◌, Bool, true, false, not, List, [], ◌∷◌, ◌++◌, length, map, Some, None, refl, sym, ap, ◌∙◌, subst, if◌then◌else◌, arith, slice_get, take, append_assoc, append-nil, Declarations, AreFaultless, joined, Placement, Placed, entry_setting, stmt_globals, globals_of, all_globals, GlobalEntry, Stmt, Number, Globals, named_tree, Part, target_of, parts_of_declarations, procedure_code, data_code, entries_of, scheme, objects_of_declarations, Lasting, global_vector, words, code, of_declarations, of_sections, Context, at_start, after, after_all, context_of, misplaced, label_not_set, label_set_twice, depths_disagree, slot_above, too_long, stmt_fault, role, may_stand, position_after, Represent}
-use Rattle.bk_simulation.proofs.Pieces.{Codes}
+use Rattle.bk_simulation.proofs.Pieces.{Codes, ◌≡◌, ℕ, suc, ◌+◌, Bool, true, false, not, List, [], ◌∷◌, ◌++◌, length, map, Some, None, refl, sym, ap, ◌∙◌, subst, if◌then◌else◌, arith, slice_get, take, append_assoc, append-nil, Declarations, AreFaultless, joined, Placement, Placed, entry_setting, stmt_globals, globals_of, all_globals, GlobalEntry, Stmt, Number, Globals, named_tree, Part, target_of, parts_of_declarations, procedure_code, data_code, entries_of, scheme, objects_of_declarations, Lasting, global_vector, words, code, of_declarations, of_sections, Context, at_start, after, after_all, context_of, misplaced, label_not_set, label_set_twice, depths_disagree, slot_above, too_long, stmt_fault, role, may_stand, position_after, Represent}
 use Rattle.bk_base.specs.declared.ocode_fault.OcodeKind.TheVariants as kind
 use Rattle.bk_simulation.proofs.LastingFits.{setting_of, settings}
 

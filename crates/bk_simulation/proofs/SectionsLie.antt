@@ -1,6 +1,5 @@
 -- What lasts of all sections of a program, one behind the other.
-use Rattle.bk_simulation.proofs.Words.{true, length-append, ◌≡◌, ℕ, suc, ◌+◌, ◌<◌, ◌≤◌, List, [], ◌∷◌, ◌++◌, length, Some, refl, arith, slice_get, sym, FRAME_WORDS, Declarations, Placed, Program, IsWellPlaced, objects_of_declarations, of_declarations, of_sections, words, AreAccepted, Represent}
-use Rattle.bk_simulation.proofs.Forms.{Each, all_both, each_front, each_back, each_both, turns_declared, with_names, Setting, HeldOne, HeldList, Agree, home, Follow, FollowWords, Suits, Mean, AreBelow, AreSet, BaseOf, SetSame}
+use Rattle.bk_simulation.proofs.Forms.{Each, all_both, each_front, each_back, each_both, turns_declared, with_names, Setting, HeldOne, HeldList, Agree, home, Follow, FollowWords, Suits, Mean, AreBelow, AreSet, BaseOf, SetSame, true, length-append, ◌≡◌, ℕ, suc, ◌+◌, ◌<◌, ◌≤◌, List, [], ◌∷◌, ◌++◌, length, Some, refl, arith, slice_get, sym, FRAME_WORDS, Declarations, Placed, Program, IsWellPlaced, objects_of_declarations, of_declarations, of_sections, words, AreAccepted, Represent}
 use Rattle.bk_simulation.proofs.LaidSections.{section_scene, SectionLies, section_lies}
 use Rattle.bk_scope.specs.declared.bound.Bound.TheVariants as b
 

@@ -1,6 +1,5 @@
 -- What is proved of each form: its code, where it is laid, does what the form means, within an account.
-use Rattle.bk_simulation.proofs.Words.{◌≡◌, ◌≢◌, ◌<◌, ℕ, suc, ◌+◌, ◌-◌, ◌*◌, ◌≤◌, Bool, true, false, List, ◌∷◌, Some, content_of, State, from_label, Stmt, Assign, AssignAt, AssignByte, Expression, Expressions, Command, Commands, Value, address, labelled, Sought, Mode, World, Outcome, Done, history, After, Throughout, at, Meanings}
-use Rattle.bk_simulation.proofs.Situations.{BaseOf, Alive, Applies, turns_of, turns_among, turns_in, turns_through, Setting, IsValue, IsJump, IsAddress, IsStore, IsAct, IsScopeAt, IsLoop, IsForLoop, Entered, EnteredAny, EnteredBody, Configuration, start, place_of, Ready, Account, Ran, CompletedAt, Has, Out}
+use Rattle.bk_simulation.proofs.Situations.{BaseOf, Alive, Applies, turns_of, turns_among, turns_in, turns_through, Setting, IsValue, IsJump, IsAddress, IsStore, IsAct, IsScopeAt, IsLoop, IsForLoop, Entered, EnteredAny, EnteredBody, Configuration, start, place_of, Ready, Account, Ran, CompletedAt, Has, Out, ◌≡◌, ◌≢◌, ◌<◌, ℕ, suc, ◌+◌, ◌-◌, ◌*◌, ◌≤◌, Bool, true, false, List, ◌∷◌, Some, content_of, State, from_label, Stmt, Assign, AssignAt, AssignByte, Expression, Expressions, Command, Commands, Value, address, labelled, Sought, Mode, World, Outcome, Done, history, After, Throughout, at, Meanings}
 use Rattle.bk_simulation.proofs.Terms.{Variable, Target, byte_at}
 use Rattle.bk_tree.specs.Tree as t
 

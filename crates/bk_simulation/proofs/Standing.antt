@@ -1,7 +1,6 @@
 -- Where code stands in a section, with the depth before it; what a label and a call have from that; and the bases of lasting objects
 -- one behind the other.
-use Rattle.bk_simulation.proofs.Words.{length-append, sym, cond, Datum, is_in, datum_of, data_of, ◌≡◌, ℕ, false, zero, suc, ◌+◌, ◌<◌, ◌≤◌, List, [], ◌∷◌, ◌++◌, length, Some, take, drop, slice_get, refl, ap, ◌∙◌, subst, arith, FRAME_WORDS, next_depth, depth_after, AreFaultless, Placed, Program, IsWellPlaced, from_label, Stmt, Label, label_has_one_place, Binding, Target, outermost, Named, Lasting, Part, target_of, procedure_code, data_code, AllFound, entries_of, joined, entry_setting, map, map-append, ap₂, append_assoc, item_words, option_map_or, global_vector, words, code, ◌==◌, depth_within, Option, None}
-use Rattle.bk_simulation.proofs.Pieces.{All, Each, all_both, each_front, each_back, each_both, BaseOf, Grown, with_names, Setting, Scene, LabelAt, CallAt, NamedIn, Agree}
+use Rattle.bk_simulation.proofs.Pieces.{All, Each, all_both, each_front, each_back, each_both, BaseOf, Grown, with_names, Setting, Scene, LabelAt, CallAt, NamedIn, Agree, length-append, sym, cond, Datum, is_in, datum_of, data_of, ◌≡◌, ℕ, false, zero, suc, ◌+◌, ◌<◌, ◌≤◌, List, [], ◌∷◌, ◌++◌, length, Some, take, drop, slice_get, refl, ap, ◌∙◌, subst, arith, FRAME_WORDS, next_depth, depth_after, AreFaultless, Placed, Program, IsWellPlaced, from_label, Stmt, Label, label_has_one_place, Binding, Target, outermost, Named, Lasting, Part, target_of, procedure_code, data_code, AllFound, entries_of, joined, entry_setting, map, map-append, ap₂, append_assoc, item_words, option_map_or, global_vector, words, code, ◌==◌, depth_within, Option, None}
 use Rattle.bk_simulation.proofs.LastingFits.{InData, settings}
 use Rattle.bk_simulation.proofs.SectionGlobals.{settings_append}
 use Rattle.bk_simulation.proofs.Calls.{IsProcedure}

@@ -1,7 +1,5 @@
 -- Where the sections mean a run without an end, the program goes on with it.
-use Rattle.bk_meaning.specs.Causes.{no_place}
-use Rattle.bk_simulation.proofs.Words.{ltb-false, ◌≡◌, ℕ, zero, suc, ◌+◌, ◌*◌, ◌≤◌, nat_lt, true, false, List, [], Option, Some, None, refl, sym, ap, ◌∙◌, subst, arith, ◌⊎◌, ⊎_elim, inl, inr, FRAME_WORDS, option_map, Declarations, number_in, State, Goes, Program, run, first_state, Value, procedure, World, Outcome, gives, going, calling, Procedure, program_of, procedure_of, Meanings, enter, Going, Undefined, means, meaning, started, run_of, first_world, IsWellPlaced, ltb-true, cut_only_without_turns, settled, Begin, RunsOut, StillGoes, RunsOutOnTheWay, IsWithoutEnd, StepsDoWhatSourcesMean, StepsGoOnWithTheirSource, StartsWithTheirSource, AreAccepted, Represent, returned, nowhere}
-use Rattle.bk_simulation.proofs.Forms.{by_option, by_test, Setting, Account, FewFrames, Comes, here, go_on, FallsThose, Reaches, Ran, Simulates, AnyExit, Procedures, goes_on_so, comes_run, Over, calls_of, fell_out, NoStart, HasStart, called_at, some_calls, enter_after, entered_so, first_store, start_there}
+use Rattle.bk_simulation.proofs.Forms.{by_option, by_test, Setting, Account, FewFrames, Comes, here, go_on, FallsThose, Reaches, Ran, Simulates, AnyExit, Procedures, goes_on_so, comes_run, Over, calls_of, fell_out, NoStart, HasStart, called_at, some_calls, enter_after, entered_so, first_store, start_there, ltb-false, ◌≡◌, ℕ, zero, suc, ◌+◌, ◌*◌, ◌≤◌, nat_lt, true, false, List, [], Option, Some, None, refl, sym, ap, ◌∙◌, subst, arith, ◌⊎◌, ⊎_elim, inl, inr, FRAME_WORDS, option_map, Declarations, number_in, State, Goes, Program, run, first_state, Value, procedure, World, Outcome, gives, going, calling, Procedure, program_of, procedure_of, Meanings, enter, Going, Undefined, means, meaning, started, run_of, first_world, IsWellPlaced, ltb-true, cut_only_without_turns, settled, Begin, RunsOut, StillGoes, RunsOutOnTheWay, IsWithoutEnd, StepsDoWhatSourcesMean, StepsGoOnWithTheirSource, StartsWithTheirSource, AreAccepted, Represent, returned, nowhere, no_place}
 use Rattle.bk_meaning.specs.Lasting as lasting
 use Rattle.bk_simulation.proofs.All.{alone_runs, alone_adds, simulates}
 use Rattle.bk_simulation.proofs.ProgramRuns.{passed}

@@ -13,7 +13,7 @@ pub use Rattle.bk_base.specs.Strings.{first_bytes}
 pub use Rattle.bk_base.specs.Word.{byte_distance, byte_place, signed, truth, word_at_least, word_at_most, word_byte, word_difference, word_greater, word_less, word_negation, word_not, word_of, word_quotient, word_remainder, word_sum, word_with_byte}
 pub use Rattle.bk_base.specs.declared.limit.TheConstants.{FRAME_WORDS, GLOBAL_NUMBER, VEC_NUMBER}
 pub use Rattle.bk_base.specs.declared.run_end.End.TheVariants.{DivideByZero, Status}
-pub use Rattle.bk_tree.specs.Parts.{at_expression, size}
+pub use Rattle.bk_tree.specs.Parts.{at_expression, size, at_command}
 pub use Rattle.bk_tree.specs.Tree.{Command, Commands, Declaration, Declarations, Definition, Definitions, Expression, Expressions, Items, Mention, Starts}
 pub use Rattle.bk_simulation.proofs.Terms.{Operator, Sort, Bound, Destination, Truth, Environment, Named, Sense, following, bind_each, bind_procedure_as, bind_procedures, cell, constant, constant_in, constants_declared, count, foreign, global_named, globals_object, label, labelled, letters, manifests, objects, objects_of_command, objects_of_commands, objects_of_declaration, objects_of_declarations, objects_of_definitions, objects_of_each, objects_of_starts, past, past_command, past_definition, past_each, sense_in, sense_of, sense_of_constant, sense_of_global, statics, within_let, word_named, address_in, combined, judged, result_exit, result_of, truth_of, value_of, Body, Lasting, Procedure, all_declared, code, command, constant_words, declared, entry_cells, expression, first_memory, global_cells, global_vector, in_scope, library_cells, object_of, objects_from, of_command, of_commands, of_declaration, of_declarations, of_definitions, of_each, of_expression, of_items, of_sections, of_starts, procedure_in, procedure_of, procedures_set, program_of, set_global, static_words, text_words, variables_hidden, words, difference, equal, equals_zero, lies_within, on_numbers, operate, operate_prefix, ordered, sum, truth_number, truth_of_value, Meanings, acts_at, nowhere, address_named, at, fetch, named, store, Going, Run, Undefined, first_world, meaning, means, means_with, no_turn_for, no_turns, run_of, started, turn_for, Simple, Prefix, Start, bind_variables, declare, declare_all, let_values, make_vec, paired, vec_cells}
 pub use Rattle.bk_scope.specs.Constants.{constant_word, divides_by_zero, infix_word, named_word, prefix_word}
@@ -68,7 +68,7 @@ pub use Rattle.bk_ocode.specs.declared.stmt.Monadic.TheVariants.{Contents, Negat
 pub use Rattle.bk_base.specs.Decimal.{spelling}
 pub use Rattle.bk_base.specs.Format.{FormatPart, aligned}
 pub use Rattle.bk_ocode.specs.Telling.{format_bytes, in_front}
-pub use Rattle.bk_meaning.specs.Library.{library, takes_byte, writes_text}
+pub use Rattle.bk_meaning.specs.Library.{library, takes_byte, writes_text, string_cause, written_cause, format_cause}
 pub use Rattle.bk_simulation.specs.Regular.{DeclareNoVariables, DefineNoVariables, Regular, RegularCommand, RegularCommands, RegularDeclaration, RegularDeclarations, RegularDefinitions, RegularEach, RegularItems, RegularStarts, starts}
 pub use Rattle.bk_simulation.specs.Placement.{AreAccepted, IsAccepted, Represent}
 pub use Rattle.bk_ocode.specs.Library.{library_globals, library_routine}
@@ -85,3 +85,5 @@ pub use Rattle.bk_ocode.specs.Context.{Context, after, after_all, at_start, cont
 pub use Rattle.bk_ocode.specs.Faults.{depths_disagree, label_not_set, label_set_twice, misplaced, slot_above, stmt_fault, too_long}
 pub use Rattle.bk_ocode.specs.Places.{may_stand, position_after, role}
 pub use Rattle.std.specs.Int.{w32}
+pub use Rattle.bk_meaning.specs.Causes.{cell_cause, set_byte_cause, no_place, Cause, byte_cause, no_number, argument, of_arguments, no_constant}
+pub use Rattle.bk_meaning.specs.Operators.{sum_cause, truth_cause}

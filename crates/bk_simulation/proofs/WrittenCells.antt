@@ -1,8 +1,6 @@
 -- Reading and writing the words of living objects.
-use Rattle.bk_simulation.proofs.Lists.{either_way}
-use Rattle.bk_simulation.proofs.Words.{◌≡◌, ◌≢◌, ℕ, ◌+◌, ◌-◌, ◌<◌, ◌≤◌, ◌%◌, ◌^◌, ◌==◌, Bool, cond, List, length, Option, Some, None, refl, sym, ap, ◌∙◌, subst, if◌then◌else◌, arith, ◌⊎◌, ⊎_elim, inl, inr, nat_lt, slice_get, slice_set, is_some, option_and_then, nat_tests, slice_get_within, Value, number, address, unset, holds, places, value_in, Memory, living, cells_of, cells_at, cell_at, replaced, with_cell, read, Content, Word, Variable, Link, Cell, Free, Held, content_of, write, below, settle, variable_in, variable_at, le-ltb, length-set, lt-ltb, Cell_of}
-use Rattle.bk_simulation.proofs.Memory.{Like, like_refl, BaseOf, size_in, Alive, IsCell, Store, Moved, cell_alive, one_base, Codes, Applies, StandsCell, Fits}
-use Rattle.bk_simulation.proofs.MadeObjects.{alive_is, alive_from, cell_in, object_there, get_set}
+use Rattle.bk_simulation.proofs.Lists.{either_way, ◌≡◌, ◌≢◌, ℕ, ◌+◌, ◌-◌, ◌<◌, ◌≤◌, ◌%◌, ◌^◌, ◌==◌, Bool, cond, List, length, Option, Some, None, refl, sym, ap, ◌∙◌, subst, if◌then◌else◌, arith, ◌⊎◌, ⊎_elim, inl, inr, nat_lt, slice_get, slice_set, is_some, option_and_then, nat_tests, slice_get_within, Value, number, address, unset, holds, places, value_in, Memory, living, cells_of, cells_at, cell_at, replaced, with_cell, read, Content, Word, Variable, Link, Cell, Free, Held, content_of, write, below, settle, variable_in, variable_at, le-ltb, length-set, lt-ltb, Cell_of}
+use Rattle.bk_simulation.proofs.MadeObjects.{alive_is, alive_from, cell_in, object_there, get_set, Like, like_refl, BaseOf, size_in, Alive, IsCell, Store, Moved, cell_alive, one_base, Codes, Applies, StandsCell, Fits}
 
 -- ---- cells of the store
 
