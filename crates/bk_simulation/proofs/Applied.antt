@@ -13,12 +13,9 @@ AloneAdds m = (x : Command) (env : Environment) (w : World) → After (history w
 
 -- ---- a routine of the library is called
 
-routine_callable : (c : Callables) (e : ℕ) (r : ocode.Routine) → c.routine e ≡ Some r → can_be_called c e ≡ true
-routine_callable c e r h = ap (λ y. option_map_or (λ _. true) y (c.is_entry e)) h
-
 routine_moves : (of : Bool) (setting : Setting) (s : State) (own : Placed) (rest : List Stmt) (d n e : ℕ) (r : ocode.Routine) → s.control ≡ Inside own (d + 1) (call_stmt of n ∷ rest) → slot s d ≡ Word e
     → setting.program.callables.routine e ≡ Some r → nat_lt (2 ^ 31 - 65536) (s.frame + n) ≡ false → Moves setting.program s (entering s own d n e rest)
-routine_moves of setting s own rest d n e r ec ew er el = (_, call_step setting.program s own rest of d n e ec ew (routine_callable setting.program.callables e r er) el, at_routine setting.program (entering s own d n e rest) e r refl er)
+routine_moves of setting s own rest d n e r ec ew er el = (_, call_step setting.program s own rest of d n e ec ew (ap (λ y. option_map_or (λ _. true) y (setting.program.callables.is_entry e)) er) el, at_routine setting.program (entering s own d n e rest) e r refl er)
 
 library_after : (place : ℕ) (r : value.Routine) (vs : List Value) (w : World) → After (history w) (library place r vs w)
 library_after place r vs w = (ties_add _ _ (library_ties place r vs)).at w

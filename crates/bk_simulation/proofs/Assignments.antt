@@ -141,9 +141,8 @@ through_stored place setting s A B z rest w w2 p u le le' r a sp su =
     let here = there setting s A z (AssignAt ∷ rest) (z.depth + 1 + 1) w w2 a in
     let y = content_of (a.cells1 (z.frame + z.depth)) in
     let q = write_at setting.codes (record { bases = a.bases1; mem = w2.memory; cells = a.cells1 }) (z.frame + z.depth) p _ (holds u) mem1 a.fits sp e in
-    let low : q.base + q.offset < z.frame + z.depth = q.cell.low in
-    let move = assign_at_moves setting.program here z.scene.own rest z.depth (q.base + q.offset) q.cell.content (ap (λ k. Inside z.scene.own k (AssignAt ∷ rest)) (omega arith)) q.word
-    (variable_found (z.frame + (z.depth + 2)) (q.base + q.offset) a.cells1 q.cell.content (omega arith) q.cell.there) in
+    let move = assign_at_moves setting.program here z.scene.own rest z.depth (q.base + q.offset) q.cell.content (ap (λ k. Inside z.scene.own k (AssignAt ∷ rest)) (omega (arith, q.cell.low))) q.word
+    (variable_found (z.frame + (z.depth + 2)) (q.base + q.offset) a.cells1 q.cell.content (omega (arith, q.cell.low)) q.cell.there) in
     went (completed_more le le'
     (stored_on setting s A z (AssignAt ∷ rest) rest (z.depth + 1 + 1) w w2 mem1 (q.base + q.offset) y ((q.base + q.offset) ∷ a.written1) r a (q.cell.fits y su) (q.cell.moved y (z.frame + z.depth)) move)))
 

@@ -101,18 +101,17 @@ one_declared_run g m sim (t.definitions x ds) env bs then s A C B z w c d w1 r l
     (let_run g m sim ds lets bl s A C z w c l.4 d d1 ps w1 r le (keeps_both z.scene.bindings bs bl keeps l.6.0) few le1 le2 l.8 a namedl))
     (λ ss w2 k.
     let st = stored g s C z w h d l.4 c2 d1 ps (defines_variables ds) ss w2 r le rise.0 rise.1 l.9 (no_spots g (record z.scene { bindings = bl }) ds d lets c l.4 d1 ps l.8) k in
-    let low = r.low in
-    let b = bind_run ss ps d env2 g s C z w c2 d1 d1 w2 r.high le (omega arith) st.arr st.items rise.1 st.vars in
+    let b = bind_run ss ps d env2 g s C z w c2 d1 d1 w2 r.high le (omega (arith, r.low)) st.arr st.items rise.1 st.vars in
     let gr : Grown a.bases1 b.arr.bases1 = record { each = λ o b1 e. b.grown.each o b1 (st.grown.each o b1 e) } in
     subst (λ y. Ran g s B (Declared g s C z w then) (OpenExited g s B z w) y) (sym b.gives_it) (went (record {
       bs = l.1;
       d1 = d1;
       c1 = c2;
       arr = b.arr;
-      deep = (let q = rise.0 in omega arith);
+      deep = (let q = rise.0 in omega (arith, r.low));
       keeps = keeps_both z.scene.bindings bs l.1 keeps l.7.0;
       named = l.7.1 (length w2.memory) b.arr.bases1 z.frame r.low b.at (named_grown (record z.scene { bindings = bl }) lets a.bases1 b.arr.bases1 z.frame gr namedl);
-      laid = l.11 (length w2.memory) (let some = some_objects g z w r in let long : length w.memory ≤ length w2.memory = st.arr.moved.long in omega arith);
+      laid = l.11 (length w2.memory) (let some = some_objects g z w r in let long : length w.memory ≤ length w2.memory = st.arr.moved.long in omega (arith, r.low));
     })))
 
 -- all at the head of a block

@@ -33,8 +33,7 @@ pub resultis_runs : (setting : Setting) (inner : Meanings) → Simulates setting
 resultis_runs setting inner sim B e z to c rest w le le' l f r =
     one_run setting inner sim B e z c (GiveResult z.scene.around.valof ∷ rest) w _ _ (λ u. adds _ (λ w1. stays (history w1))) (omega arith) le' l r (λ u w1 q pos.
     let b : CompletedAt setting (start z c w) B z to z.depth w w1 = completed_more (omega arith) (omega arith) (result_on r f q) in
-    let bm = b.most in
-    went (record { control = to; depth1 = z.depth; leads = f; arr = b; later = omega arith; hands = (content_of (q.arr.cells1 (z.frame + z.depth)), refl, q.stands) }))
+    went (record { control = to; depth1 = z.depth; leads = f; arr = b; later = omega (arith, b.most); hands = (content_of (q.arr.cells1 (z.frame + z.depth)), refl, q.stands) }))
 
 -- ---- a place that may be sought, and the command behind it
 behind_place : (setting : Setting) (inner : Meanings) → Simulates setting inner → (B : Account) (a : Command) (z : Configuration) (n : ℕ) (at1 : Sought → List Stmt) (c1 rest : List Stmt) (w : World) → 16 * w.turns + 1 ≤ B.most → B.least ≤ w.turns - turns_in false a
@@ -116,9 +115,8 @@ pub when_sought : (setting : Setting) (inner : Meanings) → Simulates setting i
     → B.least ≤ w.turns - turns_in false a → IsAct setting z.scene z.depth (past e0 z.env) a at c1 (Label n ∷ rest) → LabelAt setting z.scene z.depth n rest → (has_place s z.env a ≡ true) × (e ≡ at s) → Ready setting z w
     → RanDid setting (start z e w) B z rest w (inner.act a (seeking s) (past e0 z.env) w)
 when_sought setting inner sim B e0 a s z n at c1 e rest w le le' l ln en r =
-    let dp = r.deep in
     inside_run setting inner sim B a s z (past e0 z.env) at c1 e (Label n ∷ rest) rest w le le' refl l (same_stands s z.env.names (past e0 z.env).next z.env.next a ∙ en.0, en.1) r
-    (λ A w2 la lb y. landed_on (omega arith) lb ln y)
+    (λ A w2 la lb y. landed_on (omega (arith, r.deep)) lb ln y)
 
 -- ---- TEST
 test_adds : (setting : Setting) (inner : Meanings) → Simulates setting inner → (a b : Command) (u v : Environment) (x : Bool) → Adds (λ w. either x (λ w. inner.act a forwards u w) (λ w. inner.act b forwards v w) w)

@@ -110,8 +110,6 @@ abbrev came_back : {setting : Setting} {s : State} {A B : Account} {z : Configur
     → Moves setting.program q.from (state z.scene.own d c new z.frame None written2 w3) → CompletedAt setting s B z c d w (calls_back n w3)
 came_back {setting} {z = z} {w = w} n le le' en r q new written2 like m =
     let top = z.frame + z.depth in
-    let mq = q.most in
-    let lq = q.least in
     let few : FewFrames setting new z.frame w.calls = links_kept setting.program setting.first FRAME_WORDS z.cells new z.frame w.calls (links_of top z.frame z.cells q.cells1 new (links_below r) q.moved.links like) r.frames in
     record {
       steps = q.steps + 1;
@@ -121,14 +119,14 @@ came_back {setting} {z = z} {w = w} n le le' en r q new written2 like m =
       hand1 = None;
       written1 = written2;
       comes = comes_on setting _ _ _ _ _ _ _ q.comes (one setting _ _ m (roomy setting new z.frame w.calls few r.room));
-      most = omega arith;
-      least = omega arith;
+      most = omega (arith, q.most, q.least);
+      least = omega (arith, q.most, q.least);
       calls_are = en;
       frames = few;
       room = r.room;
       bytes = moves_bytes setting.program q.from _ m q.has;
       fits = fits_above setting.codes _ top new q.fits like;
-      moved = moved_on setting.codes top top top _ _ _ r.fits (omega arith) q.moved (moved_above _ top new like);
+      moved = moved_on setting.codes top top top _ _ _ r.fits (omega (arith, q.most, q.least)) q.moved (moved_above _ top new like);
     }
 
 pub returned_in : (of : Bool) (setting : Setting) (s : State) (A B : Account) (z : Configuration) (rest : List Stmt) (w w3 : World) (n : ℕ) (v : Value) (result : Option Content) → A.most + 1 ≤ B.most → B.least ≤ A.least → n ≡ w.calls

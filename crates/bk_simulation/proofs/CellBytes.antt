@@ -121,7 +121,6 @@ pub record ByteCell (codes : Codes) (h : Store) (top : ℕ) (a : Value) (i : ℕ
 pub byte_cell : (codes : Codes) (h : Store) (top : ℕ) (a : Value) (i : ℕ) (x : Content) (c : Cell_of) → Fits codes h top → Applies codes h.bases a x → cell_at h.mem (cell_of_byte a i) ≡ Some c
     → ByteCell codes h top a i x c
 byte_cell codes h top (address o k) i x c f st e = grind (arith, set_word, found_at, byte_address)
-byte_cell codes h top (number n) i x c f st e = absurd (let z : None ≡ Some c = e in cc)
 byte_cell codes h top _ i x c f st e = absurd (let z : None ≡ Some c = e in cc)
 
 variable_there : (codes : Codes) (h : Store) (top p : ℕ) (a : Value) (c : Cell_of) (g : FoundAt codes h top a (Word p) c) → variable_at top h.cells p ≡ Some g.cell.content

@@ -1,5 +1,5 @@
 -- How runs compose: another account, a step more, a part behind another; and parts in which objects are made that die at their end.
-pub use Rattle.bk_simulation.proofs.Situations.{Moves, LinksFrom, links_kept, moves_bytes, Like, like_on, Applies, Store, Moved, Fits, moved_refl, moved_on, fits_above, fits_more, fits_less, moved_less, stands_grown, Since, since_on, since_cells, since_moved, closed_moved, closed_fits, pushed_like, pushed_at, Setting, Scene, Exits, IsLabelHere, KeepsLabels, Configuration, store, state, start, FewFrames, Ready, Account, further, paying, here, comes_on, one, Ran, went, each_way_ran, ran_from, so, turn_behind, Completed, CompletedAt, OpenCompleted, store_at, there, Has, GoesTo, Leads, Exited, Out, next, NamedIn, ◌≡◌, ℕ, suc, ◌+◌, ◌-◌, ◌*◌, ◌<◌, ◌≤◌, List, ◌∷◌, length, Option, None, refl, sym, ◌∙◌, subst, arith, FRAME_WORDS, Binding, Content, Temporary, Cell, Held, content_of, write, below, Placed, State, Stmt, Around, meant, goal_in, Value, Memory, Environment, World, Exit, goto, Outcome, turn, closing, forgetting, remembering, history, adds, stays, by_test, not_true, same_stands_one, IsAct, AreActs, Entered, EnteredAny, with_ran, named_again, ready_in, ready_next, Bool, true, false, ◌||◌, cond, ap, Command, Commands, past_command, Sought, Mode, forwards, seeking, has_place, one_has_place, with, either, Meanings, in_order, Adds, with_after, either_after, by_option, label_moves, jump_moves, taken_moves, passed_moves, give_result_moves, does, below_like, judged_word, LabelAt, still, ◌==◌, not, Some, option_map_or, Unset, Word, settle, Inside, Goal, from_label, Jump, JumpIf, Label, GiveResult, TakeResult, Stack, truth_of_value, given, judged, drop, truth_cause, contents_moves, dyadic_moves, load_byte_moves, dyadic_ends, one_off, pushed, BaseOf, Grown, read_at, variable_found, read_here, read_byte_at, operates, sum_applied, PrefixedAs, OperatedAs, IsValue, named_word, IsJump, place_of, NameAt, turns_of, IsWord, on_number, step_by, slot, Goes, ◌++◌, ◌^◌, option_map, signed, word_of, truth, Operator, dyadic_word, named_place, DivideByZero, Monadic, Dyadic, LoadByte, Number, True, False, Query, Load, Address, Text, infix_code, variable, push, truth_value, number, address, unset, read, read_byte, gives, ends, undefined, sum, operate, operate_prefix, fetch, named, combined, Expression, past, Sense, constant, cell, sense_of, of_z-to_z, Bound, bound_in, Local, Static, Target, w32, Cause, cell_cause, byte_cause, sum_cause}
+pub use Rattle.bk_simulation.proofs.Situations.{Moves, LinksFrom, links_kept, moves_bytes, Like, like_on, Applies, Store, Moved, Fits, moved_refl, moved_on, fits_above, fits_more, fits_less, moved_less, stands_grown, Since, since_on, since_cells, since_moved, closed_moved, closed_fits, pushed_like, pushed_at, Setting, Scene, Exits, IsLabelHere, KeepsLabels, Configuration, store, state, start, FewFrames, Ready, Account, further, paying, here, comes_on, one, Ran, went, each_way_ran, ran_from, so, turn_behind, Completed, CompletedAt, OpenCompleted, store_at, there, Has, GoesTo, Leads, Exited, Out, next, NamedIn, ◌≡◌, ℕ, suc, ◌+◌, ◌-◌, ◌*◌, ◌<◌, ◌≤◌, List, ◌∷◌, length, Option, None, refl, sym, ◌∙◌, subst, arith, FRAME_WORDS, Binding, Content, Temporary, Cell, Held, content_of, write, below, Placed, State, Stmt, Around, meant, goal_in, Value, Memory, Environment, World, Exit, goto, Outcome, turn, closing, forgetting, remembering, history, adds, stays, by_option, contents_moves, dyadic_moves, load_byte_moves, dyadic_ends, does, one_off, pushed, BaseOf, Grown, read_at, variable_found, read_here, read_byte_at, operates, sum_applied, PrefixedAs, OperatedAs, IsValue, named_word, LabelAt, IsJump, with_ran, ready_next, place_of, NameAt, turns_of, IsWord, on_number, step_by, slot, Goes, ◌++◌, Some, ap, ◌^◌, Bool, true, false, option_map, signed, word_of, truth, Operator, Word, Unset, Inside, dyadic_word, named_place, DivideByZero, Monadic, Dyadic, LoadByte, Number, True, False, Query, Load, Address, Text, infix_code, variable, push, truth_value, number, address, unset, read, read_byte, gives, ends, undefined, given, with, sum, operate, operate_prefix, fetch, Meanings, named, combined, Expression, past, Sense, constant, cell, sense_of, Adds, with_after, of_z-to_z, Bound, bound_in, Local, Static, Target, not, from_label, Label, GiveResult, TakeResult, either, either_after, w32, Cause, cell_cause, byte_cause, sum_cause, by_test, not_true, same_stands_one, IsAct, AreActs, Entered, EnteredAny, named_again, ready_in, ◌||◌, cond, Command, Commands, past_command, Sought, Mode, forwards, seeking, has_place, one_has_place, in_order, label_moves, jump_moves, taken_moves, passed_moves, give_result_moves, below_like, judged_word, still, ◌==◌, option_map_or, settle, Goal, Jump, JumpIf, Stack, truth_of_value, judged, drop, truth_cause}
 
 -- ---- one arrival
 
@@ -42,13 +42,15 @@ pub links_below : {setting : Setting} {z : Configuration} {w : World} → Ready 
 links_below r = let dp = r.deep in omega arith
 
 module _ {setting : Setting} {s : State} {own : Placed} {frame calls top : ℕ} {c : List Stmt} {d : ℕ} {w1 : World} where
-  -- in another account, with other turns left
-  abbrev pub accounted : {R : Store → Type 0} {B N : Account} (n : ℕ) (a : Completed setting s B own frame calls top R c d w1) → a.steps + 16 * n ≤ N.most
-      → N.least ≤ n + a.paid → Completed setting s N own frame calls top R c d (record w1 { turns = n })
-  accounted n a le le' = record {
+  -- With other objects, which fit below another top, in another account: with other turns left, and another count of cells, which are in no state.
+  abbrev pub remade : {R : Store → Type 0} {B N : Account} (n cells_most : ℕ) (bases2 : List ℕ) (mem2 : Memory) (top2 : ℕ) (R2 : Store → Type 0)
+      (a : Completed setting s B own frame calls top R c d w1) → a.steps + 16 * n ≤ N.most → N.least ≤ n + a.paid
+      → Fits setting.codes (record { bases = bases2; mem = mem2; cells = a.cells1 }) top2 → R2 (record { bases = bases2; mem = mem2; cells = a.cells1 })
+      → Completed setting s N own frame calls top2 R2 c d (record w1 { memory = mem2; turns = n; most_cells = cells_most })
+  remade n cells_most bases2 mem2 top2 R2 a le le' fits moved = record {
     steps = a.steps;
     paid = a.paid;
-    bases1 = a.bases1;
+    bases1 = bases2;
     cells1 = a.cells1;
     hand1 = a.hand1;
     written1 = a.written1;
@@ -59,51 +61,24 @@ module _ {setting : Setting} {s : State} {own : Placed} {frame calls top : ℕ} 
     frames = a.frames;
     room = a.room;
     bytes = a.bytes;
-    fits = a.fits;
-    moved = a.moved;
+    fits = fits;
+    moved = moved;
   }
+
+  -- in another account, with other turns left
+  abbrev pub accounted : {R : Store → Type 0} {B N : Account} (n : ℕ) (a : Completed setting s B own frame calls top R c d w1) → a.steps + 16 * n ≤ N.most
+      → N.least ≤ n + a.paid → Completed setting s N own frame calls top R c d (record w1 { turns = n })
+  accounted {R} n a le le' = remade n w1.most_cells a.bases1 w1.memory top R a le le' a.fits a.moved
 
   -- with other objects, which fit below another top
   abbrev pub with_objects : {R : Store → Type 0} {B : Account} (bases2 : List ℕ) (mem2 : Memory) (top2 : ℕ) (R2 : Store → Type 0)
       (a : Completed setting s B own frame calls top R c d w1) → Fits setting.codes (record { bases = bases2; mem = mem2; cells = a.cells1 }) top2
       → R2 (record { bases = bases2; mem = mem2; cells = a.cells1 }) → Completed setting s B own frame calls top2 R2 c d (remembering mem2 w1)
-  with_objects bases2 mem2 top2 R2 a fits moved = record {
-    steps = a.steps;
-    paid = a.paid;
-    bases1 = bases2;
-    cells1 = a.cells1;
-    hand1 = a.hand1;
-    written1 = a.written1;
-    comes = a.comes;
-    most = a.most;
-    least = a.least;
-    calls_are = a.calls_are;
-    frames = a.frames;
-    room = a.room;
-    bytes = a.bytes;
-    fits = fits;
-    moved = moved;
-  }
+  with_objects bases2 mem2 top2 R2 a fits moved = remade w1.turns w1.most_cells bases2 mem2 top2 R2 a a.most a.least fits moved
 
   -- how many cells lived is in no state
   abbrev pub with_cells : {R : Store → Type 0} {B : Account} (n : ℕ) → Completed setting s B own frame calls top R c d w1 → Completed setting s B own frame calls top R c d (record w1 { most_cells = n })
-  with_cells n a = record {
-    steps = a.steps;
-    paid = a.paid;
-    bases1 = a.bases1;
-    cells1 = a.cells1;
-    hand1 = a.hand1;
-    written1 = a.written1;
-    comes = a.comes;
-    most = a.most;
-    least = a.least;
-    calls_are = a.calls_are;
-    frames = a.frames;
-    room = a.room;
-    bytes = a.bytes;
-    fits = a.fits;
-    moved = a.moved;
-  }
+  with_cells {R} n a = remade w1.turns n a.bases1 w1.memory top R a a.most a.least a.fits a.moved
 
   -- a step further, with what it pays
   abbrev pub stepped : {R : Store → Type 0} {B : Account} (mem2 : Memory) (top2 : ℕ) (R2 : Store → Type 0) (c2 : List Stmt) (d2 : ℕ)
@@ -113,8 +88,6 @@ module _ {setting : Setting} {s : State} {own : Placed} {frame calls top : ℕ} 
       → Moves setting.program (state own d c a.cells1 frame a.hand1 a.written1 w1) (state own d2 c2 cells2 frame hand2 written2 w1) → Completed setting s
       (paying setting B) own frame calls top2 R2 c2 d2 (remembering mem2 w1)
   stepped mem2 top2 R2 c2 d2 a cells2 hand2 written2 links fits moved e =
-      let m = a.most in
-      let l = a.least in
       let f = links_kept setting.program setting.first FRAME_WORDS a.cells1 cells2 frame calls links a.frames in
       record {
         steps = a.steps + 1;
@@ -124,8 +97,8 @@ module _ {setting : Setting} {s : State} {own : Placed} {frame calls top : ℕ} 
         hand1 = hand2;
         written1 = written2;
         comes = comes_on setting _ _ _ _ _ _ _ a.comes (one setting _ _ e (roomy setting cells2 frame calls f a.room));
-        most = omega arith;
-        least = omega arith;
+        most = omega (arith, a.most, a.least);
+        least = omega (arith, a.most, a.least);
         calls_are = a.calls_are;
         frames = f;
         room = a.room;

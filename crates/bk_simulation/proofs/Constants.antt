@@ -102,11 +102,8 @@ words_bound x y bs f h z v e = picked (bytes_eq x z) e
     picked true e = f v e
     picked false e = h z v e
 
-some_constant : (u v : Option ℕ) → Some (b.Constant u) ≡ Some (b.Constant v) → u ≡ v
-some_constant u v e = cc
-
 pub words_constant : (x : List ℕ) (e : Expression) (bs : List Binding) → HasWords bs → Regular e → HasWords (bind x (b.Constant (constant_word bs e)) bs)
-words_constant x e bs h r = words_bound x (b.Constant (constant_word bs e)) bs (λ v q. constant_small bs h e r v (some_constant (constant_word bs e) (Some v) q)) h
+words_constant x e bs h r = words_bound x (b.Constant (constant_word bs e)) bs (λ v q. constant_small bs h e r v (cc)) h
 
 pub words_manifests : (bs : List Binding) (is : Items) → HasWords bs → RegularItems is → HasWords (manifests_in_scope bs is)
 words_manifests bs t.no_items h r = h

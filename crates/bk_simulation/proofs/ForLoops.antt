@@ -402,9 +402,8 @@ for_run setting inner sim B l x a y h c z there c0 rest w le le' lx ad r =
     two_run setting inner sim B a y z c0 lx.6 (Store_stmt ∷ Jump lx.0 ∷ Label lx.1 ∷ lx.7) w _ _ all_adds (omega arith) (omega arith) lx.9 lx.10 r (λ u v w2 t pos.
     let s = start z c0 w in
     let A = for_two a y w in
-    let m0 = t.arr.most in
     let zf = next setting s A z (Store_stmt ∷ Jump lx.0 ∷ Label lx.1 ∷ lx.7) (z.depth + 1 + 1) w w2 (past y (past a z.env)) z.depth t.arr in
-    let rf = ready_next (past y (past a z.env)) z.depth t.arr refl (omega arith) r in
+    let rf = ready_next (past y (past a z.env)) z.depth t.arr refl (omega (arith, t.arr.most)) r in
     subst (λ q. RanDid setting s B z rest w (with (given x.at no_constant q w2) (λ n w. for_loop inner x c u v n (past y (past a z.env)) w))) (sym lx.13)
-    (joined_ran (omega arith) (omega arith) r t.arr
+    (joined_ran (omega (arith, t.arr.most)) (omega (arith, t.arr.most)) r t.arr
     (for_opened setting inner sim l x a y h c zf z there c0 rest w2 u v lx refl rf t.first t.second (λ o. ad o v lx.4 (bind x.letters (cell o 0) (past y (past a z.env)))))))

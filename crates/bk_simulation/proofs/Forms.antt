@@ -15,4 +15,4 @@ pub use Rattle.bk_simulation.proofs.SectionGlobals.{SetSame, all_set_same}
 pub use Rattle.bk_simulation.proofs.Standing.{AreBelow, AreSet, Bases, DataIn, Follow, FollowWords, FoundParts, Home, Lies, Mean, IsNumbered, Suits, at_depth, base_both, bases_of, bases_paid, bases_so, bases_some, bases_under, bases_within, both_bases, call_at, data_at, data_below, data_both, data_is, data_of_parts, data_with, data_within, first_of, found_back, found_front, home, label_at, label_found, lie, lies_after, lies_behind, lies_so, lies_within, new_base, no_bases, passed, then_bases, there_in, three_bases, with_base, within_at, written, HeldList, HeldOne, HeldWord}
 pub use Rattle.bk_simulation.proofs.LaidExpressions.{Around, HasWords, InNames, around_deeper, call_lies, coded, constants_agree, infix_on, joined_choice, joined_three, joined_two, known, known_agree, leaf_lies, leaf_on, level, names_of, own_parts, plain_laid, pushed_depth, role, stands_agree, truth_depth}
 pub use Rattle.bk_simulation.proofs.Constants.{constant_small, words_bound, words_constant, words_globals, words_manifests, words_procedures, words_statics}
-pub use Rattle.bk_simulation.proofs.Words.{true, length-append, ◌≡◌, ℕ, suc, ◌+◌, ◌<◌, ◌≤◌, List, [], ◌∷◌, ◌++◌, length, Some, refl, arith, slice_get, sym, FRAME_WORDS, Declarations, Placed, Program, IsWellPlaced, objects_of_declarations, of_declarations, of_sections, words, AreAccepted, Represent, ltb-false, zero, ◌*◌, nat_lt, false, Option, None, ap, ◌∙◌, subst, ◌⊎◌, ⊎_elim, inl, inr, option_map, number_in, State, Goes, run, first_state, Value, procedure, World, Outcome, gives, going, calling, Procedure, program_of, procedure_of, Meanings, enter, Going, Undefined, means, meaning, started, run_of, first_world, ltb-true, cut_only_without_turns, settled, Begin, RunsOut, StillGoes, RunsOutOnTheWay, IsWithoutEnd, StepsDoWhatSourcesMean, StepsGoOnWithTheirSource, StartsWithTheirSource, returned, nowhere, no_place, ◌-◌, ◌^◌, cond, ap₂, drop, bytes_eq-Decides, Mention, Bound, Binding, bound_in, bind, with_formals, Callable, next_depth, depth_after, item_words, Stmt, Entry, Save, EndProcedure, DataLabel, DataAddress, Target, meant, variable, outermost, procedure_code, word_code, Named, Sense, Environment, cell, foreign, bind_each, sense_in, global_named, letters, Body, command, expression, Lasting, code, of_command, of_expression, in_scope, bind_formals, Part, data_code, entries_of, entry_of, entry_setting, joined, map, map-append, stop, library_routine, DoesFrom, StartsSo, with_start, without_start, unwrap_or, signed, Expressions, constant_word, HaveWords, Placement, Datum, datum_of, data_of, all_data, DataNumber, worth, words_named, constant_words, ◌==◌, Bool, eqb-true, is_in, option_map_or, RegularEach, append_assoc, AreFaultless, scheme_is_accepted, global_vector, procedure_in, word_negation, word_not, from_label, Monadic, JumpIf, Stack, CallRoutine, infix_code, Operator, Expression, Command, Commands, infix_word, divides_by_zero, number, sum, on_numbers, operate_prefix, constant_in, past, past_each, labelled, Sought, the_label, the_case, the_default, Mode, forwards, seeking, ends, divide_by_zero, done, given, with, turn, Exit, history, After, Throughout, at, fetch, in_order, scope_of, landing, alone, value_of, truth_of, address_in, combined, judged, assigned, act_of, applied, rounds_of, means_with, turn_for, no_turns, no_turn_for, Adds, adds, stays, given_after, with_after, each_way_after, either_after, Prefix, only_grows, goto, break, loop, endcase, return, acts_at, no_number, sum_cause, at_command, eq-eqb}
+pub use Rattle.bk_simulation.proofs.Words.{word_negation, word_not, ◌≡◌, ℕ, suc, ◌+◌, ◌-◌, ◌*◌, ◌≤◌, Bool, true, false, List, ◌∷◌, ◌++◌, Some, refl, sym, ◌∙◌, subst, arith, zero, State, from_label, Stmt, Monadic, JumpIf, Stack, CallRoutine, FRAME_WORDS, infix_code, Operator, Expression, Expressions, Command, Commands, option_map, infix_word, divides_by_zero, Value, number, sum, on_numbers, operate_prefix, Environment, constant_in, past, past_each, labelled, Sought, the_label, the_case, the_default, Mode, forwards, seeking, World, ends, divide_by_zero, done, given, with, turn, Exit, going, history, After, Throughout, Meanings, at, fetch, in_order, scope_of, landing, alone, value_of, truth_of, address_in, combined, judged, assigned, act_of, applied, rounds_of, means_with, turn_for, means, no_turns, no_turn_for, Adds, adds, stays, given_after, with_after, each_way_after, either_after, Prefix, only_grows, goto, break, loop, endcase, return, acts_at, no_number, sum_cause, at_command, ◌<◌, ◌^◌, ap, ⊎_elim, Declarations, number_in, Program, first_state, procedure, stop, program_of, meaning, IsWellPlaced, library_routine, DoesFrom, StartsSo, with_start, without_start, length-append, [], length, slice_get, Placed, objects_of_declarations, of_declarations, of_sections, words, AreAccepted, Represent, ltb-false, nat_lt, Option, None, ◌⊎◌, inl, inr, Goes, run, Outcome, gives, calling, Procedure, procedure_of, enter, Going, Undefined, started, run_of, first_world, ltb-true, cut_only_without_turns, settled, Begin, RunsOut, StillGoes, RunsOutOnTheWay, IsWithoutEnd, StepsDoWhatSourcesMean, StepsGoOnWithTheirSource, StartsWithTheirSource, returned, nowhere, no_place, cond, ap₂, drop, bytes_eq-Decides, Mention, Bound, Binding, bound_in, bind, with_formals, Callable, next_depth, depth_after, item_words, Entry, Save, EndProcedure, DataLabel, DataAddress, Target, meant, variable, outermost, procedure_code, word_code, Named, Sense, cell, foreign, bind_each, sense_in, global_named, letters, Body, command, expression, Lasting, code, of_command, of_expression, in_scope, bind_formals, Part, data_code, entries_of, entry_of, entry_setting, joined, map, map-append, eq-eqb, Datum, is_in, all_data, data_of, global_vector, unwrap_or, signed, constant_word, HaveWords, Placement, datum_of, DataNumber, worth, words_named, constant_words, ◌==◌, eqb-true, option_map_or, RegularEach, append_assoc, AreFaultless, scheme_is_accepted, procedure_in}

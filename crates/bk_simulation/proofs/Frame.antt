@@ -61,8 +61,7 @@ pub record Ready (setting : Setting) (z : Configuration) (w : World) : Type 0 wh
 pub some_objects : (setting : Setting) (z : Configuration) (w : World) → Ready setting z w → 0 < length w.memory
 some_objects setting z w r =
     let b : 0 < length z.bases = slice_get_within z.bases 0 16 (r.lasts.each 0 16 setting.vector) in
-    let l = r.fits.long in
-    omega arith
+    omega (arith, r.fits.long)
 
 -- most: steps, and sixteen for each turn left, are at most this. least: this is at most the turns left and what the steps pay for.
 pub record Account : Type 0 where

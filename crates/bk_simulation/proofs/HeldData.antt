@@ -1,5 +1,5 @@
 -- The words of strings and tables are data of the program.
-pub use Rattle.bk_simulation.proofs.Forms.{same_number, get_first, with_names, InData, Agree, IsNumbered, data_below, data_within, with_base, HasWords, constants_agree, constant_small, in_datum, ◌≡◌, ℕ, zero, suc, ◌+◌, ◌<◌, ◌≤◌, ◌^◌, List, [], ◌∷◌, ◌++◌, length, map, Option, Some, None, slice_get, drop, refl, sym, ap, ap₂, ◌∙◌, subst, arith, unwrap_or, signed, Expressions, Binding, constant_word, HaveWords, Placement, Placed, Program, Datum, item_words, datum_of, data_of, all_data, Stmt, DataNumber, worth, words_named, Named, constant_words, FRAME_WORDS, IsWellPlaced, ◌==◌, Bool, true, false, cond, eqb-true, is_in, DataLabel, DataAddress, word_code, Bound, words, option_map_or, RegularEach, turns_of, turns_among, Setting, Scene, Aim, pushes, jumps, ending, count, LabelAt, IsCode, AreValues, IsAddress, IsStore, passed, at_depth, written, label_at, call_at, home, no_bases, new_base, both_bases, three_bases, bases_so, Lies, lie, lies_behind, data_at, FoundParts, found_front, found_back, DataIn, within_at, coded, own_parts, role, level, Around, around_deeper, InNames, plain_laid, leaf_on, leaf_lies, pushed_depth, truth_depth, infix_on, joined_two, joined_three, joined_choice, call_lies, words_bound, BaseOf, Codes, IsWord, NamedIn, bound_named, IsBody, HeldWord, HeldList, SameGlobal, global_of, same_global, own_cell, agree_bound, settings, setting_of, Follow, FollowWords, there_in, bases_under, first_of, Home, Suits, Bases, place_of, ◌-◌, bytes_eq-Decides, Mention, bound_in, bind, with_formals, Callable, next_depth, depth_after, Entry, Save, EndProcedure, Target, meant, variable, outermost, procedure_code, Sense, Environment, cell, foreign, bind_each, sense_in, global_named, letters, Body, command, expression, Lasting, code, of_command, of_expression, in_scope, bind_formals, Part, data_code, entries_of, entry_of, entry_setting, joined, map-append, turns_one_declared, turns_declared, turns_defined, turns_started, of_light, in_light, Exits, Spot, defines_variables, variables_bound, Renames, IsOneDeclared, AreDeclared, AreDefined, AreStarts, IsAlone, bases_of, bases_some, then_bases, bases_within, words_manifests, words_statics, words_globals, words_procedures}
+pub use Rattle.bk_simulation.proofs.Forms.{same_number, get_first, with_names, InData, Agree, IsNumbered, data_below, data_within, with_base, HasWords, constants_agree, constant_small, in_datum, ◌≡◌, ℕ, zero, suc, ◌+◌, ◌<◌, ◌≤◌, ◌^◌, List, [], ◌∷◌, ◌++◌, length, map, Option, Some, None, slice_get, drop, refl, sym, ap, ap₂, ◌∙◌, subst, arith, unwrap_or, signed, Expressions, Binding, constant_word, HaveWords, Placement, Placed, Program, Datum, item_words, datum_of, data_of, all_data, Stmt, DataNumber, worth, words_named, Named, constant_words, FRAME_WORDS, IsWellPlaced, ◌==◌, Bool, true, false, cond, eqb-true, is_in, DataLabel, DataAddress, word_code, Bound, words, option_map_or, RegularEach, words_bound, BaseOf, Codes, Setting, Scene, IsWord, NamedIn, bound_named, IsBody, HeldWord, HeldList, SameGlobal, global_of, same_global, own_cell, agree_bound, settings, setting_of, Follow, FollowWords, there_in, bases_under, first_of, passed, written, Home, Suits, Bases, FoundParts, DataIn, joined_two, place_of, ◌-◌, bytes_eq-Decides, Mention, bound_in, bind, with_formals, Callable, next_depth, depth_after, Entry, Save, EndProcedure, Target, meant, variable, outermost, procedure_code, Sense, Environment, cell, foreign, bind_each, sense_in, global_named, letters, Body, command, expression, Lasting, code, of_command, of_expression, in_scope, bind_formals, Part, data_code, entries_of, entry_of, entry_setting, joined, map-append, turns_one_declared, turns_declared, turns_defined, turns_started, of_light, in_light, Exits, Spot, defines_variables, variables_bound, Renames, IsOneDeclared, AreDeclared, AreDefined, pushes, AreStarts, IsCode, IsAlone, home, no_bases, bases_so, bases_of, bases_some, Lies, both_bases, new_base, then_bases, lie, bases_within, data_at, found_front, found_back, within_at, Around, InNames, around_deeper, words_manifests, words_statics, words_globals, words_procedures, turns_of, turns_among, Aim, jumps, ending, count, LabelAt, AreValues, IsAddress, IsStore, at_depth, label_at, call_at, three_bases, lies_behind, coded, own_parts, role, level, plain_laid, leaf_on, leaf_lies, pushed_depth, truth_depth, infix_on, joined_three, joined_choice, call_lies}
 use Rattle.bk_tree.specs.Tree as t
 use Rattle.bk_scope.specs.declared.bound.Bound.TheVariants as b
 

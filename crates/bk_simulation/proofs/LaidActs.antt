@@ -1,7 +1,7 @@
 -- A FOR is laid where the scheme puts it, where its body is. Each command of an accepted section is laid where the scheme puts it. That VALOFs and blocks
 -- with declarations are is taken here as an argument.
 use Rattle.bk_simulation.proofs.LaidProcedures.{all_passed}
-use Rattle.bk_simulation.proofs.LaidAssigned.{Doing, finds_nothing, Done, words_labels, words_variable, alone_lies, doing_loop, doing_switch, Leads, finds_case, finds_both, switch_chosen, switch_default, switch_none, DoneEach, leads_label, either_leads, same_letters, label_ahead, turns_lie, laid_froms, laid_stores, FindsEach, ValofsLie, laid_code, laid_each, CodeLies, at_depth, turns_in, in_light, turns_through, of_light, turns_of, with_names, IsAct, Setting, Scene, in_loop, pushes, IsAlone, in_switch, jumps, count, IsLabelHere, AreActs, in_valof, Aim, ending, bound_named, Agree, own_cell, agree_bound, there_in, bases_under, IsNumbered, passed, label_at, home, three_bases, bases_so, Lies, written, call_at, label_found, Bases, no_bases, both_bases, lies_so, lie, lies_within, data_at, FoundParts, found_front, found_back, lies_after, constant_small, HasWords, around_deeper, constants_agree, InNames, joined_choice, known, known_agree, names_of, stands_agree, joined_two, joined_three, role, Around, call_lies, plain_laid, ◌-◌, Placed, Environment, Goal, go, ◌≡◌, ℕ, ◌+◌, ◌<◌, ◌≤◌, ◌^◌, Bool, true, false, List, [], ◌∷◌, ◌++◌, length, Some, cond, refl, sym, ap, ap₂, ◌∙◌, subst, arith, int_lt, pos, signed, Expressions, Command, Commands, Declaration, Declarations, Enclosing, Binding, bind, labels_of, deeper, labels_in_scope, SoundDone, HaveWords, Spot, next_depth, Local, Stmt, Number, Load, Dyadic, Assign, Jump, JumpIf, Label, Stack, Store, labels, term_named, command_named, worth, step_named, parts, parts_in, value_code, command_code, test_of_step, Named, objects, objects_of_command, cell, foreign, step_of, of_command, in_scope, not, suc, false≢true, bytes_eq, size, bound_in, constant_word, SoundDoneEach, Sound, from_label, GiveResult, CallRoutine, Switch, Return, Finish, TakeResult, labels_if, labels_onto, labels_in, meant, condition_named, lvalues_named, commands_named, parts_if, parts_onto, parts_through, goal_in, jump_code, through_code, cases, default_in, label_or, valued, objects_of_each, objects_of_commands, constant_in, the_label, the_case, the_default, same_place, has_place, of_commands, Sought, RegularEach, RegularCommand, RegularCommands, Regular, Simple}
+use Rattle.bk_simulation.proofs.LaidAssigned.{Doing, finds_nothing, Done, words_labels, words_variable, alone_lies, doing_loop, doing_switch, Leads, finds_case, finds_both, switch_chosen, switch_default, switch_none, DoneEach, leads_label, either_leads, same_letters, label_ahead, turns_lie, laid_froms, laid_stores, FindsEach, at_depth, turns_in, in_light, turns_through, of_light, turns_of, with_names, IsAct, Setting, Scene, in_loop, pushes, IsAlone, in_switch, jumps, count, IsLabelHere, AreActs, in_valof, Aim, ending, bound_named, Agree, own_cell, agree_bound, there_in, bases_under, IsNumbered, passed, label_at, home, three_bases, bases_so, Lies, written, call_at, label_found, Bases, no_bases, both_bases, lies_so, lie, lies_within, data_at, FoundParts, found_front, found_back, lies_after, constant_small, HasWords, around_deeper, constants_agree, InNames, joined_choice, known, known_agree, names_of, stands_agree, joined_two, joined_three, role, Around, call_lies, plain_laid, ValofsLie, laid_code, laid_each, CodeLies, ◌-◌, Placed, Environment, Goal, go, ◌≡◌, ℕ, ◌+◌, ◌<◌, ◌≤◌, ◌^◌, Bool, true, false, List, [], ◌∷◌, ◌++◌, length, Some, cond, refl, sym, ap, ap₂, ◌∙◌, subst, arith, int_lt, pos, signed, Expressions, Command, Commands, Declaration, Declarations, Enclosing, Binding, bind, labels_of, deeper, labels_in_scope, SoundDone, HaveWords, Spot, next_depth, Local, Stmt, Number, Load, Dyadic, Assign, Jump, JumpIf, Label, Stack, Store, labels, term_named, command_named, worth, step_named, parts, parts_in, value_code, command_code, test_of_step, Named, objects, objects_of_command, cell, foreign, step_of, of_command, in_scope, not, suc, false≢true, bytes_eq, size, bound_in, constant_word, SoundDoneEach, Sound, from_label, GiveResult, CallRoutine, Switch, Return, Finish, TakeResult, labels_if, labels_onto, labels_in, meant, condition_named, lvalues_named, commands_named, parts_if, parts_onto, parts_through, goal_in, jump_code, through_code, cases, default_in, label_or, valued, objects_of_each, objects_of_commands, constant_in, the_label, the_case, the_default, same_place, has_place, of_commands, Sought, RegularEach, RegularCommand, RegularCommands, Regular, Simple}
 use Rattle.bk_tree.specs.Tree as t
 use Rattle.bk_simulation.proofs.Terms.{Bound as b, Dyadic as two, Simple as simple}
 use Rattle.bk_scope.specs.Places as place

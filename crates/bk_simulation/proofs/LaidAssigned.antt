@@ -1,7 +1,7 @@
 -- What the static side of commands needs: which exits there are, where labels, CASEs and DEFAULTs are found, and scopes. An assignment is laid where the
 -- scheme puts it: its values, and where they are stored, by turns.
-pub use Rattle.bk_simulation.proofs.Words.{◌≡◌, ℕ, suc, ◌+◌, ◌<◌, ◌≤◌, ◌^◌, ◌==◌, Bool, true, false, ◌||◌, List, [], ◌∷◌, ◌++◌, length, Option, Some, None, cond, refl, sym, ap, ◌∙◌, subst, arith, append_assoc, append-nil, drop, if◌then◌else◌, eqb-true, eq-eqb, ne_eqb, false≢true, bytes_eq-Decides, bytes_eq, signed, Expressions, Command, Commands, Enclosing, Binding, bound_in, bind, labels_of, labels_of_each, labels_in_scope, GoesTo, Placed, from_label, case_label, Case, Stmt, Label, label_has_one_place, Target, NamedCommand, NamedCommands, meant, worth, target_of_label, goal_in, cases, cases_through, default_in, default_through, first_of, label_or, Named, Sense, label, bind_each, labelled, objects_of_each, objects_of_command, objects_of_commands, Sought, the_label, the_case, the_default, same_place, has_place, one_has_place, alone, AllFound, of_each, of_command, of_commands, in_scope, FRAME_WORDS, at_expression, size, Destination, deeper, SoundEach, SoundDestinations, Spot, labels, labels_at, term_named, terms_named, lvalue_named, lvalues_named, parts, parts_at, parts_onto, parts_from, value_code, store_code, value_codes, store_codes, by_turns, objects, of_expression, Part, parts_in, parts_through, or_parts, RegularEach, ◌-◌, Environment, Goal, go, ap₂, int_lt, pos, Declaration, Declarations, SoundDone, HaveWords, next_depth, Local, Number, Load, Dyadic, Assign, Jump, JumpIf, Stack, Store, command_named, step_named, command_code, test_of_step, cell, foreign, step_of, not, constant_word, SoundDoneEach, Sound, GiveResult, CallRoutine, Switch, Return, Finish, TakeResult, labels_if, labels_onto, labels_in, condition_named, commands_named, parts_if, jump_code, through_code, valued, constant_in, RegularCommand, RegularCommands, Regular, Simple, all_declared-next, zero, scope_after, place_after_all, after_declared, after_declarations, labels_of_declarations, declarations_named, parts_of_declarations, declarations_code, objects_of_declarations, Lasting, of_declarations, all_declared, declared-next, Sort, Items, Definitions, scope_after_one, place_after_one, SoundDeclared, SoundOneDeclared, after_one_declared, beginning, joined, AreFaultless, after_definitions, after_declaration, has_variables, labels_of_declaration, definitions_named, declaration_named, named_tree, target_of, parts_of_declaration, definitions_code, declaration_code, scheme, scheme_is_accepted, targets_found, objects_of_declaration, declared, of_declaration, section_sound, IsAccepted, RegularDeclarations, RegularDefinitions, DefineNoVariables, DeclareNoVariables, Bound, depth_after, Placement, item_words, Globals, static_item, static_table, label_place, procedure_code, data_code, word_code, entries_of, section_code}
-pub use Rattle.bk_simulation.proofs.Forms.{words_bound, turns_in, turns_among, same_number, with_names, label_stands, Scene, in_loop, in_switch, owning, Stretch, ByTurns, AreFrom, AreStores, AreActs, IsAct, IsAlone, pushes, IsCode, IsStore, labels_named, Agree, agree_bound, there_in, bases_under, bases_of, IsNumbered, first_of as first_at, home, Bases, bases_so, Lies, written, no_bases, both_bases, lie, data_at, FoundParts, found_front, found_back, HasWords, Around, known, InNames, around_deeper, joined_three, at_depth, in_light, turns_through, of_light, turns_of, Setting, jumps, count, IsLabelHere, in_valof, Aim, ending, bound_named, own_cell, passed, label_at, three_bases, call_at, label_found, lies_so, lies_within, lies_after, constant_small, constants_agree, joined_choice, known_agree, names_of, stands_agree, joined_two, role, call_lies, plain_laid, through_light, label_stands_one, LeadsTo, IsScope, data_within, within_at, bases_paid, bases_within, turns_declared, turns_defined, data_of_parts}
+pub use Rattle.bk_simulation.proofs.Words.{◌≡◌, ℕ, suc, ◌+◌, ◌<◌, ◌≤◌, ◌^◌, ◌==◌, Bool, true, false, ◌||◌, List, [], ◌∷◌, ◌++◌, length, Option, Some, None, cond, refl, sym, ap, ◌∙◌, subst, arith, append_assoc, append-nil, drop, if◌then◌else◌, eqb-true, eq-eqb, ne_eqb, false≢true, bytes_eq-Decides, bytes_eq, signed, Expressions, Command, Commands, Enclosing, Binding, bound_in, bind, labels_of, labels_of_each, labels_in_scope, GoesTo, Placed, from_label, case_label, Case, Stmt, Label, label_has_one_place, Target, NamedCommand, NamedCommands, meant, worth, target_of_label, goal_in, cases, cases_through, default_in, default_through, first_of, label_or, Named, Sense, label, bind_each, labelled, objects_of_each, objects_of_command, objects_of_commands, Sought, the_label, the_case, the_default, same_place, has_place, one_has_place, alone, AllFound, of_each, of_command, of_commands, in_scope, FRAME_WORDS, at_expression, size, Destination, deeper, SoundEach, SoundDestinations, Spot, labels, labels_at, term_named, terms_named, lvalue_named, lvalues_named, parts, parts_at, parts_onto, parts_from, value_code, store_code, value_codes, store_codes, by_turns, objects, of_expression, Part, parts_in, parts_through, or_parts, RegularEach, declared-next, Sort, Items, Declaration, Declarations, Definitions, scope_after_one, place_after_one, SoundDeclared, SoundOneDeclared, after_one_declared, beginning, joined, AreFaultless, Store, after_definitions, after_declaration, has_variables, labels_of_declaration, definitions_named, declaration_named, declarations_named, named_tree, target_of, parts_of_declaration, parts_of_declarations, definitions_code, declaration_code, scheme, scheme_is_accepted, targets_found, objects_of_declaration, objects_of_declarations, declared, of_declaration, of_declarations, section_sound, IsAccepted, RegularDeclarations, RegularDefinitions, DefineNoVariables, DeclareNoVariables, Bound, depth_after, Placement, item_words, Globals, static_item, static_table, label_place, procedure_code, data_code, word_code, entries_of, section_code, ◌-◌, Environment, Goal, go, ap₂, int_lt, pos, SoundDone, HaveWords, next_depth, Local, Number, Load, Dyadic, Assign, Jump, JumpIf, Stack, command_named, step_named, command_code, test_of_step, cell, foreign, step_of, not, constant_word, SoundDoneEach, Sound, GiveResult, CallRoutine, Switch, Return, Finish, TakeResult, labels_if, labels_onto, labels_in, condition_named, commands_named, parts_if, jump_code, through_code, valued, constant_in, RegularCommand, RegularCommands, Regular, Simple, all_declared-next, zero, scope_after, place_after_all, after_declared, after_declarations, labels_of_declarations, declarations_code, Lasting, all_declared}
+pub use Rattle.bk_simulation.proofs.Forms.{words_bound, turns_in, turns_among, same_number, with_names, label_stands, Scene, in_loop, in_switch, owning, Stretch, ByTurns, AreFrom, AreStores, AreActs, IsAct, IsAlone, pushes, IsCode, IsStore, labels_named, Agree, agree_bound, there_in, bases_under, bases_of, IsNumbered, first_of as first_at, home, Bases, bases_so, Lies, written, no_bases, both_bases, lie, data_at, FoundParts, found_front, found_back, HasWords, Around, known, InNames, around_deeper, joined_three, turns_declared, turns_defined, Setting, data_of_parts, passed, within_at, at_depth, in_light, turns_through, of_light, turns_of, jumps, count, IsLabelHere, in_valof, Aim, ending, bound_named, own_cell, label_at, three_bases, call_at, label_found, lies_so, lies_within, lies_after, constant_small, constants_agree, joined_choice, known_agree, names_of, stands_agree, joined_two, role, call_lies, plain_laid, through_light, label_stands_one, LeadsTo, IsScope, data_within, bases_paid, bases_within}
 pub use Rattle.bk_simulation.proofs.LaidValues.{ValofsLie, laid_code, laid_store, laid_each, CodeLies}
 use Rattle.bk_scope.specs.declared.bound.Bound.TheVariants as b
 use Rattle.bk_scope.specs.Places as place
@@ -99,14 +99,11 @@ same_letters x y e = (bytes_eq-Decides x y).0 e
 same_evaluation : (v w : ℕ) → (w == v) ≡ true → (v == w) ≡ true
 same_evaluation v w e = let h : w ≡ v = eqb-true w v e in eq-eqb v w (sym h)
 
-apart_evaluation : (v w : ℕ) → (w == v) ≡ false → (v == w) ≡ false
-apart_evaluation v w e = ne_eqb v w (λ h. absurd (false≢true (sym e ∙ eq-eqb w v (sym h))))
-
 pub first_case : (v w l other : ℕ) (more : List Case) → (w == v) ≡ true → v < 2 ^ 32 → case_label (record { value = signed v; label = l } ∷ more) other w ≡ l
 first_case v w l other more e low = ap (λ y. if y == w then l else case_label more other w) (same_number v low) ∙ ap (λ y. if y then l else case_label more other w) (same_evaluation v w e)
 
 pub later_case : (v w l other : ℕ) (more : List Case) → (w == v) ≡ false → v < 2 ^ 32 → case_label (record { value = signed v; label = l } ∷ more) other w ≡ case_label more other w
-later_case v w l other more e low = ap (λ y. if y == w then l else case_label more other w) (same_number v low) ∙ ap (λ y. if y then l else case_label more other w) (apart_evaluation v w e)
+later_case v w l other more e low = ap (λ y. if y == w then l else case_label more other w) (same_number v low) ∙ ap (λ y. if y then l else case_label more other w) (ne_eqb v w (λ h. absurd (false≢true (sym e ∙ eq-eqb w v (sym h)))))
 
 -- the places of one part and then those of another
 pub finds_both : (own : Placed) (ts : List Target) (bs : List Binding) (d : ℕ) (u1 u2 : Sought → Bool) (cs1 cs2 : List Case) (o1 o2 : Option ℕ) (at1 at2 : Sought → List Stmt) → Findable own ts bs d u1 cs1 o1 at1

@@ -2,7 +2,7 @@
 use Rattle.bk_tree.specs.Tree as t
 use Rattle.bk_scope.specs.Places as place
 use Rattle.bk_scope.specs.Spots as spot
-use Rattle.bk_simulation.proofs.LaidAssigned.{Doing, finds_nothing, DoneEach, words_labels, agree_labels, names_bound, ValofsLie, turns_in, through_light, turns_through, with_names, label_stands_one, labels_named, Setting, Scene, owning, AreActs, LeadsTo, IsScope, Agree, there_in, passed, home, FoundParts, found_front, found_back, data_within, within_at, Bases, bases_under, bases_of, bases_so, bases_paid, Lies, lie, bases_within, data_at, known, InNames, joined_three, all_declared-next, Part, false, ◌≡◌, ℕ, zero, suc, ◌+◌, ◌≤◌, true, List, [], ◌∷◌, ◌++◌, length, refl, sym, ap, ◌∙◌, subst, arith, Commands, Declaration, Declarations, Enclosing, labels_of_each, Binding, labels_in_scope, scope_after, place_after_all, SoundDone, Spot, after_declared, Stmt, Stack, NamedCommands, after_declarations, labels_of_declarations, commands_named, declarations_named, parts_of_declarations, through_code, declarations_code, Named, label, bind_each, labelled, objects_of_commands, objects_of_declarations, Sought, the_label, one_has_place, Lasting, of_command, of_commands, of_declarations, all_declared, parts_through, RegularCommand}
+use Rattle.bk_simulation.proofs.LaidAssigned.{Doing, finds_nothing, DoneEach, words_labels, agree_labels, names_bound, turns_in, through_light, turns_through, with_names, label_stands_one, labels_named, Setting, Scene, owning, AreActs, LeadsTo, IsScope, Agree, there_in, passed, home, FoundParts, found_front, found_back, data_within, within_at, Bases, bases_under, bases_of, bases_so, bases_paid, Lies, lie, bases_within, data_at, known, InNames, joined_three, ValofsLie, all_declared-next, Part, false, ◌≡◌, ℕ, zero, suc, ◌+◌, ◌≤◌, true, List, [], ◌∷◌, ◌++◌, length, refl, sym, ap, ◌∙◌, subst, arith, Commands, Declaration, Declarations, Enclosing, labels_of_each, Binding, labels_in_scope, scope_after, place_after_all, SoundDone, Spot, after_declared, Stmt, Stack, NamedCommands, after_declarations, labels_of_declarations, commands_named, declarations_named, parts_of_declarations, through_code, declarations_code, Named, label, bind_each, labelled, objects_of_commands, objects_of_declarations, Sought, the_label, one_has_place, Lasting, of_command, of_commands, of_declarations, all_declared, parts_through, RegularCommand}
 use Rattle.bk_simulation.proofs.LaidActs.{BlocksLie, laid_acts, valof_lies, ActLies}
 use Rattle.bk_simulation.proofs.LaidDeclarations.{Later, declared_behind, declared_bases}
 

@@ -38,8 +38,7 @@ pub record Around (sc : Scene) (p : Enclosing) (d : ℕ) : Type 0 where
 
 pub around_deeper : (sc : Scene) (p : Enclosing) (d k m : ℕ) → d + k ≡ m → m ≤ FRAME_WORDS → Around sc p d → Around sc (deeper k p) m
 around_deeper sc p d k m e low a =
-    let at = a.at in
-    record { same = a.same; at = omega (arith, at, e, low); words = a.words }
+    record { same = a.same; at = omega (arith, a.at, e, low); words = a.words }
 
 -- ---- names
 

@@ -133,7 +133,6 @@ word_below : (section : ℕ) (own : Placed) (n : ℕ) (y : Option Bound) → Dat
 word_below section own n (Some (b.Static m)) d program first well is low =
     let items = DataAddress n ∷ d.rest in
     statement_below section own d.depth (DataLabel (n + 1)) items (record { place = own.places.label (n + 1); words = item_words own.places items }) d.stands refl program first well is
-word_below section own n None d program first well is low = omega (arith, low)
 word_below section own n _ d program first well is low = omega (arith, low)
 
 -- what it sets in the run is what its entry sets
@@ -191,12 +190,10 @@ procedure_bases pay section own ts bs k x fs i many body n part ps f p callable 
           (ap (λ m. settings setting.codes m (of_body body (bind_each (letters fs) foreign (with_names ns (i + 1))))) next ∙ o.sets setting (inner setting s) ns u v)
           ∙ sym (ap (λ y. map (entry_setting own.places) (y ++ joined entries_of ps)) sets ∙ map-append (entry_setting own.places) (entry_of n (meant (bound_in bs x))) (joined entries_of ps));
       once = λ setting s ns u v q.
-          let w = o.once setting (inner setting s) ns u v q in
           let y = word_paid own q n (meant (bound_in bs x)) (global_named (sense_in ns x)) word.rest (named_global (sense_in ns x) (bound_in bs x) (u.1 x) callable) (called (bound_in bs x) callable) in
-          let l = less q in omega (arith, w, y, l);
+          let l = less q in omega (arith, o.once setting (inner setting s) ns u v q, y, l);
       placed = λ program first well is.
           let q = o.placed program first well is in
           let e = well.entries section p.place n own p.name is p.at in
-          let set = e.1 in
-          ((word_below section own n (bound_in bs x) word program first well is e.2, q.0), (omega (arith, set), q.1));
+          ((word_below section own n (bound_in bs x) word program first well is e.2, q.0), (omega (arith, e.1), q.1));
     }

@@ -71,8 +71,7 @@ parts_data own ts (x ∷ xs) d e c r f h i z a =
     let u = ap (data_at own a) (append_assoc (procedure_code ts x) (joined (procedure_code ts) xs) c) in
     let v = ap (data_at own a) (append_assoc (data_code x) (joined data_code xs) r) in
     let w = within_at own a (procedure_code ts x) (joined (procedure_code ts) xs ++ c) in
-    let y = within_at own a (data_code x) (joined data_code xs ++ r) in
-    omega (arith, more, u, v, w, y)
+    omega (arith, more, u, v, w, within_at own a (data_code x) (joined data_code xs ++ r))
 
 pub section_data : (own : Placed) (xs : List Part) (are : AreFaultless own.stmts) (e : own.stmts ≡ section_code xs) (f : AllFound (joined target_of xs) (joined target_of xs)) (a : ℕ)
     → data_of_parts own (joined target_of xs) a xs (section_parts own xs are e f) ≤ data_at own a own.stmts
@@ -85,8 +84,7 @@ section_data own xs are e f a =
     let start : IsNumbered own 0 own.stmts = record { are = are; place = 0; following = refl; same_depth = refl; shallow = omega arith } in
     let whole : IsNumbered own 0 (codes ++ (items ++ last)) = written own 0 own.stmts _ (e ∙ append_assoc codes items last) start in
     let q = parts_data own ts xs 0 (depth_after 0 codes) (items ++ last) last f whole (all_passed own 0 codes (items ++ last) whole) refl a in
-    let w = ap (data_at own a) (e ∙ append_assoc codes items last) in
-    omega (arith, q, w)
+    omega (arith, q, ap (data_at own a) (e ∙ append_assoc codes items last))
 
 -- ---- What lasts of a section lies where the scheme puts it.
 

@@ -99,8 +99,7 @@ all_up_to (own ∷ others) are =
 pub fold_kept : (top : ℕ) (cells : ℕ → Cell) (given : List GlobalSetting) (place : ℕ) → AreUpTo top given → global_place top < place → fold with_global cells given place ≡ cells place
 fold_kept top cells [] place low above = refl
 fold_kept top cells (x ∷ rest) place low above =
-    let lx : x.global ≤ top = low.0 in
-    let ne : place ≢ global_place x.global = omega arith in
+    let ne : place ≢ global_place x.global = omega (arith, low.0) in
     fold_kept top (with_global cells x) rest place low.1 above ∙ untouched cells (global_place x.global) (Held Variable (Word x.value)) place ne
 
 pub fold_append : (cells : ℕ → Cell) (a b : List GlobalSetting) → fold with_global cells (a ++ b) ≡ fold with_global (fold with_global cells a) b
@@ -388,8 +387,7 @@ module _ (program : Program) (first : ℕ) (well : IsWellPlaced program first FR
     same = λ o i c b h e. cell_stands codes lasting c (first_cells program first (b + i)) (cell_is o b i c h e);
     variable = λ o n b i a e lt.
         let l = alive_is (cells_at (first_memory p) o) n a in
-        let long = l.long in
-        let c = get_at l.cells i (omega arith) in
+        let c = get_at l.cells i (omega (arith, l.long)) in
         cell_variable codes c.0 (first_cells program first (b + i)) (cell_is o b i c.0 (ap (λ y. option_and_then (λ cells. slice_get cells i) y) l.is ∙ c.1) e);
     apart = λ o n b i o1 n1 b1 i1 a e lt a1 e1 lt1 same. apart_of o n b i o1 n1 b1 i1 e e1 (region_of o n b a e) (region_of o1 n1 b1 a1 e1) lt lt1 same;
     below = λ o n b a e. (below_of o n b (region_of o n b a e)).1;

@@ -264,9 +264,8 @@ spots_left : (codes : Codes) (h : Store) (b : ℕ) (c : Cell_of) (frame top : �
     → SpotsAt codes (make h b (c ∷ [])) frame top ss ps
 spots_left codes h b c frame top [] [] long from lt r at = tt
 spots_left codes h b c frame top (s ∷ ss) (p ∷ ps) long from lt r at =
-    let ge : from ≤ p.slot = r.0 in
-    let ne : frame + p.slot ≢ b = omega arith in
-    (at.0, stands_grown codes h.bases (make h b (c ∷ [])).bases s.value _ (grown_made h.bases b) at.1, free_made h b c (frame + p.slot) long ne at.2, at.3, spots_left codes h b c frame top ss ps long (suc p.slot) (omega arith) r.1 at.4)
+    let ne : frame + p.slot ≢ b = omega (arith, r.0) in
+    (at.0, stands_grown codes h.bases (make h b (c ∷ [])).bases s.value _ (grown_made h.bases b) at.1, free_made h b c (frame + p.slot) long ne at.2, at.3, spots_left codes h b c frame top ss ps long (suc p.slot) (omega (arith, r.0)) r.1 at.4)
 spots_left codes h b c frame top _ _ long from lt r at = at
 
 -- the variables are objects

@@ -168,22 +168,20 @@ module _ (of : Bool) (setting : Setting) (s : State) (A B : Account) (z : Config
       → content_of (cells3 (top + 0)) ≡ Word z.frame → content_of (cells3 (top + 1)) ≡ Word back
       → Fits setting.codes (record { bases = at.bases1; mem = w3.memory; cells = cells3 }) top → Moved top held (record { bases = at.bases1; mem = w3.memory; cells = cells3 }) → RanHere (gives v w3)
   back_with v result w3 cells3 written3 et st e e0 e1 f mv =
-      let mq = at.most in
-      let lq = at.least in
       went (returned_in of setting s A B z rest w w3 n v result le le' en ready call (record {
         from = here;
         steps = at.steps;
         paid = at.paid;
         comes = at.comes;
         has = at.has;
-        most = omega arith;
-        least = omega arith;
+        most = omega (arith, at.most, at.least);
+        least = omega (arith, at.most, at.least);
         bases1 = at.bases1;
         cells1 = cells3;
         written1 = written3;
         returns = stepped ∙ e ∙ return_goes (record here { cells = cells3; input = w3.input; output = w3.output; written = written3 }) result back z.frame e1 e0;
         fits = f;
-        moved = moved_on setting.codes top top top _ _ _ ready.fits (omega arith) at.moved mv;
+        moved = moved_on setting.codes top top top _ _ _ ready.fits (omega (arith, at.most, at.least)) at.moved mv;
       }) st)
 
   -- with the cells as they were
@@ -205,13 +203,12 @@ pub library_runs : (place : ℕ) (of : Bool) (setting : Setting) (s : State) (A 
     → Ran setting s B (λ v w3. Gave of setting s B z rest w v (calls_back n w3)) AnyExit (library place r vs w1)
 library_runs place of setting s A B z rest w w1 (number k ∷ vs) value.stop n le le' en ready call known at =
     let h = here of setting s A B z rest w w1 (number k ∷ vs) value.stop n le le' en ready call known at in
-    let mq = at.most in
     went (record {
       to = h;
       steps = at.steps;
       paid = at.paid;
       comes = at.comes;
-      most = omega arith;
+      most = omega (arith, at.most);
       end = Status (signed k);
       is_end = refl;
       stops = stepped of setting s A B z rest w w1 (number k ∷ vs) value.stop n le le' en ready call known at ∙ ap (λ y. on_number y (λ n. Ends (Status (signed n)) h)) (at.each 0 (number k) refl);

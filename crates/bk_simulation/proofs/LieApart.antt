@@ -12,12 +12,9 @@ all_once setting pay k i (ds ∷ rest) [] h a q = absurd h
 all_once setting pay k i (ds ∷ rest) (own ∷ others) h a q =
     let n : ℕ = i + objects_of_declarations ds in
     let one = h.0.is.once setting (first_suits setting pay k i ds rest own others h a) [] no_names (none_mean setting k own ds pay) q in
-    let least = h.0.less q in
-    let is = data_is own q own.stmts in
     let more = all_once setting pay (suc k) n rest others h.1 (others_suit setting pay k i ds rest own others h a) q in
     let both = base_both q (of_declarations (with_names [] i) ds) (of_sections n rest) h.0.is.bases (all_bases pay (suc k) n rest others h.1) (h.0.is.count [] ∙ sym h.0.is.all) in
-    let ds = data_both q (data_of own.places own.stmts) (all_data others) in
-    omega (arith, one, least, is, more, both, ds)
+    omega (arith, one, h.0.less q, data_is own q own.stmts, more, both, data_both q (data_of own.places own.stmts) (all_data others))
 
 -- ---- data of a program lie apart
 

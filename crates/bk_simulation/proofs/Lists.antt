@@ -1,5 +1,5 @@
 -- Case splits; and lists of which each element has a property, which may name the element's number.
-pub use Rattle.bk_simulation.proofs.Words.{Bool, true, false, Option, None, if◌then◌else◌, ◌≡◌, ℕ, zero, suc, ◌+◌, List, [], ◌∷◌, ◌++◌, length, Some, slice_get, refl, ap, subst, arith, append_assoc, ◌≢◌, ◌-◌, ◌<◌, ◌≤◌, ◌%◌, ◌^◌, ◌==◌, cond, sym, ◌∙◌, ◌⊎◌, ⊎_elim, inl, inr, nat_lt, slice_set, is_some, option_and_then, nat_tests, slice_get_within, Value, number, address, unset, holds, places, value_in, Memory, living, cells_of, cells_at, cell_at, replaced, with_cell, read, Content, Word, Variable, Link, Cell, Free, Held, content_of, write, below, settle, variable_in, variable_at, le-ltb, length-set, lt-ltb, Cell_of, nat_le, not, pos, int_lt, int_le, option_map, ints, signed, truth, word_sum, word_difference, word_quotient, word_remainder, word_less, word_greater, word_at_most, word_at_least, word_negation, word_not, infix_word, Operator, procedure, routine, lives, World, Outcome, gives, ends, undefined, divide_by_zero, given, either, sum, difference, lies_within, truth_of_value, equals_zero, equal, ordered, on_numbers, truth_number, operate, operate_prefix, quotient, dyadic_word, cond_some, leb-true, eqb-true, Cause, word_with_byte, byte_distance, byte_place, filled, set_among, cell_of_byte, read_byte, write_byte, Unset, Partly, byte_in, four_bytes, with_byte, byte_at, word_with_byte_at, word_byte-small, word_byte-packed_0, word_byte-packed_1, word_byte-packed_2, word_byte-packed_3, option_map_or, Temporary, kind_of, Placed, Callables, Routine, Stop, Rdch, Wrch, Newline, Writes, Writen, Writed, Getbyte, Putbyte, Writef, Control, Inside, Following, At, State, Next, Goes, Wild, on, slot, on_number, operated, named_place, has_word, from_label, jump, jump_with, case_label, can_be_called, tells, routine_step, step_by, step_in, step_from, Rest, in_hand, resumed, resumed_by, Program, program_step, kept, string_at, Stmt, Load, Monadic, Dyadic, LoadByte, Assign, AssignAt, AssignByte, Jump, JumpIf, Label, GiveResult, TakeResult, Stack, Store, Entry, Save, CallFunction, CallRoutine, ReturnItem, Return, EndProcedure, Switch, Finish, DataLabel, DataNumber, DataAddress, Globals, on_number-holds, on_some-holds, if-holds, Contents, Negate, Not, HasFrames, start, called}
+pub use Rattle.bk_simulation.proofs.Words.{Bool, true, false, Option, None, if◌then◌else◌, ◌≡◌, ℕ, zero, suc, ◌+◌, List, [], ◌∷◌, ◌++◌, length, Some, slice_get, refl, ap, subst, arith, append_assoc, ◌≢◌, ◌-◌, ◌<◌, ◌≤◌, ◌%◌, ◌^◌, ◌==◌, cond, sym, ◌∙◌, ◌⊎◌, ⊎_elim, inl, inr, nat_lt, slice_set, is_some, option_and_then, nat_tests, slice_get_within, Value, number, address, unset, holds, places, value_in, Memory, living, cells_of, cells_at, cell_at, replaced, with_cell, read, Content, Word, Variable, Link, Cell, Free, Held, content_of, write, below, settle, variable_in, variable_at, le-ltb, length-set, lt-ltb, Cell_of, nat_le, not, pos, int_lt, int_le, option_map, ints, signed, truth, word_sum, word_difference, word_quotient, word_remainder, word_less, word_greater, word_at_most, word_at_least, word_negation, word_not, infix_word, Operator, procedure, routine, lives, World, Outcome, gives, ends, undefined, divide_by_zero, given, either, sum, difference, lies_within, truth_of_value, equals_zero, equal, ordered, on_numbers, truth_number, operate, operate_prefix, quotient, dyadic_word, cond_some, leb-true, eqb-true, Cause, option_map_or, byte_distance, byte_place, Unset, Temporary, kind_of, byte_in, with_byte, Placed, Callables, Routine, Stop, Rdch, Wrch, Newline, Writes, Writen, Writed, Getbyte, Putbyte, Writef, Control, Inside, Following, At, State, Next, Goes, Wild, on, slot, on_number, operated, named_place, has_word, from_label, jump, jump_with, case_label, can_be_called, tells, routine_step, step_by, step_in, step_from, Rest, in_hand, resumed, resumed_by, Program, program_step, kept, byte_at, word_with_byte_at, string_at, Stmt, Load, Monadic, Dyadic, LoadByte, Assign, AssignAt, AssignByte, Jump, JumpIf, Label, GiveResult, TakeResult, Stack, Store, Entry, Save, CallFunction, CallRoutine, ReturnItem, Return, EndProcedure, Switch, Finish, DataLabel, DataNumber, DataAddress, Globals, on_number-holds, on_some-holds, if-holds, Contents, Negate, Not, word_with_byte, filled, set_among, cell_of_byte, read_byte, write_byte, Partly, four_bytes, word_byte-small, word_byte-packed_0, word_byte-packed_1, word_byte-packed_2, word_byte-packed_3, HasFrames, start, called}
 
 -- a truth is tested, and its case is known
 pub by_test : {A : Type 0} (b : Bool) → (b ≡ true → A) → (b ≡ false → A) → A

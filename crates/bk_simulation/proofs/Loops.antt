@@ -225,9 +225,8 @@ RoundsRun setting m x = (mode : Mode) (z : Configuration) (at : Sought → List 
 rounds_behind : (setting : Setting) (inner : Meanings) (x : Command) → RoundsRun setting inner x → (s : State) (A B : Account) (z : Configuration) (at : Sought → List Stmt) (body rest : List Stmt) (w w1 : World) → A.most + 2 ≤ B.most → B.least ≤ (w1.turns - turns_in_round x) + (A.least - w1.turns)
     → IsLoop setting z.scene z.depth z.env x at body rest → EnteredBody forwards z.env x at body body → Ready setting z w → CompletedAt setting s A z body z.depth w w1 → RanDid setting s B z rest w (rounds_of inner x forwards z.env w1)
 rounds_behind setting inner x run s A B z at body rest w w1 le ll l en r ar =
-    let m0 = ar.most in
-    comes_to (omega arith) ll r (omega arith) ar
-    (run forwards (next setting s A z body z.depth w w1 z.env z.depth ar) at body rest body w1 l en (ready_next z.env z.depth ar refl (omega arith) r))
+    comes_to (omega (arith, ar.most)) ll r (omega (arith, ar.most)) ar
+    (run forwards (next setting s A z body z.depth w w1 z.env z.depth ar) at body rest body w1 l en (ready_next z.env z.depth ar refl (omega (arith, ar.most)) r))
 
 rounds_sought : (setting : Setting) (inner : Meanings) (x : Command) → RoundsRun setting inner x → (B : Account) (s : Sought) (z : Configuration) (at : Sought → List Stmt) (body rest e : List Stmt) (w : World) → 16 * w.turns + 2 ≤ B.most → B.least ≤ w.turns - turns_in_round x
     → IsLoop setting z.scene z.depth z.env x at body rest → EnteredBody (seeking s) z.env x at body e → Ready setting z w → RanDid setting (start z e w) B z rest w (rounds_of inner x (seeking s) z.env w)
@@ -279,8 +278,7 @@ while_run setting inner sim B l b e a z at c rest w le le' lx r =
         let s = start z (Jump lx.0 ∷ Label lx.1 ∷ lx.3) w in
         let D : Account = record { most = 16 * w.turns + 3; least = (w.turns - turns_of false e) + setting.pay } in
         let ar : CompletedAt setting s D z lx.3 z.depth w w2 = completed_more (omega arith) (omega arith) (label_on lx.9 q) in
-        let m0 = ar.most in
-        rounds_behind setting inner (t.while l b e a) (λ mode z at body rest e1 w. while_rounds setting inner sim l b e a mode z at body rest e1 w) s D B z at lx.3 rest w w2 (omega arith) (omega arith) (lx.0, lx.1, lx.2, lx.4, lx.6, lx.7, lx.8, lx.9, lx.10, lx.11) refl r ar
+        rounds_behind setting inner (t.while l b e a) (λ mode z at body rest e1 w. while_rounds setting inner sim l b e a mode z at body rest e1 w) s D B z at lx.3 rest w w2 (omega (arith, ar.most)) (omega (arith, ar.most)) (lx.0, lx.1, lx.2, lx.4, lx.6, lx.7, lx.8, lx.9, lx.10, lx.11) refl r ar
     goes false w2 q = went (landed_on (omega arith) (omega arith) lx.10 q)
 
 pub while_sought : (setting : Setting) (inner : Meanings) → Simulates setting inner → (B : Account) (l : ℕ) (b : Bool) (e : Expression) (a : Command) (s : Sought) (z : Configuration) (at : Sought → List Stmt) (c rest e1 : List Stmt) (w : World) → 16 * w.turns + 2 ≤ B.most

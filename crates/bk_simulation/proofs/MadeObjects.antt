@@ -140,9 +140,6 @@ lives_before _ _ _ cells h = absurd (cc)
 pub alive_before : (o : ℕ) (mem : Memory) (o1 n : ℕ) → Alive (dead_from o mem) o1 n → (o1 < o) × Alive mem o1 n
 alive_before o mem o1 n a = grind (arith, alive_is, lives_before, alive_from)
 
-pub cell_before : (o : ℕ) (mem : Memory) (o1 i : ℕ) (c : Cell_of) → IsCell (dead_from o mem) o1 i c → IsCell mem o1 i c
-cell_before o mem o1 i c h = grind (arith, cell_in, lives_before)
-
 -- ---- what a run keeps
 
 -- Bases, the lives and sizes of the objects of before, the words below a top that are in none, and links.
@@ -267,7 +264,7 @@ module _ (codes : Codes) where
   pub forget_fits : (h : Store) (top o : ℕ) → Fits codes h top → Fits codes (forget h o) top
   forget_fits h top o f = record {
     long = f.long ∙ sym (dead_length o h.mem);
-    same = λ o1 i c b e eb. f.same o1 i c b (cell_before o h.mem o1 i c e) eb;
+    same = λ o1 i c b e eb. f.same o1 i c b (grind (arith, cell_in, lives_before)) eb;
     variable = λ o1 n b i a e lt. f.variable o1 n b i (alive_before o h.mem o1 n a).1 e lt;
     apart = λ o1 n b1 i o2 n1 b2 i1 a e lt a1 e1 lt1 z. f.apart o1 n b1 i o2 n1 b2 i1 (alive_before o h.mem o1 n a).1 e lt (alive_before o h.mem o2 n1 a1).1 e1 lt1 z;
     below = λ o1 n b a e. f.below o1 n b (alive_before o h.mem o1 n a).1 e;

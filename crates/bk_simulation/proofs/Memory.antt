@@ -112,8 +112,7 @@ cell_alive mem o i c h =
 pub based : (codes : Codes) (h : Store) (top o n : ℕ) → Fits codes h top → Alive h.mem o n → (b : ℕ) × BaseOf h.bases o b
 based codes h top o n f a =
     let lt : o < length h.mem = alive_within h.mem o n a in
-    let e = f.long in
-    get_at h.bases o (omega arith)
+    get_at h.bases o (omega (arith, f.long))
 
 pub one_base : (bases : List ℕ) (o b b1 : ℕ) → BaseOf bases o b → BaseOf bases o b1 → b ≡ b1
 one_base bases o b b1 e e1 = cc
@@ -152,8 +151,7 @@ fits_above codes h top cells1 f k = record {
   same = λ o i c b ic e.
       let l = cell_alive h.mem o i c ic in
       let le = f.below o l.0 b l.1 e in
-      let li : i < l.0 = l.2 in
-      stands_cell_like codes h.bases c _ _ (k (b + i) (omega arith)) (f.same o i c b ic e);
+      stands_cell_like codes h.bases c _ _ (k (b + i) (omega (arith, l.2))) (f.same o i c b ic e);
   variable = λ o n b i a e lt. let le = f.below o n b a e in let v = f.variable o n b i a e lt in (v.0, (k (b + i) (omega arith)).variable v.0 v.1);
   apart = f.apart;
   below = f.below;

@@ -48,11 +48,14 @@ less_small x y hx hy = ap (λ z. truth (int_lt z (signed y))) (signed_small x hx
 most_small : (x y : ℕ) → x < 2 ^ 31 → y < 2 ^ 31 → word_at_most x y ≡ truth (nat_le x y)
 most_small x y hx hy = ap (λ z. truth (int_le z (signed y))) (signed_small x hx) ∙ ap (λ z. truth (int_le (pos x) z)) (signed_small y hy)
 
-shift_less : (b i j : ℕ) → nat_lt (b + i) (b + j) ≡ nat_lt i j
-shift_less b i j = grind (arith, nat_tests)
+-- the order of two small words is that of two as far above another
+less_shifted : (b i j : ℕ) → b + i < 2 ^ 31 → b + j < 2 ^ 31 → word_less (b + i) (b + j) ≡ word_less i j
+less_shifted b i j hi hj =
+    less_small (b + i) (b + j) hi hj ∙ ap truth (let z : nat_lt (b + i) (b + j) ≡ nat_lt i j = grind (arith, nat_tests) in z) ∙ sym (less_small i j (omega arith) (omega arith))
 
-shift_most : (b i j : ℕ) → nat_le (b + i) (b + j) ≡ nat_le i j
-shift_most b i j = grind (arith, nat_tests)
+most_shifted : (b i j : ℕ) → b + i < 2 ^ 31 → b + j < 2 ^ 31 → word_at_most (b + i) (b + j) ≡ word_at_most i j
+most_shifted b i j hi hj =
+    most_small (b + i) (b + j) hi hj ∙ ap truth (let z : nat_le (b + i) (b + j) ≡ nat_le i j = grind (arith, nat_tests) in z) ∙ sym (most_small i j (omega arith) (omega arith))
 
 pub some_is : {A : Type 0} (x y : A) → Some x ≡ Some y → x ≡ y
 some_is x y e = cc
@@ -220,26 +223,6 @@ module _ (codes : Codes) (bases : List ℕ) (cells : ℕ → Cell) (top : ℕ) (
       (ed (su.0 + i) (su.0 + j) ∙ ap (λ z. Some z) (shift su.0 i j si.small sj.small)) (some_is _ r (sym (ap (option_map number) (eq i j)) ∙ m.1))
   ordered_applied q op g eq ed shift _ _ r x y su sv e = absurd (let z : None ≡ Some r = e in cc)
 
-  less_applied : (u v r : Value) (x y : Content) → Applies codes bases u x → Applies codes bases v y → ordered o.Less w.memory u v ≡ Some r → Applied d.Less x y r
-  less_applied u v r x y su sv e =
-      ordered_applied o.Less d.Less word_less (λ a b. refl) (λ a b. refl)
-      (λ b i j hi hj. less_small (b + i) (b + j) hi hj ∙ ap truth (shift_less b i j) ∙ sym (less_small i j (omega arith) (omega arith))) u v r x y su sv e
-
-  greater_applied : (u v r : Value) (x y : Content) → Applies codes bases u x → Applies codes bases v y → ordered o.Greater w.memory u v ≡ Some r → Applied d.Greater x y r
-  greater_applied u v r x y su sv e =
-      ordered_applied o.Greater d.Greater word_greater (λ a b. refl) (λ a b. refl)
-      (λ b i j hi hj. less_small (b + j) (b + i) hj hi ∙ ap truth (shift_less b j i) ∙ sym (less_small j i (omega arith) (omega arith))) u v r x y su sv e
-
-  at_most_applied : (u v r : Value) (x y : Content) → Applies codes bases u x → Applies codes bases v y → ordered o.AtMost w.memory u v ≡ Some r → Applied d.AtMost x y r
-  at_most_applied u v r x y su sv e =
-      ordered_applied o.AtMost d.AtMost word_at_most (λ a b. refl) (λ a b. refl)
-      (λ b i j hi hj. most_small (b + i) (b + j) hi hj ∙ ap truth (shift_most b i j) ∙ sym (most_small i j (omega arith) (omega arith))) u v r x y su sv e
-
-  at_least_applied : (u v r : Value) (x y : Content) → Applies codes bases u x → Applies codes bases v y → ordered o.AtLeast w.memory u v ≡ Some r → Applied d.AtLeast x y r
-  at_least_applied u v r x y su sv e =
-      ordered_applied o.AtLeast d.AtLeast word_at_least (λ a b. refl) (λ a b. refl)
-      (λ b i j hi hj. most_small (b + j) (b + i) hj hi ∙ ap truth (shift_most b j i) ∙ sym (most_small j i (omega arith) (omega arith))) u v r x y su sv e
-
   -- ---- what an operator comes to
 
   abbrev pub OperatedAs : Dyadic → Content → Content → Outcome Value → Type 0
@@ -275,10 +258,10 @@ module _ (codes : Codes) (bases : List ℕ) (cells : ℕ → Cell) (top : ℕ) (
   operates place o.Subtract u v x y su sv = given_as d.Subtract x y place _ (difference w.memory u v) (λ r e. difference_applied u v r x y su sv e)
   operates place o.Equal u v x y su sv = given_as d.Equal x y place _ _ (λ r e. equal_applied d.Equal (λ b. b) (λ a b. refl) u v r x y su sv e)
   operates place o.Unequal u v x y su sv = given_as d.Unequal x y place _ _ (λ r e. equal_applied d.Unequal not (λ a b. refl) u v r x y su sv e)
-  operates place o.Less u v x y su sv = given_as d.Less x y place _ _ (λ r e. less_applied u v r x y su sv e)
-  operates place o.Greater u v x y su sv = given_as d.Greater x y place _ _ (λ r e. greater_applied u v r x y su sv e)
-  operates place o.AtMost u v x y su sv = given_as d.AtMost x y place _ _ (λ r e. at_most_applied u v r x y su sv e)
-  operates place o.AtLeast u v x y su sv = given_as d.AtLeast x y place _ _ (λ r e. at_least_applied u v r x y su sv e)
+  operates place o.Less u v x y su sv = given_as d.Less x y place _ _ (λ r e. ordered_applied o.Less d.Less word_less (λ a b. refl) (λ a b. refl) less_shifted u v r x y su sv e)
+  operates place o.Greater u v x y su sv = given_as d.Greater x y place _ _ (λ r e. ordered_applied o.Greater d.Greater word_greater (λ a b. refl) (λ a b. refl) (λ b i j hi hj. less_shifted b j i hj hi) u v r x y su sv e)
+  operates place o.AtMost u v x y su sv = given_as d.AtMost x y place _ _ (λ r e. ordered_applied o.AtMost d.AtMost word_at_most (λ a b. refl) (λ a b. refl) most_shifted u v r x y su sv e)
+  operates place o.AtLeast u v x y su sv = given_as d.AtLeast x y place _ _ (λ r e. ordered_applied o.AtLeast d.AtLeast word_at_least (λ a b. refl) (λ a b. refl) (λ b i j hi hj. most_shifted b j i hj hi) u v r x y su sv e)
   operates place o.Times u v x y su sv = on_numbers_as place o.Times d.Multiply (λ a b x y ex ey. (refl, numbers_applied d.Multiply a b _ x y _ ex ey refl refl)) u v x y su sv
   operates place o.Over u v x y su sv = on_numbers_as place o.Over d.Divide (λ a b x y ex ey. divided place _ d.Divide word_quotient a b x y ex ey (λ a b. refl) (b == 0) refl) u v x y su sv
   operates place o.Rem u v x y su sv = on_numbers_as place o.Rem d.Remainder (λ a b x y ex ey. divided place _ d.Remainder word_remainder a b x y ex ey (λ a b. refl) (b == 0) refl) u v x y su sv

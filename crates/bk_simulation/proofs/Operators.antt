@@ -133,10 +133,9 @@ pub contents_run : (place : ℕ) (setting : Setting) (s : State) (A B : Account)
 contents_run place setting s A B z rest w w1 u le le' dp a = by_option (λ y. RanValue setting s B z rest w (given place (cell_cause u) y w1)) (read w1.memory u) (λ _. went tt) (λ v h.
     let f = read_at setting.codes _ (z.frame + z.depth) u v _ a.arr.fits a.stands h in
     let k = f.cell.content in
-    let low : f.base + f.offset < z.frame + z.depth = f.cell.low in
     went (topped _ le le' dp a.arr f.cell.stands
     (contents_moves setting.program (there setting s A z (Monadic m.Contents ∷ rest) (z.depth + 1) w w1 a.arr) z.scene.own rest z.depth (f.base + f.offset) k refl f.word
-    (variable_found (z.frame + (z.depth + 1)) (f.base + f.offset) a.arr.cells1 k (omega arith) f.cell.there))))
+    (variable_found (z.frame + (z.depth + 1)) (f.base + f.offset) a.arr.cells1 k (omega (arith, f.cell.low)) f.cell.there))))
 
 -- a sign or NOT
 pub sign_run : (setting : Setting) (s : State) (A B : Account) (z : Configuration) (op : Monadic_word) (f : ℕ → ℕ) (rest : List Stmt) (w w1 : World) (u : Value) (y : Outcome Value)
@@ -177,13 +176,12 @@ dyadic_run setting s A B z op rest w w1 u v (gives r w2) le le' dp t h =
     (went (dyadic_topped setting s A B z op rest w w1 u v r a.left a.right a.result le le' dp t a.is_left a.is_right a.applies a.stands))
 dyadic_run setting s A B z op rest w w1 u v (ends e w2) le le' dp t h =
     let a = h.2 in
-    let m = t.arr.most in
     subst (λ x. RanValue setting s B z rest w (ends e x)) (sym h.0) (subst (λ x. RanValue setting s B z rest w (ends x w1)) (sym h.1.1) (went (record {
       to = there setting s A z (Dyadic op ∷ rest) (z.depth + 1 + 1) w w1 t.arr;
       steps = t.arr.steps;
       paid = t.arr.paid;
       comes = t.arr.comes;
-      most = omega arith;
+      most = omega (arith, t.arr.most);
       end = DivideByZero;
       is_end = refl;
       stops = dyadic_ends setting.program (there setting s A z (Dyadic op ∷ rest) (z.depth + 1 + 1) w w1 t.arr) z.scene.own rest z.depth op a.left a.right (two_on z (Dyadic op ∷ rest)) a.is_left a.is_right a.none;

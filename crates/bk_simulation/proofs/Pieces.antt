@@ -7,5 +7,5 @@ pub use Rattle.bk_simulation.proofs.Simulates.{Destined, Did, HasAddress, HasTru
 pub use Rattle.bk_simulation.proofs.ControlSteps.{caught_at, closes, jump_on, jumped_on, label_on, landed_on, result_on, taken_on, tested}
 pub use Rattle.bk_simulation.proofs.Orders.{or_second, order_adds, order_run, ready_at}
 pub use Rattle.bk_simulation.proofs.Operators.{RanValue, Two, choice_run, combined_run, contents_run, denied_run, dyadic_run, dyadic_topped, for_two, name_runs, named_at, number_runs, one_run, over_run, plus_run, pushes_item, query_runs, same_number, sign_run, straight_run, table_runs, text_runs, truth_runs, two_run, value_run}
-pub use Rattle.bk_simulation.proofs.Words.{ltb-true, ◌≡◌, ◌≢◌, ℕ, suc, ◌+◌, ◌-◌, ◌*◌, ◌<◌, ◌≤◌, ◌%◌, ◌^◌, ◌==◌, nat_lt, Bool, false, List, [], ◌∷◌, length, Option, Some, None, refl, sym, ap, ◌∙◌, subst, if◌then◌else◌, arith, slice_get, zero, ◌++◌, option_and_then, option_map, Status, signed, word_sum, byte_distance, Content, Word, Variable, Cell, Held, content_of, write, number_in, variable_in, variable_at, byte_at, word_with_byte_at, string_at, bytes_from, At, State, Ends, slot, on_number, on_some, tells, routine_step, step, Program, in_hand, program_step, Stmt, Value, number, address, procedure, routine, unset, read_byte, write_byte, World, Outcome, gives, given, with, changes, writing, remembering, calls_back, spelling, aligned, FormatPart, format_bytes, in_front, library, writes_text, takes_byte, eqb-true, argument, byte_cause, set_byte_cause, of_arguments, string_cause, written_cause, format_cause, length-replicate, true, ⊎_elim, length-append, FRAME_WORDS, Definitions, Starts, Binding, Placed, Inside, making, making_vec, Environment, past, past_definition, letters, cell, constant_in, history, After, Throughout, Meanings, adds, stays, vec_on, with_after, turn_after, Temporary, below, settle, holds, living, made, Local, Stack, Address, Start, paired, let_values, bind_variables, vec_cells, make_vec, Cell_of, acts_at, cond, Datum, is_in, datum_of, data_of, take, drop, next_depth, depth_after, AreFaultless, IsWellPlaced, from_label, Label, label_has_one_place, Target, outermost, Named, Lasting, Part, target_of, procedure_code, data_code, AllFound, entries_of, joined, entry_setting, map, map-append, ap₂, append_assoc, item_words, option_map_or, global_vector, words, code, depth_within, nat_le, fold, replicate, ◌⊎◌, inl, inr, eq-eqb, slice_set, length-map, slice_get_within, GLOBAL_NUMBER, Unset, Link, Free, global_place, Placement, datum_word, GlobalSetting, stmt_globals, globals_of, all_data, all_globals, unset_cells, with_global, first_cells, chosen-true, chosen-false, places, value_in, stop, rdch, wrch, newline, writes, writen, writed, getbyte, putbyte, writef, Object, cells_at, Procedure, library_cells, set_global, procedures_set, global_cells, entry_cells, object_of, objects_from, first_memory, GlobalEntry, Globals, and_from, and_right, le-leb, length-set, lt-leb, lt-ltb, library_globals, InRange, max, Expression, Expressions, Command, Callables, can_be_called, Exit, calling, procedure_of, forwards, scope_of, alone, enter, call, applied, closing_after, ties_add, library_ties, earlier, calling_on, each_way_after, Goes, run, HasFrames, leaves, ends, undefined, going, status, Run, Going, Undefined, run_of, first_world, started, means, first_state, Entry, read, globals_object, run_body, bind_formals, formal_cells, End, settled, end_of, IsTooHigh, EndsWithin, ComesWithin, RunsOut, DoesEnd, Does, DoesFrom, returned, nowhere, ReturnItem, Return, Save, return, each_way, closing, forgetting, Done, Body, command, expression, return_exit, values, append-nil, ltb-false, IsCallAt, bound_in, meant, goal_in, Commands, labelled, Sought, the_label, Mode, seeking, one_has_place, goto, either, break, result, landing, Adds, either_after, TakeResult, Around, result_exit, result_of, Jump, goal, past_command, has_place, loop, done, turn, round_exit, again, same_truth, where_truth, rounds_of, case_label, Case, Switch, the_case, the_default, is_label, endcase, case_exit, ended_case, choose_case, labels_of_each, not, Declarations, Number, named_tree, parts_of_declarations, scheme, objects_of_declarations, of_declarations, of_sections, Context, at_start, after, after_all, context_of, misplaced, label_not_set, label_set_twice, depths_disagree, slot_above, too_long, stmt_fault, role, may_stand, position_after, Represent, ◌||◌, pos, GiveResult, Finish, same_place, at_place}
+pub use Rattle.bk_simulation.proofs.Words.{◌≡◌, ℕ, ◌+◌, ◌≤◌, Bool, true, false, List, refl, sym, ◌∙◌, subst, arith, ◌-◌, ◌*◌, ◌∷◌, Some, bound_in, State, Stmt, meant, goal_in, Commands, Command, Environment, labelled, Sought, the_label, Mode, seeking, one_has_place, forwards, World, Exit, goto, leaves, either, break, result, return, history, Meanings, landing, scope_of, alone, Adds, adds, stays, either_after, Unset, option_map_or, Label, TakeResult, Around, Value, result_exit, result_of, cond, suc, Jump, goal, Expression, past, past_command, has_place, loop, Outcome, Done, done, turn, round_exit, again, same_truth, where_truth, rounds_of, with_after, turn_after, each_way_after, None, ap, below, from_label, case_label, Case, Switch, number, the_case, the_default, is_label, endcase, with, case_exit, ended_case, choose_case, labels_of_each, acts_at, length, Option, slice_get, ◌<◌, ◌^◌, ◌≢◌, zero, Expressions, Content, Word, content_of, Temporary, Link, Cell, Held, write, Inside, Goes, At, in_hand, program_step, ReturnItem, Return, Entry, Save, unset, gives, each_way, closing, forgetting, calls_back, Body, command, expression, Procedure, procedure_of, After, Throughout, return_exit, run_body, bind_formals, values, FRAME_WORDS, max, nat_lt, [], ◌++◌, ⊎_elim, inl, inr, append-nil, slice_get_within, Placed, Callables, slot, can_be_called, procedure, holds, making, calling, formal_cells, enter, closing_after, ltb-false, ltb-true, IsCallAt, drop, Cell_of, ◌⊎◌, Ends, global_place, run, HasFrames, address, ends, undefined, going, status, Run, Going, Undefined, run_of, first_world, started, means, option_map, number_in, first_cells, first_state, read, globals_object, first_memory, call, End, settled, end_of, IsTooHigh, EndsWithin, ComesWithin, RunsOut, DoesEnd, Does, DoesFrom, returned, nowhere, length-append, Datum, is_in, datum_of, data_of, take, next_depth, depth_after, AreFaultless, Program, IsWellPlaced, label_has_one_place, Binding, Target, outermost, Named, Lasting, Part, target_of, procedure_code, data_code, AllFound, entries_of, joined, entry_setting, map, map-append, ap₂, append_assoc, item_words, global_vector, words, code, ◌==◌, depth_within, length-replicate, ◌%◌, Definitions, Starts, making_vec, past_definition, letters, cell, constant_in, vec_on, Variable, settle, living, made, Local, Stack, Address, Start, paired, let_values, bind_variables, vec_cells, make_vec, if◌then◌else◌, option_and_then, Status, signed, word_sum, byte_distance, variable_in, variable_at, byte_at, word_with_byte_at, string_at, bytes_from, on_number, on_some, tells, routine_step, step, routine, read_byte, write_byte, given, changes, writing, remembering, spelling, aligned, FormatPart, format_bytes, in_front, library, writes_text, takes_byte, eqb-true, argument, byte_cause, set_byte_cause, of_arguments, string_cause, written_cause, format_cause, not, ◌||◌, pos, GiveResult, Finish, same_place, at_place, nat_le, fold, replicate, eq-eqb, slice_set, length-map, GLOBAL_NUMBER, Free, Placement, datum_word, GlobalSetting, stmt_globals, globals_of, all_data, all_globals, unset_cells, with_global, chosen-true, chosen-false, places, value_in, stop, rdch, wrch, newline, writes, writen, writed, getbyte, putbyte, writef, Object, cells_at, library_cells, set_global, procedures_set, global_cells, entry_cells, object_of, objects_from, GlobalEntry, Globals, and_from, and_right, le-leb, length-set, lt-leb, lt-ltb, library_globals, InRange, Declarations, Number, named_tree, parts_of_declarations, scheme, objects_of_declarations, of_declarations, of_sections, Context, at_start, after, after_all, context_of, misplaced, label_not_set, label_set_twice, depths_disagree, slot_above, too_long, stmt_fault, role, may_stand, position_after, Represent, applied, ties_add, library_ties, earlier, calling_on}
 pub use Rattle.bk_simulation.proofs.WrittenCells.{written}

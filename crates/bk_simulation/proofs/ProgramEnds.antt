@@ -44,11 +44,10 @@ module _ (setting : Setting) (s0 s : State) (is : settled setting.program s0 ≡
   pub reached_comes : (B : Account) (w : World) (n : ℕ) → B.most ≤ n → Reaches setting s B w → ComesWithin setting.program setting.first s0 n setting.cap w.output w.input
   reached_comes B w n le q =
       let r = comes_run setting q.steps q.paid s s0 q.to is few q.comes in
-      let mq = q.most in
       let h = goes_on_so setting.program setting.first FRAME_WORDS setting.well r.last in
       record {
         steps = q.steps;
-        within = omega arith;
+        within = omega (arith, q.most);
         now = r.last;
         goes = r.runs;
         wrote = sym h.output ∙ ap (λ (x : State). x.output) r.settles ∙ q.wrote;

@@ -115,9 +115,6 @@ module _ (setting : Setting) where
 
 -- ---- What a run of a program writes goes behind what was written, and a run of so many steps has one of fewer before it.
 
-pub begin_refl : (bytes : List ℕ) → Begin bytes bytes
-begin_refl bytes = record { rest = []; is = sym (append-nil bytes) }
-
 pub begin_on : (a b c : List ℕ) → Begin a b → Begin b c → Begin a c
 begin_on a b c p q = record { rest = p.rest ++ q.rest; is = q.is ∙ ap (λ y. y ++ q.rest) p.is ∙ append_assoc a p.rest q.rest }
 
@@ -145,7 +142,7 @@ module _ (program : Program) (first F : ℕ) (well : IsWellPlaced program first 
       by_step Wild ex e = absurd (let z : Wild ≡ Goes last = e in cc)
 
   pub run_begins : (n : ℕ) (s last : State) → run program n s ≡ Goes last → Begin s.output last.output
-  run_begins zero s last e = subst (λ (x : State). Begin s.output x.output) (let z : s ≡ last = cc in z) (begin_refl s.output)
+  run_begins zero s last e = subst (λ (x : State). Begin s.output x.output) (let z : s ≡ last = cc in z) (record { rest = []; is = sym (append-nil s.output) })
   run_begins (suc n) s last e = let x = stepped n s last e in begin_on s.output x.to.output last.output (step_begins s x.to x.steps) (run_begins n x.to last x.runs)
 
   -- where a run is after fewer steps

@@ -344,10 +344,9 @@ definitions_grow bs p s d (t.define (t.routine l x fs c) ds) = definitions_grow 
 definitions_grow bs p s d (t.define (t.function l x fs e) ds) = definitions_grow bs p (scope_spot.after_one_defined (t.function l x fs e) s) d ds
 definitions_grow bs p s d (t.define (t.variables l xs is) ds) =
     let d1 : ℕ = after_starts d (starts_named bs p (scope_spot.past (length xs) s) is) in
-    let first = depth_grows bs d is in
     let same : depth_past bs d is ≡ d1 = past_is bs p (scope_spot.past (length xs) s) d is in
     let others = definitions_grow bs (place_after bs p is) (scope_spot.after_one_defined (t.variables l xs is) s) d1 ds in
-    omega (arith, first, same, others)
+    omega (arith, depth_grows bs d is, same, others)
 
 pub record VariablesIn (bs : List Binding) (p : Enclosing) (s : ScopeSpot) (d : ℕ) (ds : Definitions) : Type 0 where
   pub are : variables_in_scope bs p ds ≡ from_spots p.procedure (spots_in bs p s d ds)

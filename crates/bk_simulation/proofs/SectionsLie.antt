@@ -37,12 +37,9 @@ all_counted pay k i [] owns h = refl
 all_counted pay k i (ds ∷ rest) [] h = absurd h
 all_counted pay k i (ds ∷ rest) (own ∷ others) h =
     let n : ℕ = i + objects_of_declarations ds in
-    let a = h.0.is.all in
-    let c = h.0.is.count [] in
-    let more = all_counted pay (suc k) n rest others h.1 in
     let u = length-append h.0.is.bases (all_bases pay (suc k) n rest others h.1) in
     let v = length-append (of_declarations (with_names [] i) ds) (of_sections n rest) in
-    omega (arith, a, c, more, u, v)
+    omega (arith, h.0.is.all, h.0.is.count [], all_counted pay (suc k) n rest others h.1, u, v)
 
 -- they lie below the first frame, and the words of procedures are set
 pub all_placed : (program : Program) (first : ℕ) → IsWellPlaced program first FRAME_WORDS → (pay k i : ℕ) (sections : List Declarations) (owns : List Placed) (h : SectionsLie pay k i sections owns) → AreIn program.sections k owns
@@ -76,11 +73,10 @@ pub others_suit : (setting : Setting) (pay k i : ℕ) (ds : Declarations) (rest 
     → HasAll setting pay (suc k) (i + objects_of_declarations ds) rest others h.1
 others_suit setting pay k i ds rest own others h a =
     let n : ℕ = i + objects_of_declarations ds in
-    let some = a.some in
     record {
       own = a.own.1;
       pays = a.pays;
-      some = omega (arith, some);
+      some = omega (arith, a.some);
       follow = each_back (BaseOf setting.lasting) i (objects_of_declarations ds) h.0.is.bases (all_bases pay (suc k) n rest others h.1) h.0.is.all a.follow;
       words = each_back (λ n w. setting.codes.procedure n ≡ w) i (objects_of_declarations ds) h.0.is.entries (all_entries pay (suc k) n rest others h.1) h.0.is.all_entries a.words;
     }

@@ -14,4 +14,4 @@ pub use Rattle.bk_simulation.proofs.NamesAgree.{Agree, AgreeWords, SameGlobal, a
 pub use Rattle.bk_simulation.proofs.NewFrames.{called_argument, called_back, called_cells, called_frame, called_like, called_links, formal_is, formals_long, saved_cells, saved_formal, saved_like, saved_links, saved_same}
 pub use Rattle.bk_simulation.proofs.BytesKept.{AllBytes, HasBytes, moves_bytes}
 pub use Rattle.bk_simulation.proofs.Frame.{Account, Comes, Completed, CompletedAt, Configuration, Exited, Falls, FallsThose, Fell, FewFrames, GoesTo, Handed, Has, Leads, NameAt, OpenCompleted, Out, Ran, Reaches, Ready, Stopped, Went, comes_on, each_way_ran, falls_on, further, go_on, here, named_again, named_grown, next, one, paying, place_of, ran_from, ran_same, ready_in, ready_next, so, some_objects, start, state, still, store, store_at, there, turn_behind, went, with_ran}
-pub use Rattle.bk_simulation.proofs.Words.{on_number, step_by, slot, Goes, ◌≡◌, ℕ, ◌+◌, ◌<◌, ◌≤◌, List, ◌∷◌, ◌++◌, Option, Some, None, refl, sym, ap, subst, arith, ◌-◌, ◌*◌, ◌^◌, Bool, true, false, length, ◌∙◌, option_map, signed, word_of, truth, Operator, Word, content_of, Content, Unset, Temporary, Held, write, below, Inside, State, dyadic_word, named_place, DivideByZero, Stmt, Monadic, Dyadic, LoadByte, Number, True, False, Query, Load, Address, Text, infix_code, variable, push, truth_value, Value, number, address, unset, read, read_byte, World, Outcome, gives, ends, undefined, given, with, sum, operate, operate_prefix, fetch, Meanings, named, combined, Expression, past, Sense, constant, cell, sense_of, Adds, adds, with_after, of_z-to_z, Bound, bound_in, Local, Static, Target, meant, not, from_label, Label, GiveResult, TakeResult, Environment, either, history, stays, either_after, w32, Cause, cell_cause, byte_cause, sum_cause, inl, inr, ◌≢◌, zero, suc, ◌==◌, [], if◌then◌else◌, slice_get, pos, append_assoc, append-nil, option_map_or, FRAME_WORDS, next_depth, Placement, Placed, Next, Ends, Wild, Rest, rest_of, or_rest, rests, in_hand, resumed, resumed_by, find_rest, label_rest, Program, program_step, run, then_run, Entry, CallFunction, CallRoutine, IsWellPlaced, Status, step, InRange, steps_grow, Begin, cond, bytes_eq, bytes_eq-Decides, Command, Commands, Binding, bind, labels_of, labels_of_each, labels_in_scope, label, sense_in, bind_each, the_label, has_place, one_has_place, Around, or_parts, ◌||◌, past_command, Sought, Mode, forwards, seeking, in_order, Assign, AssignAt, AssignByte, Expressions, labelled, Done, After, Throughout, at, Cell, goal_in, Memory, Exit, goto, turn, closing, forgetting, remembering, settle, Goal, Jump, JumpIf, Stack, truth_of_value, judged, drop, truth_cause}
+pub use Rattle.bk_simulation.proofs.Words.{on_number, step_by, slot, Goes, ◌≡◌, ℕ, ◌+◌, ◌<◌, ◌≤◌, List, ◌∷◌, ◌++◌, Option, Some, None, refl, sym, ap, subst, arith, ◌-◌, ◌*◌, ◌^◌, Bool, true, false, length, ◌∙◌, option_map, signed, word_of, truth, Operator, Word, content_of, Content, Unset, Temporary, Held, write, below, Inside, State, dyadic_word, named_place, DivideByZero, Stmt, Monadic, Dyadic, LoadByte, Number, True, False, Query, Load, Address, Text, infix_code, variable, push, truth_value, Value, number, address, unset, read, read_byte, World, Outcome, gives, ends, undefined, given, with, sum, operate, operate_prefix, fetch, Meanings, named, combined, Expression, past, Sense, constant, cell, sense_of, Adds, adds, with_after, of_z-to_z, Bound, bound_in, Local, Static, Target, meant, not, from_label, Label, GiveResult, TakeResult, Environment, either, history, stays, either_after, w32, Cause, cell_cause, byte_cause, sum_cause, inl, inr, ◌≢◌, zero, suc, ◌==◌, [], if◌then◌else◌, slice_get, pos, append_assoc, append-nil, option_map_or, FRAME_WORDS, next_depth, Placement, Placed, Next, Ends, Wild, Rest, rest_of, or_rest, rests, in_hand, resumed, resumed_by, find_rest, label_rest, Program, program_step, run, then_run, Entry, CallFunction, CallRoutine, IsWellPlaced, Status, step, InRange, steps_grow, Begin, ◌||◌, cond, Command, Commands, past_command, Sought, Mode, forwards, seeking, has_place, one_has_place, in_order, bytes_eq, bytes_eq-Decides, Binding, bind, labels_of, labels_of_each, labels_in_scope, label, sense_in, bind_each, the_label, Around, or_parts, Cell, settle, Goal, Jump, JumpIf, Stack, truth_of_value, Exit, forgetting, judged, drop, truth_cause, goal_in, Memory, goto, turn, closing, remembering, Assign, AssignAt, AssignByte, Expressions, labelled, Done, After, Throughout, at}

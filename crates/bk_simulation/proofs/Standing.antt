@@ -33,9 +33,7 @@ AreSet ws = All (λ w. 0 < w) ws
 -- data of a program lie there
 pub data_below : (program : Program) (first : ℕ) → IsWellPlaced program first FRAME_WORDS → (base : ℕ) (ws : List ℕ) → InData program base ws → base ≤ first
 data_below program first well base ws d =
-    let h = (well.data_low d.number d.datum d.at).1 in
-    let e = d.placed in
-    omega (arith, h, e)
+    omega (arith, (well.data_low d.number d.datum d.at).1, d.placed)
 
 -- these statements stand in the section, and this is the depth before them
 pub record IsNumbered (own : Placed) (depth : ℕ) (c : List Stmt) : Type 0 where

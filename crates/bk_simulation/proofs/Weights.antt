@@ -82,7 +82,6 @@ mutual
   among_light (t.more e es) = let h = of_light e in let i = among_light es in omega (arith, h, i)
 
   pub in_light : (c : Command) → turns_in false c ≤ turns_in true c
-  in_light t.empty = omega arith
   in_light (t.assign l xs es) = let h = among_light xs in let i = among_light es in omega (arith, h, i)
   in_light (t.call l f es) = let h = among_light es in let i = of_light f in omega (arith, h, i)
   in_light (t.label l x c) = let h = in_light c in omega (arith, h)

@@ -85,5 +85,5 @@ pub use Rattle.bk_ocode.specs.Context.{Context, after, after_all, at_start, cont
 pub use Rattle.bk_ocode.specs.Faults.{depths_disagree, label_not_set, label_set_twice, misplaced, slot_above, stmt_fault, too_long}
 pub use Rattle.bk_ocode.specs.Places.{may_stand, position_after, role}
 pub use Rattle.std.specs.Int.{w32}
-pub use Rattle.bk_meaning.specs.Causes.{cell_cause, set_byte_cause, no_place, Cause, byte_cause, no_number, argument, of_arguments, no_constant}
+pub use Rattle.bk_meaning.specs.Causes.{Cause, cell_cause, byte_cause, no_place, argument, set_byte_cause, of_arguments, no_constant, no_number}
 pub use Rattle.bk_meaning.specs.Operators.{sum_cause, truth_cause}

@@ -17,12 +17,8 @@ below_at top cells a lt = ap (λ (t : Bool). if t then cells a else Free) (lt-lt
 pub below_like : (top : ℕ) (cells : ℕ → Cell) (a : ℕ) → a < top → Like (below top cells a) (cells a)
 below_like top cells a lt = like_refl _ _ (below_at top cells a lt)
 
--- an item that is pushed leaves the words below it, and stands there
-pub pushed_below : (frame k : ℕ) (cells : ℕ → Cell) (c : Cell) (a : ℕ) → a < frame + k → below (frame + (k + 1)) (write cells (frame + k) c) a ≡ cells a
-pushed_below frame k cells c a lt = grind (arith, below_at, untouched)
-
 pub pushed_like : (frame k : ℕ) (cells : ℕ → Cell) (c : Cell) (a : ℕ) → a < frame + k → Like (below (frame + (k + 1)) (write cells (frame + k) c) a) (cells a)
-pushed_like frame k cells c a lt = like_refl _ _ (pushed_below frame k cells c a lt)
+pushed_like frame k cells c a lt = like_refl _ _ (grind (arith, below_at, untouched))
 
 pub pushed_at : (frame k : ℕ) (cells : ℕ → Cell) (c : Cell) → below (frame + (k + 1)) (write cells (frame + k) c) (frame + k) ≡ c
 pushed_at frame k cells c = below_at (frame + (k + 1)) (write cells (frame + k) c) (frame + k) (omega arith) ∙ written cells (frame + k) c
@@ -209,7 +205,6 @@ pub found_at : (codes : Codes) (h : Store) (top : ℕ) (a : Value) (x : Content)
 found_at codes h top (address o i) x c f s e =
     let g = found codes h top o i s.0 c f s.1 e in
     record { object = o; offset = i; base = s.0; address_is = refl; word = s.3 ∙ ap Word g.is_word; cell = g }
-found_at codes h top (number n) x c f s e = absurd (let z : None ≡ Some c = e in cc)
 found_at codes h top _ x c f s e = absurd (let z : None ≡ Some c = e in cc)
 
 pub read_at : (codes : Codes) (h : Store) (top : ℕ) (a v : Value) (x : Content) → Fits codes h top → Applies codes h.bases a x → read h.mem a ≡ Some v → FoundAt codes h top a x (holds v)
@@ -256,7 +251,6 @@ pub write_at : (codes : Codes) (h : Store) (top : ℕ) (a : Value) (x : Content)
 write_at codes h top (address o i) x c mem1 f s e =
     let g = write_here codes h top o i s.0 c mem1 f s.1 e in
     record { object = o; offset = i; base = s.0; address_is = refl; word = s.3 ∙ ap Word g.is_word; cell = g }
-write_at codes h top (number n) x c mem1 f s e = absurd (let z : None ≡ Some mem1 = e in cc)
 write_at codes h top _ x c mem1 f s e = absurd (let z : None ≡ Some mem1 = e in cc)
 
 -- ---- words that become variables
