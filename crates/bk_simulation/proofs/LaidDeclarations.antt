@@ -214,10 +214,10 @@ laid_defined pay valofs blocks sc p s i (t.define (t.routine l x fs a0) ds) d n 
       switch = λ e. absurd (false≢true e);
       valof = λ e. absurd (false≢true e);
     } in
-    let done = laid_act pay valofs blocks within p2 s2 (i + 1) a0 depth first body (Return ∷ tail) doing h.0.2 r.0 (omega (arith, st3.shallow)) own_found.1 refl st3 in
-    let lies = alone_lies pay outer (i + 1) a0 depth first named body (Return ∷ tail) (s.number + 2) s.number refl (let light = in_light a0 in omega (arith, light, m, st3.shallow)) done in
+    let done = laid_act pay valofs blocks within p2 s2 (i + 1) a0 depth first body (Return ∷ tail) doing h.0.2 r.0 (omega arith) own_found.1 refl st3 in
+    let lies = alone_lies pay outer (i + 1) a0 depth first named body (Return ∷ tail) (s.number + 2) s.number refl (let light = in_light a0 in omega (arith, light, m)) done in
     bases_within (home sc pay) (λ q.
-    let u = lies.paid q in let v = within_at sc.own q (codes ++ Return ∷ EndProcedure ∷ []) code.rest in let w = ap (data_at sc.own q) (append_assoc codes (Return ∷ EndProcedure ∷ []) code.rest) in omega (arith, u, v, w, st3.shallow))
+    let u = lies.paid q in let v = within_at sc.own q (codes ++ Return ∷ EndProcedure ∷ []) code.rest in let w = ap (data_at sc.own q) (append_assoc codes (Return ∷ EndProcedure ∷ []) code.rest) in omega (arith, u, v, w))
     (bases_so (home sc pay) _ (λ g z v ns u o above.
     let e = agree_formals s.number 2 o 0 fs ns sc.bindings (i + 1) above u in
     let env = bind_formals o 0 (letters fs) (with_names ns (i + 1)) in
@@ -245,13 +245,13 @@ laid_defined pay valofs blocks sc p s i (t.define (t.function l x fs e) ds) d n 
     let body = codes ++ (ReturnItem ∷ tail) in
     let pl = body_lies pay sc.section sc.own sc.targets sc.bindings s.number fs (i + 1) (objects e) (expression e) n (parts depth first named) {f = own_found.1} {C = λ q. data_within sc.own q (procedure_code sc.targets (procedure n one)) code.rest} code.depth (first_bytes x) codes ReturnItem _ code.rest refl code.stands (λ st3.
     let around : Around within p2 depth = record { same = refl; at = omega (arith, st3.shallow); words = words_formals s.number 2 fs sc.bindings a.words } in
-    let lies = laid_code pay valofs within p2 s2 (i + 1) pushes e depth first body (ReturnItem ∷ tail) around h.0.2 r.0 (omega (arith, st3.shallow)) own_found.1 refl st3 in
+    let lies = laid_code pay valofs within p2 s2 (i + 1) pushes e depth first body (ReturnItem ∷ tail) around h.0.2 r.0 (omega arith) own_found.1 refl st3 in
     bases_within (home sc pay) (λ q.
-    let u = lies.paid q in let v = within_at sc.own q (codes ++ ReturnItem ∷ EndProcedure ∷ []) code.rest in let w = ap (data_at sc.own q) (append_assoc codes (ReturnItem ∷ EndProcedure ∷ []) code.rest) in omega (arith, u, v, w, st3.shallow))
+    let u = lies.paid q in let v = within_at sc.own q (codes ++ ReturnItem ∷ EndProcedure ∷ []) code.rest in let w = ap (data_at sc.own q) (append_assoc codes (ReturnItem ∷ EndProcedure ∷ []) code.rest) in omega (arith, u, v, w))
     (bases_so (home sc pay) _ (λ g z v ns u o above.
     let q = agree_formals s.number 2 o 0 fs ns sc.bindings (i + 1) above u in
     let env = bind_formals o 0 (letters fs) (with_names ns (i + 1)) in
-    (tail, subst (λ j. IsCode g within depth (with_names env.names j) pushes e body (ReturnItem ∷ tail)) (sym q.1) (v env.names q.0), (let light = of_light e in omega (arith, z.pays, light, m, st3.shallow))))
+    (tail, subst (λ j. IsCode g within depth (with_names env.names j) pushes e body (ReturnItem ∷ tail)) (sym q.1) (v env.names q.0), (let light = of_light e in omega (arith, z.pays, light, m))))
     (bases_of (home sc pay) _ (λ ns. of_expression (bind_each (letters fs) foreign (with_names ns (i + 1))) e) (λ ns. ap (λ y. of_expression y e) (sym (names_bound (letters fs) foreign ns (i + 1))))
     (formals_around pay sc.section sc.own sc.targets sc.bindings s.number fs _ lies.objects_are)))) in
     let own_bases = procedure_bases pay sc.section sc.own sc.targets sc.bindings s.number x fs i (objects e) (expression e) n _ _ own_found pl h.0.0 refl own_found.0.2 (λ q. omega arith) in
