@@ -17,7 +17,7 @@ pub use Rattle.bk_machine.specs.declared.item.Operand.{Operand}
 pub use Rattle.bk_machine.specs.declared.registers.Registers.{Registers}
 pub use Rattle.bk_ocode.specs.Cells.{Content, Variable, Cell, Free, Held, content_of, Word, Temporary, write, Unset, below, Partly, byte_in, four_bytes, with_byte, settle, Kind, kind_of, Link}
 pub use Rattle.bk_ocode.specs.OcodeState.{State, Placed, Inside, Callables, Control, At, Goes, Wild, Following, global_place, Routine, Next, Ends, rest_place, Placement, Stop, Rdch, Wrch, Newline, Writes, Writen, Writed, Getbyte, Putbyte, Writef}
-pub use Rattle.bk_ocode.specs.OcodeStep.{on, dyadic_word, push, on_number, on_some, from_label, step, step_by, case_label, routine_step, operated, is_label, named_place, has_word, step_in, step_from, can_be_called, call, jump}
+pub use Rattle.bk_ocode.specs.OcodeStep.{on, dyadic_word, push, on_number, on_some, from_label, step, step_by, case_label, routine_step, operated, is_label, named_place, has_word, step_in, step_from, can_be_called, call, jump, slot as item_at}
 pub use Rattle.bk_ocode.specs.declared.stmt.Stmt.{Stmt}
 pub use Rattle.bk_ocode.specs.declared.stmt.Stmt.TheVariants.{Label, Entry, CallFunction, CallRoutine, Text, EndProcedure, DataLabel, DataNumber, DataAddress, Save, ReturnItem, Return, Finish, Globals, Jump, JumpIf, Switch, Query, LoadByte, AssignByte, Stack, Store, Number, Load, Address, Assign, GiveResult, TakeResult, True, False, Monadic, AssignAt}
 pub use Rattle.bk_gen.specs.Accumulator.{kept_if, knows, comparison, evaluated_so, flushed_so, flushed, put_in, filled, evaluate, take, taken, evaluated, reads_below, fill, saved, with_item, IsLow, flush, HasLowSlot, is, unknown, word_is_below, is_other, keeps_through, with_loaded, compare, release, put, forget}
@@ -36,7 +36,7 @@ pub use Rattle.bk_machine.specs.declared.item.Item.{Item}
 pub use Rattle.bk_ocode.specs.Depth.{next_depth, largest_depth, depth_after, largest_after, least_depth, load_depth}
 pub use Rattle.bk_ocode.specs.Library.{library_routine, library_globals}
 pub use Rattle.bk_ocode.specs.StepLaws.{IsNotAmong, Keeps, KeepsNext}
-pub use Rattle.std.proofs.Common.{◌≡◌, ◌++◌, drop, ◌+◌, ◌≤◌, length, List, sym, ap, ◌∙◌, subst, ℕ, suc, ◌*◌, ◌<◌, Bool, true, false, [], append-nil, Option, Some, None, refl, arith, ◌⊎◌, inl, inr, add_assoc, zero, ◌-◌, ◌^◌, ◌∷◌, append_assoc, if◌then◌else◌, ◌≢◌, map, length-append, get_or, ◌%◌, w32, negsuc, max}
+pub use Rattle.std.proofs.Common.{◌≡◌, ◌++◌, drop, ◌+◌, ◌≤◌, length, List, sym, ap, ◌∙◌, subst, ℕ, suc, ◌*◌, ◌<◌, Bool, true, false, [], append-nil, Option, Some, None, refl, arith, ◌⊎◌, inl, inr, add_assoc, zero, ◌-◌, ◌^◌, ◌∷◌, append_assoc, if◌then◌else◌, ◌≢◌, map, length-append, get_or, ◌%◌, w32, negsuc, max, take as take_list, length-drop, FitsSigned}
 pub use Rattle.std.proofs.Math.Bool.{or_assoc, or-false}
 pub use Rattle.std.proofs.lemmas.Nat.{mul-le, and_comm, or_comm, xor_comm}
 pub use Rattle.bk_machine.specs.FormatLaws.{FormatIsOfParts, argument_text, parts_text}
@@ -68,9 +68,12 @@ pub use Rattle.bk_ocode.specs.declared.stmt.Variable.TheVariants.{Local, Global,
 pub use Rattle.bk_gen.specs.BackEnd.{Part, PartAt, parts_at, own_of, segments, image, depth_of, callables_of, program_of, HOME, machine_after, ◌begins◌, ◌ends_in◌, IsPartly, going, stopped, HoldsFrames, BackEnd, GoesOn, placed, start_of, is_entry_of, is_entry_in, BackEndHolds}
 pub use Rattle.bk_gen.specs.Laws.{RunLaws, Laws}
 pub use Rattle.bk_gen.specs.PlainCode.{pairs, settings_of, text_label, byte_items, text_items, texts_of, plain_items, table, setting_item, setting_items}
-pub use Rattle.bk_gen.specs.Points.{point_of, Fits, kept_of}
+pub use Rattle.bk_gen.specs.Points.{point_of, Fits, kept_of, IsAt}
 pub use Rattle.bk_gen.specs.declared.plan.Plan.{Plan}
 pub use Rattle.bk_machine.specs.declared.operation.Operation.{Operation}
 pub use Rattle.bk_machine.specs.declared.operation.Operator.{Operator}
 pub use Rattle.bk_machine.specs.declared.output.Output.{Output}
 pub use Rattle.bk_machine.specs.declared.output.Piece.{Piece}
+pub use Rattle.bk_gen.specs.ItemEnds.{items_before, point_at, ends_before}
+pub use Rattle.bk_ocode.specs.SectionStmts.{stmts_of}
+pub use Rattle.bk_ocode.specs.declared.stmt.Monadic.{Monadic as MonadicOperator}
