@@ -36,7 +36,7 @@ pub use Rattle.bk_machine.specs.declared.item.Item.{Item}
 pub use Rattle.bk_ocode.specs.Depth.{next_depth, largest_depth, depth_after, largest_after, least_depth, load_depth}
 pub use Rattle.bk_ocode.specs.Library.{library_routine, library_globals}
 pub use Rattle.bk_ocode.specs.StepLaws.{IsNotAmong, Keeps, KeepsNext}
-pub use Rattle.std.proofs.Common.{◌≡◌, ◌++◌, drop, ◌+◌, ◌≤◌, length, List, sym, ap, ◌∙◌, subst, ℕ, suc, ◌*◌, ◌<◌, Bool, true, false, [], append-nil, Option, Some, None, refl, arith, ◌⊎◌, inl, inr, add_assoc, zero, ◌-◌, ◌^◌, ◌∷◌, append_assoc, if◌then◌else◌, ◌≢◌, map, length-append, get_or, ◌%◌, w32, negsuc, max, take as take_list, length-drop, FitsSigned}
+pub use Rattle.std.proofs.Common.{◌≡◌, ◌++◌, drop, ◌+◌, ◌≤◌, length, List, sym, ap, ◌∙◌, subst, ℕ, suc, ◌*◌, ◌<◌, Bool, true, false, [], append-nil, Option, Some, None, refl, arith, ◌⊎◌, inl, inr, add_assoc, zero, ◌-◌, ◌^◌, ◌∷◌, append_assoc, if◌then◌else◌, ◌≢◌, map, length-append, get_or, ◌%◌, w32, negsuc, max, take as take_list, FitsSigned, length-drop}
 pub use Rattle.std.proofs.Math.Bool.{or_assoc, or-false}
 pub use Rattle.std.proofs.lemmas.Nat.{mul-le, and_comm, or_comm, xor_comm}
 pub use Rattle.bk_machine.specs.FormatLaws.{FormatIsOfParts, argument_text, parts_text}
