@@ -1,9 +1,8 @@
 -- What interpreting the code of a source comes to, and reporting its sizes.
-use Rattle.bk_filters.proofs.Terms.{◌≡◌, ℕ, ◌<◌, ◌≤◌, Bool, IsTrue, List, [], ◌∷◌, Option, Some, Result, Ok, Err, OnOk, length, refl, sym, ap, ◌∙◌, subst, arith, Appends, INPUT_BYTES, STORE_MOST, End, Declarations, image, KitFault, Source, Ocode, Intcode, TooSmall, NoStart, Read, Write, Memory, AnyBytes, Streams, Interpreted, sizes_line, stmts_of_parts, ReportsFrames, FindsNoFault, stmts_of_tree, codes_of_trees, meanings_with, IsCodeOf, InterpretsSources, FramesAreOfSources, RunsAs}
 use Rattle.bk_intcode.specs.FirstSaying.{SayOneThing}
 use Rattle.bk_filters.specs.Headline.{Keeps}
 use Rattle.bk_filters.specs.SectionNumbers.{frame_of}
-use Rattle.bk_filters.proofs.CodeOfParts.{OfParts, of_parts, frames, report_sizes}
+use Rattle.bk_filters.proofs.CodeOfParts.{OfParts, of_parts, frames, report_sizes, ◌≡◌, ℕ, ◌<◌, ◌≤◌, Bool, IsTrue, List, [], ◌∷◌, Option, Some, Result, Ok, Err, OnOk, length, refl, sym, ap, ◌∙◌, subst, arith, Appends, INPUT_BYTES, STORE_MOST, End, Declarations, image, KitFault, Source, Ocode, Intcode, TooSmall, NoStart, Read, Write, Memory, AnyBytes, Streams, Interpreted, sizes_line, stmts_of_parts, ReportsFrames, FindsNoFault, stmts_of_tree, codes_of_trees, meanings_with, IsCodeOf, InterpretsSources, FramesAreOfSources, RunsAs}
 use Rattle.bk_filters.proofs.MeaningLemmas.{RunLaws, image_within, source_run, too_small, startless}
 
 pub frames_are_of_sources : FramesAreOfSources

@@ -1,12 +1,11 @@
 -- What the two filters write of a source, one after the other, is its code; and nothing is refused on the way.
-use Rattle.bk_filters.proofs.Terms.{◌≡◌, ℕ, ◌<◌, IsTrue, Bool, List, [], ◌∷◌, ◌++◌, Option, Some, Result, Ok, Err, OnOk, length, refl, sym, ap, ◌∙◌, subst, append-nil, Appends, map-append, INPUT_BYTES, words_of, Declarations, section_words, AreBytes, Stmt, each_stmt, words_of-printed, KitFault, Source, Ocode, Intcode, TooSmall, NoStart, Read, Write, Memory, all_words, AreWhole, parts, Follows, bytes_of, trees_of, codes_of, codes_of_trees, stmts_of_tree, texts_of, AreAllTyped, Compiles, ocode, Generates, HasTrees, IsRefused, Output, IsCodeOf, FiltersWriteCode, IsNotRefused, RunsAs, GeneratesAs, OneAfterAnother}
 use Rattle.bk_ocode.specs.FirstFault.{SayOneThing}
 use Rattle.bk_intcode.specs.FirstSaying as intcode_text
 use Rattle.bk_trans.specs.Laws.{SchemeIsAccepted}
 use Rattle.bk_simulation.specs.Placement as placement
 use Rattle.bk_filters.specs.Texts as texts
 use Rattle.bk_filters.proofs.AcceptedTrees.{trees_are_accepted}
-use Rattle.bk_filters.proofs.CodeOfParts.{taken_of}
+use Rattle.bk_filters.proofs.CodeOfParts.{taken_of, ◌≡◌, ℕ, ◌<◌, IsTrue, Bool, List, [], ◌∷◌, ◌++◌, Option, Some, Result, Ok, Err, OnOk, length, refl, sym, ap, ◌∙◌, subst, append-nil, Appends, map-append, INPUT_BYTES, words_of, Declarations, section_words, AreBytes, Stmt, each_stmt, words_of-printed, KitFault, Source, Ocode, Intcode, TooSmall, NoStart, Read, Write, Memory, all_words, AreWhole, parts, Follows, bytes_of, trees_of, codes_of, codes_of_trees, stmts_of_tree, texts_of, AreAllTyped, Compiles, ocode, Generates, HasTrees, IsRefused, Output, IsCodeOf, FiltersWriteCode, IsNotRefused, RunsAs, GeneratesAs, OneAfterAnother}
 use Rattle.bk_filters.proofs.CodeOfSources.{runs_as}
 use Rattle.bk_filters.proofs.CompileLemmas.{texts_push}
 use Rattle.bk_filters.proofs.GeneratedParts.{CodeOf, fewer, code_written, not_ocode}

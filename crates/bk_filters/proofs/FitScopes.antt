@@ -1,8 +1,7 @@
 -- The constants in scope are words where a section's tree is regular.
-use Rattle.bk_filters.proofs.Terms.{◌≡◌, ℕ, ◌+◌, ◌<◌, ◌^◌, Bool, true, false, List, [], ◌∷◌, ◌++◌, Option, Some, None, cond, refl, subst, Mention, Expression, Declaration, Declarations, Items, Definitions, Starts, Bound, Enclosing, Binding, bound_in, bind, bind_all, is_global, constant_word, with_formals, words_of_start, place_after, variables_of, labels_in_scope, procedure_in_scope, procedures_in_scope, variables_in_scope, manifests_in_scope, statics_in_scope, globals_in_scope, scope_after_one, place_after_one, scope_after, Regular, RegularItems, RegularDeclaration, RegularDeclarations, Sort as sort, Bound as b}
+use Rattle.bk_filters.proofs.Terms.{◌≡◌, ℕ, ◌+◌, ◌<◌, ◌^◌, Bool, true, false, List, [], ◌∷◌, ◌++◌, Option, Some, None, cond, refl, subst, Mention, Expression, Declaration, Declarations, Items, Definitions, Starts, Bound, Enclosing, Binding, bound_in, bind, bind_all, is_global, constant_word, with_formals, words_of_start, place_after, variables_of, labels_in_scope, procedure_in_scope, procedures_in_scope, variables_in_scope, manifests_in_scope, statics_in_scope, globals_in_scope, scope_after_one, place_after_one, scope_after, Regular, RegularItems, RegularDeclaration, RegularDeclarations, Sort as sort, Bound as b, kept, deeper}
 use Rattle.std.specs.Str.{bytes_eq}
 use Rattle.bk_tree.specs.Tree as t
-use Rattle.bk_scope.specs.Places.{kept, deeper}
 use Rattle.bk_scope.specs.Spots.{Spot, after_one_declared}
 use Rattle.bk_simulation.proofs.Lemmas.{HasWords, constant_small}
 

@@ -1,5 +1,5 @@
 -- Sections that are read and generated one after another, and the bytes and texts of them.
-use Rattle.bk_filters.proofs.Terms.{◌≡◌, inl, inr, ℕ, ◌+◌, ◌≤◌, ◌++◌, Bool, true, false, IsTrue, List, [], ◌∷◌, Option, None, Some, Result, Ok, Err, length, if◌then◌else◌, arith, refl, sym, ap, subst, ◌∙◌, append_assoc, append-nil, length-append, map-append, length-map, Consumes, Appends, Keeps, Begins, AppendsPart, NothingLeft, Begins-refl, Begins-trans, Consumes-nothing, Consumes-trans, Appends-nothing, Appends-trans, INPUT_BYTES, OcodeFault, Refused, Fault, Device, AtEnd, Stmt, stmts_of, section_words, items_of, segment_whole, Represents, EndsWithFrame, frame_words, KitFault, Ocode, Read, Write, Memory, Output, Written, Puts, parts, refused, part_number, SaysWhateverFollows, Refused as refusals}
+pub use Rattle.bk_filters.proofs.Terms.{◌≡◌, inl, inr, ℕ, ◌+◌, ◌≤◌, ◌++◌, Bool, true, false, IsTrue, List, [], ◌∷◌, Option, None, Some, Result, Ok, Err, length, if◌then◌else◌, arith, refl, sym, ap, subst, ◌∙◌, append_assoc, append-nil, length-append, map-append, length-map, Consumes, Appends, Keeps, Begins, AppendsPart, NothingLeft, Begins-refl, Begins-trans, Consumes-nothing, Consumes-trans, Appends-nothing, Appends-trans, INPUT_BYTES, OcodeFault, Refused, Fault, Device, AtEnd, Stmt, stmts_of, section_words, items_of, segment_whole, Represents, EndsWithFrame, frame_words, KitFault, Ocode, Read, Write, Memory, Output, Written, Puts, parts, refused, part_number, SaysWhateverFollows, Refused as refusals, rules, output}
 use Rattle.bk_words.specs.WordLaws.{words_of-all}
 use Rattle.bk_ocode.specs.declared.section.Ocode as o
 use Rattle.bk_ocode.specs.SectionAnswer.{Answers, AppliesWhateverFollows, is_device}

@@ -1,12 +1,11 @@
 -- What generating from a text of sections comes to: nothing is refused, and what is written is the code of parts of these sections.
-use Rattle.bk_filters.proofs.Terms.{◌≡◌, ℕ, ◌<◌, IsTrue, Bool, List, [], ◌∷◌, ◌++◌, map, Option, Some, None, Result, Ok, Err, length, refl, sym, ap, ◌∙◌, subst, arith, append_assoc, append-nil, length-append, Appends, Consumes, append_cancel_left, INPUT_BYTES, words_of, section_words, AreTyped, Stmt, item_text, Part, segments, KitFault, Ocode, Intcode, Read, Write, Memory, intcode, all_words, AreWhole, parts, ocode, Generated, IsGenerated, AreGenerated, sections_of, Generates, Output, stmts_of_parts, ReportsFrames, IsNotRefused}
 use Rattle.bk_base.specs.declared.ocode_fault.OcodeKind.{OcodeKind}
 use Rattle.bk_ocode.specs.FirstFault.{section, nothing, fault, Says, SayOneThing}
 use Rattle.bk_ocode.specs.Section.{IsSection}
 use Rattle.bk_intcode.proofs.Lemmas as printed
 use Rattle.bk_filters.specs.Texts as texts
 use Rattle.bk_filters.specs.Generating as generating
-use Rattle.bk_filters.proofs.CodeOfParts.{taken_of}
+use Rattle.bk_filters.proofs.CodeOfParts.{taken_of, ◌≡◌, ℕ, ◌<◌, IsTrue, Bool, List, [], ◌∷◌, ◌++◌, map, Option, Some, None, Result, Ok, Err, length, refl, sym, ap, ◌∙◌, subst, arith, append_assoc, append-nil, length-append, Appends, Consumes, append_cancel_left, INPUT_BYTES, words_of, section_words, AreTyped, Stmt, item_text, Part, segments, KitFault, Ocode, Intcode, Read, Write, Memory, intcode, all_words, AreWhole, parts, ocode, Generated, IsGenerated, AreGenerated, sections_of, Generates, Output, stmts_of_parts, ReportsFrames, IsNotRefused}
 use Rattle.bk_filters.proofs.SameParts.{same_parts}
 use Rattle.bk_filters.proofs.SameParts as same
 

@@ -1,5 +1,5 @@
 -- Runs of the machine with segments that stand for the sections of a source, and what the source means.
-use Rattle.bk_filters.proofs.Terms.{◌≡◌, ◌≢◌, ◌⊎◌, inl, inr, ℕ, zero, suc, ◌+◌, ◌*◌, ◌≤◌, ◌<◌, max, ◌==◌, Bool, true, false, List, [], ◌∷◌, ◌++◌, map, Option, Some, None, Err, if◌then◌else◌, refl, sym, ap, ◌∙◌, subst, arith, append_assoc, append-nil, option_map_or, STORE_MOST, FRAME_WORDS, End, StoreLimit, WriteFault, Begins, Registers, SEGMENTS, segment_size, any_starts, loaded_store, Standing, Over, output_of, Ran, Blames, Cell, largest_depth, Declarations, Part, segments, image, depth_of, own_of, parts_at, program_of, start_of, machine_after, IsPartly, going, stopped, HoldsFrames, BackEnd, BackEndHolds, PartsAreWellPlaced, PartsWithoutStart, TooSmall, NoStart, AnyBytes, Streams, devices_of, first_registers, stmts_of_tree, codes_of_trees, HasTrees, HasParts, frame_of, HasWords, HasFramesOf, HasNoStart, MeaningEnds, MeaningGoesOn, EnoughToEnd, EnoughToGo, Placing, StepsToEnd, StepsToGo, image_of, meanings_with, MeaningRuns, MeaningTooSmall, MeaningStartless, stmts_of_parts, Stmt}
+use Rattle.bk_filters.proofs.Terms.{◌≡◌, ◌≢◌, ◌⊎◌, inl, inr, ℕ, zero, suc, ◌+◌, ◌*◌, ◌≤◌, ◌<◌, max, ◌==◌, Bool, true, false, List, [], ◌∷◌, ◌++◌, map, Option, Some, None, Err, if◌then◌else◌, refl, sym, ap, ◌∙◌, subst, arith, append_assoc, append-nil, option_map_or, STORE_MOST, FRAME_WORDS, End, StoreLimit, WriteFault, Begins, Registers, SEGMENTS, segment_size, any_starts, loaded_store, Standing, Over, output_of, Ran, Blames, Cell, largest_depth, Declarations, Part, segments, image, depth_of, own_of, parts_at, program_of, start_of, machine_after, IsPartly, going, stopped, HoldsFrames, BackEnd, BackEndHolds, PartsAreWellPlaced, PartsWithoutStart, TooSmall, NoStart, AnyBytes, Streams, devices_of, first_registers, stmts_of_tree, codes_of_trees, HasTrees, HasParts, frame_of, HasWords, HasFramesOf, HasNoStart, MeaningEnds, MeaningGoesOn, EnoughToEnd, EnoughToGo, Placing, StepsToEnd, StepsToGo, image_of, meanings_with, MeaningRuns, MeaningTooSmall, MeaningStartless, stmts_of_parts, Stmt, Begin, end_of, EndsWithin, ComesWithin, RunsOut, DoesEnd, Does, DoesFrom, StillGoes, RunsOutOnTheWay, StepsDoWhatSourcesMean, StepsGoOnWithTheirSource, StartsWithTheirSource, IsWithoutEnd, StartsSo, with_start, without_start}
 use Rattle.bk_ocode.specs.Frames.{HasFrames, start, called, HasFramesAtMost}
 use Rattle.bk_ocode.specs.OcodeState.{Routine, Placed, Control, Inside, Following, At, State}
 use Rattle.bk_ocode.specs.OcodeRun.{Program, Rest, resumed_by, resumed, label_rest, resumed_in, find_rest, rests_of}
@@ -9,7 +9,6 @@ use Rattle.bk_meaning.specs.Program as program
 use Rattle.bk_meaning.specs.Program.{meaning}
 use Rattle.bk_simulation.specs.GoingOn.{settled_from}
 use Rattle.bk_simulation.specs.Placement.{AreAccepted, Represent}
-use Rattle.bk_simulation.specs.Simulation.{Begin, end_of, EndsWithin, ComesWithin, RunsOut, DoesEnd, Does, DoesFrom, StillGoes, RunsOutOnTheWay, StepsDoWhatSourcesMean, StepsGoOnWithTheirSource, StartsWithTheirSource, IsWithoutEnd, StartsSo, with_start, without_start}
 use Rattle.bk_gen.specs.BackEnd as back_end
 use Rattle.bk_filters.specs.Headline.{Language, Runs, Keeps}
 use Rattle.bk_filters.specs.SectionNumbers as numbers

@@ -1,5 +1,5 @@
 -- A run of OCODE ends of itself with a status, or by a division by zero: never for want of words.
-use Rattle.bk_filters.proofs.Terms.{◌≡◌, ◌≢◌, ℕ, zero, suc, ◌+◌, ◌-◌, ◌^◌, ◌==◌, nat_lt, Bool, true, false, List, [], ◌∷◌, ◌++◌, Option, Some, None, subst, if◌then◌else◌, ⊤, option_map_or, End, Status, DivideByZero, StoreLimit, Content, Unset, Partly, Word, Variable, Held, write, Stmt}
+use Rattle.bk_filters.proofs.Terms.{◌≡◌, ◌≢◌, ℕ, zero, suc, ◌+◌, ◌-◌, ◌^◌, ◌==◌, nat_lt, Bool, true, false, List, [], ◌∷◌, ◌++◌, Option, Some, None, subst, if◌then◌else◌, ⊤, option_map_or, End, Status, DivideByZero, StoreLimit, Content, Unset, Partly, Word, Variable, Held, write, Stmt, Number, True, False, Query, Load, Address, Text, Monadic, Dyadic, LoadByte, Assign, AssignAt, AssignByte, Jump, JumpIf, GiveResult, Entry, CallFunction, CallRoutine, ReturnItem, Return, Switch, Finish, DataNumber}
 use Rattle.bk_base.specs.Format.{parts}
 use Rattle.bk_base.specs.Word.{signed, word_sum, byte_distance}
 use Rattle.bk_ocode.specs.Access.{variable_at, number_in, byte_at, word_with_byte_at, string_at}
@@ -8,7 +8,6 @@ use Rattle.bk_ocode.specs.OcodeStep.{slot, on_number, on_some, operated, named_p
 use Rattle.bk_ocode.specs.OcodeRun.{Program, resumed, label_rest, resumed_in, program_step_from, program_step, then_run, run}
 use Rattle.bk_ocode.specs.Telling.{format_bytes}
 use Rattle.bk_ocode.specs.declared.stmt.Monadic.TheVariants.{Contents, Negate, Not}
-use Rattle.bk_ocode.specs.declared.stmt.Stmt.TheVariants.{Number, True, False, Query, Load, Address, Text, Monadic, Dyadic, LoadByte, Assign, AssignAt, AssignByte, Jump, JumpIf, GiveResult, Entry, CallFunction, CallRoutine, ReturnItem, Return, Switch, Finish, DataNumber}
 
 -- the end of a step, if it is one, is not for want of words
 abbrev OfItself : Next → Type 0

@@ -1,12 +1,8 @@
 -- A text of OCODE of which the law speaks: START, which returns at once.
-use Rattle.bk_filters.proofs.Terms.{◌≡◌, ℕ, zero, suc, ◌<◌, List, [], ◌∷◌, Some, None, refl, subst, arith, Stmt, ocode, parts, words_of}
+use Rattle.bk_filters.proofs.Terms.{◌≡◌, ℕ, zero, suc, ◌<◌, List, [], ◌∷◌, Some, None, refl, subst, arith, Stmt, ocode, parts, words_of, Says, InRange, IsTyped, IsGlobal, IsLabel, Entry, Save, Return, EndProcedure, Globals, slice_get, take, codes}
 use Rattle.std.specs.Fmt.{digits}
-use Rattle.std.specs.Prelude.{slice_get, take, codes}
 use Rattle.bk_ocode.specs.Faults.{stmt_fault}
-use Rattle.bk_ocode.specs.StmtRange.{InRange, IsTyped, IsGlobal, IsLabel}
 use Rattle.bk_ocode.specs.declared.stmt.GlobalEntry.{GlobalEntry}
-use Rattle.bk_ocode.specs.declared.stmt.Stmt.TheVariants.{Entry, Save, Return, EndProcedure, Globals}
-use Rattle.bk_filters.specs.Texts.{Says}
 
 abbrev stmts : List Stmt
 stmts = Entry 1 (83 ∷ 84 ∷ 65 ∷ 82 ∷ 84 ∷ []) ∷ Save 2 ∷ Return ∷ EndProcedure ∷ Globals (record { number = 1; label = 1 } ∷ []) ∷ []

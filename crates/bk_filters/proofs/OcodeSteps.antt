@@ -1,12 +1,10 @@
 -- Runs of the machine with segments that stand for sections of OCODE, and the steps of OCODE.
-use Rattle.bk_filters.proofs.Terms.{◌≡◌, ◌≢◌, ◌⊎◌, inl, inr, ℕ, ◌+◌, ◌*◌, ◌≤◌, List, [], ◌∷◌, ◌++◌, Some, Result, Ok, Err, OnOk, refl, sym, ap, ap₂, ◌∙◌, subst, arith, append_assoc, append-nil, Appends, STORE_MOST, End, Status, DivideByZero, StoreLimit, StepLimit, BadOperation, ReadFault, WriteFault, Registers, SEGMENTS, loaded_store, Standing, Going, Over, output_of, Stmt, Part, segments, image, depth_of, program_of, machine_after, IsPartly, going, stopped, BackEnd, BackEndHolds, PartsAreWellPlaced, PartsWithoutStart, KitFault, Source, Ocode, Intcode, TooSmall, NoStart, Read, Write, Memory, Generates, AnyBytes, Streams, devices_of, first_registers, sizes_line, FindsNoFault, RunsAsSteps, OcodeRuns}
 use Rattle.bk_ocode.specs.FirstFault as ocode_text
 use Rattle.bk_ocode.specs.OcodeState.{State}
 use Rattle.bk_intcode.specs.FirstSaying as intcode_text
-use Rattle.bk_gen.specs.BackEnd.{◌begins◌, GoesOn}
 use Rattle.bk_filters.specs.OcodeRuns.{IsAhead, IsEnd, IsPart, IsStopped, Agrees, DoesSteps}
 use Rattle.bk_filters.specs.SectionNumbers as numbers
-use Rattle.bk_filters.proofs.CodeOfParts.{OfParts, of_parts, report_sizes, image_within, deepest}
+use Rattle.bk_filters.proofs.CodeOfParts.{OfParts, of_parts, report_sizes, image_within, deepest, ◌≡◌, ◌≢◌, ◌⊎◌, inl, inr, ℕ, ◌+◌, ◌*◌, ◌≤◌, List, [], ◌∷◌, ◌++◌, Some, Result, Ok, Err, OnOk, refl, sym, ap, ap₂, ◌∙◌, subst, arith, append_assoc, append-nil, Appends, STORE_MOST, End, Status, DivideByZero, StoreLimit, StepLimit, BadOperation, ReadFault, WriteFault, Registers, SEGMENTS, loaded_store, Standing, Going, Over, output_of, Stmt, Part, segments, image, depth_of, program_of, machine_after, IsPartly, going, stopped, BackEnd, BackEndHolds, PartsAreWellPlaced, PartsWithoutStart, KitFault, Source, Ocode, Intcode, TooSmall, NoStart, Read, Write, Memory, Generates, AnyBytes, Streams, devices_of, first_registers, sizes_line, FindsNoFault, RunsAsSteps, OcodeRuns, ◌begins◌, GoesOn}
 use Rattle.bk_filters.proofs.GeneratedParts.{CodeOf, code_written, not_ocode}
 use Rattle.bk_filters.proofs.OcodeEnds.{ends_of_itself}
 use Rattle.bk_filters.proofs.StandingLemmas.{StandsSo, stood}

@@ -1,11 +1,10 @@
 -- What is read of a section up to its end.
-use Rattle.bk_filters.proofs.Terms.{◌≡◌, ℕ, ◌+◌, ◌≤◌, Bool, true, false, cond, List, [], ◌∷◌, ◌++◌, length, Result, Ok, Err, Option, Some, None, ◌⊎◌, inl, inr, refl, sym, ap, subst, ◌∙◌, arith, length-append, append-nil, append_assoc, take, suc, ◌<◌, means_as, more_undecided, SectionBytes, SourceFault, Consumes, Consumes-trans, SECTION_BYTES, State, Step, start, step_of, finished, ◌>>=◌, cut_after, goes_on_from, then_on, state_after, cut_as, IsUndecided, Asked, Settles, IsDelivered, TakesHeld, Act, Act as acts}
+use Rattle.bk_filters.proofs.Terms.{◌≡◌, ℕ, ◌+◌, ◌≤◌, Bool, true, false, cond, List, [], ◌∷◌, ◌++◌, length, Result, Ok, Err, Option, Some, None, ◌⊎◌, inl, inr, refl, sym, ap, subst, ◌∙◌, arith, length-append, append-nil, append_assoc, take, suc, ◌<◌, means_as, more_undecided, SectionBytes, SourceFault, Consumes, Consumes-trans, SECTION_BYTES, State, Step, start, step_of, finished, ◌>>=◌, cut_after, goes_on_from, then_on, state_after, cut_as, IsUndecided, Asked, Settles, IsDelivered, TakesHeld, Act, Act as acts, length-take}
 use Rattle.bk_lex.specs.declared.machine.Fault.{Fault}
 use Rattle.bk_lex.specs.declared.counting.PieceResult.{PieceResult}
 use Rattle.bk_lex.specs.declared.cutter.Cut.{Cut}
 use Rattle.bk_lex.specs.declared.cutter.Cut.TheVariants.{More, End}
 use Rattle.bk_lex.specs.Cutting.{Means}
-use Rattle.std.proofs.lemmas.List.{length-take}
 use Rattle.bk_lex.specs.Lexing.{Section, section, Reading, read, read_on, run, end_as, begin, is_dot, lexed}
 use Rattle.bk_lex.proofs.Lemmas.{following, read_state, behind_more, used_at_end, end_is_decided, lexed_is_section}
 

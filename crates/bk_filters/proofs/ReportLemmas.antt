@@ -1,9 +1,5 @@
 -- A line on the error stream, passed on or in part.
-use Rattle.std.proofs.Common.{◌≡◌, ℕ, true, false, List, [], Result, Ok, Err, OnOk, OnErr, is_ok, is_err, if◌then◌else◌, sym, ◌∙◌, append-nil, arith}
-use Rattle.std.specs.Io.KnownBytes.{Appends, Keeps}
-use Rattle.bk_base.specs.Devices.{Begins}
-use Rattle.bk_base.specs.DeviceLaws.{Appends-Keeps, AppendsPart-kept, Begins-trans}
-use Rattle.bk_filters.specs.Telling.{Output, ReportsLine}
+use Rattle.bk_filters.proofs.Terms.{Appends-Keeps, AppendsPart-kept, Begins-trans, Begins, Output, ReportsLine, ◌≡◌, ℕ, true, false, List, [], Result, Ok, Err, OnOk, OnErr, is_ok, is_err, if◌then◌else◌, sym, ◌∙◌, append-nil, arith, Appends, Keeps}
 
 -- the line was put, and then a flush was tried
 line_put : {E : Type 0} (line : List ℕ) (old mid new : Output) (flushed : Result (Unit {0}) E) → Appends old.taken mid.taken line → Begins old.passed mid.passed

@@ -1,14 +1,12 @@
 -- The symbols of a section that are refused, for their syntax or their names.
-use Rattle.bk_filters.proofs.Terms.{◌≡◌, ◌≢◌, inl, inr, ℕ, true, false, ◌==◌, length, arith, eqb-true, List, [], ◌∷◌, None, Some, Ok, Err, refl, sym, ap, ◌∙◌, SourceFault, Refused, Fault, Device, Symbol, symbols_of, section_of, lexed, Declarations, IsSection, declarations_of, Stmt, KitFault, Source, source_refused, Translates, HasCode, Refuses, RefusesSymbols, Refused as refusals, KitFault as k}
+use Rattle.bk_filters.proofs.Terms.{◌≡◌, ◌≢◌, inl, inr, ℕ, true, false, ◌==◌, length, arith, eqb-true, List, [], ◌∷◌, None, Some, Ok, Err, refl, sym, ap, ◌∙◌, SourceFault, Refused, Fault, Device, Symbol, symbols_of, section_of, lexed, Declarations, IsSection, declarations_of, Stmt, KitFault, Source, source_refused, Translates, HasCode, Refuses, RefusesSymbols, Refused as refusals, KitFault as k, faults, Breach}
 use Rattle.bk_lex.specs.declared.scan.Lexed.{Lexed}
 use Rattle.bk_lex.specs.declared.token.Token.{Token}
 use Rattle.bk_tree.specs.declared.section.Section.{Section}
 use Rattle.bk_tree.specs.Limits.{Within}
 use Rattle.bk_syntax.specs.Parsing.{Parses, Gives}
 use Rattle.bk_scope.specs.Points.{first_reported}
-use Rattle.bk_scope.specs.Faults.{faults}
 use Rattle.bk_scope.specs.FirstFault.{breach_of}
-use Rattle.bk_scope.specs.Wrong.{Breach}
 use Rattle.bk_tree.specs.declared.placed.PlacedFault.{PlacedFault}
 use Rattle.bk_tree.specs.Placed.{fault_on_line}
 use Rattle.bk_scope.specs.Resolution.{Resolves}

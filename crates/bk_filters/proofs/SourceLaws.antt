@@ -1,6 +1,5 @@
 -- The laws on which runs of sources rest, from those of the layers below.
-use Rattle.bk_gen.specs.BackEnd.{BackEndHolds, PartsAreWellPlaced, PartsWithoutStart}
-use Rattle.bk_simulation.specs.Simulation.{StepsDoWhatSourcesMean, StepsGoOnWithTheirSource, StartsWithTheirSource}
+use Rattle.bk_filters.proofs.Terms.{BackEndHolds, PartsAreWellPlaced, PartsWithoutStart, StepsDoWhatSourcesMean, StepsGoOnWithTheirSource, StartsWithTheirSource}
 use Rattle.bk_filters.proofs.MeaningLemmas.{RunLaws}
 use Rattle.bk_filters.proofs.OneTree.{one_list_of_trees}
 use Rattle.bk_filters.proofs.AcceptedTrees.{trees_are_accepted}

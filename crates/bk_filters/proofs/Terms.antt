@@ -1,10 +1,10 @@
 -- The names of the layers below that several of these proofs use.
-pub use Rattle.std.proofs.Common.{ℕ, suc, List, [], ◌∷◌, ◌++◌, refl, sym, subst, append_assoc, ◌≡◌, ◌⊎◌, ◌+◌, ◌≤◌, length, ◌∙◌, map, ap, rules, inl, inr, ◌<◌, Bool, IsTrue, Option, None, Some, arith, append-nil, length-append, ◌^◌, true, false, cond, ◌≢◌, max, Result, Ok, Err, OnOk, take, drop, get_or, Bor, ◌-◌, IfErr, ap₂, if◌then◌else◌, zero, ◌==◌, nat_lt, ◌*◌, slice_get, eqb-true, ◌%◌, ◌||◌}
+pub use Rattle.std.proofs.Common.{ℕ, suc, List, [], ◌∷◌, ◌++◌, refl, sym, subst, append_assoc, ◌≡◌, ◌⊎◌, ◌+◌, ◌≤◌, length, ◌∙◌, map, ap, rules, inl, inr, ◌<◌, Bool, IsTrue, Option, None, Some, arith, append-nil, length-append, ◌^◌, true, false, cond, ◌≢◌, max, Result, Ok, Err, OnOk, take, drop, get_or, Bor, ◌-◌, IfErr, ap₂, if◌then◌else◌, zero, ◌==◌, nat_lt, ◌*◌, slice_get, eqb-true, ◌%◌, ◌||◌, OnErr, is_ok, is_err}
 pub use Rattle.std.proofs.lemmas.Bool.{cases_lt, ltb-true, and_parts}
-pub use Rattle.std.proofs.lemmas.List.{map-append, length-map, append_cancel_left, take_more, take-append-drop, append_cancel_right}
+pub use Rattle.std.proofs.lemmas.List.{map-append, length-map, append_cancel_left, take_more, take-append-drop, append_cancel_right, length-take}
 pub use Rattle.std.specs.Io.KnownBytes.{Consumes, Appends, Keeps}
 pub use Rattle.std.specs.Option.{option_map_or}
-pub use Rattle.std.specs.Prelude.{IsErr, ⊤, pos}
+pub use Rattle.std.specs.Prelude.{IsErr, ⊤, pos, codes}
 pub use Rattle.bk_base.specs.DeviceLaws.{Begins-trans, Appends-trans, AppendsPart-after, AppendsPart-front, Appends-Keeps, AppendsPart-kept, Begins-refl, Consumes-nothing, Consumes-trans, Appends-nothing}
 pub use Rattle.bk_base.specs.Devices.{NothingLeft, AppendsPart, Begins}
 pub use Rattle.bk_base.specs.declared.limit.TheConstants.{INPUT_BYTES, STORE_MOST, FRAME_WORDS_LEAST, FRAME_WORDS, SECTION_BYTES, GLOBAL_NUMBER, VEC_NUMBER}
@@ -14,7 +14,7 @@ pub use Rattle.bk_base.specs.declared.refused.Refused.TheVariants.{Fault, Device
 pub use Rattle.bk_base.specs.declared.run_end.End.{End}
 pub use Rattle.bk_base.specs.declared.run_end.End.TheVariants.{WriteFault, Status, DivideByZero, StoreLimit, StepLimit, BadOperation, ReadFault}
 pub use Rattle.bk_base.specs.declared.source_fault.SourceFault.{SourceFault}
-pub use Rattle.bk_gen.specs.BackEnd.{Part, segments, image, items_of_part, depth_of, own_of, parts_at, program_of, start_of, machine_after, IsPartly, going, stopped, HoldsFrames, BackEnd, BackEndHolds, PartsAreWellPlaced, PartsWithoutStart}
+pub use Rattle.bk_gen.specs.BackEnd.{Part, segments, image, items_of_part, depth_of, own_of, parts_at, program_of, start_of, machine_after, IsPartly, going, stopped, HoldsFrames, BackEnd, BackEndHolds, PartsAreWellPlaced, PartsWithoutStart, ◌begins◌, GoesOn}
 pub use Rattle.bk_gen.specs.Represents.{frame_words, Represents, EndsWithFrame}
 pub use Rattle.bk_grammar.specs.Rows.{inner, left, following, is_relation, leaf}
 pub use Rattle.bk_grammar.specs.SyntaxFault.{IsSection}
@@ -39,7 +39,7 @@ pub use Rattle.bk_ocode.specs.Cells.{Content, Unset, Partly, Word, Variable, Hel
 pub use Rattle.bk_ocode.specs.Depth.{largest_depth}
 pub use Rattle.bk_ocode.specs.SectionStmts.{stmts_of}
 pub use Rattle.bk_ocode.specs.SectionText.{section_words, section_text}
-pub use Rattle.bk_ocode.specs.StmtRange.{AreBytes, AreTyped}
+pub use Rattle.bk_ocode.specs.StmtRange.{AreBytes, AreTyped, InRange, IsTyped, IsGlobal, IsLabel}
 pub use Rattle.bk_ocode.specs.declared.stmt.Stmt.{Stmt}
 pub use Rattle.bk_scope.specs.Constants.{constant_word, is_prefix_of_constants, is_infix_of_constants, divides_by_zero}
 pub use Rattle.bk_scope.specs.Entering.{with_formals, labels_of, labels_of_each}
@@ -71,8 +71,8 @@ pub use Rattle.bk_filters.specs.SourceCode.{IsCodeOf, InterpretsSources, FramesA
 pub use Rattle.bk_filters.specs.SourceMeaning.{meanings_with, meanings, MeaningRuns, MeaningTooSmall, MeaningStartless, frame_of, HasWords, HasFramesOf, HasNoStart, MeaningEnds, MeaningGoesOn, EnoughToEnd, EnoughToGo, Placing, StepsToEnd, StepsToGo, image_of, MeaningRefuses}
 pub use Rattle.bk_filters.specs.SourceSections.{HasTrees, IsRefused, HasParts}
 pub use Rattle.bk_filters.specs.Sources.{IsTree, Means, Accepted, WholeSection, bytes_of, trees_of, AreAccepted, stmts_of_tree, codes_of_trees, codes_of, texts_of, line_following}
-pub use Rattle.bk_filters.specs.Telling.{Output}
-pub use Rattle.bk_filters.specs.Texts.{part_number, Format, parts, refused, all_words, AreWhole, SaysWhateverFollows, Applies, StopsInPart}
+pub use Rattle.bk_filters.specs.Telling.{Output, ReportsLine, output}
+pub use Rattle.bk_filters.specs.Texts.{part_number, Format, parts, refused, all_words, AreWhole, SaysWhateverFollows, Applies, StopsInPart, Says}
 pub use Rattle.bk_filters.specs.declared.kit_fault.KitFault.{KitFault}
 pub use Rattle.bk_filters.specs.declared.kit_fault.KitFault.TheVariants.{Source, Ocode, Intcode, TooSmall, NoStart, Read, Write, Memory}
 pub use Rattle.bk_filters.specs.declared.section.CompiledSection.{CompiledSection}
@@ -84,3 +84,8 @@ pub use Rattle.bk_lex.specs.declared.token.Kind.{Kind}
 pub use Rattle.bk_tree.specs.declared.tree.Prefix.{Prefix}
 pub use Rattle.bk_tree.specs.declared.tree.Simple.{Simple}
 pub use Rattle.bk_tree.specs.declared.tree.Sort.{Sort}
+pub use Rattle.bk_ocode.specs.declared.stmt.Stmt.TheVariants.{Entry, Save, Return, EndProcedure, Globals, Number, True, False, Query, Load, Address, Text, Monadic, Dyadic, LoadByte, Assign, AssignAt, AssignByte, Jump, JumpIf, GiveResult, CallFunction, CallRoutine, ReturnItem, Switch, Finish, DataNumber}
+pub use Rattle.bk_scope.specs.Faults.{unless, used_at, gone_to, constant_name, constant_wrongs, constant_wrongs_each, its_word, constant, each_constant, at_most, assigned, addressed, prefixed, depth_named, pushed, chosen_at, defaulted_at, single_at, one_of, each_of, manifest_items, static_items, global_items, its_meaning, its_global, its_frame, inside_procedure, procedure, reported, reported_each, reported_destinations, reported_done, reported_done_each, reported_declared, reported_one_declared, reported_defined, reported_one_defined, reported_started, reported_of, words, faults}
+pub use Rattle.bk_scope.specs.Places.{kept, deeper, looping, switching, labelled, valued, called, outermost}
+pub use Rattle.bk_scope.specs.Wrong.{Wrong, not_assignable, no_result_or_return, global_out_of_range, vec_out_of_range, Breach}
+pub use Rattle.bk_simulation.specs.Simulation.{Begin, end_of, EndsWithin, ComesWithin, RunsOut, DoesEnd, Does, DoesFrom, StillGoes, RunsOutOnTheWay, StepsDoWhatSourcesMean, StepsGoOnWithTheirSource, StartsWithTheirSource, IsWithoutEnd, StartsSo, with_start, without_start}

@@ -1,5 +1,4 @@
-use Rattle.std.proofs.Common.{rules}
-use Rattle.bk_filters.proofs.CompileLemmas.{compiles, compiles_no_more}
+use Rattle.bk_filters.proofs.CompileLemmas.{compiles, compiles_no_more, rules}
 use Rattle.bk_filters.proofs.compiler.compile.Goals as goal
 
 pub returns-in_default : goal.returns-in_default

@@ -1,5 +1,4 @@
-use Rattle.bk_filters.proofs.Terms.{subst, arith, inl, Err, IfErr, rules, PutsSections, Compiled, Refuses}
-use Rattle.bk_filters.proofs.CompileLemmas.{front_empty, not_read, not_compiled, not_put, is_last, goes_on, puts_fault}
+use Rattle.bk_filters.proofs.CompileLemmas.{front_empty, not_read, not_compiled, not_put, is_last, goes_on, puts_fault, subst, arith, inl, Err, IfErr, rules, PutsSections, Compiled, Refuses}
 use Rattle.bk_filters.proofs.PassedSections.{some_taken}
 use Rattle.bk_filters.proofs.compiler.put_sections.Goals as goal
 

@@ -1,6 +1,4 @@
-use Rattle.std.proofs.Common.{◌-◌, ◌^◌}
-use Rattle.bk_filters.proofs.CompileLemmas.{Front}
-use Rattle.bk_filters.specs.Telling.{output}
+use Rattle.bk_filters.proofs.CompileLemmas.{Front, output, ◌-◌, ◌^◌}
 use Rattle.bk_filters.proofs.compiler.put_sections.Given as goal
 
 abbrev pub invariant-loop-lexer : goal.invariant-loop-lexer

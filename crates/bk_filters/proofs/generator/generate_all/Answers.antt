@@ -1,5 +1,4 @@
-use Rattle.std.proofs.Common.{rules}
-use Rattle.bk_filters.proofs.GenerateLemmas.{generates, generates_no_more}
+use Rattle.bk_filters.proofs.GenerateLemmas.{generates, generates_no_more, rules}
 use Rattle.bk_filters.proofs.generator.generate_all.Goals as goal
 
 pub returns-in_default : goal.returns-in_default

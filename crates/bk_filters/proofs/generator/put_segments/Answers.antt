@@ -1,5 +1,4 @@
-use Rattle.std.proofs.Common.{arith, rules}
-use Rattle.bk_filters.proofs.GenerateLemmas.{front_empty, no_more, not_read, not_generated, not_put, goes_on, too_many}
+use Rattle.bk_filters.proofs.GenerateLemmas.{front_empty, no_more, not_read, not_generated, not_put, goes_on, too_many, arith, rules}
 use Rattle.bk_filters.proofs.generator.put_segments.Goals as goal
 
 pub loop-before-init : goal.loop-before-init

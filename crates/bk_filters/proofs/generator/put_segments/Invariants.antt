@@ -1,5 +1,4 @@
-use Rattle.bk_filters.proofs.GenerateLemmas.{Front}
-use Rattle.bk_filters.specs.Telling.{output}
+use Rattle.bk_filters.proofs.GenerateLemmas.{Front, output}
 use Rattle.bk_filters.proofs.generator.put_segments.Given as goal
 
 abbrev pub invariant-loop-before : goal.invariant-loop-before

@@ -1,4 +1,4 @@
-use Rattle.bk_machine.specs.State.{store_of, registers_of}
+use Rattle.bk_filters.proofs.Terms.{store_of, registers_of}
 use Rattle.bk_filters.proofs.runner.interpret.Goals as goal
 
 pub returns-clause-interpreted : goal.returns-clause-interpreted

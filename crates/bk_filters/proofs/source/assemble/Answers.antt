@@ -1,6 +1,5 @@
-use Rattle.bk_filters.proofs.Terms.{◌≡◌, subst, arith, IfErr, rules, Compiled, Refuses}
 use Rattle.bk_filters.proofs.PassedSections.{some_taken}
-use Rattle.bk_filters.proofs.SourceLemmas.{gathered_none, not_read, no_memory, not_compiled, goes_on, is_last, stops_reading, has_read, fails_as}
+use Rattle.bk_filters.proofs.SourceLemmas.{gathered_none, not_read, no_memory, not_compiled, goes_on, is_last, stops_reading, has_read, fails_as, ◌≡◌, subst, arith, IfErr, rules, Compiled, Refuses}
 use Rattle.bk_filters.proofs.source.assemble.Goals as goal
 
 pub loop-segments-init : goal.loop-segments-init

@@ -1,5 +1,4 @@
-use Rattle.bk_filters.proofs.Terms.{◌-◌, ◌^◌, map, items_of}
-use Rattle.bk_filters.proofs.SourceLemmas.{Gathered}
+use Rattle.bk_filters.proofs.SourceLemmas.{Gathered, ◌-◌, ◌^◌, map, items_of}
 use Rattle.bk_filters.proofs.source.assemble.Given as goal
 
 abbrev pub invariant-loop-segments : goal.invariant-loop-segments

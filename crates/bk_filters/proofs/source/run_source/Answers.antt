@@ -1,6 +1,5 @@
-use Rattle.bk_filters.proofs.Terms.{refl, segments, store_of, registers_of}
 use Rattle.bk_filters.specs.AnyReader.{ran_with_any}
-use Rattle.bk_filters.proofs.SourceLemmas.{source_runs}
+use Rattle.bk_filters.proofs.SourceLemmas.{source_runs, refl, segments, store_of, registers_of}
 use Rattle.bk_filters.proofs.source.run_source.Goals as goal
 
 pub returns-clause-headline : goal.returns-clause-headline
