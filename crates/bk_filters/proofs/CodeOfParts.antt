@@ -1,5 +1,5 @@
 -- The code of parts is read as the segments that it is of; and what interpreting it, and reporting its sizes, comes to.
-pub use Rattle.bk_filters.proofs.Terms.{◌≡◌, ◌≢◌, ℕ, ◌+◌, ◌*◌, ◌<◌, ◌≤◌, max, Bool, IsTrue, true, false, List, [], ◌∷◌, ◌++◌, map, Option, Some, None, Result, Ok, Err, OnOk, length, refl, sym, ap, ◌∙◌, subst, arith, Consumes, Appends, Begins, append_cancel_left, INPUT_BYTES, FRAME_WORDS_LEAST, End, WriteFault, words_of, Item, Registers, SEGMENTS, segment_size, stack_start, any_starts, greatest_frame, loaded_store, Ran, Blames, item_text, largest_depth, Stmt, Part, segments, image, depth_of, KitFault, Source, Ocode, Intcode, TooSmall, NoStart, Read, Write, Memory, intcode, all_words, AreWhole, parts, refused, Applies, AnyBytes, Streams, Interpreted, devices_of, first_registers, sizes_line, Reports, Output, stmts_of_parts, ReportsFrames, FindsNoFault, ◌⊎◌, inl, inr, ap₂, append_assoc, append-nil, STORE_MOST, Status, DivideByZero, StoreLimit, StepLimit, BadOperation, ReadFault, Standing, Going, Over, output_of, program_of, machine_after, IsPartly, going, stopped, BackEnd, BackEndHolds, PartsAreWellPlaced, PartsWithoutStart, Generates, RunsAsSteps, OcodeRuns, ◌begins◌, GoesOn, Declarations, stmts_of_tree, codes_of_trees, meanings_with, IsCodeOf, InterpretsSources, FramesAreOfSources, RunsAs, map-append, section_words, AreBytes, each_stmt, words_of-printed, Follows, bytes_of, trees_of, codes_of, texts_of, AreAllTyped, Compiles, ocode, HasTrees, IsRefused, FiltersWriteCode, IsNotRefused, GeneratesAs, OneAfterAnother, length-append, AreTyped, Generated, IsGenerated, AreGenerated, sections_of}
+pub use Rattle.bk_filters.proofs.Terms.{◌≡◌, ◌≢◌, ℕ, ◌+◌, ◌*◌, ◌<◌, ◌≤◌, max, Bool, IsTrue, true, false, List, [], ◌∷◌, ◌++◌, map, Option, Some, None, Result, Ok, Err, OnOk, length, refl, sym, ap, ◌∙◌, subst, arith, Consumes, Appends, Begins, append_cancel_left, INPUT_BYTES, FRAME_WORDS_LEAST, End, WriteFault, words_of, Item, Registers, SEGMENTS, segment_size, stack_start, any_starts, greatest_frame, loaded_store, Ran, Blames, item_text, largest_depth, Stmt, Part, segments, image, depth_of, KitFault, Source, Ocode, Intcode, TooSmall, NoStart, Read, Write, Memory, intcode, all_words, AreWhole, parts, refused, Applies, AnyBytes, Streams, Interpreted, devices_of, first_registers, sizes_line, Reports, Output, stmts_of_parts, ReportsFrames, FindsNoFault, STORE_MOST, Declarations, stmts_of_tree, codes_of_trees, meanings_with, IsCodeOf, InterpretsSources, FramesAreOfSources, RunsAs, ◌⊎◌, inl, inr, ap₂, append_assoc, append-nil, Status, DivideByZero, StoreLimit, StepLimit, BadOperation, ReadFault, Standing, Going, Over, output_of, program_of, machine_after, IsPartly, going, stopped, BackEnd, BackEndHolds, PartsAreWellPlaced, PartsWithoutStart, Generates, RunsAsSteps, OcodeRuns, ◌begins◌, GoesOn, map-append, section_words, AreBytes, each_stmt, words_of-printed, Follows, bytes_of, trees_of, codes_of, texts_of, AreAllTyped, Compiles, ocode, HasTrees, IsRefused, FiltersWriteCode, IsNotRefused, GeneratesAs, OneAfterAnother, length-append, AreTyped, Generated, IsGenerated, AreGenerated, sections_of}
 use Rattle.bk_base.specs.declared.intcode_fault.IntcodeKind.{IntcodeKind}
 use Rattle.bk_machine.specs.Segment.{IsSegment}
 use Rattle.bk_ocode.specs.SectionData.{text_size}
@@ -129,9 +129,7 @@ module _ (one : SayOneThing) (ps : List Part) (code : List ℕ) (is : words_of c
   of_parts (Err (Intcode number f)) steps words before after said = absurd (not_refused_here number f.item f.kind said.0)
   of_parts (Err Read) steps words before after said = said.1
   of_parts (Err Memory) steps words before after said = said.1
-  of_parts (Err Write) steps words before after said = absurd said.0
-  of_parts (Err (Source f)) steps words before after said = absurd said.0
-  of_parts (Err (Ocode number f)) steps words before after said = absurd said.0
+  of_parts (Err x) steps words before after said = absurd said.0
 
   -- its sizes
   pub report_sizes : ReportsFrames ps → (answer : Result (Unit {0}) KitFault) (words : ℕ) (before after : Output) → Reports answer words (Some code) new ended before after

@@ -2,7 +2,7 @@
 use Rattle.bk_intcode.specs.FirstSaying.{SayOneThing}
 use Rattle.bk_filters.specs.Headline.{Keeps}
 use Rattle.bk_filters.specs.SectionNumbers.{frame_of}
-use Rattle.bk_filters.proofs.CodeOfParts.{OfParts, of_parts, frames, report_sizes, ◌≡◌, ℕ, ◌<◌, ◌≤◌, Bool, IsTrue, List, [], ◌∷◌, Option, Some, Result, Ok, Err, OnOk, length, refl, sym, ap, ◌∙◌, subst, arith, Appends, INPUT_BYTES, STORE_MOST, End, Declarations, image, KitFault, Source, Ocode, Intcode, TooSmall, NoStart, Read, Write, Memory, AnyBytes, Streams, Interpreted, sizes_line, stmts_of_parts, ReportsFrames, FindsNoFault, stmts_of_tree, codes_of_trees, meanings_with, IsCodeOf, InterpretsSources, FramesAreOfSources, RunsAs}
+use Rattle.bk_filters.proofs.CodeOfParts.{OfParts, of_parts, frames, report_sizes, ◌≡◌, ℕ, ◌<◌, ◌≤◌, Bool, IsTrue, List, [], ◌∷◌, Option, Some, Result, Ok, Err, OnOk, length, refl, sym, ap, ◌∙◌, subst, arith, Appends, INPUT_BYTES, STORE_MOST, End, Declarations, image, KitFault, Source, TooSmall, NoStart, AnyBytes, Streams, Interpreted, sizes_line, stmts_of_parts, ReportsFrames, FindsNoFault, stmts_of_tree, codes_of_trees, meanings_with, IsCodeOf, InterpretsSources, FramesAreOfSources, RunsAs}
 use Rattle.bk_filters.proofs.MeaningLemmas.{RunLaws, image_within, source_run, too_small, startless}
 
 pub frames_are_of_sources : FramesAreOfSources
@@ -30,12 +30,8 @@ module _ (laws : RunLaws) (one : SayOneThing) (source code : List ℕ) (is : IsC
     kept (Err NoStart) before after said =
         let k = startless laws image_of is.parts source is.has fits steps words said.0 most before said.1 in
         (k.0, k.1, said.2)
-    kept (Err Read) before after said = said
-    kept (Err Memory) before after said = said
-    kept (Err Write) before after said = said
     kept (Err (Source f)) before after said = absurd said
-    kept (Err (Ocode number f)) before after said = said
-    kept (Err (Intcode number f)) before after said = said
+    kept (Err x) before after said = said
 
   module _ (new : Option (List ℕ)) (ended : Bool) (short : length code < INPUT_BYTES) (over : IsTrue ended → new ≡ Some []) where
     interprets : (answer : Result End KitFault) (steps words : ℕ) (before after : Streams) → words ≤ STORE_MOST → Interpreted AnyBytes answer steps words (Some code) new ended before after

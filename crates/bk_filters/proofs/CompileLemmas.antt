@@ -1,5 +1,5 @@
 -- Sections that are compiled one after another, and their texts.
-pub use Rattle.bk_filters.proofs.Terms.{◌≡◌, inl, inr, ◌⊎◌, ℕ, ◌≤◌, ◌<◌, ◌++◌, Bool, false, List, [], ◌∷◌, Option, None, Some, Result, Ok, Err, IfErr, length, if◌then◌else◌, arith, refl, sym, ap, subst, ◌∙◌, append_assoc, append-nil, IsErr, Appends, Keeps, Begins, AppendsPart, Begins-refl, Begins-trans, Appends-nothing, Appends-trans, INPUT_BYTES, Stmt, section_text, KitFault, Source, Ocode, Intcode, Read, Write, Memory, CompiledSection, is_read_fault, IsUndecided, Settles, IsDelivered, bytes_of, codes_of, line_following, texts_of, codes_in, Compiled, Refuses, AreAllTyped, Accepts, Takes, Comes, Delivers, PutsSections, Compiles, Written, Puts, Output, output, ◌-◌, ◌^◌, rules}
+pub use Rattle.bk_filters.proofs.Terms.{◌≡◌, inl, inr, ◌⊎◌, ℕ, ◌≤◌, ◌<◌, ◌++◌, Bool, false, List, [], ◌∷◌, Option, None, Some, Result, Ok, Err, IfErr, length, if◌then◌else◌, arith, refl, sym, ap, subst, ◌∙◌, append_assoc, append-nil, IsErr, Appends, Keeps, Begins, AppendsPart, Begins-refl, Begins-trans, Appends-nothing, Appends-trans, INPUT_BYTES, Stmt, section_text, KitFault, Source, Ocode, Intcode, Read, Write, Memory, CompiledSection, is_read_fault, IsUndecided, Settles, IsDelivered, bytes_of, codes_of, line_following, texts_of, codes_in, Compiled, Refuses, AreAllTyped, Accepts, Takes, Comes, Delivers, PutsSections, Compiles, Written, Puts, Output, rules, output, ◌-◌, ◌^◌}
 use Rattle.bk_filters.proofs.FilterLemmas.{flushed, stuck}
 use Rattle.bk_filters.proofs.ReadingLemmas.{ends_with_source}
 use Rattle.bk_filters.proofs.PassedSections.{refused_as, refuses_behind, takes_as, not_ended, Passed, passed_none, all_counted, passed_and_part, passed_on, typed_in}
@@ -67,8 +67,6 @@ module _ (old now new : Option (List ℕ)) (ended : Bool) (reads taken taken' li
       passes = front.passes;
     }
     not_compiled Memory refuses = record { delivers = delivers (Err Memory) after (λ short. written_none (Err Memory) (refl, none_failed short)); passes = front.passes }
-    not_compiled (Ocode number fault) refuses = absurd refuses
-    not_compiled (Intcode number fault) refuses = absurd refuses
     not_compiled x refuses = absurd refuses
 
     module _ (c : CompiledSection) (compiled : Compiled c text line) (after' : Output) (passes : Begins after.passed after'.passed) where

@@ -5,7 +5,7 @@ use Rattle.bk_trans.specs.Laws.{SchemeIsAccepted}
 use Rattle.bk_simulation.specs.Placement as placement
 use Rattle.bk_filters.specs.Texts as texts
 use Rattle.bk_filters.proofs.AcceptedTrees.{trees_are_accepted}
-use Rattle.bk_filters.proofs.CodeOfParts.{taken_of, ◌≡◌, ℕ, ◌<◌, IsTrue, Bool, List, [], ◌∷◌, ◌++◌, Option, Some, Result, Ok, Err, OnOk, length, refl, sym, ap, ◌∙◌, subst, append-nil, Appends, map-append, INPUT_BYTES, words_of, Declarations, section_words, AreBytes, Stmt, each_stmt, words_of-printed, KitFault, Source, Ocode, Intcode, TooSmall, NoStart, Read, Write, Memory, all_words, AreWhole, parts, Follows, bytes_of, trees_of, codes_of, codes_of_trees, stmts_of_tree, texts_of, AreAllTyped, Compiles, ocode, Generates, HasTrees, IsRefused, Output, IsCodeOf, FiltersWriteCode, IsNotRefused, RunsAs, GeneratesAs, OneAfterAnother}
+use Rattle.bk_filters.proofs.CodeOfParts.{taken_of, ◌≡◌, ℕ, ◌<◌, IsTrue, Bool, List, [], ◌∷◌, ◌++◌, Option, Some, Result, Ok, Err, OnOk, length, refl, sym, ap, ◌∙◌, subst, append-nil, Appends, map-append, INPUT_BYTES, words_of, Declarations, section_words, AreBytes, Stmt, each_stmt, words_of-printed, KitFault, Source, Read, Write, Memory, all_words, AreWhole, parts, Follows, bytes_of, trees_of, codes_of, codes_of_trees, stmts_of_tree, texts_of, AreAllTyped, Compiles, ocode, Generates, HasTrees, IsRefused, Output, IsCodeOf, FiltersWriteCode, IsNotRefused, RunsAs, GeneratesAs, OneAfterAnother}
 use Rattle.bk_filters.proofs.CodeOfSources.{runs_as}
 use Rattle.bk_filters.proofs.CompileLemmas.{texts_push}
 use Rattle.bk_filters.proofs.GeneratedParts.{CodeOf, fewer, code_written, not_ocode}
@@ -111,10 +111,7 @@ module _ (accepted : SchemeIsAccepted) (one : SayOneThing) (one_code : intcode_t
       let a = all (Err (Source f)) c in
       let refused = (c.delivers.holds (short_enough (Err (Source f)) c)).0.comes.0 in
       absurd (refused_not_accepted source f trees (subst (λ s. IsRefused s f) (sym a.1) (refused_delivered front.sections front.part a.0 (front.accepted (front.part ++ a.0)) f (refused a.0 a.2))) has)
-  not_source (Err (Ocode number f)) c = absurd (c.delivers.holds (short_enough (Err (Ocode number f)) c)).0.comes
-  not_source (Err (Intcode number f)) c = absurd (c.delivers.holds (short_enough (Err (Intcode number f)) c)).0.comes
-  not_source (Err TooSmall) c = absurd (c.delivers.holds (short_enough (Err TooSmall) c)).0.comes
-  not_source (Err NoStart) c = absurd (c.delivers.holds (short_enough (Err NoStart) c)).0.comes
+  not_source (Err x) c = absurd (c.delivers.holds (short_enough (Err x) c)).0.comes
 
   text_written : (answer : Result (Unit {0}) KitFault) → Compiles answer (Some source) new ended reads before after
       → OnOk answer ((text : List ℕ) × Appends before.taken after.taken text × GeneratesAs source trees text)

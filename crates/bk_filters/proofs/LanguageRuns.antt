@@ -13,23 +13,14 @@ begins_as bytes _ (stopped input output more is) = (more, is)
 
 -- where it is over it was stopped by the store
 begins_over : (bytes : List ℕ) (m : Standing) (e : End) (input output : List ℕ) → m ≡ Over e input output → BeginsOf bytes m → e ≡ StoreLimit
-begins_over bytes _ e input output over (going store r left now more is) = absurd (differ over)
-  where
-    differ : Going store r left now ≡ Over e input output → ⊥
-    differ same = cc
-begins_over bytes _ e input output over (stopped left now more is) = same_end over
-  where
-    same_end : Over StoreLimit left now ≡ Over e input output → e ≡ StoreLimit
-    same_end same = cc
+begins_over bytes _ e input output over (going store r left now more is) = absurd (let same : Going store r left now ≡ Over e input output = over in cc)
+begins_over bytes _ e input output over (stopped left now more is) = let same : Over StoreLimit left now ≡ Over e input output = over in cc
 
-the_parts : (e f : End) (a b c d : List ℕ) → Over e a c ≡ Over f b d → (e ≡ f) × (a ≡ b) × (c ≡ d)
+pub the_parts : (e f : End) (a b c d : List ℕ) → Over e a c ≡ Over f b d → (e ≡ f) × (a ≡ b) × (c ≡ d)
 the_parts e f a b c d same = (cc, cc, cc)
 
-not_going : (m : Standing) (e : End) (a b store c d : List ℕ) (r : Registers) → m ≡ Going store r c d → m ≡ Over e a b → ⊥
-not_going m e a b store c d r first second = let same = sym first ∙ second in cc
-
 -- of two that begin the same, one begins the other
-one_begins : (a b c d : List ℕ) → a ++ c ≡ b ++ d → OneBegins a b
+pub one_begins : (a b c d : List ℕ) → a ++ c ≡ b ++ d → OneBegins a b
 one_begins [] b c d e = inr (b, refl)
 one_begins (x ∷ a) [] c d e = inl (x ∷ a, refl)
 one_begins (x ∷ a) (y ∷ b) c d e =
@@ -89,7 +80,7 @@ module _ (language : Language) (source : List ℕ) (steps words : ℕ) (store : 
     few_where_going : (input store' left now : List ℕ) (r : Registers) → applies input ≡ Going store' r left now → TooFew language source input steps words
     few_where_going input store' left now r goes enough =
         let over = (meant input).enough enough in
-        not_going (applies input) over.0 over.1 over.2 store' left now r goes over.3
+        let same = sym goes ∙ over.3 in cc
 
     few_where_stopped : (input left now : List ℕ) → applies input ≡ Over StoreLimit left now → TooFew language source input steps words
     few_where_stopped input left now stop enough =

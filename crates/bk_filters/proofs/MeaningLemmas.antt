@@ -143,13 +143,11 @@ module _ (laws : RunLaws) (image_of : List Declarations → ℕ) (parts : List P
   -- and at least the image and 16 words
   not_small : (calls : ℕ) → HasWords (image_of trees) trees calls words → words < image parts + 16 → ⊥
   not_small calls has small =
-      let m = more_frames (calls + 1) 16 (frame_of trees + 16) (omega arith) in
-      omega (arith, fits, m, has, small)
+      omega (arith, fits, more_frames (calls + 1) 16 (frame_of trees + 16) (omega arith), has, small)
 
   not_small_of : (d : ℕ) → HasFramesOf (image_of trees) trees d words → words < image parts + 16 → ⊥
   not_small_of d has small =
-      let m = more_frames (d + 1) 16 (of_trees.depth_of trees + 16) (omega arith) in
-      omega (arith, fits, m, has, small)
+      omega (arith, fits, more_frames (d + 1) 16 (of_trees.depth_of trees + 16) (omega arith), has, small)
 
   small_to_end : (input : List ℕ) → words < image parts + 16 → EnoughToEnd trees input (image_of trees) steps words ⊎ StepsToEnd trees input (image_of trees) steps words → ⊥
   small_to_end input small (inl enough) = not_small enough.calls enough.has_words small
@@ -232,10 +230,7 @@ module _ (laws : RunLaws) (image_of : List Declarations → ℕ) (parts : List P
         -- where a frame would begin too high, the machine does not come
         high : (calls : ℕ) (bytes : List ℕ) (r : RunsOut placed (image parts) first calls bytes) → STORE_MOST + FRAME_WORDS < r.now.frame
         high calls bytes r =
-            let f = settled_frame placed r.now r.now.control in
-            let p = r.too_high.past in
-            let w = r.too_high.within in
-            omega (arith, f, p, w)
+            omega (arith, settled_frame placed r.now r.now.control, r.too_high.past, r.too_high.within)
 
         out_partly : (calls : ℕ) (bytes : List ℕ) (r : RunsOut placed (image parts) first calls bytes) → BeginsOf bytes applies
         out_partly calls bytes r = partly_begins r.now applies bytes r.wrote (of_back.2.falls r.steps steps r.now r.goes (high calls bytes r))
@@ -243,11 +238,8 @@ module _ (laws : RunLaws) (image_of : List Declarations → ℕ) (parts : List P
         -- nor do its words hold so many frames
         not_out : (calls : ℕ) (bytes : List ℕ) → HasWords (image_of trees) trees calls words → RunsOut placed (image parts) first calls bytes → ⊥
         not_out calls bytes has r =
-            let low = of_back.2.low r.steps calls r.now r.goes (few r.steps calls r.frames) in
-            let holds = holds_frames calls has in
-            let up = high calls bytes r in
             let all = all_frames calls (depth_of parts) in
-            omega (arith, low, holds, up, all, most)
+            omega (arith, of_back.2.low r.steps calls r.now r.goes (few r.steps calls r.frames), holds_frames calls has, high calls bytes r, all, most)
 
         less_of : (n : ℕ) (took bytes : List ℕ) (end : End) (ends : MeaningEnds trees input n took bytes end) → (applies ≡ Over end ends.left bytes) ⊎ BeginsOf bytes applies
         less_of n took bytes end ends = by_case (ends_so n bytes ends.left ends.calls ends.last end ends.means ends.is)
@@ -268,12 +260,11 @@ module _ (laws : RunLaws) (image_of : List Declarations → ℕ) (parts : List P
         enough_steps enough =
             let h = enough.ends placing in
             let y = h.3 in
-            let w = y.within in
             let s = enough.has_steps in (
               h.2,
               y.last.input,
               y.last.output,
-              of_back.2.enough y.steps enough.d steps h.2 y.last y.ends (few y.steps enough.d y.frames) (omega (arith, w, s)) (holds_frames_of enough.d enough.has_words),
+              of_back.2.enough y.steps enough.d steps h.2 y.last y.ends (few y.steps enough.d y.frames) (omega (arith, y.within, s)) (holds_frames_of enough.d enough.has_words),
               ends_of_itself placed y.steps first y.last h.2 y.ends,
             )
 
@@ -281,9 +272,7 @@ module _ (laws : RunLaws) (image_of : List Declarations → ℕ) (parts : List P
         written_steps n bytes goes enough =
             let h = enough.comes placing in
             let y = h.2 in
-            let w = y.within in
-            let s = enough.has_steps in
-            let more = of_back.2.written y.steps enough.d steps y.now y.goes (few y.steps enough.d y.frames) (omega (arith, w, s)) (holds_frames_of enough.d enough.has_words) in
+            let more = of_back.2.written y.steps enough.d steps y.now y.goes (few y.steps enough.d y.frames) (omega (arith, y.within, enough.has_steps)) (holds_frames_of enough.d enough.has_words) in
             (h.0 ++ more.0, more.1 ∙ ap (λ o. o ++ more.0) (y.wrote ∙ ap (λ b. b ++ h.0) same) ∙ append_assoc bytes h.0 more.0)
           where
             same : enough.bytes ≡ bytes
@@ -311,9 +300,7 @@ module _ (laws : RunLaws) (image_of : List Declarations → ℕ) (parts : List P
 
             by_case : ComesWithin placed (image parts) first (16 * n + 16) enough.calls enough.bytes enough.left ⊎ RunsOut placed (image parts) first enough.calls enough.bytes → (more : List ℕ) × (output_of applies ≡ bytes ++ more)
             by_case (inl y) =
-                let w = y.within in
-                let h = enough.has_steps in
-                let more = of_back.2.written y.steps enough.calls steps y.now y.goes (few y.steps enough.calls y.frames) (omega (arith, w, h)) (holds_frames enough.calls enough.has_words) in
+                let more = of_back.2.written y.steps enough.calls steps y.now y.goes (few y.steps enough.calls y.frames) (omega (arith, y.within, enough.has_steps)) (holds_frames enough.calls enough.has_words) in
                 (more.0, more.1 ∙ ap (λ o. o ++ more.0) (y.wrote ∙ same))
             by_case (inr r) = absurd (not_out enough.calls enough.bytes enough.has_words r)
 

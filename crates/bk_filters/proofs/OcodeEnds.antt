@@ -1,5 +1,5 @@
 -- A run of OCODE ends of itself with a status, or by a division by zero: never for want of words.
-use Rattle.bk_filters.proofs.Terms.{◌≡◌, ◌≢◌, ℕ, zero, suc, ◌+◌, ◌-◌, ◌^◌, ◌==◌, nat_lt, Bool, true, false, List, [], ◌∷◌, ◌++◌, Option, Some, None, subst, if◌then◌else◌, ⊤, option_map_or, End, Status, DivideByZero, StoreLimit, Content, Unset, Partly, Word, Variable, Held, write, Stmt, Number, True, False, Query, Load, Address, Text, Monadic, Dyadic, LoadByte, Assign, AssignAt, AssignByte, Jump, JumpIf, GiveResult, Entry, CallFunction, CallRoutine, ReturnItem, Return, Switch, Finish, DataNumber}
+use Rattle.bk_filters.proofs.Terms.{◌≡◌, ◌≢◌, ℕ, zero, suc, ◌+◌, ◌-◌, ◌^◌, ◌==◌, nat_lt, Bool, true, false, List, [], ◌∷◌, ◌++◌, Option, Some, None, subst, if◌then◌else◌, ⊤, option_map_or, End, Status, DivideByZero, StoreLimit, Content, Unset, Partly, Word, Variable, Held, write, Stmt, Monadic, Dyadic, LoadByte, Assign, AssignAt, AssignByte, Jump, JumpIf, GiveResult, CallFunction, CallRoutine, ReturnItem, Return, Switch, Finish}
 use Rattle.bk_base.specs.Format.{parts}
 use Rattle.bk_base.specs.Word.{signed, word_sum, byte_distance}
 use Rattle.bk_ocode.specs.Access.{variable_at, number_in, byte_at, word_with_byte_at, string_at}
@@ -51,13 +51,6 @@ not_status : (v : ℕ) → Status (signed v) ≢ StoreLimit
 not_status v e = cc
 
 step_by_own : (callables : Callables) (s : State) (own : Placed) (k : ℕ) (stmt : Stmt) (rest : List Stmt) → OfItself (step_by callables s own k stmt rest)
-step_by_own callables s own k (Number value) rest = tt
-step_by_own callables s own k True rest = tt
-step_by_own callables s own k False rest = tt
-step_by_own callables s own k Query rest = tt
-step_by_own callables s own k (Load from) rest = tt
-step_by_own callables s own k (Address of) rest = tt
-step_by_own callables s own k (Text bytes) rest = tt
 step_by_own callables s own k (Monadic Contents) rest =
     number_own (slot s (k - 1)) _ (λ a. some_own (variable_at (s.frame + k) s.cells a) _ (λ content. tt))
 step_by_own callables s own k (Monadic Negate) rest = number_own (slot s (k - 1)) _ (λ w. tt)
@@ -75,14 +68,12 @@ step_by_own callables s own k (Jump l) rest = jump_own s own k l
 step_by_own callables s own k (JumpIf true l) rest = number_own (slot s (k - 1)) _ (λ w. if_own (w == 0) _ _ tt (jump_own s own (k - 1) l))
 step_by_own callables s own k (JumpIf false l) rest = number_own (slot s (k - 1)) _ (λ w. if_own (w == 0) _ _ (jump_own s own (k - 1) l) tt)
 step_by_own callables s own k (GiveResult l) rest = some_own (from_label own.stmts l) _ (λ rest'. tt)
-step_by_own callables s own k (Entry l name) rest = tt
 step_by_own callables s own k (CallFunction n) rest = number_own (slot s (k - 1)) _ (λ e. call_own callables s own k n e rest)
 step_by_own callables s own k (CallRoutine n) rest = number_own (slot s (k - 1)) _ (λ e. call_own callables s own k n e rest)
 step_by_own callables s own k ReturnItem rest = return_own s _
 step_by_own callables s own k Return rest = return_own s None
 step_by_own callables s own k (Switch default cases) rest = number_own (slot s (k - 1)) _ (λ w. jump_own s own (k - 1) (case_label cases default w))
 step_by_own callables s own k Finish rest = not_status 0
-step_by_own callables s own k (DataNumber value) rest = tt
 step_by_own callables s own k x rest = tt
 
 step_in_own : (callables : Callables) (s : State) (own : Placed) (k : ℕ) (rest : List Stmt) → OfItself (step_in callables s own k rest)

@@ -4,29 +4,16 @@ use Rattle.bk_ocode.specs.OcodeState.{State}
 use Rattle.bk_intcode.specs.FirstSaying as intcode_text
 use Rattle.bk_filters.specs.OcodeRuns.{IsAhead, IsEnd, IsPart, IsStopped, Agrees, DoesSteps}
 use Rattle.bk_filters.specs.SectionNumbers as numbers
-use Rattle.bk_filters.proofs.CodeOfParts.{OfParts, of_parts, report_sizes, image_within, deepest, ◌≡◌, ◌≢◌, ◌⊎◌, inl, inr, ℕ, ◌+◌, ◌*◌, ◌≤◌, List, [], ◌∷◌, ◌++◌, Some, Result, Ok, Err, OnOk, refl, sym, ap, ap₂, ◌∙◌, subst, arith, append_assoc, append-nil, Appends, STORE_MOST, End, Status, DivideByZero, StoreLimit, StepLimit, BadOperation, ReadFault, WriteFault, Registers, SEGMENTS, loaded_store, Standing, Going, Over, output_of, Stmt, Part, segments, image, depth_of, program_of, machine_after, IsPartly, going, stopped, BackEnd, BackEndHolds, PartsAreWellPlaced, PartsWithoutStart, KitFault, Source, Ocode, Intcode, TooSmall, NoStart, Read, Write, Memory, Generates, AnyBytes, Streams, devices_of, first_registers, sizes_line, FindsNoFault, RunsAsSteps, OcodeRuns, ◌begins◌, GoesOn}
+use Rattle.bk_filters.proofs.CodeOfParts.{OfParts, of_parts, report_sizes, image_within, deepest, ◌≡◌, ◌≢◌, ◌⊎◌, inl, inr, ℕ, ◌+◌, ◌*◌, ◌≤◌, List, [], ◌++◌, Some, Result, Ok, Err, OnOk, refl, sym, ap, ◌∙◌, subst, arith, append_assoc, append-nil, Appends, STORE_MOST, End, Status, DivideByZero, StoreLimit, StepLimit, BadOperation, ReadFault, WriteFault, SEGMENTS, loaded_store, Standing, Going, Over, output_of, Stmt, Part, segments, image, depth_of, program_of, machine_after, IsPartly, going, stopped, BackEnd, BackEndHolds, PartsAreWellPlaced, PartsWithoutStart, KitFault, TooSmall, NoStart, Generates, AnyBytes, Streams, devices_of, first_registers, sizes_line, FindsNoFault, RunsAsSteps, OcodeRuns, ◌begins◌, GoesOn}
 use Rattle.bk_filters.proofs.GeneratedParts.{CodeOf, code_written, not_ocode}
 use Rattle.bk_filters.proofs.OcodeEnds.{ends_of_itself}
 use Rattle.bk_filters.proofs.StandingLemmas.{StandsSo, stood}
+use Rattle.bk_filters.proofs.LanguageRuns.{one_begins, the_parts}
 
 -- ---- bytes that begin others
 
 begins_behind : (a b c more : List ℕ) → b ≡ a ++ more → ◌begins◌ b c → ◌begins◌ a c
 begins_behind a b c more is front = (more ++ front.0, front.1 ∙ ap (λ x. x ++ front.0) is ∙ append_assoc a more front.0)
-
--- of two that begin the same, one begins the other
-one_begins : (a b c d : List ℕ) → a ++ c ≡ b ++ d → (◌begins◌ a b) ⊎ (◌begins◌ b a)
-one_begins [] b c d e = inl (b, refl)
-one_begins (x ∷ a) [] c d e = inr (x ∷ a, refl)
-one_begins (x ∷ a) (y ∷ b) c d e =
-    let h : x ∷ (a ++ c) ≡ y ∷ (b ++ d) = e in
-    let head : x ≡ y = cc in
-    let tail : a ++ c ≡ b ++ d = cc in
-    by_case head (one_begins a b c d tail)
-  where
-    by_case : x ≡ y → (◌begins◌ a b) ⊎ (◌begins◌ b a) → (◌begins◌ (x ∷ a) (y ∷ b)) ⊎ (◌begins◌ (y ∷ b) (x ∷ a))
-    by_case head (inl more) = inl (more.0, ap₂ (λ z l. z ∷ l) (sym head) more.1)
-    by_case head (inr more) = inr (more.0, ap₂ (λ z l. z ∷ l) head more.1)
 
 -- ---- a machine on its way
 
@@ -44,20 +31,8 @@ partly_left t _ (stopped input output left front) = left
 
 -- where it is over it was stopped by the store
 partly_over : (t : State) (m : Standing) (e : End) (rest written : List ℕ) → m ≡ Over e rest written → IsPartly t m → e ≡ StoreLimit
-partly_over t _ e rest written over (going store r input output left front) = absurd (differ over)
-  where
-    differ : Going store r input output ≡ Over e rest written → ⊥
-    differ same = cc
-partly_over t _ e rest written over (stopped input output left front) = same_end over
-  where
-    same_end : Over StoreLimit input output ≡ Over e rest written → e ≡ StoreLimit
-    same_end same = cc
-
-the_parts : (e f : End) (a b c d : List ℕ) → Over e a c ≡ Over f b d → (e ≡ f) × (a ≡ b) × (c ≡ d)
-the_parts e f a b c d same = (cc, cc, cc)
-
-going_over : (m : Standing) (e : End) (a b store c d : List ℕ) (r : Registers) → m ≡ Going store r c d → m ≡ Over e a b → ⊥
-going_over m e a b store c d r first second = let same = sym first ∙ second in cc
+partly_over t _ e rest written over (going store r input output left front) = absurd (let same : Going store r input output ≡ Over e rest written = over in cc)
+partly_over t _ e rest written over (stopped input output left front) = let same : Over StoreLimit input output ≡ Over e rest written = over in cc
 
 -- ---- a run, by the back end
 
@@ -88,7 +63,7 @@ module _ (ps : List Part) (words steps : ℕ) (input : List ℕ) (first : State)
 
       either : (t : State) → IsPartly t applies ⊎ (◌begins◌ t.output (output_of applies)) → (◌begins◌ t.output written) ⊎ (◌begins◌ written t.output)
       either t (inl partly) = inr (following t partly)
-      either t (inr front) = one_begins t.output written front.0 more (sym front.1 ∙ is)
+      either t (inr front) = one_begins written t.output more front.0 (sym is ∙ front.1)
 
   is_end : (e : End) (read rest written : List ℕ) → e ≢ StoreLimit → input ≡ read ++ rest → applies ≡ Over e rest written → IsEnd ps input first e read written
   is_end e read rest written own all over = record {
@@ -129,7 +104,7 @@ module _ (ps : List Part) (words steps : ℕ) (input : List ℕ) (first : State)
   agrees StoreLimit read rest written all over =
       is_stopped read rest written all (ap left_of over) (ap output_of over) (λ e t own is. own (sym (the_parts StoreLimit e rest t.input written t.output (sym over ∙ is)).0))
   agrees StepLimit read rest written all goes =
-      is_stopped read rest written all (ap left_of goes.2) (ap output_of goes.2) (λ e t own is. going_over applies e t.input t.output goes.0 rest written goes.1 goes.2 is)
+      is_stopped read rest written all (ap left_of goes.2) (ap output_of goes.2) (λ e t own is. (let same = sym goes.2 ∙ is in cc))
   agrees ReadFault read rest written all front = is_part written front.0 front.1
   agrees WriteFault read rest written all front = is_part written front.0 front.1
 
@@ -152,12 +127,7 @@ module _ (back : BackEndHolds) (without : PartsWithoutStart) (ps : List Part) (s
       }
   does_steps (Err TooSmall) before after said = said
   does_steps (Err NoStart) before after said = (said.0, (λ input. without ps words input said.0 most said.1), said.2)
-  does_steps (Err Read) before after said = said
-  does_steps (Err Memory) before after said = said
-  does_steps (Err Write) before after said = said
-  does_steps (Err (Source f)) before after said = said
-  does_steps (Err (Ocode number f)) before after said = said
-  does_steps (Err (Intcode number f)) before after said = said
+  does_steps (Err x) before after said = said
 
 -- ---- the law
 

@@ -100,8 +100,7 @@ all_by_step (Ok t) r b bytes s rest asked is ended =
     let q = read r b t.state t.act in
     let same : q.state ≡ t.state = read_state r b t.state t.act in
     let here : AskedFrom (cond (is_dot q.state.mode) None (Some q.state)) bytes = subst (λ (y : State). AskedFrom (cond (is_dot y.mode) None (Some y)) bytes) (sym same) asked in
-    let all = all_behind (is_dot q.state.mode) q bytes s rest here is ended in
-    omega (arith, all, read_used r b t.state t.act)
+    omega (arith, all_behind (is_dot q.state.mode) q bytes s rest here is ended, read_used r b t.state t.act)
 
 uses_all : (bytes : List ℕ) → UsesAll bytes
 unfolding run
@@ -116,9 +115,8 @@ whole_used bytes line s asked is ended = omega (arith, uses_all bytes (begin lin
 pub ends_with_source : (bytes : List ℕ) (line : ℕ) (s : Section) (ended : Bool) → Settles bytes ended → lexed bytes line ≡ Ok s → s.ended ≡ false → ended ≡ true
 ends_with_source bytes line s true settles is not_ended = refl
 ends_with_source bytes line s false settles is not_ended =
-    let here = used_at_end bytes line s (lexed_is_section bytes line s is) not_ended in
     let longer = used_at_end (bytes ++ 0 ∷ []) line s (lexed_is_section (bytes ++ 0 ∷ []) line s (settles line (0 ∷ []) (λ (reported : false ≡ true). cc) ∙ is)) not_ended in
-    absurd (omega (arith, here, longer, length-append bytes (0 ∷ [])))
+    absurd (omega (arith, used_at_end bytes line s (lexed_is_section bytes line s is) not_ended, longer, length-append bytes (0 ∷ [])))
 
 -- a section that a `.` ends has a byte
 pub used_some : (bytes : List ℕ) (line : ℕ) (s : Section) → lexed bytes line ≡ Ok s → s.ended ≡ true → 1 ≤ length bytes

@@ -48,8 +48,6 @@ resolve_refuses symbols end x Device parses within only resolves = absurd resolv
 pub section_refuses : (fault : KitFault) (text : List ℕ) (from : ℕ) (l : Lexed) → lexed text from ≡ Ok (section_of l) → symbols_of l.tokens.items ≢ [] → RefusesSymbols fault (symbols_of l.tokens.items) l.line → Refuses fault text from
 section_refuses (Source fault) text from l is some refuses = inr (section_of l, is, some, refuses)
 section_refuses k.Memory text from l is some refuses = tt
-section_refuses (k.Ocode number fault) text from l is some refuses = absurd refuses
-section_refuses (k.Intcode number fault) text from l is some refuses = absurd refuses
 section_refuses x text from l is some refuses = absurd refuses
 
 -- or it has this meaning

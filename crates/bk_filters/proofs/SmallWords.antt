@@ -1,5 +1,5 @@
 -- The words of a section's constants are words where its tree is regular.
-use Rattle.bk_filters.proofs.Terms.{◌≡◌, ℕ, zero, suc, ◌+◌, ◌<◌, ◌^◌, ◌==◌, nat_lt, Bool, true, false, List, [], ◌∷◌, ◌++◌, length, slice_get, Option, Some, None, cond, refl, subst, GLOBAL_NUMBER, VEC_NUMBER, FRAME_WORDS, Mention, Expression, Expressions, Command, Commands, Declaration, Declarations, Items, Definition, Definitions, Starts, at_expression, size, Bound, Enclosing, Binding, bound_in, bind, has_address, constant_word, is_prefix_of_constants, is_infix_of_constants, divides_by_zero, labels_of, labels_of_each, with_formals, parenthesised, role_of_operand, role_of_operands, place_of_second, words_of_start, labels_in_scope, procedures_in_scope, place_after_one_defined, scope_after_one, place_after_one, scope_after, place_after_all, Regular, RegularEach, RegularCommand, RegularCommands, RegularItems, RegularDeclaration, RegularDeclarations, RegularDefinition, RegularDefinitions, RegularStarts, Prefix, Prefix as q, Simple, Simple as w, Sort as sort, Bound as b, unless, used_at, gone_to, constant_name, constant_wrongs, constant_wrongs_each, its_word, constant, each_constant, at_most, assigned, addressed, prefixed, depth_named, pushed, chosen_at, defaulted_at, single_at, one_of, each_of, manifest_items, static_items, global_items, its_meaning, its_global, its_frame, inside_procedure, procedure, reported, reported_each, reported_destinations, reported_done, reported_done_each, reported_declared, reported_one_declared, reported_defined, reported_one_defined, reported_started, reported_of, words, kept, deeper, looping, switching, labelled, valued, called, outermost, Wrong, not_assignable, no_result_or_return, global_out_of_range, vec_out_of_range}
+use Rattle.bk_filters.proofs.Terms.{◌≡◌, ℕ, zero, suc, ◌+◌, ◌<◌, ◌^◌, ◌==◌, nat_lt, Bool, true, false, List, [], ◌∷◌, ◌++◌, length, slice_get, Option, Some, None, cond, refl, subst, GLOBAL_NUMBER, VEC_NUMBER, FRAME_WORDS, Mention, Expression, Expressions, Command, Commands, Declaration, Declarations, Items, Definition, Definitions, Starts, at_expression, size, Bound, Enclosing, Binding, bound_in, bind, has_address, constant_word, is_prefix_of_constants, is_infix_of_constants, divides_by_zero, labels_of, labels_of_each, with_formals, parenthesised, role_of_operand, role_of_operands, place_of_second, words_of_start, labels_in_scope, procedures_in_scope, place_after_one_defined, scope_after_one, place_after_one, scope_after, place_after_all, Regular, RegularEach, RegularCommand, RegularCommands, RegularItems, RegularDeclaration, RegularDeclarations, RegularDefinition, RegularDefinitions, RegularStarts, Prefix, Prefix as q, Simple, Simple as w, Sort as sort, Bound as b, unless, used_at, gone_to, constant_name, constant_wrongs, constant_wrongs_each, its_word, constant, each_constant, at_most, assigned, addressed, prefixed, depth_named, pushed, chosen_at, defaulted_at, single_at, one_of, each_of, manifest_items, static_items, global_items, its_meaning, its_global, inside_procedure, procedure, reported, reported_each, reported_destinations, reported_done, reported_done_each, reported_declared, reported_one_declared, reported_defined, reported_one_defined, reported_started, reported_of, words, kept, deeper, looping, switching, labelled, valued, called, outermost, Wrong, not_assignable, no_result_or_return, global_out_of_range, vec_out_of_range}
 use Rattle.bk_tree.specs.Tree as t
 use Rattle.bk_scope.specs.declared.role.Role.{Role}
 use Rattle.bk_scope.specs.declared.role.Role.TheVariants.{Value, Truth, Destination}
@@ -125,9 +125,6 @@ global_small : (n l : ℕ) (x : List ℕ) (o : Option Bound) → Small (its_glob
 global_small n l x (Some (b.Global (Some g))) = record { all = tt }
 global_small n l x y = no_words
 
-frame_small : (n l d : ℕ) → Small (its_frame n l d)
-frame_small n l d = either (nat_lt FRAME_WORDS d) (record { all = tt }) no_words
-
 flat_words : (xs : List Point) → SmallWords xs → SmallWords (without_depths xs)
 flat_words [] h = tt
 flat_words (word v ∷ xs) h = (h.0, flat_words xs h.1)
@@ -137,7 +134,7 @@ procedure_small : (m k : ℕ) (s : Spot) (l : ℕ) (x : List ℕ) (fs : List Men
 procedure_small m k s l x fs o body h =
     let inner : Small (inside_procedure k s l x fs o body) = both (global_small s.place l x o) (both (each_of_small k (s.place + 1) fs) h) in
     let flat : Small (without_depths (inside_procedure k s l x fs o body)) = record { all = flat_words (inside_procedure k s l x fs o body) inner.all } in
-    both (one_of_small m s.place l x) (both (frame_small s.place l (deepest (kept (length fs + 2)) (inside_procedure k s l x fs o body))) (both (meaning_small o) flat))
+    both (one_of_small m s.place l x) (both (either (nat_lt FRAME_WORDS (deepest (kept (length fs + 2)) (inside_procedure k s l x fs o body))) (record { all = tt }) no_words) (both (meaning_small o) flat))
 
 -- ---- items
 

@@ -1,5 +1,5 @@
 -- A source whose sections are assembled one after another, and then loaded and run.
-pub use Rattle.bk_filters.proofs.Terms.{◌≡◌, ◌≢◌, inl, inr, ◌⊎◌, ℕ, ◌+◌, ◌≤◌, ◌<◌, ◌++◌, Bool, true, false, List, [], ◌∷◌, Option, None, Some, Result, Ok, Err, IfErr, map, arith, refl, sym, ap, subst, ◌∙◌, append-nil, IsErr, map-append, Begins, INPUT_BYTES, STORE_MOST, End, WriteFault, stmts_of, stmts_of_parts, AreBytes, Stmt, section_whole, Item, Registers, items_of, SEGMENTS, stack_start, any_starts, loaded_store, Ran, Blames, segment_whole, Part, segments, image, items_of_part, Represents, KitFault, Source, Ocode, Intcode, Read, Memory, CompiledSection, SectionCode, Declarations, AnyBytes, Streams, devices_of, first_registers, is_read_fault, is_read, IsUndecided, Settles, Follows, IsDelivered, EachSource, codes_in, trees_in, Compiled, Refuses, HasTrees, IsRefused, HasParts, Headline, meanings, MeaningRuns, MeaningTooSmall, MeaningStartless, LoadFault, LoadFault as load, store_of, registers_of, rules, ◌-◌, ◌^◌}
+pub use Rattle.bk_filters.proofs.Terms.{◌≡◌, ◌≢◌, inl, inr, ◌⊎◌, ℕ, ◌+◌, ◌≤◌, ◌<◌, ◌++◌, Bool, true, false, List, [], ◌∷◌, Option, None, Some, Result, Ok, Err, IfErr, map, arith, refl, sym, ap, subst, ◌∙◌, append-nil, IsErr, map-append, Begins, INPUT_BYTES, STORE_MOST, End, WriteFault, stmts_of, stmts_of_parts, AreBytes, Stmt, section_whole, Item, Registers, items_of, SEGMENTS, stack_start, any_starts, loaded_store, Ran, Blames, segment_whole, Part, segments, image, items_of_part, Represents, KitFault, Source, Ocode, Intcode, Read, Memory, CompiledSection, SectionCode, Declarations, AnyBytes, Streams, devices_of, first_registers, is_read_fault, is_read, IsUndecided, Settles, Follows, IsDelivered, EachSource, codes_in, trees_in, Compiled, Refuses, HasTrees, IsRefused, HasParts, Headline, meanings, MeaningRuns, MeaningTooSmall, MeaningStartless, LoadFault, LoadFault as load, store_of, registers_of, ◌-◌, ◌^◌, rules}
 use Rattle.bk_ocode.specs.declared.section.Ocode as o
 use Rattle.bk_machine.specs.declared.segment.Intcode as i
 use Rattle.bk_filters.specs.Sources.{Accepted, Refused, bytes_of, trees_of, codes_of, stmts_of_tree}
@@ -117,8 +117,6 @@ module _ (old now new : Option (List ℕ)) (ended : Bool) (taken taken' line : �
         refused_delivered passed.sections text rest (passed.accepted (text ++ rest)) fault
         (subst (λ (l : ℕ). Refused fault (text ++ rest) l) passed.at (refused_as (text ++ rest) line fault (refuses_behind text rest line fault (settles short line rest follows) refuses))))
     not_compiled Memory refuses = no_memory
-    not_compiled (Ocode number fault) refuses = absurd refuses
-    not_compiled (Intcode number fault) refuses = absurd refuses
     not_compiled x refuses = absurd refuses
 
     module _ (c : CompiledSection) (compiled : Compiled c text line) where
@@ -193,8 +191,6 @@ module _ (words : ℕ) (old new : Option (List ℕ)) (ended : Bool) where
       each_source_as old new ended (λ source. IsRefused source fault) _ (λ source is. meaning_refuses source fault steps words before is) refused
   not_assembled Read refused steps before = each_source_as old new ended (λ source. Unit) _ (λ source is. refl) refused
   not_assembled Memory refused steps before = each_source_as old new ended (λ source. Unit) _ (λ source is. refl) refused
-  not_assembled (Ocode section fault) refused steps before = absurd refused
-  not_assembled (Intcode segment fault) refused steps before = absurd refused
   not_assembled x refused steps before = absurd refused
 
   -- nor are its segments loaded
@@ -202,8 +198,6 @@ module _ (words : ℕ) (old new : Option (List ℕ)) (ended : Bool) where
   none_loaded (Source fault) refused = tt
   none_loaded Read refused = tt
   none_loaded Memory refused = tt
-  none_loaded (Ocode section fault) refused = absurd refused
-  none_loaded (Intcode segment fault) refused = absurd refused
   none_loaded x refused = absurd refused
 
   pub segments_not_loaded : (fault : LoadFault) (all : List (List Item)) → Assembled all old new ended

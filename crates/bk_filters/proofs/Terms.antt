@@ -71,7 +71,7 @@ pub use Rattle.bk_filters.specs.SourceCode.{IsCodeOf, InterpretsSources, FramesA
 pub use Rattle.bk_filters.specs.SourceMeaning.{meanings_with, meanings, MeaningRuns, MeaningTooSmall, MeaningStartless, frame_of, HasWords, HasFramesOf, HasNoStart, MeaningEnds, MeaningGoesOn, EnoughToEnd, EnoughToGo, Placing, StepsToEnd, StepsToGo, image_of, MeaningRefuses}
 pub use Rattle.bk_filters.specs.SourceSections.{HasTrees, IsRefused, HasParts}
 pub use Rattle.bk_filters.specs.Sources.{IsTree, Means, Accepted, WholeSection, bytes_of, trees_of, AreAccepted, stmts_of_tree, codes_of_trees, codes_of, texts_of, line_following}
-pub use Rattle.bk_filters.specs.Telling.{Output, ReportsLine, output}
+pub use Rattle.bk_filters.specs.Telling.{Output, output, ReportsLine}
 pub use Rattle.bk_filters.specs.Texts.{part_number, Format, parts, refused, all_words, AreWhole, SaysWhateverFollows, Applies, StopsInPart, Says}
 pub use Rattle.bk_filters.specs.declared.kit_fault.KitFault.{KitFault}
 pub use Rattle.bk_filters.specs.declared.kit_fault.KitFault.TheVariants.{Source, Ocode, Intcode, TooSmall, NoStart, Read, Write, Memory}
@@ -84,7 +84,7 @@ pub use Rattle.bk_lex.specs.declared.token.Kind.{Kind}
 pub use Rattle.bk_tree.specs.declared.tree.Prefix.{Prefix}
 pub use Rattle.bk_tree.specs.declared.tree.Simple.{Simple}
 pub use Rattle.bk_tree.specs.declared.tree.Sort.{Sort}
-pub use Rattle.bk_ocode.specs.declared.stmt.Stmt.TheVariants.{Entry, Save, Return, EndProcedure, Globals, Number, True, False, Query, Load, Address, Text, Monadic, Dyadic, LoadByte, Assign, AssignAt, AssignByte, Jump, JumpIf, GiveResult, CallFunction, CallRoutine, ReturnItem, Switch, Finish, DataNumber}
+pub use Rattle.bk_ocode.specs.declared.stmt.Stmt.TheVariants.{Number, True, False, Query, Load, Address, Text, Monadic, Dyadic, LoadByte, Assign, AssignAt, AssignByte, Jump, JumpIf, GiveResult, Entry, CallFunction, CallRoutine, ReturnItem, Return, Switch, Finish, DataNumber, Save, EndProcedure, Globals}
 pub use Rattle.bk_scope.specs.Faults.{unless, used_at, gone_to, constant_name, constant_wrongs, constant_wrongs_each, its_word, constant, each_constant, at_most, assigned, addressed, prefixed, depth_named, pushed, chosen_at, defaulted_at, single_at, one_of, each_of, manifest_items, static_items, global_items, its_meaning, its_global, its_frame, inside_procedure, procedure, reported, reported_each, reported_destinations, reported_done, reported_done_each, reported_declared, reported_one_declared, reported_defined, reported_one_defined, reported_started, reported_of, words, faults}
 pub use Rattle.bk_scope.specs.Places.{kept, deeper, looping, switching, labelled, valued, called, outermost}
 pub use Rattle.bk_scope.specs.Wrong.{Wrong, not_assignable, no_result_or_return, global_out_of_range, vec_out_of_range, Breach}
