@@ -376,6 +376,11 @@ impl<'a> Search<'a> {
         }
     }
 
+    /// Whether a declaration at the position was found.
+    pub fn is_made(&self) -> bool {
+        self.made.is_some()
+    }
+
     /// The declarations of a block or a FOR end, before which none was at the position.
     pub fn declared_in(&mut self, scope: &'a Command) {
         if self.made.is_some() {

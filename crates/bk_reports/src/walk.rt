@@ -132,7 +132,7 @@ pub fn in_command<'a>(search: &mut Search<'a>, command: &'a Command) {
             body,
             ..
         } => {
-            let is_made = search.made.is_some();
+            let is_made = search.is_made();
             search.declaration(name);
             if !is_made {
                 search.declared_in(command);
@@ -147,7 +147,7 @@ pub fn in_command<'a>(search: &mut Search<'a>, command: &'a Command) {
             commands,
             ..
         } => {
-            let is_made = search.made.is_some();
+            let is_made = search.is_made();
             in_decls(search, decls);
             if !is_made {
                 search.declared_in(command);
