@@ -4,6 +4,7 @@ use crate::remarks::number;
 use bk_check::acts_at;
 use bk_objects::Worth;
 use bk_tree::{Command, Expr, Init, Name, Operator, Position, Prefix};
+use std::mem::replace;
 
 /// What the source makes an object by.
 #[derive(Clone, Copy)]
@@ -228,6 +229,8 @@ pub struct Search<'a> {
     pub made: Option<(&'a [u8], Kind)>,
     /// The block or the FOR that has that declaration.
     pub scope: Option<&'a Command>,
+    /// The innermost block or FOR that is gone through.
+    inside: Option<&'a Command>,
     /// The arguments of a call that is there.
     pub arguments: Option<&'a [Expr]>,
     /// A loop that is there.
@@ -305,6 +308,7 @@ impl<'a> Search<'a> {
             name,
             made: None,
             scope: None,
+            inside: None,
             arguments: None,
             looping: None,
             vector: None,
@@ -364,6 +368,7 @@ impl<'a> Search<'a> {
         let letters: &[u8] = &name.letters;
         if name.at == self.at {
             self.made = Some((letters, Kind::Variable));
+            self.scope = self.inside;
         }
         if letters == self.name {
             self.declared = self.declared.saturating_add(1);
@@ -376,16 +381,14 @@ impl<'a> Search<'a> {
         }
     }
 
-    /// Whether a declaration at the position was found.
-    pub fn is_made(&self) -> bool {
-        self.made.is_some()
+    /// A block or a FOR begins: the one around it.
+    pub fn enter(&mut self, command: &'a Command) -> Option<&'a Command> {
+        replace(&mut self.inside, Some(command))
     }
 
-    /// The declarations of a block or a FOR end, before which none was at the position.
-    pub fn declared_in(&mut self, scope: &'a Command) {
-        if self.made.is_some() {
-            self.scope = Some(scope);
-        }
+    /// It ends.
+    pub fn leave(&mut self, outer: Option<&'a Command>) {
+        self.inside = outer;
     }
 
     /// What a variable begins with.

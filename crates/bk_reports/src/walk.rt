@@ -132,11 +132,9 @@ pub fn in_command<'a>(search: &mut Search<'a>, command: &'a Command) {
             body,
             ..
         } => {
-            let is_made = search.is_made();
+            let outer = search.enter(command);
             search.declaration(name);
-            if !is_made {
-                search.declared_in(command);
-            }
+            search.leave(outer);
             in_expr(search, from);
             in_expr(search, to);
             in_command(search, body);
@@ -147,12 +145,10 @@ pub fn in_command<'a>(search: &mut Search<'a>, command: &'a Command) {
             commands,
             ..
         } => {
-            let is_made = search.is_made();
+            let outer = search.enter(command);
             in_decls(search, decls);
-            if !is_made {
-                search.declared_in(command);
-            }
             in_commands(search, commands);
+            search.leave(outer);
         }
     }
 }
