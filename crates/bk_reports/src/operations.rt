@@ -29,6 +29,14 @@ fn base_first<'e>(page: &Page, a: Operand<'e>, b: Operand<'e>) -> (Operand<'e>, 
     if is_swapped { (b, a) } else { (a, b) }
 }
 
+/// Adds that an operand hides a constant, if it is a name that does.
+fn say_hidden_of(page: &mut Page, operand: Operand) -> Result<(), AllocError> {
+    match name_of(operand) {
+        Some(name) => say_hidden(page, name),
+        None => Ok(()),
+    }
+}
+
 /// Adds why `!` or `%` has no use for these operands.
 fn say_no_base(
     page: &mut Page,
@@ -42,12 +50,8 @@ fn say_no_base(
     if matches!(base.value, Worth::Address(_, _)) {
         say_operand(page, index)?;
         page.say(&[b", and `", symbol, b"` wants a number after the address"])?;
-        for operand in [base, index] {
-            if let Some(name) = name_of(operand) {
-                say_hidden(page, name)?;
-            }
-        }
-        return Ok(());
+        say_hidden_of(page, base)?;
+        return say_hidden_of(page, index);
     }
     say_operand(page, base)?;
     page.say(&[b", and `", symbol, b"` wants an address"])?;

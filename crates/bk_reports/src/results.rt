@@ -182,7 +182,9 @@ fn say_result(page: &mut Page, procedure: &Procedure, x: Option<Worth>) -> Resul
         results,
         ..
     } = search;
-    if let (Some(line), Some(x)) = (result_line, x) {
+    if let Some(line) = result_line
+        && let Some(x) = x
+    {
         page.say(&[b"; ", procedure.name, b" has `RESULTIS "])?;
         page.say_value(x)?;
         page.say(&[b"` on line "])?;
