@@ -16,6 +16,9 @@ use std::marker::Model;
 /// Of how many dead objects it is kept where they were made.
 const GRAVES: usize = 1024;
 
+/// How many of the last objects are tried first where one is looked for: most are variables of the procedure that runs.
+const NEAR: usize = 8;
+
 /// An object that lives.
 #[derive(Clone, Copy)]
 struct Life {
@@ -35,9 +38,9 @@ struct Grave {
     at: Position,
 }
 
-/// Keeps where the objects from a place on were made, in the place of others where there are many.
-fn bury(graves: &mut Vec<Grave>, lives: &[Life], from: usize) {
-    for life in lives.iter().skip(from) {
+/// Keeps where these objects were made, in the place of others where there are many.
+fn bury(graves: &mut Vec<Grave>, lives: &[Life]) {
+    for life in lives {
         let grave = Grave {
             number: life.number,
             at: life.at,
@@ -85,6 +88,21 @@ fn add_life(lives: &mut Vec<Life>, cells: &mut Vec<Cell>, life: Life) -> Result<
     Ok(())
 }
 
+/// Where an object is among the last ones that live, if it is.
+fn near(lives: &[Life], object: u64) -> Option<usize>
+    ensures { IfSome result (λ i. (i < length lives.now) × HoldsAt (λ l. l.number ≡ object) lives.now i) }
+{
+    let mut i = lives.len();
+    let end = i.saturating_sub(NEAR);
+    'trying: while i > end {
+        i -= 1;
+        if lives[i].number == object {
+            return Some(i);
+        }
+    }
+    None
+}
+
 /// Where an object is among those that live.
 fn place(lives: &[Life], object: u64) -> Option<usize>
     requires { Grow lives.now }
@@ -96,6 +114,9 @@ fn place(lives: &[Life], object: u64) -> Option<usize>
         && life.number == object
     {
         return Some(object as usize);
+    }
+    if let Some(i) = near(lives, object) {
+        return Some(i);
     }
     lives.binary_search_by_key(&object, |life| life.number).ok()
 }
@@ -245,7 +266,8 @@ impl Store {
         let count = left(&self.lives, from);
         if count < self.lives.len() {
             let start = whole(self.lives[count].start);
-            bury(&mut self.graves, &self.lives, count);
+            let (_, dying) = self.lives.split_at(count);
+            bury(&mut self.graves, dying);
             self.cells.truncate(start);
             self.lives.truncate(count);
         }
