@@ -232,7 +232,7 @@ fn result_is<'a>(
             m.turns = k.1;
             Ok(Next::Leaves(Exit::Result(k.0)))
         }
-        None => m.first_value(OnValue::Result, value, env),
+        None => m.asked(OnValue::Result, value, env),
     }
 }
 
@@ -377,7 +377,7 @@ pub fn assigned<'a>(
                 }
                 None => {
                     let following = env.again()?.following(count(first)?)?;
-                    m.first_value(OnValue::Assigned(dests, there, rest, following), first, env)
+                    m.asked(OnValue::Assigned(dests, there, rest, following), first, env)
                 }
             },
         },

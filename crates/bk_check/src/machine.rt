@@ -116,7 +116,7 @@ impl<'a> Evaluator<'a> {
         ensures turns { self.new.turns ≤ self.old.turns }
     {
         let following = env.again()?.following(count(a)?)?;
-        self.first_value(OnValue::Left(expr, operator, b, following), a, env)
+        self.asked(OnValue::Left(expr, operator, b, following), a, env)
     }
 
     /// The second operand of an operator, and what it gives.
@@ -140,8 +140,24 @@ impl<'a> Evaluator<'a> {
                 self.turns = k.1;
                 Ok(self.combined(expr, operator, x, k.0))
             }
-            None => self.first_value(OnValue::Right(expr, operator, x), b, env),
+            None => self.asked(OnValue::Right(expr, operator, x), b, env),
         }
+    }
+
+    /// A value that is not known at once is asked for, and this frame goes on with it.
+    pub fn asked(
+        &mut self,
+        frame: OnValue<'a>,
+        expr: &'a Expr,
+        env: Env<'a>,
+    ) -> Result<Next<'a>, AllocError>
+        ensures comes { IfOk result (λ next. (p : Program) (b : Bytes) →
+            Comes p self.new.frames.items next (world self.new b)
+            (resumed p self.old.frames.items (value_goes p frame.entry ((full p).value (expression expr.now) (env_in env.entry) (world self.old b))))) }
+        ensures falls { Within (value_cost frame.entry + 2) self.old self.new result }
+    {
+        self.frames.push(Continuation::Value(frame))?;
+        Ok(Next::Value(expr, env))
     }
 
     /// A value is asked for, and this frame goes on with it.
@@ -425,7 +441,7 @@ impl<'a> Evaluator<'a> {
         match items.split_first() {
             Some((first, rest)) => {
                 let following = here.again()?.following(count(first)?)?;
-                self.first_value(
+                self.asked(
                     OnValue::Argument(at, rest, following, before, callee, env),
                     first,
                     here,

@@ -1,9 +1,10 @@
 //! The steps of a run.
-ghost use Rattle.std.specs.Prelude.{IfOk};
+ghost use Rattle.std.specs.Prelude.{◌≡◌, false, IfOk};
+ghost use Rattle.std.specs.Bool.{OnTrue};
 ghost use Rattle.bk_check.specs.Views.{program_in};
 ghost use Rattle.bk_check.specs.Worlds.{Bytes, world};
 ghost use Rattle.bk_check.specs.Resume.{Comes, resumed, outcome_next};
-ghost use Rattle.bk_check.specs.Progress.{Falls};
+ghost use Rattle.bk_check.specs.Progress.{Falls, stands};
 
 use crate::blocks::{declare, define, starts};
 use crate::commands::{act, in_order};
@@ -11,10 +12,50 @@ use crate::frame::Next;
 use crate::going_on::{given, left};
 use crate::machine::Evaluator;
 use bk_lasting::Lasting;
+use bk_tree::Init;
 use std::alloc::AllocError;
 
-/// Goes on with what comes next. What a library routine gives, and the end of a run, stay as they are.
+/// How many steps are taken at once at most.
+const STEPS: u32 = 64;
+
+/// Goes on with what comes next, in some steps. What a library routine gives, and the end of a run, stay as they are.
 pub fn step<'a>(
+    m: &mut Evaluator<'a>,
+    program: &[Lasting<'a>],
+    next: Next<'a>,
+) -> Result<Next<'a>, AllocError>
+    ensures comes { IfOk result (λ after. (b : Bytes) →
+        Comes (program_in program.now) m.new.frames.items after (world m.new b)
+        (resumed (program_in program.now) m.old.frames.items (outcome_next (program_in program.now) next.entry (world m.old b)))) }
+    ensures falls { Falls m.old next.entry m.new result }
+{
+    let mut next = next;
+    let mut left = STEPS;
+    'steps: while left == STEPS || (left > 0 && goes_on(m, &next)) {
+        left -= 1;
+        next = once(m, program, next)?;
+    }
+    Ok(next)
+}
+
+/// Whether the next step may follow at once. Before a VEC its cells are counted.
+fn goes_on<'a>(m: &Evaluator<'a>, next: &Next<'a>) -> bool
+    ensures { OnTrue result (stands m.now.frames.items next.now ≡ false) }
+{
+    match next {
+        Next::Gives(_) | Next::Leaves(_) => !m.frames.is_empty(),
+        Next::Library(_, _, _)
+        | Next::Starts([Init::Vector { .. }, ..], _, _, _)
+        | Next::Status(_)
+        | Next::DivideByZero(_)
+        | Next::Undefined(_, _)
+        | Next::Going(_) => false,
+        _ => true,
+    }
+}
+
+/// Goes on with what comes next, once.
+fn once<'a>(
     m: &mut Evaluator<'a>,
     program: &[Lasting<'a>],
     next: Next<'a>,
