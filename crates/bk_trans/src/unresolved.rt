@@ -69,7 +69,10 @@ pub fn settle(
 {
     let mut stmts = Vec::with_capacity(alloc, drafts.len().saturating_add(more))?;
     for draft in drafts {
-        stmts.push(settled(goals, draft))?;
+        match draft {
+            Unresolved::Ready(stmt) => stmts.push(stmt)?,
+            other => stmts.push(settled(goals, other))?,
+        }
     }
     Ok(stmts)
 }
