@@ -233,7 +233,7 @@ fn bind_starts<'a>(
     for start in starts {
         let object = store.made();
         store.make(&[Cell::Holds(start.value)], start.name.at)?;
-        env = env.bind(alloc, &start.name.letters, Sense::Cell(object, 0))?;
+        env = env.bind(alloc, &start.name.letters, Sense::Cell(0, object))?;
     }
     Ok(env)
 }
@@ -360,7 +360,7 @@ fn make_vector<'a>(
             let length = last as usize + 1;
             m.store.make_unset(length, size.at())?;
             m.most_cells = m.most_cells.max(m.store.cells_in_use());
-            named(others, here, names, Worth::Address(object, 0), rest)
+            named(others, here, names, Worth::Address(0, object), rest)
         }
     }
 }

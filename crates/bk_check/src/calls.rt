@@ -68,7 +68,7 @@ fn bind_formals<'a>(
     let mut env = env;
     let mut offset: u32 = 0;
     for formal in formals {
-        env = env.bind(alloc, &formal.letters, Sense::Cell(object, offset))?;
+        env = env.bind(alloc, &formal.letters, Sense::Cell(offset, object))?;
         offset = offset.checked_add(1).ok_or(AllocError)?;
     }
     Ok(env)

@@ -83,7 +83,7 @@ fn try_limit(store: &Store, object: u64, limit: Worth, step: u32) -> Tested
     ensures { (l : ℕ) (w : World) (go : World → Outcome Done) → w.memory ≡ store.now
         → tested_by l go result w ≡ test_of l object (value_in limit) step go w }
 {
-    compared(store, step, read(store, Worth::Address(object, 0)), limit)
+    compared(store, step, read(store, Worth::Address(0, object)), limit)
 }
 
 /// A value goes to the variable.
@@ -92,7 +92,7 @@ fn put_sum(store: &mut Store, object: u64, came: Computed) -> Stepped
         → stepped_by l result store.new w ≡ with (outcome_of l came w) (Parts.store l (Parts.at (address object 0))) }
 {
     match came {
-        Computed::Value(x) => match put(store, Location::Cell(Worth::Address(object, 0)), x) {
+        Computed::Value(x) => match put(store, Location::Cell(Worth::Address(0, object)), x) {
             Ok(()) => Stepped::Done,
             Err(reason) => Stepped::Undefined(reason),
         },
@@ -105,7 +105,7 @@ fn put_sum(store: &mut Store, object: u64, came: Computed) -> Stepped
 fn add_step(store: &mut Store, object: u64, step: u32) -> Stepped
     ensures { (l : ℕ) (w : World) → w.memory ≡ store.old → stepped_by l result store.new w ≡ step_of l object step w }
 {
-    match read(store, Worth::Address(object, 0)) {
+    match read(store, Worth::Address(0, object)) {
         Computed::Value(x) => {
             let sum = combine(store, Operator::Add, x, Worth::Number(step));
             put_sum(store, object, sum)
@@ -158,7 +158,7 @@ fn begin_by<'a>(
     let object = m.store.made();
     m.frames.push(Continuation::Closing(object))?;
     make_one(&mut m.store, start, name.at)?;
-    let inside = env.bind(m.alloc, &name.letters, Sense::Cell(object, 0))?;
+    let inside = env.bind(m.alloc, &name.letters, Sense::Cell(0, object))?;
     first_round(
         m,
         For {

@@ -41,7 +41,7 @@ fn known_name(store: &Store, sense: Option<Sense>) -> Option<Worth>
 {
     match sense {
         Some(Sense::Constant(word)) => Some(Worth::Number(word)),
-        Some(Sense::Cell(object, offset)) => match read(store, Worth::Address(object, offset)) {
+        Some(Sense::Cell(offset, object)) => match read(store, Worth::Address(offset, object)) {
             Computed::Value(x) => Some(x),
             Computed::DivideByZero | Computed::Undefined(_) => None,
         },
@@ -309,8 +309,8 @@ fn known_target_inside(
 {
     match expr {
         Expr::Name { letters: name, .. } => match env.sense(name) {
-            Some(Sense::Cell(object, offset)) => Some((
-                Location::Cell(Worth::Address(object, offset)),
+            Some(Sense::Cell(offset, object)) => Some((
+                Location::Cell(Worth::Address(offset, object)),
                 turns,
             )),
             _ => None,

@@ -268,7 +268,7 @@ impl<'a> Evaluator<'a> {
                 at.line().number(),
             ))))),
             Expr::Text { .. } | Expr::Table { .. } => Ok(Next::Gives(Thing::Value(Worth::Address(
-                env.next, 0,
+                0, env.next,
             )))),
             Expr::Parens { inside, .. } => Ok(Next::Value(inside, env)),
             Expr::Unary {
@@ -369,10 +369,10 @@ impl<'a> Evaluator<'a> {
     {
         match sense {
             Some(Sense::Constant(word)) => Next::Gives(Thing::Value(Worth::Number(word))),
-            Some(Sense::Cell(object, offset)) => self.fetched(
+            Some(Sense::Cell(offset, object)) => self.fetched(
                 expr,
                 Operands::None,
-                Worth::Address(object, offset),
+                Worth::Address(offset, object),
             ),
             Some(Sense::Label) | Some(Sense::Foreign) | None => Next::Undefined(
                 Subject::Expr(expr),
@@ -596,8 +596,8 @@ impl<'a> Evaluator<'a> {
     {
         match expr {
             Expr::Name { letters: name, .. } => match env.sense(name) {
-                Some(Sense::Cell(object, offset)) => Ok(Next::Gives(Thing::Target(Location::Cell(
-                    Worth::Address(object, offset),
+                Some(Sense::Cell(offset, object)) => Ok(Next::Gives(Thing::Target(Location::Cell(
+                    Worth::Address(offset, object),
                 )))),
                 _ => Ok(Next::Undefined(Subject::Expr(expr), Reason::NoPlace)),
             },

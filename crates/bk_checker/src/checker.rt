@@ -120,7 +120,7 @@ fn check_program<'a, I: ByteIn, O: ByteOut>(
     ensures cause { IfErr result (λ stop. Blames stop.fault (I.faults input.old) (I.faults input.new) (O.faults out.old) (O.faults out.new)) }
 {
     let mut m = first_machine(alloc, program, turns)?;
-    match read(&m.store, Worth::Address(GLOBALS_OBJECT, 1)) {
+    match read(&m.store, Worth::Address(1, GLOBALS_OBJECT)) {
         Computed::Value(start) => check_start(&mut m, program, start, input, out),
         _ => no_start(alloc, out),
     }

@@ -18,7 +18,7 @@ use Rattle.bk_lasting.specs.declared.program.Lasting.TheVariants as p
 
 abbrev pub sense_in : Sense → n.Sense
 sense_in (s.Constant x) = n.constant x
-sense_in (s.Cell o i) = n.cell o i
+sense_in (s.Cell i o) = n.cell o i
 sense_in s.Label = n.label
 sense_in s.Foreign = n.foreign
 

@@ -15,8 +15,8 @@ pub const GLOBALS_OBJECT: u64 = 0;
 pub enum Sense {
     /// A constant of MANIFEST, and its word.
     Constant(u32),
-    /// A global, a static word, a formal or a variable: the number of an object, and which of its cells.
-    Cell(u64, u32),
+    /// A global, a static word, a formal or a variable: which cell of an object, and the number of the object.
+    Cell(u32, u64),
     /// A label.
     Label,
     /// What has no meaning here, as a variable of another procedure.

@@ -130,7 +130,7 @@ pub fn global_named(sense: Option<Sense>) -> Option<u32>
     ensures { result ≡ global_named (option_map sense_in sense) }
 {
     match sense {
-        Some(Sense::Cell(object, number)) => {
+        Some(Sense::Cell(number, object)) => {
             if object == GLOBALS_OBJECT {
                 Some(number)
             } else {
@@ -149,7 +149,7 @@ fn bind_procedure_as<'a>(alloc: Global, name: &'a [u8], env: Env<'a>) -> Result<
         Some(_) => Ok(env),
         None => {
             let here = env.next;
-            env.bind(alloc, name, Sense::Cell(here, 0))
+            env.bind(alloc, name, Sense::Cell(0, here))
         }
     }
 }
@@ -204,7 +204,7 @@ fn sense_of_global(word: Option<u32>) -> Sense
 {
     match word {
         None => Sense::Foreign,
-        Some(number) => Sense::Cell(GLOBALS_OBJECT, number),
+        Some(number) => Sense::Cell(number, GLOBALS_OBJECT),
     }
 }
 
@@ -231,7 +231,7 @@ fn statics<'a>(alloc: Global, items: &'a [ConstItem], env: Env<'a>) -> Result<En
     let mut env = env;
     for ConstItem::Item { letters: name, .. } in items {
         let here = env.next;
-        env = env.bind(alloc, name, Sense::Cell(here, 0))?.following(1)?;
+        env = env.bind(alloc, name, Sense::Cell(0, here))?.following(1)?;
     }
     Ok(env)
 }

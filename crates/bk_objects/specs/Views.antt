@@ -31,7 +31,7 @@ routine_in r.Writef = v.writef
 
 abbrev pub value_in : Worth → v.Value
 value_in (w.Number n) = v.number n
-value_in (w.Address o i) = v.address o i
+value_in (w.Address i o) = v.address o i
 value_in (w.Procedure n) = v.procedure n
 value_in (w.Routine which) = v.routine (routine_in which)
 value_in (w.Unset from) = v.unset
@@ -44,7 +44,7 @@ cell_in (c.Places a b d e) = v.places a b d e
 abbrev pub cause_in : Reason → Cause
 cause_in (y.Unset from) = never_set
 cause_in (y.Cell a) = no_cell (value_in a)
-cause_in (y.Byte a i) = no_byte (value_in a) i
+cause_in (y.Byte i a) = no_byte (value_in a) i
 cause_in (y.Beyond a) = beyond (value_in a)
 cause_in (y.NoAddress x) = no_address (value_in x)
 cause_in (y.NoNumber x) = no_number (value_in x)

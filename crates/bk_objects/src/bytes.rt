@@ -39,13 +39,13 @@ pub fn read_byte(store: &Store, at: Worth, i: Worth) -> Result<u8, Reason>
     let Worth::Number(i) = i else {
         return Err(Reason::NoNumber(i));
     };
-    let Worth::Address(object, offset) = at else {
+    let Worth::Address(offset, object) = at else {
         return Err(Reason::NoAddress(at));
     };
     let offset = word::sum(offset, word::distance_of_byte(i));
     match store.cell(object, offset) {
-        Some(cell) => byte_in(cell, word::place_of_byte(i)).ok_or(Reason::Byte(at, i)),
-        None => Err(Reason::Byte(at, i)),
+        Some(cell) => byte_in(cell, word::place_of_byte(i)).ok_or(Reason::Byte(i, at)),
+        None => Err(Reason::Byte(i, at)),
     }
 }
 
@@ -108,7 +108,7 @@ pub fn write(store: &mut Store, at: Worth, x: Worth) -> Result<(), Reason>
     ensures why { IfErr result (λ why. cause_in why ≡ cell_cause (value_in at)) }
     ensures unchanged { OnErr result (store.new ≡ store.old) }
 {
-    let Worth::Address(object, offset) = at else {
+    let Worth::Address(offset, object) = at else {
         return Err(Reason::NoAddress(at));
     };
     if store.set(object, offset, Cell::Holds(x)) {
@@ -130,20 +130,20 @@ pub fn write_byte(store: &mut Store, at: Worth, i: Worth, x: Worth) -> Result<()
     let Worth::Number(x) = x else {
         return Err(Reason::NoByte(x));
     };
-    let Worth::Address(object, offset) = at else {
+    let Worth::Address(offset, object) = at else {
         return Err(Reason::NoAddress(at));
     };
     let offset = word::sum(offset, word::distance_of_byte(i));
     let Some(cell) = store.cell(object, offset) else {
-        return Err(Reason::Byte(at, i));
+        return Err(Reason::Byte(i, at));
     };
     let Some(cell) = with_byte(cell, word::place_of_byte(i), (x % 256) as u8) else {
-        return Err(Reason::Byte(at, i));
+        return Err(Reason::Byte(i, at));
     };
     if store.set(object, offset, cell) {
         Ok(())
     } else {
-        Err(Reason::Byte(at, i))
+        Err(Reason::Byte(i, at))
     }
 }
 

@@ -11,7 +11,7 @@ pub enum Reason {
     /// It needs the cell at this address: the object is dead or has no such cell, or the cell was not set, or not all of its bytes.
     Cell(Worth),
     /// It needs the byte with this number of the words from this address on: the same, or the cell has an address or a procedure.
-    Byte(Worth, u32),
+    Byte(u32, Worth),
     /// It needs an address in a living object, and the object of this one is dead, or ends before it.
     Beyond(Worth),
     /// It needs an address, and this value is none.

@@ -77,7 +77,7 @@ fn no_numbers(x: Worth, y: Worth) -> Reason
 pub fn read(store: &Store, at: Worth) -> Computed
     ensures { (l : ℕ) (w : World) → w.memory ≡ store.now → outcome_of l result w ≡ fetch l (value_in at) w }
 {
-    let Worth::Address(object, offset) = at else {
+    let Worth::Address(offset, object) = at else {
         return Computed::Undefined(Reason::NoAddress(at));
     };
     match store.cell(object, offset) {
@@ -109,9 +109,9 @@ fn within(store: &Store, object: u64, offset: u32) -> Result<(), Reason>
     ensures why { IfErr result (λ why. cause_in why ≡ c.beyond (address object offset)) }
 {
     match store.size(object) {
-        None => Err(Reason::Beyond(Worth::Address(object, offset))),
+        None => Err(Reason::Beyond(Worth::Address(offset, object))),
         Some(size) if offset as usize > size => {
-            Err(Reason::Beyond(Worth::Address(object, offset)))
+            Err(Reason::Beyond(Worth::Address(offset, object)))
         }
         Some(_) => Ok(()),
     }
@@ -126,7 +126,7 @@ pub fn truth_of(store: &Store, x: Worth) -> Result<bool, Reason>
         Worth::Number(n) => Ok(n != 0),
         Worth::Procedure(_) | Worth::Routine(_) => Ok(true),
         Worth::Unset(origin) => Err(Reason::Unset(origin)),
-        Worth::Address(object, offset) => {
+        Worth::Address(offset, object) => {
             within(store, object, offset)?;
             Ok(true)
         }
@@ -139,8 +139,8 @@ fn living(store: &Store, object: u64, offset: u32) -> Result<Worth, Reason>
     ensures why { IfErr result (λ why. cause_in why ≡ c.beyond (address object offset)) }
 {
     match store.size(object) {
-        Some(_) => Ok(Worth::Address(object, offset)),
-        None => Err(Reason::Beyond(Worth::Address(object, offset))),
+        Some(_) => Ok(Worth::Address(offset, object)),
+        None => Err(Reason::Beyond(Worth::Address(offset, object))),
     }
 }
 
@@ -151,10 +151,10 @@ pub fn sum(store: &Store, x: Worth, y: Worth) -> Result<Worth, Reason>
 {
     match (x, y) {
         (Worth::Number(x), Worth::Number(y)) => Ok(Worth::Number(word::sum(x, y))),
-        (Worth::Address(object, offset), Worth::Number(n)) => {
+        (Worth::Address(offset, object), Worth::Number(n)) => {
             living(store, object, word::sum(offset, n))
         }
-        (Worth::Number(n), Worth::Address(object, offset)) => {
+        (Worth::Number(n), Worth::Address(offset, object)) => {
             living(store, object, word::sum(n, offset))
         }
         _ => Err(no_numbers(x, y)),
@@ -171,7 +171,7 @@ fn one(store: &Store, a: u64, b: u64) -> Result<(), Reason>
     }
     match store.size(a) {
         Some(_) => Ok(()),
-        None => Err(Reason::Beyond(Worth::Address(a, 0))),
+        None => Err(Reason::Beyond(Worth::Address(0, a))),
     }
 }
 
@@ -182,10 +182,10 @@ fn difference(store: &Store, x: Worth, y: Worth) -> Result<Worth, Reason>
 {
     match (x, y) {
         (Worth::Number(x), Worth::Number(y)) => Ok(Worth::Number(word::difference(x, y))),
-        (Worth::Address(object, offset), Worth::Number(n)) => {
+        (Worth::Address(offset, object), Worth::Number(n)) => {
             living(store, object, word::difference(offset, n))
         }
-        (Worth::Address(a, i), Worth::Address(b, j)) => {
+        (Worth::Address(i, a), Worth::Address(j, b)) => {
             one(store, a, b)?;
             Ok(Worth::Number(word::difference(i, j)))
         }
@@ -214,8 +214,8 @@ fn equal(store: &Store, x: Worth, y: Worth) -> Result<bool, Reason>
             Worth::Number(m) => Ok(n == m),
             _ => equals_zero(store, n, y),
         },
-        Worth::Address(a, i) => match y {
-            Worth::Address(b, j) => {
+        Worth::Address(i, a) => match y {
+            Worth::Address(j, b) => {
                 one(store, a, b)?;
                 Ok(i == j)
             }
@@ -247,7 +247,7 @@ fn ordered(store: &Store, operator: Operator, x: Worth, y: Worth) -> Result<Wort
 {
     match (x, y) {
         (Worth::Number(x), Worth::Number(y)) => on_offsets(operator, x, y),
-        (Worth::Address(a, i), Worth::Address(b, j)) => {
+        (Worth::Address(i, a), Worth::Address(j, b)) => {
             one(store, a, b)?;
             within(store, a, i)?;
             within(store, a, j)?;

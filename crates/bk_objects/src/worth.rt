@@ -47,8 +47,8 @@ pub enum Origin {
 pub enum Worth {
     /// A number, as a word.
     Number(u32),
-    /// The number of an object, and the distance from the object's first cell, as a word.
-    Address(u64, u32),
+    /// The distance from the first cell of an object, as a word, and the number of the object.
+    Address(u32, u64),
     /// A procedure of the program, by its number.
     Procedure(u64),
     /// A routine of the library.

@@ -23,7 +23,7 @@ use std::alloc::AllocError;
 
 /// Adds why the value of a name is undefined.
 fn say_name(page: &mut Page, name: &[u8], reason: Reason) -> Result<(), AllocError> {
-    let Reason::Cell(Worth::Address(object, offset)) = reason else {
+    let Reason::Cell(Worth::Address(offset, object)) = reason else {
         return page.say(&[name, b" is no variable"]);
     };
     match page.m.store.cell(object, offset) {
@@ -124,7 +124,7 @@ fn is_known_address(page: &Page, expr: &Expr) -> bool {
 fn known_in<'e>(page: &Page, expr: &'e Expr, object: u64) -> Option<Operand<'e>> {
     let value = page.known(expr)?;
     match value {
-        Worth::Address(o, _) if o == object => Some(written(expr, value)),
+        Worth::Address(_, o) if o == object => Some(written(expr, value)),
         _ => None,
     }
 }
@@ -209,11 +209,11 @@ fn say_destination(
 ) -> Result<(), AllocError> {
     let Destination { expr, base, .. } = destination;
     match reason {
-        Reason::Cell(Worth::Address(object, offset)) => {
+        Reason::Cell(Worth::Address(offset, object)) => {
             let base = known_in(page, base, object);
             say_cell(page, expr, base, object, offset)?;
         }
-        Reason::Byte(at, number) => say_byte(page, Some(expr), written(base, at), at, number)?,
+        Reason::Byte(number, at) => say_byte(page, Some(expr), written(base, at), at, number)?,
         Reason::NoAddress(place) => say_no_place(page, destination, place)?,
         Reason::NoNumber(x) => say_no_byte_number(page, destination, x)?,
         Reason::NoByte(x) => {
@@ -286,7 +286,7 @@ fn say_prefix(page: &mut Page, expr: &Expr, x: Worth, reason: Reason) -> Result<
         return Ok(());
     };
     let base = written(operand, x);
-    if let Reason::Cell(Worth::Address(object, offset)) = reason {
+    if let Reason::Cell(Worth::Address(offset, object)) = reason {
         return say_cell(page, expr, Some(base), object, offset);
     }
     if say_fault_of(page, base)? {

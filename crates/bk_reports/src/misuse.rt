@@ -219,14 +219,14 @@ pub fn say_library(
             return Ok(());
         }
         Reason::NoNumber(x) | Reason::NoAddress(x) | Reason::NoByte(x) => x,
-        Reason::Byte(at, _) => at,
+        Reason::Byte(_, at) => at,
         _ => Worth::Unset(Origin::Never),
     };
     let expr = arguments.get(argument.saturating_sub(1));
     let words: &[u8] = if expr.is_some() { b"" } else { b"it" };
     let operand = Operand { expr, words, value };
     match reason {
-        Reason::Byte(at, number) => {
+        Reason::Byte(number, at) => {
             say_missing_byte(page, wanted, operand, at, number)?;
             match (routine, arguments.get(1)) {
                 (Routine::Getbyte | Routine::Putbyte, Some(index)) => {

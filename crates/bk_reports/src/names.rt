@@ -98,7 +98,7 @@ fn innermost(frames: &[Continuation]) -> Option<(usize, Call, u64)> {
 pub fn name_in<'a>(env: &Env<'a>, object: u64, offset: u32) -> Option<&'a [u8]> {
     let mut names = &env.names;
     while let Some(node) = names {
-        if let Sense::Cell(o, i) = node.sense
+        if let Sense::Cell(i, o) = node.sense
             && o == object
             && i == offset
         {
@@ -174,7 +174,7 @@ impl<'m, 'a> Names<'m, 'a> {
         {
             for (i, formal) in self.procedure.formals.iter().enumerate() {
                 if formal.letters.as_slice() == name {
-                    return Some(Sense::Cell(object, u32::try_from(i).ok()?));
+                    return Some(Sense::Cell(u32::try_from(i).ok()?, object));
                 }
             }
         }

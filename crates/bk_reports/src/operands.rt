@@ -80,7 +80,7 @@ pub fn say_fault_of(page: &mut Page, operand: Operand) -> Result<bool, AllocErro
             say_no_value(page, operand, origin)?;
             Ok(true)
         }
-        Worth::Address(object, offset) if page.is_dead(object) => {
+        Worth::Address(offset, object) if page.is_dead(object) => {
             say_dead(page, operand, object, offset)?;
             Ok(true)
         }
@@ -145,7 +145,7 @@ pub fn say_uncalled(page: &mut Page, operand: Operand) -> Result<(), AllocError>
 /// The number of the global that a name means, if it means one.
 fn global_of(page: &Page, name: &[u8]) -> Option<u32> {
     match page.names?.sense(name)? {
-        Sense::Cell(object, number) if object == GLOBALS_OBJECT => Some(number),
+        Sense::Cell(number, object) if object == GLOBALS_OBJECT => Some(number),
         _ => None,
     }
 }

@@ -75,10 +75,10 @@ pub fn say_subscript(
         _ => base_first(page, operands.0, operands.1),
     };
     match reason {
-        Reason::Cell(Worth::Address(object, offset)) => {
+        Reason::Cell(Worth::Address(offset, object)) => {
             say_cell(page, expr, Some(base), object, offset)?;
         }
-        Reason::Byte(at, number) => say_byte(page, Some(expr), base, at, number)?,
+        Reason::Byte(number, at) => say_byte(page, Some(expr), base, at, number)?,
         _ => {
             say_no_base(page, operator_symbol(operator), base, index)?;
             return say_other_index(page, index.expr);
@@ -313,7 +313,7 @@ fn say_both(page: &mut Page, a: Operand, b: Operand) -> Result<(), AllocError> {
 
 /// Adds that an address is outside its object.
 pub fn say_beyond(page: &mut Page, operand: Operand) -> Result<bool, AllocError> {
-    let Worth::Address(object, offset) = operand.value else {
+    let Worth::Address(offset, object) = operand.value else {
         return Ok(false);
     };
     let size = page.m.store.size(object).unwrap_or(0);
@@ -463,7 +463,7 @@ fn are_procedures(x: Worth, y: Worth) -> bool {
 /// Whether two values are addresses in one object.
 fn is_one(x: Worth, y: Worth) -> bool {
     match (x, y) {
-        (Worth::Address(a, _), Worth::Address(b, _)) => a == b,
+        (Worth::Address(_, a), Worth::Address(_, b)) => a == b,
         _ => false,
     }
 }

@@ -87,7 +87,7 @@ fn say_value_once(page: &mut Page, name: &[u8], is_read: bool) -> Result<(), All
 /// Whether a value is the vector or the TABLE of this name.
 fn is_own_vector(page: &Page, name: &[u8], x: Worth) -> bool {
     match x {
-        Worth::Address(object, 0) => match page.object(object) {
+        Worth::Address(0, object) => match page.object(object) {
             Object::Made(made) => made.name == name,
             Object::Table => match page.table_name(object) {
                 Some(made) => made.name == name,
@@ -131,7 +131,7 @@ fn is_local(page: &Page, name: &[u8]) -> bool {
         return false;
     };
     match names.sense(name) {
-        Some(Sense::Cell(object, _)) => matches!(page.object(object), Object::Made(_)),
+        Some(Sense::Cell(_, object)) => matches!(page.object(object), Object::Made(_)),
         _ => false,
     }
 }
@@ -239,7 +239,7 @@ fn only_setter<'a>(command: &'a Command, name: &'a [u8]) -> Option<Setter<'a>> {
 pub fn is_same(x: Worth, y: Worth) -> bool {
     match (x, y) {
         (Worth::Number(a), Worth::Number(b)) => a == b,
-        (Worth::Address(a, i), Worth::Address(b, j)) => a == b && i == j,
+        (Worth::Address(i, a), Worth::Address(j, b)) => a == b && i == j,
         _ => false,
     }
 }

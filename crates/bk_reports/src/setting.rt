@@ -106,7 +106,7 @@ pub fn setters_of_all<'a>(
 /// Whether a name means this cell in a procedure, which declares no other of the name.
 pub fn has_outside<'a>(procedure: &Procedure<'a>, name: &'a [u8], cell: (u64, u32)) -> bool {
     match procedure.env.sense(name) {
-        Some(Sense::Cell(object, offset)) => {
+        Some(Sense::Cell(offset, object)) => {
             (object, offset) == cell
                 && !is_formal(procedure, name)
                 && in_procedure(procedure, Position::first(), name).declared == 0
@@ -252,7 +252,7 @@ fn say_formal<'a>(
         return say_argument_source(page, name, offset);
     }
     match x {
-        Worth::Address(_, 0) => Ok(()),
+        Worth::Address(0, _) => Ok(()),
         _ => say_set_formal(page, name, offset, x),
     }
 }
@@ -383,7 +383,7 @@ fn say_sources<'a>(page: &mut Page<'_, 'a>, value: &'a Expr) -> Result<(), Alloc
     let is_one = matches!(variables.each(), [Some(_), None, _, _]);
     for variable in variables.each() {
         if let Some(variable) = variable
-            && !matches!(page.variable(variable), Some(Worth::Address(_, 0)))
+            && !matches!(page.variable(variable), Some(Worth::Address(0, _)))
         {
             let before = page.text.len();
             say_source_of(page, variable, is_one)?;
@@ -579,7 +579,7 @@ pub fn cell_of<'a>(page: &Page<'_, 'a>, name: &[u8]) -> Option<(&'a [u8], u64, u
     let names = page.names?;
     let spelled = names.spelled(name)?;
     match names.sense(name)? {
-        Sense::Cell(object, offset) => Some((spelled, object, offset)),
+        Sense::Cell(offset, object) => Some((spelled, object, offset)),
         _ => None,
     }
 }

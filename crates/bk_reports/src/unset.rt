@@ -208,7 +208,7 @@ fn is_own_procedure(program: &[Lasting], name: &[u8]) -> bool {
 fn is_static(program: &[Lasting], name: &[u8]) -> bool {
     for lasting in program {
         if let Lasting::Code(procedure) = lasting
-            && let Some(Sense::Cell(object, _)) = procedure.env.sense(name)
+            && let Some(Sense::Cell(_, object)) = procedure.env.sense(name)
             && object != GLOBALS_OBJECT
         {
             return true;

@@ -67,7 +67,7 @@ fn formal_name<'a>(
 fn other_name_in<'a>(env: &Env<'a>, name: &[u8], number: u32) -> Option<&'a [u8]> {
     let mut names = &env.names;
     while let Some(node) = names {
-        if let Sense::Cell(object, other) = node.sense
+        if let Sense::Cell(other, object) = node.sense
             && object == GLOBALS_OBJECT
             && other == number
             && node.name != name
@@ -83,7 +83,7 @@ fn other_name_in<'a>(env: &Env<'a>, name: &[u8], number: u32) -> Option<&'a [u8]
 fn other_number_in(env: &Env, name: &[u8], number: u32) -> Option<u32> {
     let mut names = &env.names;
     while let Some(node) = names {
-        if let Sense::Cell(object, other) = node.sense
+        if let Sense::Cell(other, object) = node.sense
             && object == GLOBALS_OBJECT
             && other != number
             && node.name == name
@@ -289,7 +289,7 @@ impl<'m, 'a> Page<'m, 'a> {
 
     /// Adds the bytes of the string at an address, if one is there.
     pub fn add_text(&self, bytes: &mut Vec<u8>, x: Worth) -> Result<(), AllocError> {
-        if let Worth::Address(object, 0) = x
+        if let Worth::Address(0, object) = x
             && let Object::String(words) = self.object(object)
         {
             return add_bytes(bytes, words);
@@ -441,7 +441,7 @@ impl<'m, 'a> Page<'m, 'a> {
     pub fn say_value(&mut self, x: Worth) -> Result<(), AllocError> {
         match x {
             Worth::Number(number) => add_word(&mut self.text, number),
-            Worth::Address(object, offset) => self.say_address(object, offset),
+            Worth::Address(offset, object) => self.say_address(object, offset),
             Worth::Procedure(number) => {
                 let name = procedure_name(self.program, number);
                 self.say(&[b"the procedure ", name])
@@ -465,7 +465,7 @@ impl<'m, 'a> Page<'m, 'a> {
                 self.say(&[b"a ", routine_kind(routine), b" of the library"])
             }
             Worth::Unset(_) => self.say(&[b"not set"]),
-            Worth::Address(object, _) => match self.object(object) {
+            Worth::Address(_, object) => match self.object(object) {
                 Object::Made(made) => match made.kind {
                     Kind::Vector => self.say(&[b"the address of a vector"]),
                     Kind::Variable => self.say(&[b"the address of a variable"]),
@@ -535,7 +535,7 @@ impl<'m, 'a> Page<'m, 'a> {
     pub fn value_of(&self, name: &[u8]) -> Option<Worth> {
         match self.names?.sense(name)? {
             Sense::Constant(word) => Some(Worth::Number(word)),
-            Sense::Cell(object, offset) => match self.m.store.cell(object, offset)? {
+            Sense::Cell(offset, object) => match self.m.store.cell(object, offset)? {
                 Cell::Holds(worth) => Some(worth),
                 Cell::Places(_, _, _, _) => None,
             },
@@ -566,14 +566,14 @@ impl<'m, 'a> Page<'m, 'a> {
     /// Whether a value is the address of a string.
     pub fn is_text(&self, x: Worth) -> bool {
         match x {
-            Worth::Address(object, _) => matches!(self.object(object), Object::String(_)),
+            Worth::Address(_, object) => matches!(self.object(object), Object::String(_)),
             _ => false,
         }
     }
 
     /// Adds how the byte of a string of one byte is written.
     pub fn say_character(&mut self, x: Worth) -> Result<(), AllocError> {
-        if let Worth::Address(object, _) = x
+        if let Worth::Address(_, object) = x
             && let Object::String(words) = self.object(object)
             && byte_of(words, 0) == 1
         {
@@ -601,8 +601,8 @@ impl<'m, 'a> Page<'m, 'a> {
         let mut names = &env.names;
         let mut found = None;
         while let Some(node) = names {
-            if let Sense::Cell(holder, 0) = node.sense
-                && let Some(Cell::Holds(Worth::Address(held, 0))) = self.m.store.cell(holder, 0)
+            if let Sense::Cell(0, holder) = node.sense
+                && let Some(Cell::Holds(Worth::Address(0, held))) = self.m.store.cell(holder, 0)
                 && held == object
                 && let Object::Made(made) = self.object(holder)
                 && matches!(made.kind, Kind::Variable)

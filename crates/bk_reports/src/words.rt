@@ -132,7 +132,7 @@ fn is_address(expr: &Expr) -> bool {
 fn say_base(page: &mut Page, base: Option<Operand>) -> Result<bool, AllocError> {
     if let Some(operand) = base
         && let Some(written) = operand.expr
-        && let Worth::Address(object, offset) = operand.value
+        && let Worth::Address(offset, object) = operand.value
     {
         if offset == 0 && is_called(page, written, object) {
             return Ok(true);
@@ -193,7 +193,7 @@ fn say_dead_cell(
         return page.say(&[b" is in it"]);
     };
     let place = match operand.value {
-        Worth::Address(_, place) => place,
+        Worth::Address(place, _) => place,
         _ => offset,
     };
     say_dead(page, operand, object, place)
@@ -248,7 +248,7 @@ pub fn say_cell(
 /// Adds where an operand got its value that is the address of a word inside an object.
 fn say_base_setting(page: &mut Page, base: Option<Operand>) -> Result<(), AllocError> {
     match base {
-        Some(operand) if matches!(operand.value, Worth::Address(_, 1..)) => {
+        Some(operand) if matches!(operand.value, Worth::Address(1.., _)) => {
             say_setting(page, operand)
         }
         _ => Ok(()),
@@ -345,7 +345,7 @@ fn say_beyond_bytes(page: &mut Page, at: Worth, object: u64) -> Result<(), Alloc
     let size = page.m.store.size(object).unwrap_or(0).saturating_mul(4);
     say_extent(page, b"byte", size)?;
     if page.is_text(at) {
-        return say_length(page, Worth::Address(object, 0));
+        return say_length(page, Worth::Address(0, object));
     }
     Ok(())
 }
@@ -358,7 +358,7 @@ pub fn say_byte(
     at: Worth,
     number: u32,
 ) -> Result<(), AllocError> {
-    let Worth::Address(object, offset) = at else {
+    let Worth::Address(offset, object) = at else {
         return Ok(());
     };
     if say_fault_of(page, base)? {

@@ -6,7 +6,7 @@ use Rattle.bk_lasting.specs.declared.env.Sense.{Sense}
 use Rattle.bk_lasting.specs.declared.env.Sense.TheVariants.{Cell}
 use Rattle.bk_check.proofs.known.known_name.Goals as goal
 
-of_cell : (sense : Option Sense) (this : Sense) (object offset l : ℕ) (x : Value) (w : World) → sense ≡ Some this → this ≡ Cell object offset
+of_cell : (sense : Option Sense) (this : Sense) (object offset l : ℕ) (x : Value) (w : World) → sense ≡ Some this → this ≡ Cell offset object
     → fetch l (address object offset) w ≡ gives x w → named l (option_map sense_in sense) w ≡ gives x w
 of_cell sense this object offset l x w is cell has = rw (is, cell) has
 
