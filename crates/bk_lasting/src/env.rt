@@ -1,6 +1,7 @@
 //! What names mean at a place.
 ghost use Rattle.std.specs.Prelude.{◌≡◌, ◌+◌, [], length, IfOk};
 ghost use Rattle.std.specs.Option.{option_map};
+ghost use Rattle.std.specs.Str.{bytes_eq};
 ghost use Rattle.bk_meaning.specs.Environment.{bind, sense_of, following};
 ghost use Rattle.bk_lasting.specs.Views.{sense_in, names_of, names_in, env_in};
 
@@ -60,6 +61,17 @@ impl<'a> Drop for Node<'a> {
     }
 }
 
+/// Whether two names are the same. Most differ in their first letters.
+fn is_same(a: &[u8], b: &[u8]) -> bool
+    ensures { result ≡ bytes_eq a.now b.now }
+{
+    match (a.split_first(), b.split_first()) {
+        (Some((x, xs)), Some((y, ys))) => x == y && xs == ys,
+        (None, None) => true,
+        _ => false,
+    }
+}
+
 /// What names mean at a place, and the number of the next object that lasts.
 #[derive(Drop)]
 pub struct Env<'a> {
@@ -97,7 +109,7 @@ impl<'a> Env<'a> {
     {
         let mut names = &self.names;
         while let Some(node) = names {
-            if node.name == name {
+            if is_same(node.name, name) {
                 return Some(node.sense);
             }
             names = &node.outer;
