@@ -1,12 +1,11 @@
 -- Each beginning of a statement goes on to a whole one.
-use Rattle.bk_ocode.proofs.Terms.{◌≡◌, ◌⊎◌, inl, inr, ℕ, zero, suc, ℤ, pos, FitsSigned, w32, ◌+◌, ◌-◌, ◌<◌, ◌≤◌, ◌^◌, ◌++◌, ◌||◌, Bool, true, false, if◌then◌else◌, List, [], ◌∷◌, Option, Some, None, length, slice_get, codes, arith, refl, sym, ap, ◌∙◌, subst, length-append, append_assoc, append-nil, cases_lt, Decides-int_eq, int_eq, spelling, NAME_BYTES, fits-pos, label_word, natural_word, byte_words, case_words, global_words, stmt_words, IsLabel, IsGlobal, AreBytes, AreCases, IsStmt, BeginsStmt, has_value, owner_words, IsOwner, switch_words, entries_words, partial_words, is_short, IsPartialStmt, ArePartialCases, ArePartialEntries, part_words, IsPartialPart, Case, GlobalEntry, Stmt, keyword_text, context_of, misplaced, Keyword, Partial, Owner, Stmt as stmt, VariableKind as kinds, Keyword as keywords, Partial as begun, Owner as owners, cases_Bool, cond-true, cond-false}
 use Rattle.bk_ocode.specs.declared.stmt.Variable.TheVariants as variable
 use Rattle.bk_ocode.specs.declared.stmt.Monadic.TheVariants as monadic
 use Rattle.bk_ocode.specs.declared.stmt.Dyadic.TheVariants as dyadic
 use Rattle.bk_ocode.specs.declared.partial.CaseDraft.{CaseDraft}
 use Rattle.bk_ocode.specs.declared.partial.EntryDraft.{EntryDraft}
 use Rattle.bk_ocode.proofs.Rows.{joined-append}
-use Rattle.bk_ocode.proofs.CaseLemmas.{AreCases-push, typed-push}
+use Rattle.bk_ocode.proofs.CaseLemmas.{AreCases-push, typed-push, ◌≡◌, ◌⊎◌, inl, inr, ℕ, zero, suc, ℤ, pos, FitsSigned, w32, ◌+◌, ◌-◌, ◌<◌, ◌≤◌, ◌^◌, ◌++◌, ◌||◌, Bool, true, false, if◌then◌else◌, List, [], ◌∷◌, Option, Some, None, length, slice_get, codes, arith, refl, sym, ap, ◌∙◌, subst, length-append, append_assoc, append-nil, cases_lt, Decides-int_eq, int_eq, spelling, NAME_BYTES, fits-pos, label_word, natural_word, byte_words, case_words, global_words, stmt_words, IsLabel, IsGlobal, AreBytes, AreCases, IsStmt, BeginsStmt, has_value, owner_words, IsOwner, switch_words, entries_words, partial_words, is_short, IsPartialStmt, ArePartialCases, ArePartialEntries, part_words, IsPartialPart, Case, GlobalEntry, Stmt, keyword_text, context_of, misplaced, Keyword, Partial, Owner, Stmt as stmt, VariableKind as kinds, Keyword as keywords, Partial as begun, Owner as owners, cases_Bool, cond-true, cond-false}
 
 -- a whole statement that goes on behind these words
 pub record GoesOn (part : List (List ℕ)) : Type 0 where

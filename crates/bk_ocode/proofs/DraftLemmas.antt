@@ -1,6 +1,5 @@
 -- Labels of a switch and of globals, and the context of statements, one statement more.
-use Rattle.bk_ocode.proofs.Terms.{append-nil, ◌≡◌, ℕ, ◌+◌, ◌-◌, ◌<◌, ◌≤◌, ◌++◌, ◌||◌, ◌&&◌, Bool, true, false, is_some, get_or, take, not, nat_lt, nat_le, List, [], ◌∷◌, None, length, map, arith, refl, sym, ap, ◌∙◌, ltb-false, leb-false, list_all, list_any, map-append, take_more, FRAME_WORDS, OCODE_STATEMENTS, OCODE_WORDS, stmt_words, next_depth, position_after, Context, at_start, changed, all_changed, label_followed, labels_named, start_from, start_after, after, after_all, context_of, is_lab_from, is_other_lab, jumps_set, result_named, own_disagrees, is_entry, data_set, label_not_set, fault_in, Position, LabelUse, Case, GlobalEntry, Stmt, Entry, Switch, Globals, or_parts}
-use Rattle.bk_ocode.proofs.Depths.{keeps_in}
+use Rattle.bk_ocode.proofs.Depths.{keeps_in, append-nil, ◌≡◌, ℕ, ◌+◌, ◌-◌, ◌<◌, ◌≤◌, ◌++◌, ◌||◌, ◌&&◌, Bool, true, false, is_some, get_or, take, not, nat_lt, nat_le, List, [], ◌∷◌, None, length, map, arith, refl, sym, ap, ◌∙◌, ltb-false, leb-false, list_all, list_any, map-append, take_more, FRAME_WORDS, OCODE_STATEMENTS, OCODE_WORDS, stmt_words, next_depth, position_after, Context, at_start, changed, all_changed, label_followed, labels_named, start_from, start_after, after, after_all, context_of, is_lab_from, is_other_lab, jumps_set, result_named, own_disagrees, is_entry, data_set, label_not_set, fault_in, Position, LabelUse, Case, GlobalEntry, Stmt, Entry, Switch, Globals, or_parts}
 
 any-map : {X : Type 0} (f : ℕ → Bool) (g : X → ℕ) (xs : List X) → list_any (λ x. f (g x)) xs ≡ list_any f (map g xs)
 any-map f g [] = refl

@@ -1,6 +1,5 @@
 -- What steps write goes behind what was written, and what they read comes from the front; and each comes nearer to a rest.
-use Rattle.bk_ocode.proofs.Terms.{◌≡◌, ℕ, List, [], ◌∷◌, ◌++◌, Option, None, refl, sym, ◌∙◌, ap, subst, append-nil, ⊤, word_sum, byte_distance, Content, Variable, Held, write, byte_at, word_with_byte_at, string_at, Callables, Routine, Stop, Rdch, Wrch, Newline, Writes, Writen, Writed, Getbyte, Putbyte, Writef, Control, Inside, Following, At, State, Next, Goes, Ends, Wild, slot, return, tells, read_byte, routine_step, step_in, step_from, KeepsNext, Grown, StepsGrow, EndsKeepBytes}
-use Rattle.bk_ocode.proofs.Chosen.{on_number-holds, on_some-holds}
+use Rattle.bk_ocode.proofs.Chosen.{on_number-holds, on_some-holds, ◌≡◌, ℕ, List, [], ◌∷◌, ◌++◌, Option, None, refl, sym, ◌∙◌, ap, subst, append-nil, ⊤, word_sum, byte_distance, Content, Variable, Held, write, byte_at, word_with_byte_at, string_at, Callables, Routine, Stop, Rdch, Wrch, Newline, Writes, Writen, Writed, Getbyte, Putbyte, Writef, Control, Inside, Following, At, State, Next, Goes, Ends, Wild, slot, return, tells, read_byte, routine_step, step_in, step_from, KeepsNext, Grown, StepsGrow, EndsKeepBytes}
 use Rattle.bk_ocode.proofs.StepKeeps.{step_keeps_below}
 
 abbrev GrowsNext : State → Next → Type 0

@@ -1,6 +1,5 @@
 -- A jump finds its label with the depth that it has.
-use Rattle.bk_ocode.proofs.Terms.{◌≡◌, ◌≢◌, ℕ, zero, suc, ◌+◌, ◌-◌, ◌<◌, ◌==◌, Bool, true, false, not, ◌||◌, List, [], ◌∷◌, Some, None, take, slice_get, refl, sym, ◌∙◌, ap, subst, arith, if◌then◌else◌, inl, inr, eq-eqb, eqb-true, next_depth, depth_after, label_set, jump_labels, Context, at_start, changed, all_changed, with_depth, jumped, set_by, label_followed, after, after_all, context_of, AreFaultless, Setting, JumpDepths, LabelUse, Stmt, Jump, JumpIf, Label, Switch, is_other_lab, are_other_jumps, jumps_disagree, result_named, follows_badly, own_disagrees, fault_in, jump_depth, IsAmong, JumpHasItsLabelsDepth, Setting as setting, JumpDepths as jumps, not-false, or_parts}
-use Rattle.bk_ocode.proofs.Depths.{keeps_in, context-depth}
+pub use Rattle.bk_ocode.proofs.Depths.{keeps_in, context-depth, ◌≡◌, ◌≢◌, ℕ, zero, suc, ◌+◌, ◌-◌, ◌<◌, ◌==◌, Bool, true, false, not, ◌||◌, List, [], ◌∷◌, Some, None, take, slice_get, refl, sym, ◌∙◌, ap, subst, arith, if◌then◌else◌, inl, inr, eq-eqb, eqb-true, next_depth, depth_after, label_set, jump_labels, Context, at_start, changed, all_changed, with_depth, jumped, set_by, label_followed, after, after_all, context_of, AreFaultless, Setting, JumpDepths, LabelUse, Stmt, Jump, JumpIf, Label, Switch, is_other_lab, are_other_jumps, jumps_disagree, result_named, follows_badly, own_disagrees, fault_in, jump_depth, IsAmong, JumpHasItsLabelsDepth, Setting as setting, JumpDepths as jumps, not-false, or_parts, ◌≤◌, ◌++◌, drop, ◌⊎◌, list_all, result_label, may_stand, position_after, start_after, mentioned, misplaced, is_lab_from, jumps_set, label_not_set, IsSection, JumpFindsItsLabel, ResultFindsItsLabel, Position, Outer, Datum, GiveResult, Entry, EndProcedure, DataLabel, DataNumber, DataAddress, Globals, and_parts, Keeps, cond, Option, length, is_some, ne_eqb, append_assoc, append-nil, length-append, ℤ, list_any, drop-append_seam, FRAME_WORDS, OCODE_STATEMENTS, OCODE_WORDS, OcodeKind, Body, Taker, Last, GlobalEntry, Static, Load, Address, Assign, TakeResult, Save, ReturnItem, Return, stmt_words, least_depth, followed, data_labels, item_label, global_labels, role, IsDepth, InRange, is_data, is_entry, data_set, is_set, over, left_after, is_badly_followed, not_followed, depths_disagree, too_long, text_size, Use, unused, jumps, results, word, entry, Standing, outside, body, ended, AllJump, AllEntries, Agrees, Fits, Typed, done, enters, goes, lands, takes, returns, gives, begins, holds, points, ends, sets, times_set, TypedIsSection, le-ltb, lt-leb, le-leb, and_from, or_from, ⊤, at_seam, get-append, nat_le, nat_lt, leb-false, ltb-false, DataFindsItsLabel, ItemFindsItsLabel, GlobalFindsItsEntry, GlobalIsLast, TextIsShort, StmtPlace, same_Some, or_cases, take-append_seam}
 use Rattle.bk_ocode.proofs.LabelsOnce.{order, slice_get-take, not_before, Preserves, all_changed_keeps, after_keeps}
 
 -- a statement that does not set the label keeps what set it

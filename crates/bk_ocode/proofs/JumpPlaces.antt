@@ -1,8 +1,6 @@
 -- A jump finds a LAB of its label in the section.
-use Rattle.bk_ocode.proofs.Terms.{◌≡◌, ◌≢◌, ℕ, zero, suc, ◌+◌, ◌<◌, ◌≤◌, ◌==◌, Bool, true, false, not, List, [], ◌∷◌, ◌++◌, Some, None, take, drop, slice_get, refl, sym, ◌∙◌, ap, subst, arith, inl, inr, ◌⊎◌, eqb-true, eq-eqb, list_all, jump_labels, result_label, may_stand, position_after, Context, at_start, start_after, changed, mentioned, set_by, label_followed, after, after_all, context_of, misplaced, is_lab_from, jumps_set, label_not_set, IsSection, IsAmong, JumpFindsItsLabel, ResultFindsItsLabel, Position, Outer, Datum, Setting, Stmt, Jump, JumpIf, Label, GiveResult, Entry, EndProcedure, Switch, DataLabel, DataNumber, DataAddress, Globals, Position as position, Setting as setting, and_parts, not-false}
-use Rattle.bk_ocode.proofs.Depths.{keeps_in}
 use Rattle.bk_ocode.proofs.LabelsOnce.{slice_get-take}
-use Rattle.bk_ocode.proofs.JumpDepths.{after-same, chosen, taken_from}
+use Rattle.bk_ocode.proofs.JumpDepths.{after-same, chosen, taken_from, keeps_in, ◌≡◌, ◌≢◌, ℕ, zero, suc, ◌+◌, ◌<◌, ◌≤◌, ◌==◌, Bool, true, false, not, List, [], ◌∷◌, ◌++◌, Some, None, take, drop, slice_get, refl, sym, ◌∙◌, ap, subst, arith, inl, inr, ◌⊎◌, eqb-true, eq-eqb, list_all, jump_labels, result_label, may_stand, position_after, Context, at_start, start_after, changed, mentioned, set_by, label_followed, after, after_all, context_of, misplaced, is_lab_from, jumps_set, label_not_set, IsSection, IsAmong, JumpFindsItsLabel, ResultFindsItsLabel, Position, Outer, Datum, Setting, Stmt, Jump, JumpIf, Label, GiveResult, Entry, EndProcedure, Switch, DataLabel, DataNumber, DataAddress, Globals, Position as position, Setting as setting, and_parts, not-false}
 
 -- in a procedure
 abbrev pub Within : Position → Bool

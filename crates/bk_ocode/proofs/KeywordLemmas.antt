@@ -1,6 +1,5 @@
 -- The words that begin statements are known again.
-use Rattle.bk_ocode.proofs.Terms.{◌≡◌, ◌≢◌, ℕ, ◌-◌, is_blank, List, Option, Bool, true, not, ◌&&◌, nat_lt, ◌≤◌, ◌<◌, length, arith, ltb-true, Some, refl, sym, ap, ◌∙◌, list_all, keyword, role, may_stand, Context, misplaced, StmtPlace, keyword_text, candidate_with, keyword_of_stmt, keyword_role, Stmt, Keyword, Stmt as stmt, VariableKind as kinds, and_parts}
-use Rattle.std.proofs.Common.{slice_index}
+use Rattle.bk_ocode.proofs.Terms.{◌≡◌, ◌≢◌, ℕ, ◌-◌, is_blank, List, Option, Bool, true, not, ◌&&◌, nat_lt, ◌≤◌, ◌<◌, length, arith, ltb-true, Some, refl, sym, ap, ◌∙◌, list_all, keyword, role, may_stand, Context, misplaced, StmtPlace, keyword_text, candidate_with, keyword_of_stmt, keyword_role, Stmt, Keyword, Stmt as stmt, VariableKind as kinds, and_parts, slice_index}
 use Rattle.bk_ocode.specs.declared.stmt.Variable.TheVariants as variable
 use Rattle.bk_ocode.specs.declared.stmt.Monadic.TheVariants as monadic
 use Rattle.bk_ocode.specs.declared.stmt.Dyadic.TheVariants as dyadic

@@ -1,8 +1,6 @@
 -- Each label that is used is set, by the right kind of statement; and texts are short.
-use Rattle.bk_ocode.proofs.Terms.{◌≡◌, ◌⊎◌, inl, inr, ℕ, zero, suc, ◌+◌, ◌≤◌, nat_le, nat_lt, Bool, true, false, not, ◌||◌, ◌==◌, List, [], ◌∷◌, ◌++◌, length, take, slice_get, Some, None, refl, sym, ◌∙◌, ap, subst, arith, leb-false, ltb-false, list_all, FRAME_WORDS, OCODE_STATEMENTS, OCODE_WORDS, stmt_words, next_depth, data_labels, item_label, global_labels, role, may_stand, position_after, Context, at_start, after, after_all, context_of, is_data, is_entry, data_set, label_not_set, too_long, AreFaultless, IsSection, text_size, IsAmong, DataFindsItsLabel, ItemFindsItsLabel, GlobalFindsItsEntry, GlobalIsLast, TextIsShort, StmtPlace, Outer, Setting, GlobalEntry, Stmt, Label, Entry, DataLabel, DataAddress, Globals, Position as position, Setting as setting, same_Some, and_parts, not-false, or_cases, or_parts, take-append_seam}
 use Rattle.bk_ocode.proofs.CaseLemmas.{at_push}
-use Rattle.bk_ocode.proofs.Depths.{keeps_in, at_seam, get-append}
-use Rattle.bk_ocode.proofs.JumpDepths.{after-same, after-label}
+use Rattle.bk_ocode.proofs.JumpDepths.{after-same, after-label, keeps_in, at_seam, get-append, ◌≡◌, ◌⊎◌, inl, inr, ℕ, zero, suc, ◌+◌, ◌≤◌, nat_le, nat_lt, Bool, true, false, not, ◌||◌, ◌==◌, List, [], ◌∷◌, ◌++◌, length, take, slice_get, Some, None, refl, sym, ◌∙◌, ap, subst, arith, leb-false, ltb-false, list_all, FRAME_WORDS, OCODE_STATEMENTS, OCODE_WORDS, stmt_words, next_depth, data_labels, item_label, global_labels, role, may_stand, position_after, Context, at_start, after, after_all, context_of, is_data, is_entry, data_set, label_not_set, too_long, AreFaultless, IsSection, text_size, IsAmong, DataFindsItsLabel, ItemFindsItsLabel, GlobalFindsItsEntry, GlobalIsLast, TextIsShort, StmtPlace, Outer, Setting, GlobalEntry, Stmt, Label, Entry, DataLabel, DataAddress, Globals, Position as position, Setting as setting, same_Some, and_parts, not-false, or_cases, or_parts, take-append_seam}
 use Rattle.bk_ocode.proofs.JumpPlaces.{all_at, among_all, dec_by, after-entry, after-data}
 
 -- the last statement of a section

@@ -1,7 +1,6 @@
 -- Labels are set once.
-use Rattle.bk_ocode.proofs.Terms.{◌≡◌, ◌≢◌, ℕ, zero, suc, ◌-◌, ◌<◌, ◌==◌, Bool, true, false, List, [], ◌∷◌, Some, None, take, drop, slice_get, refl, sym, ◌∙◌, ap, subst, arith, if◌then◌else◌, ◌⊎◌, eq-eqb, ne_eqb, label_set, jump_labels, other_labels, Context, at_start, changed, all_changed, jumped, given, mentioned, set_by, followed, what_follows, label_followed, labels_named, after, after_all, context_of, is_set, set_again, AreFaultless, is_label, from_label, LabelsAreSetOnce, LabelHasOnePlace, Position, LabelUse, Stmt, Load, Address, Assign, Jump, JumpIf, Label, GiveResult, Entry, Switch, DataLabel, DataAddress, Position as position, Setting as setting, Setting, eqb-true}
 use Rattle.bk_ocode.specs.declared.standing.Following.{Following}
-use Rattle.bk_ocode.proofs.Depths.{keeps_in}
+use Rattle.bk_ocode.proofs.Depths.{keeps_in, ◌≡◌, ◌≢◌, ℕ, zero, suc, ◌-◌, ◌<◌, ◌==◌, Bool, true, false, List, [], ◌∷◌, Some, None, take, drop, slice_get, refl, sym, ◌∙◌, ap, subst, arith, if◌then◌else◌, ◌⊎◌, eq-eqb, ne_eqb, label_set, jump_labels, other_labels, Context, at_start, changed, all_changed, jumped, given, mentioned, set_by, followed, what_follows, label_followed, labels_named, after, after_all, context_of, is_set, set_again, AreFaultless, is_label, from_label, LabelsAreSetOnce, LabelHasOnePlace, Position, LabelUse, Stmt, Load, Address, Assign, Jump, JumpIf, Label, GiveResult, Entry, Switch, DataLabel, DataAddress, Position as position, Setting as setting, Setting, eqb-true}
 
 -- a property of one label's use that a change keeps
 abbrev pub Preserves : (LabelUse → Type 0) → (LabelUse → LabelUse) → Type 0

@@ -1,6 +1,5 @@
 -- Each step comes to a rest, or nearer to one.
-use Rattle.bk_ocode.proofs.Terms.{◌≡◌, ◌⊎◌, inl, inr, ℕ, suc, ◌+◌, ◌-◌, ◌<◌, ◌≤◌, ◌^◌, ◌==◌, nat_lt, Bool, true, false, List, [], ◌∷◌, length, Option, Some, None, refl, sym, ◌∙◌, ap, subst, arith, if◌then◌else◌, ⊤, Content, variable_at, byte_at, word_with_byte_at, Placed, Callables, Routine, Control, Inside, Following, At, State, Next, Goes, Ends, Wild, is_label, slot, on_some, operated, named_place, has_word, from_label, jump, jump_with, case_label, can_be_called, call, return, dyadic_word, routine_step, step_by, step_in, step_from, IsAtRest, statements_left, steps_left, StepsComeNearer, Contents, Negate, Not, Stmt, Number, True, False, Query, Load, Address, Text, Monadic, Dyadic, LoadByte, Assign, AssignAt, AssignByte, Jump, JumpIf, Label, GiveResult, TakeResult, Stack, Store, Entry, Save, CallFunction, CallRoutine, ReturnItem, Return, Switch, Finish}
-use Rattle.bk_ocode.proofs.Chosen.{on_number-holds, on_some-holds, if-holds}
+use Rattle.bk_ocode.proofs.Chosen.{on_number-holds, on_some-holds, if-holds, ◌≡◌, ◌⊎◌, inl, inr, ℕ, suc, ◌+◌, ◌-◌, ◌<◌, ◌≤◌, ◌^◌, ◌==◌, nat_lt, Bool, true, false, List, [], ◌∷◌, length, Option, Some, None, refl, sym, ◌∙◌, ap, subst, arith, if◌then◌else◌, ⊤, Content, variable_at, byte_at, word_with_byte_at, Placed, Callables, Routine, Control, Inside, Following, At, State, Next, Goes, Ends, Wild, is_label, slot, on_some, operated, named_place, has_word, from_label, jump, jump_with, case_label, can_be_called, call, return, dyadic_word, routine_step, step_by, step_in, step_from, IsAtRest, statements_left, steps_left, StepsComeNearer, Contents, Negate, Not, Stmt, Number, True, False, Query, Load, Address, Text, Monadic, Dyadic, LoadByte, Assign, AssignAt, AssignByte, Jump, JumpIf, Label, GiveResult, TakeResult, Stack, Store, Entry, Save, CallFunction, CallRoutine, ReturnItem, Return, Switch, Finish}
 use Rattle.bk_ocode.proofs.SoundRests.{steps_are_sound}
 
 abbrev Nearer : ℕ → Next → Type 0

@@ -1,10 +1,9 @@
 -- With a word that is unfit no statement goes on.
-use Rattle.bk_ocode.proofs.Terms.{◌≡◌, ◌≢◌, inl, inr, ℕ, zero, suc, ℤ, FitsSigned, w32, ◌<◌, ◌≤◌, ◌^◌, ◌++◌, true, false, List, [], ◌∷◌, Some, None, length, slice_get, arith, refl, sym, ap, ◌∙◌, append_assoc, append-nil, Decides-int_eq, slice_get_within, int_eq, spelling, NAME_BYTES, keyword, argument_words, stmt_words, natural_word, label_word, variable_word, byte_words, case_words, global_words, IsLabel, IsVariable, AreCases, IsStmt, kind_of, keyword_text, keyword_of_stmt, has_value, owner_words, partial_words, is_short, IsPartialStmt, NoNatural, NoLabel, NoVariable, NoArgument, IsUnfit, BeginNone, Case, GlobalEntry, Stmt, Keyword, Partial, Owner, Stmt as stmt, Keyword as keywords, Partial as begun, Owner as owners, cases_Bool}
 use Rattle.bk_ocode.specs.declared.stmt.Variable.{Variable}
 use Rattle.bk_ocode.specs.declared.stmt.Variable.TheVariants as variable
 use Rattle.bk_ocode.proofs.KeywordLemmas.{begins_so, same_keyword}
 use Rattle.bk_ocode.proofs.Completions.{or-second}
-use Rattle.bk_ocode.proofs.Depths.{at_seam, get-append}
+use Rattle.bk_ocode.proofs.Depths.{at_seam, get-append, ◌≡◌, ◌≢◌, inl, inr, ℕ, zero, suc, ℤ, FitsSigned, w32, ◌<◌, ◌≤◌, ◌^◌, ◌++◌, true, false, List, [], ◌∷◌, Some, None, length, slice_get, arith, refl, sym, ap, ◌∙◌, append_assoc, append-nil, Decides-int_eq, slice_get_within, int_eq, spelling, NAME_BYTES, keyword, argument_words, stmt_words, natural_word, label_word, variable_word, byte_words, case_words, global_words, IsLabel, IsVariable, AreCases, IsStmt, kind_of, keyword_text, keyword_of_stmt, has_value, owner_words, partial_words, is_short, IsPartialStmt, NoNatural, NoLabel, NoVariable, NoArgument, IsUnfit, BeginNone, Case, GlobalEntry, Stmt, Keyword, Partial, Owner, Stmt as stmt, Keyword as keywords, Partial as begun, Owner as owners, cases_Bool}
 use Rattle.bk_ocode.proofs.SameStmts.{first_same, rests_same, natural_same, Each, byte_row, case_row, global_row, IsByte, IsCase, IsEntry, byte_rows, case_rows, global_rows, next_row}
 
 no_variable : (v : Variable) (w : List ℕ) → IsVariable v → NoVariable (kind_of v) w → variable_word v ≢ w

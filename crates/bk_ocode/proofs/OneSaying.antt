@@ -1,6 +1,5 @@
 -- The words of a text say one thing.
-use Rattle.bk_ocode.proofs.Terms.{◌≡◌, ◌≢◌, ◌⊎◌, inl, inr, ℕ, ◌+◌, ◌<◌, ◌≤◌, ◌++◌, true, false, List, [], ◌∷◌, Some, None, length, take, slice_get, if◌then◌else◌, arith, refl, sym, ap, ◌∙◌, subst, append_assoc, append-nil, length-append, cases_lt, take-append_seam, OCODE_WORDS, OcodeKind, BadWord, BadNumber, Truncated, LabelNotSet, LabelSetTwice, DepthsDisagree, SlotAboveDepth, TooLong, keyword, argument_words, stmt_words, section_words, AreTyped, context_of, misplaced, stmt_fault, AreFaultless, IsSection, IsStmt, IsPartial, BeginsStmt, IsBadWord, IsBadNumber, BreaksRule, PassesWords, FaultOf, FaultAt, CutAt, section, nothing, fault, Says, SayOneThing, Outside, Ended, Stmt}
-use Rattle.bk_ocode.proofs.Depths.{keeps_in, at_seam}
+use Rattle.bk_ocode.proofs.Depths.{keeps_in, at_seam, ◌≡◌, ◌≢◌, ◌⊎◌, inl, inr, ℕ, ◌+◌, ◌<◌, ◌≤◌, ◌++◌, true, false, List, [], ◌∷◌, Some, None, length, take, slice_get, if◌then◌else◌, arith, refl, sym, ap, ◌∙◌, subst, append_assoc, append-nil, length-append, cases_lt, take-append_seam, OCODE_WORDS, OcodeKind, BadWord, BadNumber, Truncated, LabelNotSet, LabelSetTwice, DepthsDisagree, SlotAboveDepth, TooLong, keyword, argument_words, stmt_words, section_words, AreTyped, context_of, misplaced, stmt_fault, AreFaultless, IsSection, IsStmt, IsPartial, BeginsStmt, IsBadWord, IsBadNumber, BreaksRule, PassesWords, FaultOf, FaultAt, CutAt, section, nothing, fault, Says, SayOneThing, Outside, Ended, Stmt}
 use Rattle.bk_ocode.proofs.DraftLemmas.{fits_behind}
 use Rattle.bk_ocode.proofs.FaultLemmas.{words_tally}
 use Rattle.bk_ocode.proofs.Rows.{joined-append}

@@ -1,6 +1,5 @@
 -- What a plan says of labels stays true of what is known of them, statement by statement.
-use Rattle.bk_ocode.proofs.Terms.{arith, ◌≡◌, ℕ, ◌-◌, ◌≤◌, false, Option, Some, None, List, [], ◌∷◌, refl, sym, subst, if◌then◌else◌, eqb-true, eq-eqb, JumpDepths, LabelUse, Position, Outer, Body, Datum, Setting, Static, Stmt, Load, Address, Assign, Jump, JumpIf, Label, GiveResult, Entry, Switch, DataLabel, DataAddress, changed, all_changed, with_depth, jumped, given, least_result, mentioned, followed, what_follows, label_followed, labels_named, jump_labels, role, Use, unused, jumps, results, word, entry, AllJump, Agrees, JumpDepths as came, Position as position, Setting as setting}
-use Rattle.std.specs.Bool.{⊤}
+use Rattle.bk_ocode.proofs.Terms.{arith, ◌≡◌, ℕ, ◌-◌, ◌≤◌, false, Option, Some, None, List, [], ◌∷◌, refl, sym, subst, if◌then◌else◌, eqb-true, eq-eqb, JumpDepths, LabelUse, Position, Outer, Body, Datum, Setting, Static, Stmt, Load, Address, Assign, Jump, JumpIf, Label, GiveResult, Entry, Switch, DataLabel, DataAddress, changed, all_changed, with_depth, jumped, given, least_result, mentioned, followed, what_follows, label_followed, labels_named, jump_labels, role, Use, unused, jumps, results, word, entry, AllJump, Agrees, JumpDepths as came, Position as position, Setting as setting, ⊤}
 use Rattle.bk_ocode.specs.declared.standing.Following.{Following}
 use Rattle.bk_ocode.specs.declared.standing.Following.TheVariants as following
 

@@ -1,7 +1,6 @@
 -- What a text says, one word after another.
-use Rattle.bk_ocode.proofs.Terms.{◌≡◌, ◌≢◌, inl, inr, ℕ, ◌+◌, ◌<◌, ◌≤◌, ◌++◌, Bool, IsTrue, List, [], ◌∷◌, Option, Some, None, length, take, arith, refl, sym, ◌∙◌, ap, subst, length-append, append_assoc, append-nil, take-append-le, take-append_seam, Consumes, INPUT_BYTES, OCODE_STATEMENTS, AtEnd, Holds, IsNextWord, TakesWords, TakesSome, Reads, ReadsAll, Reads-word, Reads-end, stmt_words, section_words, InRange, IsTyped, AreTyped, context_of, stmt_fault, AreFaultless, IsSection, IsPartial, IsStmt, Takes, GivesSection, GivesNothing, Ended, Stmt}
 use Rattle.bk_words.specs.declared.words.Gathered.{Gathered}
-use Rattle.bk_ocode.proofs.CaseLemmas.{at_push}
+use Rattle.bk_ocode.proofs.CaseLemmas.{at_push, ◌≡◌, ◌≢◌, inl, inr, ℕ, ◌+◌, ◌<◌, ◌≤◌, ◌++◌, Bool, IsTrue, List, [], ◌∷◌, Option, Some, None, length, take, arith, refl, sym, ◌∙◌, ap, subst, length-append, append_assoc, append-nil, take-append-le, take-append_seam, Consumes, INPUT_BYTES, OCODE_STATEMENTS, AtEnd, Holds, IsNextWord, TakesWords, TakesSome, Reads, ReadsAll, Reads-word, Reads-end, stmt_words, section_words, InRange, IsTyped, AreTyped, context_of, stmt_fault, AreFaultless, IsSection, IsPartial, IsStmt, Takes, GivesSection, GivesNothing, Ended, Stmt}
 use Rattle.bk_ocode.proofs.Rows.{joined-append}
 use Rattle.bk_ocode.proofs.DraftLemmas.{fits_behind}
 use Rattle.bk_ocode.proofs.SameStmts.{none_of}

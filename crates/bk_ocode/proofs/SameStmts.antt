@@ -1,9 +1,8 @@
 -- Words stand for one statement, and no statement's words begin those of another.
-use Rattle.bk_ocode.proofs.Terms.{◌≡◌, ℕ, suc, ℤ, FitsSigned, w32, ◌<◌, ◌≤◌, ◌^◌, ◌++◌, Bool, List, [], ◌∷◌, Some, length, slice_get, arith, refl, sym, ap, ◌∙◌, append_assoc, append-nil, length-append, spelling, mag-fits, rest_same, joined, keyword, argument_words, stmt_words, natural_word, label_word, variable_word, case_words, IsLabel, IsGlobal, IsVariable, IsStmt, kind_of, keyword_of_stmt, Case, GlobalEntry, Stmt, Stmt as stmt}
 use Rattle.std.proofs.lemmas.Fmt.{decimal_injective, signed_decimal_injective}
 use Rattle.bk_ocode.specs.declared.stmt.Variable.{Variable}
 use Rattle.bk_ocode.specs.declared.stmt.Variable.TheVariants as variable
-use Rattle.bk_ocode.proofs.Depths.{at_seam}
+use Rattle.bk_ocode.proofs.Depths.{at_seam, ◌≡◌, ℕ, suc, ℤ, FitsSigned, w32, ◌<◌, ◌≤◌, ◌^◌, ◌++◌, Bool, List, [], ◌∷◌, Some, length, slice_get, arith, refl, sym, ap, ◌∙◌, append_assoc, append-nil, length-append, spelling, mag-fits, rest_same, joined, keyword, argument_words, stmt_words, natural_word, label_word, variable_word, case_words, IsLabel, IsGlobal, IsVariable, IsStmt, kind_of, keyword_of_stmt, Case, GlobalEntry, Stmt, Stmt as stmt}
 use Rattle.bk_ocode.proofs.KeywordLemmas.{begins_so, same_keyword}
 
 pub first_same : (v w : List ℕ) (s t : List (List ℕ)) → v ∷ s ≡ w ∷ t → v ≡ w

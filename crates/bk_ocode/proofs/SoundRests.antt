@@ -1,7 +1,6 @@
 -- Each step keeps what the states of a run keep, and so does going on from a rest.
-use Rattle.bk_ocode.proofs.Terms.{◌≡◌, ◌⊎◌, inl, inr, ℕ, zero, suc, ◌+◌, ◌≤◌, Bool, true, false, not, List, [], ◌∷◌, ◌++◌, length, take, slice_get, Option, Some, None, refl, sym, ◌∙◌, ap, subst, arith, append_assoc, word_sum, byte_distance, next_depth, depth_after, least_depth, InRange, may_stand, Context, at_start, after, after_all, context_of, misplaced, AreFaultless, Content, Variable, Temporary, Held, write, byte_at, word_with_byte_at, string_at, Placement, Placed, Routine, Stop, Rdch, Wrch, Newline, Writes, Writen, Writed, Getbyte, Putbyte, Writef, Control, Inside, Following, At, State, Next, Goes, Wild, rest_place, slot, on_some, return, tells, read_byte, routine_step, step_in, step_from, step, Rest, rest_of, or_rest, rests, rests_of, in_hand, kept, resumed_by, resumed, Program, HasFrames, IsProgram, Applies, IsOwn, IsControl, Sound, SoundStep, StepsAreSound, ResumingIsSound, Position, Body, Local, Stmt, Number, True, False, Query, Load, Address, Text, Assign, Jump, JumpIf, Label, TakeResult, Stack, Store, Entry, Save, CallFunction, CallRoutine, Return, EndProcedure, Switch, Finish, DataLabel, DataNumber, DataAddress, Globals, Position as position, same_Some, not-false, take-append_seam, take-append-le, slice_get_within}
 use Rattle.bk_ocode.proofs.Chosen.{on_number-holds, on_some-holds}
-use Rattle.bk_ocode.proofs.Depths.{keeps_in, context-depth, depth_after-append, depths_suffice, at_seam, get-append}
+use Rattle.bk_ocode.proofs.Depths.{keeps_in, context-depth, depth_after-append, depths_suffice, at_seam, get-append, ◌≡◌, ◌⊎◌, inl, inr, ℕ, zero, suc, ◌+◌, ◌≤◌, Bool, true, false, not, List, [], ◌∷◌, ◌++◌, length, take, slice_get, Option, Some, None, refl, sym, ◌∙◌, ap, subst, arith, append_assoc, word_sum, byte_distance, next_depth, depth_after, least_depth, InRange, may_stand, Context, at_start, after, after_all, context_of, misplaced, AreFaultless, Content, Variable, Temporary, Held, write, byte_at, word_with_byte_at, string_at, Placement, Placed, Routine, Stop, Rdch, Wrch, Newline, Writes, Writen, Writed, Getbyte, Putbyte, Writef, Control, Inside, Following, At, State, Next, Goes, Wild, rest_place, slot, on_some, return, tells, read_byte, routine_step, step_in, step_from, step, Rest, rest_of, or_rest, rests, rests_of, in_hand, kept, resumed_by, resumed, Program, HasFrames, IsProgram, Applies, IsOwn, IsControl, Sound, SoundStep, StepsAreSound, ResumingIsSound, Position, Body, Local, Stmt, Number, True, False, Query, Load, Address, Text, Assign, Jump, JumpIf, Label, TakeResult, Stack, Store, Entry, Save, CallFunction, CallRoutine, Return, EndProcedure, Switch, Finish, DataLabel, DataNumber, DataAddress, Globals, Position as position, same_Some, not-false, take-append_seam, take-append-le, slice_get_within}
 use Rattle.bk_ocode.proofs.JumpPlaces.{Within}
 use Rattle.bk_ocode.proofs.SoundSteps.{byte_there, Running, changed, slot-changes, variable-changes, inside, StaysNext, ReturnsNext, return-returns, step-stays}
 

@@ -1,8 +1,7 @@
 -- The first state of a program keeps what the states of a run keep.
-use Rattle.bk_ocode.proofs.Terms.{◌≡◌, inl, ℕ, suc, ◌-◌, ◌<◌, ◌≤◌, ◌==◌, Bool, true, false, ◌||◌, List, [], ◌∷◌, ◌++◌, fold, map, slice_get, Option, Some, None, refl, sym, ◌∙◌, ap, subst, arith, eqb-true, eq-eqb, ne_eqb, if◌then◌else◌, ⊤, option_map, option_map_or, GLOBAL_NUMBER, InRange, AreFaultless, number_in, Unset, Word, Variable, Link, Cell, Free, Held, content_of, Placement, Placed, At, State, global_place, Program, all_data, all_globals, is_global, unset_cells, with_global, first_cells, start, IsHeld, is_usable, Sound, FirstStateIsSound, GlobalEntry, Stmt, Globals, or_right}
 use Rattle.bk_ocode.specs.SectionData.{Datum, is_in, is_datum, datum_word, GlobalSetting, entry_setting, stmt_globals, globals_of}
 use Rattle.bk_ocode.specs.Library.{library_globals}
-use Rattle.bk_ocode.proofs.Chosen.{chosen-true, chosen-false, write-kept}
+use Rattle.bk_ocode.proofs.Chosen.{chosen-true, chosen-false, write-kept, ◌≡◌, inl, ℕ, suc, ◌-◌, ◌<◌, ◌≤◌, ◌==◌, Bool, true, false, ◌||◌, List, [], ◌∷◌, ◌++◌, fold, map, slice_get, Option, Some, None, refl, sym, ◌∙◌, ap, subst, arith, eqb-true, eq-eqb, ne_eqb, if◌then◌else◌, ⊤, option_map, option_map_or, GLOBAL_NUMBER, InRange, AreFaultless, number_in, Unset, Word, Variable, Link, Cell, Free, Held, content_of, Placement, Placed, At, State, global_place, Program, all_data, all_globals, is_global, unset_cells, with_global, first_cells, start, IsHeld, is_usable, Sound, FirstStateIsSound, GlobalEntry, Stmt, Globals, or_right}
 use Rattle.bk_ocode.proofs.SoundSteps.{global_usable, mapped}
 
 -- ---- settings of globals that there are

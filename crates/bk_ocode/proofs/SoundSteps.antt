@@ -1,7 +1,6 @@
 -- What the states of a run keep is kept by each step, and by going on from a rest.
-use Rattle.bk_ocode.proofs.Terms.{◌≡◌, ◌⊎◌, inl, inr, ℕ, zero, suc, ◌+◌, ◌-◌, ◌<◌, ◌≤◌, ◌^◌, ◌==◌, nat_lt, Bool, true, false, List, [], ◌∷◌, ◌++◌, length, take, slice_get, Option, Some, None, refl, sym, ◌∙◌, ap, subst, arith, eqb-true, eq-eqb, le-leb, nat_le, ◌&&◌, ◌||◌, if◌then◌else◌, append_assoc, ⊤, ◌%◌, option_map, word_sum, byte_distance, byte_place, FRAME_WORDS, GLOBAL_NUMBER, next_depth, depth_after, largest_after, largest_depth, least_depth, assign_depth, InRange, AreFaultless, Content, Word, Variable, Temporary, Link, Cell, Held, content_of, with_byte, write, below, settle, variable_in, variable_at, number_in, byte_at, word_with_byte_at, Placement, Placed, Inside, At, State, Next, Goes, Ends, Wild, global_place, is_label, slot, on, push, operated, named_place, has_word, from_label, jump, jump_with, case_label, can_be_called, call, return, dyadic_word, step_by, Rest, rest_of, or_rest, rests, rests_of, IsAtRest, Program, is_datum, all_data, HasFrames, start, called, IsHeld, is_usable, IsOpening, Applies, IsOwn, IsControl, Sound, Local, Global, Static, Contents, Negate, Not, Stmt, Number, True, False, Query, Load, Address, Text, Monadic, Dyadic, LoadByte, Assign, AssignAt, AssignByte, Jump, JumpIf, Label, GiveResult, TakeResult, Stack, Store, Entry, Save, CallFunction, CallRoutine, ReturnItem, Return, Switch, Finish, take-append_seam}
 use Rattle.bk_ocode.specs.declared.stmt.Variable.{Variable as Named}
-use Rattle.bk_ocode.proofs.Chosen.{below-kept, write-kept, write-there, settle-kept, on_number-holds, on_some-holds, if-holds}
+use Rattle.bk_ocode.proofs.Chosen.{below-kept, write-kept, write-there, settle-kept, on_number-holds, on_some-holds, if-holds, ◌≡◌, ◌⊎◌, inl, inr, ℕ, zero, suc, ◌+◌, ◌-◌, ◌<◌, ◌≤◌, ◌^◌, ◌==◌, nat_lt, Bool, true, false, List, [], ◌∷◌, ◌++◌, length, take, slice_get, Option, Some, None, refl, sym, ◌∙◌, ap, subst, arith, eqb-true, eq-eqb, le-leb, nat_le, ◌&&◌, ◌||◌, if◌then◌else◌, append_assoc, ⊤, ◌%◌, option_map, word_sum, byte_distance, byte_place, FRAME_WORDS, GLOBAL_NUMBER, next_depth, depth_after, largest_after, largest_depth, least_depth, assign_depth, InRange, AreFaultless, Content, Word, Variable, Temporary, Link, Cell, Held, content_of, with_byte, write, below, settle, variable_in, variable_at, number_in, byte_at, word_with_byte_at, Placement, Placed, Inside, At, State, Next, Goes, Ends, Wild, global_place, is_label, slot, on, push, operated, named_place, has_word, from_label, jump, jump_with, case_label, can_be_called, call, return, dyadic_word, step_by, Rest, rest_of, or_rest, rests, rests_of, IsAtRest, Program, is_datum, all_data, HasFrames, start, called, IsHeld, is_usable, IsOpening, Applies, IsOwn, IsControl, Sound, Local, Global, Static, Contents, Negate, Not, Stmt, Number, True, False, Query, Load, Address, Text, Monadic, Dyadic, LoadByte, Assign, AssignAt, AssignByte, Jump, JumpIf, Label, GiveResult, TakeResult, Stack, Store, Entry, Save, CallFunction, CallRoutine, ReturnItem, Return, Switch, Finish, take-append_seam}
 use Rattle.bk_ocode.proofs.Depths.{depth_after-append, depths_suffice, at_seam}
 
 -- ---- a statement in its place

@@ -1,6 +1,5 @@
 -- A step keeps what lies below the frame.
-use Rattle.bk_ocode.proofs.Terms.{◌≡◌, ℕ, ◌+◌, ◌-◌, ◌<◌, ◌^◌, ◌==◌, nat_lt, Bool, true, false, List, [], ◌∷◌, length, Option, Some, None, refl, ◌∙◌, arith, if◌then◌else◌, word_sum, byte_distance, Content, Unset, Partly, Word, Temporary, Link, Cell, Held, write, settle, Placed, Callables, State, Next, Wild, on, slot, push, on_number, on_some, operated, named_place, has_word, from_label, jump, jump_with, case_label, can_be_called, call, return, dyadic_word, step_by, variable_at, byte_at, word_with_byte_at, IsNotAmong, KeepsNext, StepKeepsBelow, Contents, Negate, Not, Stmt, Number, True, False, Query, Load, Address, Text, Monadic, Dyadic, LoadByte, Assign, AssignAt, AssignByte, Jump, JumpIf, Label, GiveResult, TakeResult, Stack, Store, Entry, Save, CallFunction, CallRoutine, ReturnItem, Return, EndProcedure, Switch, Finish}
-use Rattle.bk_ocode.proofs.Chosen.{below-kept, write-kept, settle-kept}
+use Rattle.bk_ocode.proofs.Chosen.{below-kept, write-kept, settle-kept, ◌≡◌, ℕ, ◌+◌, ◌-◌, ◌<◌, ◌^◌, ◌==◌, nat_lt, Bool, true, false, List, [], ◌∷◌, length, Option, Some, None, refl, ◌∙◌, arith, if◌then◌else◌, word_sum, byte_distance, Content, Unset, Partly, Word, Temporary, Link, Cell, Held, write, settle, Placed, Callables, State, Next, Wild, on, slot, push, on_number, on_some, operated, named_place, has_word, from_label, jump, jump_with, case_label, can_be_called, call, return, dyadic_word, step_by, variable_at, byte_at, word_with_byte_at, IsNotAmong, KeepsNext, StepKeepsBelow, Contents, Negate, Not, Stmt, Number, True, False, Query, Load, Address, Text, Monadic, Dyadic, LoadByte, Assign, AssignAt, AssignByte, Jump, JumpIf, Label, GiveResult, TakeResult, Stack, Store, Entry, Save, CallFunction, CallRoutine, ReturnItem, Return, EndProcedure, Switch, Finish}
 
 on_number-keeps : (s : State) (content : Content) (go : ℕ → Next) → ((w : ℕ) → KeepsNext s (go w)) → KeepsNext s (on_number content go)
 on_number-keeps s Unset go f = tt

@@ -1,5 +1,5 @@
 -- The names of the layers below that several of these proofs use.
-pub use Rattle.std.proofs.Common.{arith, ◌≡◌, ℕ, ◌-◌, ◌≤◌, ◌==◌, Bool, true, false, Option, Some, None, List, [], ◌∷◌, refl, sym, subst, if◌then◌else◌, eqb-true, eq-eqb, ◌≢◌, inl, inr, zero, suc, ℤ, FitsSigned, w32, ◌<◌, ◌^◌, ◌++◌, length, slice_get, ap, ◌∙◌, append_assoc, append-nil, not, ◌&&◌, nat_eq, nat_lt, ltb-true, take, rules, pos, ◌||◌, fold, map, ne_eqb, is_some, get_or, IfErr, drop, ◌+◌, max, ◌⊎◌, set, le-leb, nat_le, negsuc, length-append, IsTrue, codes, ltb-false, leb-false, Result, Ok, Err, IfSome, OnErr, lt-ltb, cond, IfNone}
+pub use Rattle.std.proofs.Common.{arith, ◌≡◌, ℕ, ◌-◌, ◌≤◌, ◌==◌, Bool, true, false, Option, Some, None, List, [], ◌∷◌, refl, sym, subst, if◌then◌else◌, eqb-true, eq-eqb, ◌≢◌, inl, inr, zero, suc, ℤ, FitsSigned, w32, ◌<◌, ◌^◌, ◌++◌, length, slice_get, ap, ◌∙◌, append_assoc, append-nil, not, ◌&&◌, nat_eq, nat_lt, ltb-true, take, rules, pos, ◌||◌, fold, map, ne_eqb, is_some, get_or, IfErr, drop, ◌+◌, max, ◌⊎◌, set, le-leb, nat_le, negsuc, length-append, IsTrue, codes, ltb-false, leb-false, Result, Ok, Err, IfSome, OnErr, lt-ltb, cond, IfNone, slice_index}
 pub use Rattle.std.proofs.Math.Bool.{or_assoc, or-false}
 pub use Rattle.std.proofs.Math.Path.{fun_ext}
 pub use Rattle.std.proofs.Math.Seq.{take-append_seam, drop-append_seam}

@@ -1,9 +1,6 @@
 -- Statements that agree with a plan of labels are a section.
-use Rattle.bk_ocode.proofs.Terms.{arith, ◌≡◌, ◌≢◌, ◌⊎◌, inl, inr, ℕ, zero, suc, ◌+◌, ◌-◌, ◌≤◌, Bool, true, false, not, cond, ◌||◌, Option, Some, None, List, [], ◌∷◌, ◌++◌, length, take, drop, slice_get, is_some, refl, sym, ap, subst, ◌∙◌, if◌then◌else◌, eqb-true, eq-eqb, ne_eqb, append_assoc, append-nil, length-append, ℤ, list_all, list_any, drop-append_seam, FRAME_WORDS, OCODE_STATEMENTS, OCODE_WORDS, OcodeKind, JumpDepths, LabelUse, Position, Outer, Body, Taker, Last, Datum, Setting, GlobalEntry, Static, Stmt, Load, Address, Assign, Jump, JumpIf, Label, GiveResult, TakeResult, Entry, Save, ReturnItem, Return, EndProcedure, Switch, DataLabel, DataNumber, DataAddress, Globals, stmt_words, next_depth, least_depth, Context, at_start, changed, set_by, mentioned, followed, label_followed, start_after, after, after_all, label_set, jump_labels, result_label, data_labels, item_label, global_labels, role, may_stand, position_after, IsDepth, InRange, misplaced, is_lab_from, is_data, is_entry, jumps_set, data_set, label_not_set, is_set, is_other_lab, are_other_jumps, jumps_disagree, result_named, over, left_after, follows_badly, is_badly_followed, not_followed, own_disagrees, depths_disagree, too_long, fault_in, text_size, IsAmong, Use, unused, jumps, results, word, entry, Standing, outside, body, ended, AllJump, AllEntries, Agrees, Fits, Typed, done, enters, goes, lands, takes, returns, gives, begins, holds, points, ends, sets, times_set, TypedIsSection, JumpDepths as came, Position as position, Setting as setting, le-ltb, lt-leb, le-leb, and_from, or_from}
-use Rattle.std.specs.Bool.{⊤}
 use Rattle.bk_ocode.specs.declared.standing.Following.TheVariants as following
-use Rattle.bk_ocode.proofs.Depths.{Keeps}
-use Rattle.bk_ocode.proofs.JumpDepths.{after-same, after-label}
+use Rattle.bk_ocode.proofs.JumpDepths.{after-same, after-label, Keeps, arith, ◌≡◌, ◌≢◌, ◌⊎◌, inl, inr, ℕ, zero, suc, ◌+◌, ◌-◌, ◌≤◌, Bool, true, false, not, cond, ◌||◌, Option, Some, None, List, [], ◌∷◌, ◌++◌, length, take, drop, slice_get, is_some, refl, sym, ap, subst, ◌∙◌, if◌then◌else◌, eqb-true, eq-eqb, ne_eqb, append_assoc, append-nil, length-append, ℤ, list_all, list_any, drop-append_seam, FRAME_WORDS, OCODE_STATEMENTS, OCODE_WORDS, OcodeKind, JumpDepths, LabelUse, Position, Outer, Body, Taker, Last, Datum, Setting, GlobalEntry, Static, Stmt, Load, Address, Assign, Jump, JumpIf, Label, GiveResult, TakeResult, Entry, Save, ReturnItem, Return, EndProcedure, Switch, DataLabel, DataNumber, DataAddress, Globals, stmt_words, next_depth, least_depth, Context, at_start, changed, set_by, mentioned, followed, label_followed, start_after, after, after_all, label_set, jump_labels, result_label, data_labels, item_label, global_labels, role, may_stand, position_after, IsDepth, InRange, misplaced, is_lab_from, is_data, is_entry, jumps_set, data_set, label_not_set, is_set, is_other_lab, are_other_jumps, jumps_disagree, result_named, over, left_after, follows_badly, is_badly_followed, not_followed, own_disagrees, depths_disagree, too_long, fault_in, text_size, IsAmong, Use, unused, jumps, results, word, entry, Standing, outside, body, ended, AllJump, AllEntries, Agrees, Fits, Typed, done, enters, goes, lands, takes, returns, gives, begins, holds, points, ends, sets, times_set, TypedIsSection, JumpDepths as came, Position as position, Setting as setting, le-ltb, lt-leb, le-leb, and_from, or_from, ⊤}
 use Rattle.bk_ocode.proofs.JumpPlaces.{after-entry, after-data}
 use Rattle.bk_ocode.proofs.Plans.{Of, LabAt, OneDepth, Taken, AtLeast, Matches, AllMatch, changed_matches, changed_twice, word_matches, entry_matches, named_matches, Free, Clear, free_clear, followed_matches}
 

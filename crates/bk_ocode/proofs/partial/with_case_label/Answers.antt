@@ -1,5 +1,4 @@
-use Rattle.bk_ocode.proofs.Terms.{◌≡◌, ◌+◌, ◌++◌, ◌∷◌, [], ℕ, List, length, length-append, arith, ap, w32, to_z-of_z, Case}
-use Rattle.bk_ocode.proofs.CaseLemmas.{values-push, AreCases-push, typed-push}
+use Rattle.bk_ocode.proofs.CaseLemmas.{values-push, AreCases-push, typed-push, ◌≡◌, ◌+◌, ◌++◌, ◌∷◌, [], ℕ, List, length, length-append, arith, ap, w32, to_z-of_z, Case}
 use Rattle.bk_ocode.proofs.partial.with_case_label.Goals as goal
 
 pub cases_step-requires : goal.cases_step-requires

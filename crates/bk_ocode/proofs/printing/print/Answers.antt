@@ -1,6 +1,4 @@
-use Rattle.bk_ocode.proofs.Terms.{◌≡◌, ◌∙◌, ◌++◌, ◌∷◌, [], ap, append-nil, sym, get_or, stmt_text, section_text, Stmt}
-use Rattle.bk_ocode.proofs.Parts.{on_err}
-use Rattle.bk_ocode.proofs.Rows.{line_rows, AppendsPart-row}
+use Rattle.bk_ocode.proofs.Parts.{on_err, ◌≡◌, ◌∙◌, ◌++◌, ◌∷◌, [], ap, append-nil, sym, get_or, stmt_text, section_text, Stmt, line_rows, AppendsPart-row}
 use Rattle.bk_ocode.proofs.printing.print.Goals as goal
 
 pub returns-in_err-put_stmt-clause-part : goal.returns-in_err-put_stmt-clause-part

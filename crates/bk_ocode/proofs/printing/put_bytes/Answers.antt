@@ -1,6 +1,4 @@
-use Rattle.bk_ocode.proofs.Terms.{ℕ, append-nil, spaced, byte_words}
-use Rattle.bk_ocode.proofs.Parts.{on_err}
-use Rattle.bk_ocode.proofs.Rows.{byte_rows, AppendsPart-row}
+use Rattle.bk_ocode.proofs.Parts.{on_err, ℕ, append-nil, spaced, byte_words, byte_rows, AppendsPart-row}
 use Rattle.bk_ocode.proofs.printing.put_bytes.Goals as goal
 
 pub returns-in_err-put_byte-clause-part : goal.returns-in_err-put_byte-clause-part

@@ -1,5 +1,4 @@
-use Rattle.bk_ocode.proofs.Terms.{rules, ◌++◌, [], ◌∷◌, List, ℕ, ap, refl, append-nil, Appends, AppendsPart, spelling, label_word, AppendsPart-front, AppendsPart-after}
-use Rattle.bk_ocode.proofs.Parts.{on_err}
+use Rattle.bk_ocode.proofs.Parts.{on_err, rules, ◌++◌, [], ◌∷◌, List, ℕ, ap, refl, append-nil, Appends, AppendsPart, spelling, label_word, AppendsPart-front, AppendsPart-after}
 use Rattle.bk_ocode.proofs.printing.put_case.Goals as goal
 
 pub returns-in_err-put_number-clause-part : goal.returns-in_err-put_number-clause-part

@@ -1,6 +1,4 @@
-use Rattle.bk_ocode.proofs.Terms.{refl, spaced, case_words, Case}
-use Rattle.bk_ocode.proofs.Parts.{on_err}
-use Rattle.bk_ocode.proofs.Rows.{case_rows, AppendsPart-row}
+use Rattle.bk_ocode.proofs.Parts.{on_err, refl, spaced, case_words, Case, case_rows, AppendsPart-row}
 use Rattle.bk_ocode.proofs.printing.put_cases.Goals as goal
 
 pub returns-in_err-put_case-clause-part : goal.returns-in_err-put_case-clause-part

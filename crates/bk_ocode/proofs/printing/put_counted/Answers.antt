@@ -1,5 +1,4 @@
-use Rattle.bk_ocode.proofs.Terms.{◌∷◌, length, refl, natural_word, byte_words, spaced, AppendsPart-front, AppendsPart-after}
-use Rattle.bk_ocode.proofs.Parts.{on_err}
+use Rattle.bk_ocode.proofs.Parts.{on_err, ◌∷◌, length, refl, natural_word, byte_words, spaced, AppendsPart-front, AppendsPart-after}
 use Rattle.bk_ocode.proofs.printing.put_counted.Goals as goal
 
 pub returns-in_err-put_natural-clause-part : goal.returns-in_err-put_natural-clause-part

@@ -1,6 +1,4 @@
-use Rattle.bk_ocode.proofs.Terms.{refl, spaced, global_words, GlobalEntry}
-use Rattle.bk_ocode.proofs.Parts.{on_err}
-use Rattle.bk_ocode.proofs.Rows.{global_rows, AppendsPart-row}
+use Rattle.bk_ocode.proofs.Parts.{on_err, refl, spaced, global_words, GlobalEntry, global_rows, AppendsPart-row}
 use Rattle.bk_ocode.proofs.printing.put_entries.Goals as goal
 
 pub returns-in_err-put_entry-clause-part : goal.returns-in_err-put_entry-clause-part

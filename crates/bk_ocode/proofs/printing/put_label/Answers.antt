@@ -1,5 +1,4 @@
-use Rattle.bk_ocode.proofs.Terms.{rules, pos, [], ◌∷◌, refl, spelling, AppendsPart, AppendsPart-front, AppendsPart-after}
-use Rattle.bk_ocode.proofs.Parts.{on_err}
+use Rattle.bk_ocode.proofs.Parts.{on_err, rules, pos, [], ◌∷◌, refl, spelling, AppendsPart, AppendsPart-front, AppendsPart-after}
 use Rattle.bk_ocode.proofs.printing.put_label.Goals as goal
 
 pub returns-in_err-put_all-clause-part : goal.returns-in_err-put_all-clause-part

@@ -1,5 +1,4 @@
-use Rattle.bk_ocode.proofs.Terms.{rules, ◌∷◌, length, refl, Appends, AppendsPart, natural_word, label_word, spaced, byte_words, AppendsPart-front, AppendsPart-after}
-use Rattle.bk_ocode.proofs.Parts.{on_err}
+use Rattle.bk_ocode.proofs.Parts.{on_err, rules, ◌∷◌, length, refl, Appends, AppendsPart, natural_word, label_word, spaced, byte_words, AppendsPart-front, AppendsPart-after}
 use Rattle.bk_ocode.proofs.printing.put_named.Goals as goal
 
 pub returns-in_err-put_label-clause-part : goal.returns-in_err-put_label-clause-part

@@ -1,5 +1,4 @@
-use Rattle.bk_ocode.proofs.Terms.{rules, [], ◌∷◌, refl, AppendsPart, AppendsPart-after, spelling}
-use Rattle.bk_ocode.proofs.Parts.{on_err}
+use Rattle.bk_ocode.proofs.Parts.{on_err, rules, [], ◌∷◌, refl, AppendsPart, AppendsPart-after, spelling}
 use Rattle.bk_ocode.proofs.printing.put_number.Goals as goal
 
 pub returns-in_err-put_word-clause-part : goal.returns-in_err-put_word-clause-part

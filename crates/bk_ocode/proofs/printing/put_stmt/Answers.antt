@@ -1,5 +1,4 @@
-use Rattle.bk_ocode.proofs.Terms.{rules, ◌++◌, [], ◌∷◌, refl, append_assoc, Appends, AppendsPart, Begins-trans, AppendsPart-front, AppendsPart-after, spaced, argument_words, keyword}
-use Rattle.bk_ocode.proofs.Parts.{on_err}
+use Rattle.bk_ocode.proofs.Parts.{on_err, rules, ◌++◌, [], ◌∷◌, refl, append_assoc, Appends, AppendsPart, Begins-trans, AppendsPart-front, AppendsPart-after, spaced, argument_words, keyword}
 use Rattle.bk_ocode.proofs.printing.put_stmt.Goals as goal
 
 pub returns-in_err-put_all-clause-part : goal.returns-in_err-put_all-clause-part

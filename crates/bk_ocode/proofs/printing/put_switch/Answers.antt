@@ -1,5 +1,4 @@
-use Rattle.bk_ocode.proofs.Terms.{rules, ◌++◌, ◌∷◌, length, sym, refl, append_assoc, Appends, AppendsPart, natural_word, label_word, spaced, case_words, AppendsPart-front, AppendsPart-after, Appends-trans}
-use Rattle.bk_ocode.proofs.Parts.{on_err}
+use Rattle.bk_ocode.proofs.Parts.{on_err, rules, ◌++◌, ◌∷◌, length, sym, refl, append_assoc, Appends, AppendsPart, natural_word, label_word, spaced, case_words, AppendsPart-front, AppendsPart-after, Appends-trans}
 use Rattle.bk_ocode.proofs.printing.put_switch.Goals as goal
 
 pub returns-in_err-put_natural-clause-part : goal.returns-in_err-put_natural-clause-part

@@ -1,5 +1,4 @@
-use Rattle.bk_ocode.proofs.Terms.{ℕ, arith}
-use Rattle.bk_ocode.proofs.Depths.{depth_within-at, depth_after-more, largest_after-more}
+use Rattle.bk_ocode.proofs.Depths.{depth_within-at, depth_after-more, largest_after-more, ℕ, arith}
 use Rattle.bk_ocode.proofs.section.Ocode.depth.Goals as goal
 
 pub depth_after-depth-requires : goal.depth_after-depth-requires
