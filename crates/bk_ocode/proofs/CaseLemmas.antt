@@ -1,5 +1,5 @@
 -- Cases of a switch, one case more.
-pub use Rattle.bk_ocode.proofs.Terms.{◌≡◌, ◌⊎◌, inl, inr, ℕ, zero, suc, ℤ, FitsSigned, w32, ◌<◌, ◌^◌, ◌++◌, ◌||◌, Bool, true, false, if◌then◌else◌, List, [], ◌∷◌, Some, None, length, slice_get, arith, refl, sym, ap, ◌∙◌, subst, append_assoc, int_eq, spelling, label_word, case_words, IsLabel, AreCases, has_value, Case, or_assoc, or-false, or_right, ◌+◌, length-append, to_z-of_z, ◌≢◌, ◌≤◌, IsTrue, Option, take, append-nil, take-append-le, take-append_seam, Consumes, INPUT_BYTES, OCODE_STATEMENTS, AtEnd, Holds, IsNextWord, TakesWords, TakesSome, Reads, ReadsAll, Reads-word, Reads-end, stmt_words, section_words, InRange, IsTyped, AreTyped, context_of, stmt_fault, AreFaultless, IsSection, IsPartial, IsStmt, Takes, GivesSection, GivesNothing, Ended, Stmt, pos, ◌-◌, codes, cases_lt, Decides-int_eq, NAME_BYTES, fits-pos, natural_word, byte_words, global_words, IsGlobal, AreBytes, BeginsStmt, owner_words, IsOwner, switch_words, entries_words, partial_words, is_short, IsPartialStmt, ArePartialCases, ArePartialEntries, part_words, IsPartialPart, GlobalEntry, keyword_text, misplaced, Keyword, Partial, Owner, VariableKind, cases_Bool, cond-true, cond-false}
+pub use Rattle.bk_ocode.proofs.Terms.{◌≡◌, ◌⊎◌, inl, inr, ℕ, zero, suc, ℤ, FitsSigned, w32, ◌<◌, ◌^◌, ◌++◌, ◌||◌, Bool, true, false, if◌then◌else◌, List, [], ◌∷◌, Some, None, length, slice_get, arith, refl, sym, ap, ◌∙◌, subst, append_assoc, int_eq, spelling, label_word, case_words, IsLabel, AreCases, has_value, Case, or_assoc, or-false, or_right, pos, ◌+◌, ◌-◌, ◌≤◌, Option, codes, length-append, append-nil, cases_lt, Decides-int_eq, NAME_BYTES, fits-pos, natural_word, byte_words, global_words, stmt_words, IsGlobal, AreBytes, IsStmt, BeginsStmt, owner_words, IsOwner, switch_words, entries_words, partial_words, is_short, IsPartialStmt, ArePartialCases, ArePartialEntries, part_words, IsPartialPart, GlobalEntry, Stmt, keyword_text, context_of, misplaced, Keyword, Partial, Owner, VariableKind, cases_Bool, cond-true, cond-false, to_z-of_z, ◌≢◌, IsTrue, take, take-append-le, take-append_seam, Consumes, INPUT_BYTES, OCODE_STATEMENTS, AtEnd, Holds, IsNextWord, TakesWords, TakesSome, Reads, ReadsAll, Reads-word, Reads-end, section_words, InRange, IsTyped, AreTyped, stmt_fault, AreFaultless, IsSection, IsPartial, Takes, GivesSection, GivesNothing, Ended}
 use Rattle.std.proofs.lemmas.Cmp.{int_eq_equiv}
 use Rattle.bk_ocode.proofs.Rows.{joined-append}
 

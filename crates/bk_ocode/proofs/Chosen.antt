@@ -1,5 +1,5 @@
 -- Chosen values, single words of stores, and what holds of each branch of a step.
-pub use Rattle.bk_ocode.proofs.Terms.{◌≡◌, ℕ, ◌<◌, ◌==◌, nat_lt, Bool, true, false, Option, Some, None, refl, lt-ltb, ne_eqb, eq-eqb, if◌then◌else◌, Content, Unset, Partly, Word, Cell, Free, write, below, settle, number_in, Next, Wild, on_number, on_some, List, [], ◌∷◌, ◌++◌, sym, ◌∙◌, ap, subst, append-nil, ⊤, word_sum, byte_distance, Variable, Held, byte_at, word_with_byte_at, string_at, Callables, Routine, Stop, Rdch, Wrch, Newline, Writes, Writen, Writed, Getbyte, Putbyte, Writef, Control, Inside, Following, At, State, Goes, Ends, slot, return, tells, read_byte, routine_step, step_in, step_from, KeepsNext, Grown, StepsGrow, EndsKeepBytes, inl, suc, ◌-◌, ◌≤◌, ◌||◌, fold, map, slice_get, arith, eqb-true, option_map, option_map_or, GLOBAL_NUMBER, InRange, AreFaultless, Link, content_of, Placement, Placed, global_place, Program, all_data, all_globals, is_global, unset_cells, with_global, first_cells, start, IsHeld, is_usable, Sound, FirstStateIsSound, GlobalEntry, Stmt, Globals, or_right, ◌⊎◌, inr, ◌+◌, ◌^◌, length, variable_at, is_label, operated, named_place, has_word, from_label, jump, jump_with, case_label, can_be_called, call, dyadic_word, step_by, IsAtRest, statements_left, steps_left, StepsComeNearer, Contents, Negate, Not, Number, True, False, Query, Load, Address, Text, Monadic, Dyadic, LoadByte, Assign, AssignAt, AssignByte, Jump, JumpIf, Label, GiveResult, TakeResult, Stack, Store, Entry, Save, CallFunction, CallRoutine, ReturnItem, Return, Switch, Finish, zero, take, le-leb, nat_le, ◌&&◌, append_assoc, ◌%◌, byte_place, FRAME_WORDS, next_depth, depth_after, largest_after, largest_depth, least_depth, assign_depth, Temporary, with_byte, variable_in, on, push, Rest, rest_of, or_rest, rests, rests_of, is_datum, HasFrames, called, IsOpening, Applies, IsOwn, IsControl, Local, Global, Static, take-append_seam, IsNotAmong, StepKeepsBelow, EndProcedure}
+pub use Rattle.bk_ocode.proofs.Terms.{◌≡◌, ℕ, ◌<◌, ◌==◌, nat_lt, Bool, true, false, Option, Some, None, refl, lt-ltb, ne_eqb, eq-eqb, if◌then◌else◌, Content, Unset, Partly, Word, Cell, Free, write, below, settle, number_in, Next, Wild, on_number, on_some, ◌⊎◌, inl, inr, suc, ◌+◌, ◌-◌, ◌≤◌, ◌^◌, List, [], ◌∷◌, length, sym, ◌∙◌, ap, subst, arith, ⊤, variable_at, byte_at, word_with_byte_at, Placed, Callables, Routine, Control, Inside, Following, At, State, Goes, Ends, is_label, slot, operated, named_place, has_word, from_label, jump, jump_with, case_label, can_be_called, call, return, dyadic_word, routine_step, step_by, step_in, step_from, IsAtRest, statements_left, steps_left, StepsComeNearer, Contents, Negate, Not, Stmt, Monadic, Dyadic, LoadByte, Assign, AssignAt, AssignByte, Jump, JumpIf, Label, GiveResult, CallFunction, CallRoutine, ReturnItem, Return, Switch, Finish, EndProcedure, DataLabel, DataNumber, DataAddress, Globals, word_sum, byte_distance, Temporary, Link, Held, on, push, IsNotAmong, KeepsNext, StepKeepsBelow, Number, True, False, Query, Load, Address, Text, TakeResult, Stack, Store, Entry, Save, ◌||◌, ◌++◌, fold, map, slice_get, eqb-true, option_map, option_map_or, GLOBAL_NUMBER, InRange, AreFaultless, Variable, content_of, Placement, global_place, Program, all_data, all_globals, is_global, unset_cells, with_global, first_cells, start, IsHeld, is_usable, Sound, FirstStateIsSound, GlobalEntry, or_right, append-nil, string_at, Stop, Rdch, Wrch, Newline, Writes, Writen, Writed, Getbyte, Putbyte, Writef, tells, read_byte, Grown, StepsGrow, EndsKeepBytes, zero, take, le-leb, nat_le, ◌&&◌, append_assoc, ◌%◌, byte_place, FRAME_WORDS, next_depth, depth_after, largest_after, largest_depth, least_depth, assign_depth, with_byte, variable_in, Rest, rest_of, or_rest, rests, rests_of, is_datum, HasFrames, called, IsOpening, Applies, IsOwn, IsControl, Local, Global, Static, take-append_seam}
 
 pub chosen-true : {A : Type 0} → (b : Bool) (x y : A) → b ≡ true → (if b then x else y) ≡ x
 chosen-true true x y is = refl

@@ -1,5 +1,5 @@
 -- Depths on the way through a section.
-pub use Rattle.bk_ocode.proofs.Terms.{◌≡◌, ℕ, ◌+◌, ◌<◌, ◌≤◌, max, Bool, true, false, ◌||◌, nat_lt, nat_le, List, [], ◌∷◌, ◌++◌, Option, Some, None, length, take, slice_get, get_or, refl, ◌∙◌, ap, subst, arith, ltb-false, leb-false, zero, suc, if◌then◌else◌, take_more, slice_get-get_or, FRAME_WORDS, OCODE_STATEMENTS, OCODE_WORDS, OcodeKind, stmt_words, next_depth, depth_after, largest_after, least_depth, Context, at_start, after, after_all, context_of, misplaced, label_not_set, label_set_twice, depths_disagree, slot_above, too_long, fault_in, AreFaultless, DepthsSuffice, SectionIsShort, Stmt, or_parts, ◌≢◌, ◌-◌, ◌==◌, not, sym, inl, inr, eq-eqb, eqb-true, label_set, jump_labels, changed, all_changed, with_depth, jumped, set_by, label_followed, Setting, JumpDepths, LabelUse, Jump, JumpIf, Label, Switch, is_other_lab, are_other_jumps, jumps_disagree, result_named, follows_badly, own_disagrees, jump_depth, IsAmong, JumpHasItsLabelsDepth, not-false, append-nil, ◌&&◌, is_some, map, list_all, list_any, map-append, position_after, labels_named, start_from, start_after, is_lab_from, jumps_set, is_entry, data_set, Position, Case, GlobalEntry, Entry, Globals, ℤ, FitsSigned, w32, ◌^◌, append_assoc, Decides-int_eq, slice_get_within, int_eq, spelling, NAME_BYTES, keyword, argument_words, natural_word, label_word, variable_word, byte_words, case_words, global_words, IsLabel, IsVariable, AreCases, IsStmt, kind_of, keyword_text, keyword_of_stmt, has_value, owner_words, partial_words, is_short, IsPartialStmt, NoNatural, NoLabel, NoVariable, NoArgument, IsUnfit, BeginNone, Keyword, Partial, Owner, cases_Bool, drop, ◌⊎◌, ne_eqb, other_labels, given, mentioned, followed, what_follows, is_set, set_again, is_label, from_label, LabelsAreSetOnce, LabelHasOnePlace, Load, Address, Assign, GiveResult, DataLabel, DataAddress, length-append, cases_lt, take-append_seam, BadWord, BadNumber, Truncated, LabelNotSet, LabelSetTwice, DepthsDisagree, SlotAboveDepth, TooLong, section_words, AreTyped, stmt_fault, IsSection, IsPartial, BeginsStmt, IsBadWord, IsBadNumber, BreaksRule, PassesWords, FaultOf, FaultAt, CutAt, section, nothing, fault, Says, SayOneThing, Outside, Ended, cond, drop-append_seam, Outer, Body, Taker, Last, Datum, Static, TakeResult, Save, ReturnItem, Return, EndProcedure, DataNumber, result_label, data_labels, item_label, global_labels, role, may_stand, IsDepth, InRange, is_data, over, left_after, is_badly_followed, not_followed, text_size, Use, unused, jumps, results, word, entry, Standing, outside, body, ended, AllJump, AllEntries, Agrees, Fits, Typed, done, enters, goes, lands, takes, returns, gives, begins, holds, points, ends, sets, times_set, TypedIsSection, le-ltb, lt-leb, le-leb, and_from, or_from, ⊤, mag-fits, rest_same, joined, IsGlobal, JumpFindsItsLabel, ResultFindsItsLabel, and_parts, word_sum, byte_distance, Content, Variable, Temporary, Held, write, byte_at, word_with_byte_at, string_at, Placement, Placed, Routine, Stop, Rdch, Wrch, Newline, Writes, Writen, Writed, Getbyte, Putbyte, Writef, Control, Inside, Following, At, State, Next, Goes, Wild, rest_place, slot, on_some, return, tells, read_byte, routine_step, step_in, step_from, step, Rest, rest_of, or_rest, rests, rests_of, in_hand, kept, resumed_by, resumed, Program, HasFrames, IsProgram, Applies, IsOwn, IsControl, Sound, SoundStep, StepsAreSound, ResumingIsSound, Local, Number, True, False, Query, Text, Stack, Store, CallFunction, CallRoutine, Finish, same_Some, take-append-le, DataFindsItsLabel, ItemFindsItsLabel, GlobalFindsItsEntry, GlobalIsLast, TextIsShort, StmtPlace, or_cases}
+pub use Rattle.bk_ocode.proofs.Terms.{◌≡◌, ℕ, ◌+◌, ◌<◌, ◌≤◌, max, Bool, true, false, ◌||◌, nat_lt, nat_le, List, [], ◌∷◌, ◌++◌, Option, Some, None, length, take, slice_get, get_or, refl, ◌∙◌, ap, subst, arith, ltb-false, leb-false, zero, suc, if◌then◌else◌, take_more, slice_get-get_or, FRAME_WORDS, OCODE_STATEMENTS, OCODE_WORDS, OcodeKind, stmt_words, next_depth, depth_after, largest_after, least_depth, Context, at_start, after, after_all, context_of, misplaced, label_not_set, label_set_twice, depths_disagree, slot_above, too_long, fault_in, AreFaultless, DepthsSuffice, SectionIsShort, Stmt, or_parts, ◌≢◌, ◌-◌, ◌==◌, drop, sym, ◌⊎◌, eq-eqb, ne_eqb, label_set, jump_labels, other_labels, changed, all_changed, jumped, given, mentioned, set_by, followed, what_follows, label_followed, labels_named, is_set, set_again, is_label, from_label, LabelsAreSetOnce, LabelHasOnePlace, Position, LabelUse, Load, Address, Assign, Jump, JumpIf, Label, GiveResult, Entry, Switch, DataLabel, DataAddress, Setting, eqb-true, not, inl, inr, list_all, result_label, may_stand, position_after, start_after, is_lab_from, jumps_set, IsSection, IsAmong, JumpFindsItsLabel, ResultFindsItsLabel, Outer, Datum, EndProcedure, DataNumber, Globals, and_parts, not-false, append-nil, ◌&&◌, is_some, map, list_any, map-append, start_from, is_other_lab, result_named, own_disagrees, is_entry, data_set, Case, GlobalEntry, cond, append_assoc, length-append, ℤ, drop-append_seam, JumpDepths, Body, Taker, Last, Static, TakeResult, Save, ReturnItem, Return, data_labels, item_label, global_labels, role, IsDepth, InRange, is_data, are_other_jumps, jumps_disagree, over, left_after, follows_badly, is_badly_followed, not_followed, text_size, Use, unused, jumps, results, word, entry, Standing, outside, body, ended, AllJump, AllEntries, Agrees, Fits, Typed, done, enters, goes, lands, takes, returns, gives, begins, holds, points, ends, sets, times_set, TypedIsSection, le-ltb, lt-leb, le-leb, and_from, or_from, ⊤, word_sum, byte_distance, Content, Variable, Temporary, Held, write, byte_at, word_with_byte_at, string_at, Placement, Placed, Routine, Stop, Rdch, Wrch, Newline, Writes, Writen, Writed, Getbyte, Putbyte, Writef, Control, Inside, Following, At, State, Next, Goes, Wild, rest_place, slot, on_some, return, tells, read_byte, routine_step, step_in, step_from, step, Rest, rest_of, or_rest, rests, rests_of, in_hand, kept, resumed_by, resumed, Program, HasFrames, IsProgram, Applies, IsOwn, IsControl, Sound, SoundStep, StepsAreSound, ResumingIsSound, Local, Number, True, False, Query, Text, Stack, Store, CallFunction, CallRoutine, Finish, same_Some, take-append_seam, take-append-le, slice_get_within, FitsSigned, w32, ◌^◌, Decides-int_eq, int_eq, spelling, NAME_BYTES, keyword, argument_words, natural_word, label_word, variable_word, byte_words, case_words, global_words, IsLabel, IsVariable, AreCases, IsStmt, kind_of, keyword_text, keyword_of_stmt, has_value, owner_words, partial_words, is_short, IsPartialStmt, NoNatural, NoLabel, NoVariable, NoArgument, IsUnfit, BeginNone, Keyword, Partial, Owner, cases_Bool, with_depth, jump_depth, JumpHasItsLabelsDepth, cases_lt, BadWord, BadNumber, Truncated, LabelNotSet, LabelSetTwice, DepthsDisagree, SlotAboveDepth, TooLong, section_words, AreTyped, stmt_fault, IsPartial, BeginsStmt, IsBadWord, IsBadNumber, BreaksRule, PassesWords, FaultOf, FaultAt, CutAt, section, nothing, fault, Says, SayOneThing, Outside, Ended, mag-fits, rest_same, joined, IsGlobal, DataFindsItsLabel, ItemFindsItsLabel, GlobalFindsItsEntry, GlobalIsLast, TextIsShort, StmtPlace, or_cases}
 
 -- the places at and before a seam
 pub at_seam : {A : Type 0} (a : List A) (x : A) (c : List A) → slice_get (a ++ x ∷ c) (length a) ≡ Some x

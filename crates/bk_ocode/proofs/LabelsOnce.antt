@@ -107,12 +107,8 @@ order i j = grind arith
 pub labels_are_set_once : LabelsAreSetOnce
 labels_are_set_once stmts i j l s t are at_i at_j sets_s sets_t = grind (arith, order, not_before)
 
--- another statement is not the LAB of a label
-is_not : (m l : ℕ) → Some (Label m) ≢ Some (Label l) → (m == l) ≡ false
-is_not m l other = ne_eqb m l (λ same. other (ap (λ x. Some (Label x)) same))
-
 pub not_label : (l : ℕ) (s : Stmt) → Some s ≢ Some (Label l) → is_label l s ≡ false
-not_label l (Label m) other = is_not m l other
+not_label l (Label m) other = ne_eqb m l (λ same. other (ap (λ x. Some (Label x)) same))
 not_label l _ other = refl
 
 -- the first LAB of a label is the place where a jump goes on

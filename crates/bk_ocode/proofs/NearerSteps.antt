@@ -1,5 +1,5 @@
 -- Each step comes to a rest, or nearer to one.
-use Rattle.bk_ocode.proofs.Chosen.{on_number-holds, on_some-holds, if-holds, ◌≡◌, ◌⊎◌, inl, inr, ℕ, suc, ◌+◌, ◌-◌, ◌<◌, ◌≤◌, ◌^◌, ◌==◌, nat_lt, Bool, true, false, List, [], ◌∷◌, length, Option, Some, None, refl, sym, ◌∙◌, ap, subst, arith, if◌then◌else◌, ⊤, Content, variable_at, byte_at, word_with_byte_at, Placed, Callables, Routine, Control, Inside, Following, At, State, Next, Goes, Ends, Wild, is_label, slot, on_some, operated, named_place, has_word, from_label, jump, jump_with, case_label, can_be_called, call, return, dyadic_word, routine_step, step_by, step_in, step_from, IsAtRest, statements_left, steps_left, StepsComeNearer, Contents, Negate, Not, Stmt, Number, True, False, Query, Load, Address, Text, Monadic, Dyadic, LoadByte, Assign, AssignAt, AssignByte, Jump, JumpIf, Label, GiveResult, TakeResult, Stack, Store, Entry, Save, CallFunction, CallRoutine, ReturnItem, Return, Switch, Finish}
+use Rattle.bk_ocode.proofs.Chosen.{on_number-holds, on_some-holds, if-holds, ◌≡◌, ◌⊎◌, inl, inr, ℕ, suc, ◌+◌, ◌-◌, ◌<◌, ◌≤◌, ◌^◌, ◌==◌, nat_lt, Bool, true, false, List, [], ◌∷◌, length, Option, Some, None, refl, sym, ◌∙◌, ap, subst, arith, if◌then◌else◌, ⊤, Content, variable_at, byte_at, word_with_byte_at, Placed, Callables, Routine, Control, Inside, Following, At, State, Next, Goes, Ends, Wild, is_label, slot, on_some, operated, named_place, has_word, from_label, jump, case_label, can_be_called, call, return, dyadic_word, routine_step, step_by, step_in, step_from, IsAtRest, statements_left, steps_left, StepsComeNearer, Contents, Negate, Not, Stmt, Monadic, Dyadic, LoadByte, Assign, AssignAt, AssignByte, Jump, JumpIf, Label, GiveResult, CallFunction, CallRoutine, ReturnItem, Return, Switch, Finish, EndProcedure, DataLabel, DataNumber, DataAddress, Globals}
 use Rattle.bk_ocode.proofs.SoundRests.{steps_are_sound}
 
 abbrev Nearer : ℕ → Next → Type 0
@@ -34,9 +34,6 @@ module _ (callables : Callables) (s : State) (own : Placed) (rest : List Stmt) w
   jump-near : (k l : ℕ) → Near (jump s own k l)
   jump-near k l = on_some-holds Near tt (from_label own.stmts l) _ (λ r e. let h = from_label-left own.stmts l r e in omega arith)
 
-  jump_with-near : (k l : ℕ) (result : Content) → Near (jump_with s own k l result)
-  jump_with-near k l result = on_some-holds Near tt (from_label own.stmts l) _ (λ r e. let h = from_label-left own.stmts l r e in omega arith)
-
   operated-near : (n : ℕ) (w : Option ℕ) → Near (operated s own n rest w)
   operated-near n (Some w) = low
   operated-near n None = tt
@@ -50,13 +47,6 @@ module _ (callables : Callables) (s : State) (own : Placed) (rest : List Stmt) w
 
   step-near : (k : ℕ) (c : Stmt) → Nearer (statements_left (c ∷ rest)) (step_by callables s own k c rest)
   step-near k (Label l) = let h : 0 < 1 = omega arith in h
-  step-near k (Number value) = low
-  step-near k True = low
-  step-near k False = low
-  step-near k Query = low
-  step-near k (Load from) = low
-  step-near k (Address of) = low
-  step-near k (Text bytes) = low
   step-near k (Monadic Contents) = on_number-holds Near tt (slot s (k - 1)) _ (λ a ea. on_some-holds Near tt (variable_at (s.frame + k) s.cells a) _ (λ content ec. low))
   step-near k (Monadic Negate) = on_number-holds Near tt (slot s (k - 1)) _ (λ w ew. low)
   step-near k (Monadic Not) = on_number-holds Near tt (slot s (k - 1)) _ (λ w ew. low)
@@ -73,19 +63,19 @@ module _ (callables : Callables) (s : State) (own : Placed) (rest : List Stmt) w
   step-near k (Jump l) = jump-near k l
   step-near k (JumpIf true l) = on_number-holds Near tt (slot s (k - 1)) _ (λ w ew. if-holds Near (w == 0) _ _ (λ _. low) (λ _. jump-near (k - 1) l))
   step-near k (JumpIf false l) = on_number-holds Near tt (slot s (k - 1)) _ (λ w ew. if-holds Near (w == 0) _ _ (λ _. jump-near (k - 1) l) (λ _. low))
-  step-near k (GiveResult l) = jump_with-near (k - 1) l _
-  step-near k (TakeResult n) = low
-  step-near k (Stack n) = low
-  step-near k Store = low
-  step-near k (Entry l name) = low
-  step-near k (Save n) = low
+  step-near k (GiveResult l) = on_some-holds Near tt (from_label own.stmts l) _ (λ r e. let h = from_label-left own.stmts l r e in omega arith)
   step-near k (CallFunction n) = on_number-holds Near tt (slot s (k - 1)) _ (λ e ee. call-near k n e)
   step-near k (CallRoutine n) = on_number-holds Near tt (slot s (k - 1)) _ (λ e ee. call-near k n e)
   step-near k ReturnItem = return-near _
   step-near k Return = return-near None
   step-near k (Switch default cases) = on_number-holds Near tt (slot s (k - 1)) _ (λ w ew. jump-near (k - 1) (case_label cases default w))
   step-near k Finish = tt
-  step-near k _ = tt
+  step-near k EndProcedure = tt
+  step-near k (DataLabel l) = tt
+  step-near k (DataNumber value) = tt
+  step-near k (DataAddress l) = tt
+  step-near k (Globals entries) = tt
+  step-near k _ = low
 
 step_in-near : (callables : Callables) (s : State) (own : Placed) (k : ℕ) (rest : List Stmt) → Nearer (statements_left rest) (step_in callables s own k rest)
 step_in-near callables s own k [] = tt

@@ -30,9 +30,6 @@ snoc : (s : Stmt) (stmts : List Stmt) → (before : List Stmt) × (t : Stmt) × 
 snoc s [] = ([], s, refl)
 snoc s (t ∷ stmts) = let r = snoc t stmts in (s ∷ r.0, r.1, ap (λ (l : List Stmt). s ∷ l) r.2)
 
-section_words-more : (before c : List Stmt) (t : Stmt) → section_words (before ++ t ∷ c) ≡ section_words before ++ (stmt_words t ++ section_words c)
-section_words-more before c t = joined-append stmt_words before (t ∷ c)
-
 -- a statement without a fault keeps the limit of words
 fits_words : (before : List Stmt) (t : Stmt) → stmt_fault before t ≡ None → length (section_words before) + length (stmt_words t) ≤ OCODE_WORDS
 fits_words before t none = omega (arith, words_tally (context_of before) before refl, (fits_behind before (context_of before) t refl none).1)
@@ -45,7 +42,7 @@ words_fit (s ∷ stmts) are =
       arith,
       fits_words r.0 r.1 (none_behind r.0 (s ∷ stmts) [] r.1 are r.2),
       ap (λ (l : List Stmt). length (section_words l)) r.2,
-      ap (λ (l : List (List ℕ)). length l) (section_words-more r.0 [] r.1),
+      ap (λ (l : List (List ℕ)). length l) (joined-append stmt_words r.0 (r.1 ∷ [])),
       length-append (section_words r.0) (stmt_words r.1 ++ []),
       length-append (stmt_words r.1) [],
     )
@@ -95,9 +92,6 @@ no_within before part rest z t f own few is =
     let c = split_front (stmt_words t) part z rest (sym is) (omega (arith, few, f.past, length-append (section_words before) part)) in
     no_whole before part c.0 t f.begun own c.1
 
-some_kind : (before : List Stmt) (t : Stmt) (kind : OcodeKind) → stmt_fault before t ≡ Some kind → stmt_fault before t ≡ None → ⊥
-some_kind before t kind is none = let h : Some kind ≡ None = sym is ∙ none in cc
-
 -- The fault of some words by its four forms.
 data Form (before : List Stmt) (part : List (List ℕ)) (kind : OcodeKind) : Type 0 where
   bad_word : IsBadWord before part → kind ≡ BadWord → Form before part kind
@@ -121,11 +115,8 @@ clash : (before : List Stmt) (part rest z : List (List ℕ)) (kind : OcodeKind) 
 clash before part rest z kind t (bad_word f reported) own none is =
     let h : true ≡ false = sym (word_of before part rest z t f is) ∙ (keeps_in before (context_of before) t none).place in cc
 clash before part rest z kind t (bad_number f reported) own none is = no_stmt before part rest z t f own is
-clash before part rest z kind t (broken f other) own none is = some_kind before t kind (rule_of before part rest z kind t f own is) none
+clash before part rest z kind t (broken f other) own none is = let h : Some kind ≡ None = sym (rule_of before part rest z kind t f own is) ∙ none in cc
 clash before part rest z kind t (past_limit f reported) own none is = no_within before part rest z t f own (omega (arith, fits_words before t none)) is
-
-some_words : (s : Stmt) (part : List (List ℕ)) → part ≡ stmt_words s → 0 < length part
-some_words s part is = omega (arith, ap (λ (l : List (List ℕ)). length l) is)
 
 passes_some : (before : List Stmt) (part : List (List ℕ)) → AreFaultless before → PassesWords before part → 0 < length part
 passes_some before part are f = omega (arith, f.past, words_fit before are, length-append (section_words before) part)
@@ -133,7 +124,7 @@ passes_some before part are f = omega (arith, f.past, words_fit before are, leng
 part_some : (before : List Stmt) (part : List (List ℕ)) (kind : OcodeKind) → AreFaultless before → Form before part kind → 0 < length part
 part_some before part kind are (bad_word f reported) = omega (arith, ap (λ (l : List (List ℕ)). length l) f.first)
 part_some before part kind are (bad_number f reported) = omega (arith, ap (λ (l : List (List ℕ)). length l) f.last, length-append f.front (f.word ∷ []))
-part_some before part kind are (broken f other) = some_words f.stmt part f.words
+part_some before part kind are (broken f other) = omega (arith, ap (λ (l : List (List ℕ)). length l) f.words)
 part_some before part kind are (past_limit f reported) = passes_some before part are f
 
 no_word_number : (before : List Stmt) (p x q y : List (List ℕ)) → IsBadWord before p → IsBadNumber before q → p ++ x ≡ q ++ y → ⊥

@@ -1,6 +1,6 @@
 -- Answers by cases, from what holds of their values.
-pub use Rattle.bk_ocode.proofs.Terms.{◌≡◌, refl, None, Some, IfSome, ℕ, List, ◌++◌, Option, Result, Ok, Err, OnErr, Appends, AppendsPart, AppendsPart-after, spaced, case_words, Case, rules, [], ◌∷◌, ap, append-nil, natural_word, label_word, AppendsPart-front, length, sym, append_assoc, Appends-trans, byte_words, spelling, Begins-trans, argument_words, keyword, global_words, pos, GlobalEntry, ◌∙◌, get_or, stmt_text, section_text, Stmt}
-pub use Rattle.bk_ocode.proofs.Rows.{case_rows, AppendsPart-row, byte_rows, global_rows, line_rows}
+pub use Rattle.bk_ocode.proofs.Terms.{◌≡◌, refl, None, Some, IfSome, ℕ, List, ◌++◌, Option, Result, Ok, Err, OnErr, Appends, AppendsPart, AppendsPart-after, rules, [], ◌∷◌, ap, append-nil, natural_word, label_word, AppendsPart-front, length, byte_words, spaced, pos, spelling, global_words, append_assoc, Begins-trans, argument_words, keyword, sym, case_words, Appends-trans, Case, ◌∙◌, get_or, stmt_text, section_text, Stmt, GlobalEntry}
+pub use Rattle.bk_ocode.proofs.Rows.{byte_rows, AppendsPart-row, case_rows, line_rows, global_rows}
 
 pub on_err : {T E P : Type 0} (r : Result T E) → P → OnErr r P
 on_err (Ok x) p = tt

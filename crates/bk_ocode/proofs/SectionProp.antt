@@ -1,5 +1,5 @@
 -- Being a section is a proposition.
-use Rattle.bk_ocode.proofs.Terms.{List, Option, OcodeKind, IsSection, stmts_of, Ocode, InRange, IsTyped, AreTyped, IsVariable, AreCases, AreEntries, Position, Local, Global, Static, Case, GlobalEntry, Stmt, Number, Load, Address, Text, Assign, Jump, JumpIf, Label, GiveResult, TakeResult, Stack, Entry, Save, Switch, DataLabel, DataNumber, DataAddress, Globals}
+use Rattle.bk_ocode.proofs.Terms.{List, Option, OcodeKind, IsSection, stmts_of, Ocode, InRange, IsTyped, AreTyped, IsVariable, AreCases, AreEntries, Position, Local, Global, Static, Case, GlobalEntry, Stmt, Number, Load, Address, Assign, Switch, Globals}
 use Rattle.std.proofs.Props.{props}
 use mathlib.Core.Sum.{⊎_set}
 use Rattle.std.proofs.Math.Nat.{ℕ_set}
@@ -29,18 +29,6 @@ InRange-prop (Address of) = IsVariable-prop of
 InRange-prop (Assign to) = IsVariable-prop to
 InRange-prop (Switch default cases) = hlevel (AreCases-prop cases, props)
 InRange-prop (Globals entries) = AreEntries-prop entries
-InRange-prop (Number value) = hlevel props
-InRange-prop (Jump label) = hlevel props
-InRange-prop (JumpIf truth label) = hlevel props
-InRange-prop (Label label) = hlevel props
-InRange-prop (GiveResult label) = hlevel props
-InRange-prop (TakeResult depth) = hlevel props
-InRange-prop (Stack depth) = hlevel props
-InRange-prop (Entry label name) = hlevel props
-InRange-prop (Save depth) = hlevel props
-InRange-prop (DataLabel label) = hlevel props
-InRange-prop (DataNumber value) = hlevel props
-InRange-prop (DataAddress label) = hlevel props
 InRange-prop x = hlevel props
 
 Option_Kind-set : IsSet (Option OcodeKind)
@@ -48,10 +36,6 @@ Option_Kind-set = hlevel (⊎_set, Kind-set, props)
 
 IsTyped-prop : (s : Stmt) → IsProp (IsTyped s)
 IsTyped-prop (Number value) = hlevel props
-IsTyped-prop (DataNumber value) = hlevel props
-IsTyped-prop (Text bytes) = hlevel props
-IsTyped-prop (Entry label name) = hlevel props
-IsTyped-prop (Switch default cases) = hlevel props
 IsTyped-prop _ = hlevel props
 
 AreTyped-prop : (stmts : List Stmt) → IsProp (AreTyped stmts)
@@ -60,9 +44,6 @@ AreTyped-prop stmts = hlevel (IsTyped-prop, props)
 IsSection-prop : (stmts : List Stmt) → IsProp (IsSection stmts)
 IsSection-prop stmts = hlevel (InRange-prop, Option_Kind-set, Position-set, ℕ_set, props)
 
-IsWhole-prop : (stmts : List Stmt) → IsProp (IsSection stmts × AreTyped stmts)
-IsWhole-prop stmts = hlevel (IsSection-prop stmts, AreTyped-prop stmts, props)
-
 -- the statements of each section are one
 pub section_whole : (section : Ocode) → IsSection (stmts_of section) × AreTyped (stmts_of section)
-section_whole section = ∥∥₁_elim section.whole (IsWhole-prop (stmts_of section)) (λ whole. whole)
+section_whole section = ∥∥₁_elim section.whole (hlevel (IsSection-prop (stmts_of section), AreTyped-prop (stmts_of section), props)) (λ whole. whole)

@@ -1,6 +1,6 @@
 -- Each step keeps what the states of a run keep, and so does going on from a rest.
 use Rattle.bk_ocode.proofs.Chosen.{on_number-holds, on_some-holds}
-use Rattle.bk_ocode.proofs.Depths.{keeps_in, context-depth, depth_after-append, depths_suffice, at_seam, get-append, ◌≡◌, ◌⊎◌, inl, inr, ℕ, zero, suc, ◌+◌, ◌≤◌, Bool, true, false, not, List, [], ◌∷◌, ◌++◌, length, take, slice_get, Option, Some, None, refl, sym, ◌∙◌, ap, subst, arith, append_assoc, word_sum, byte_distance, next_depth, depth_after, least_depth, InRange, may_stand, Context, at_start, after, after_all, context_of, misplaced, AreFaultless, Content, Variable, Temporary, Held, write, byte_at, word_with_byte_at, string_at, Placement, Placed, Routine, Stop, Rdch, Wrch, Newline, Writes, Writen, Writed, Getbyte, Putbyte, Writef, Control, Inside, Following, At, State, Next, Goes, Wild, rest_place, slot, on_some, return, tells, read_byte, routine_step, step_in, step_from, step, Rest, rest_of, or_rest, rests, rests_of, in_hand, kept, resumed_by, resumed, Program, HasFrames, IsProgram, Applies, IsOwn, IsControl, Sound, SoundStep, StepsAreSound, ResumingIsSound, Position, Body, Local, Stmt, Number, True, False, Query, Load, Address, Text, Assign, Jump, JumpIf, Label, TakeResult, Stack, Store, Entry, Save, CallFunction, CallRoutine, Return, EndProcedure, Switch, Finish, DataLabel, DataNumber, DataAddress, Globals, Position as position, same_Some, not-false, take-append_seam, take-append-le, slice_get_within}
+use Rattle.bk_ocode.proofs.Depths.{keeps_in, context-depth, depth_after-append, depths_suffice, at_seam, get-append, ◌≡◌, ◌⊎◌, inl, inr, ℕ, zero, suc, ◌+◌, ◌≤◌, Bool, true, false, not, List, [], ◌∷◌, ◌++◌, length, take, slice_get, Option, Some, None, refl, sym, ◌∙◌, ap, subst, arith, append_assoc, word_sum, byte_distance, next_depth, depth_after, least_depth, InRange, may_stand, Context, at_start, after, after_all, context_of, misplaced, AreFaultless, Content, Variable, Temporary, Held, write, byte_at, word_with_byte_at, string_at, Placement, Placed, Routine, Stop, Rdch, Wrch, Newline, Writes, Writen, Writed, Getbyte, Putbyte, Writef, Control, Inside, Following, At, State, Next, Goes, Wild, rest_place, slot, on_some, return, tells, read_byte, routine_step, step_in, step_from, step, Rest, rest_of, or_rest, rests, rests_of, in_hand, kept, resumed_by, resumed, Program, HasFrames, IsProgram, Applies, IsOwn, IsControl, Sound, SoundStep, StepsAreSound, ResumingIsSound, Position, Body, Local, Stmt, Assign, Label, TakeResult, Stack, Entry, Save, CallFunction, CallRoutine, EndProcedure, DataLabel, DataNumber, DataAddress, Globals, Position as position, same_Some, not-false, take-append_seam, take-append-le, slice_get_within}
 use Rattle.bk_ocode.proofs.JumpPlaces.{Within}
 use Rattle.bk_ocode.proofs.SoundSteps.{byte_there, Running, changed, slot-changes, variable-changes, inside, StaysNext, ReturnsNext, return-returns, step-stays}
 
@@ -34,21 +34,7 @@ deep-after c (TakeResult n) deep placed range least = λ w. omega (arith, range.
 deep-after c (CallFunction n) deep placed range least = λ w. omega (arith, range.0)
 deep-after c (CallRoutine n) deep placed range least = λ w. range.0
 deep-after c (Assign (Local n)) deep placed range least = λ w. omega (arith, range.0, least)
-deep-after c (Number value) deep placed range least = λ w. let h = body_deep c deep placed in omega (arith, h)
-deep-after c True deep placed range least = λ w. let h = body_deep c deep placed in omega (arith, h)
-deep-after c False deep placed range least = λ w. let h = body_deep c deep placed in omega (arith, h)
-deep-after c Query deep placed range least = λ w. let h = body_deep c deep placed in omega (arith, h)
-deep-after c (Load from) deep placed range least = λ w. let h = body_deep c deep placed in omega (arith, h)
-deep-after c (Address of) deep placed range least = λ w. let h = body_deep c deep placed in omega (arith, h)
-deep-after c (Text bytes) deep placed range least = λ w. let h = body_deep c deep placed in omega (arith, h)
-deep-after c (JumpIf truth l) deep placed range least = λ w. omega (arith, least)
-deep-after c (Switch default cases) deep placed range least = λ w. omega (arith, least)
-deep-after c (Jump l) deep placed range least = λ w. body_deep c deep placed
-deep-after c (Label l) deep placed range least = λ w. body_deep c deep placed
-deep-after c Store deep placed range least = λ w. body_deep c deep placed
-deep-after c Return deep placed range least = λ w. body_deep c deep placed
-deep-after c Finish deep placed range least = λ w. body_deep c deep placed
-deep-after c x deep placed range least = λ w. omega (arith, least)
+deep-after c x deep placed range least = λ w. omega (arith, body_deep c deep placed, least)
 
 record IsFine (c : Context) (s : Stmt) : Type 0 where
   placed : misplaced c s ≡ false

@@ -20,9 +20,6 @@ length_behind (x ∷ xs) s = let h = length_behind xs s in omega (arith, h)
 own_set : (l : ℕ) → sets l (Some l) ≡ 1
 own_set l = ap (λ (b : Bool). cond b 1 0) (eq-eqb l l refl)
 
-other_set : (l m : ℕ) → l ≢ m → sets l (Some m) ≡ 0
-other_set l m apart = ap (λ (b : Bool). cond b 1 0) (ne_eqb l m apart)
-
 -- What the whole of a section keeps, so many statements being read.
 record Whole (plan : ℕ → Use) (before rest : List Stmt) : Type 0 where
   once : (l : ℕ) → times_set l before + times_set l rest ≤ 1
@@ -437,7 +434,7 @@ Elsewhere p (outside x k) = ⊤
 Elsewhere p ended = ⊤
 
 apart_set : (plan : ℕ → Use) (p l m : ℕ) (u : Use) → plan m ≡ u → (Of p u → ⊥) → Of p (plan l) → sets l (Some m) ≡ 0
-apart_set plan p l m u e never of = other_set l m (λ same. never (subst (λ (x : Use). Of p x) (ap plan same ∙ e) of))
+apart_set plan p l m u e never of = ap (λ (b : Bool). cond b 1 0) (ne_eqb l m (λ same. never (subst (λ (x : Use). Of p x) (ap plan same ∙ e) of)))
 
 unset_later : {plan : ℕ → Use} {a : Standing} {rest : List Stmt} {b : Standing} (p l : ℕ) → Typed plan a rest b → Elsewhere p a → Of p (plan l) → times_set p rest ≡ 0 → times_set l rest ≡ 0
 unset_later p l done away of none = refl
