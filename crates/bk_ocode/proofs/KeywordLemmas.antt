@@ -8,16 +8,23 @@ use Rattle.bk_ocode.specs.declared.keyword.Keyword.TheVariants.{Number, Load, Ad
 abbrev find : List ℕ → Option Keyword
 find word = candidate_with (length word) (slice_index word 0) (slice_index word (length word - 1))
 
--- each is found
+-- a word of 1 to 8 bytes, none of them a blank
+abbrev is_short_word : List ℕ → Bool
+is_short_word word = nat_lt 0 (length word) && (nat_lt (length word) 9 && list_all (λ b. not (is_blank b)) word)
+
+-- each is found, and its word is one
+each_found : (k : Keyword) → (find (keyword_text k) ≡ Some k) × (is_short_word (keyword_text k) ≡ true)
+each_found Number = (refl, refl)
+each_found (Load kinds.Local) = (refl, refl)
+each_found (Address kinds.Local) = (refl, refl)
+each_found (Assign kinds.Local) = (refl, refl)
+each_found (Monadic monadic.Contents) = (refl, refl)
+each_found (Dyadic dyadic.Multiply) = (refl, refl)
+each_found (JumpIf true) = (refl, refl)
+each_found _ = (refl, refl)
+
 pub all_found : (k : Keyword) → find (keyword_text k) ≡ Some k
-all_found Number = refl
-all_found (Load kinds.Local) = refl
-all_found (Address kinds.Local) = refl
-all_found (Assign kinds.Local) = refl
-all_found (Monadic monadic.Contents) = refl
-all_found (Dyadic dyadic.Multiply) = refl
-all_found (JumpIf true) = refl
-all_found _ = refl
+all_found k = (each_found k).0
 
 pub only_candidate : (word : List ℕ) (k : Keyword) → keyword_text k ≡ word → find word ≡ Some k
 only_candidate word k is = ap find (sym is) ∙ all_found k
@@ -38,23 +45,9 @@ pub stands_so : (s : Stmt) → role s ≡ keyword_role (keyword_of_stmt s)
 stands_so (stmt.Number value) = refl
 stands_so _ = refl
 
--- a word of 1 to 8 bytes, none of them a blank
-abbrev is_short_word : List ℕ → Bool
-is_short_word word = nat_lt 0 (length word) && (nat_lt (length word) 9 && list_all (λ b. not (is_blank b)) word)
-
-all_short : (k : Keyword) → is_short_word (keyword_text k) ≡ true
-all_short Number = refl
-all_short (Load kinds.Local) = refl
-all_short (Address kinds.Local) = refl
-all_short (Assign kinds.Local) = refl
-all_short (Monadic monadic.Contents) = refl
-all_short (Dyadic dyadic.Multiply) = refl
-all_short (JumpIf true) = refl
-all_short _ = refl
-
 pub short_word : (k : Keyword) → (0 < length (keyword_text k)) × (length (keyword_text k) ≤ 8) × (list_all (λ b. not (is_blank b)) (keyword_text k) ≡ true)
 short_word k =
-    let some = and_parts _ _ (all_short k) in
+    let some = and_parts _ _ ((each_found k).1) in
     let few = and_parts _ _ some.1 in
     let below : length (keyword_text k) < 9 = ltb-true _ 9 few.0 in
     (ltb-true 0 _ some.0, omega (arith, below), few.1)
