@@ -1,6 +1,5 @@
 -- The scheme's statements of a section without faults are an accepted section.
-use Rattle.bk_trans.proofs.Words.{arith, ◌≡◌, ℕ, suc, ◌+◌, ◌≤◌, List, [], ◌∷◌, length, refl, ap, subst, OCODE_LABEL, OCODE_STATEMENTS, OCODE_WORDS, Declarations, Point, word, words_of, faults, reported_of, meanings, words, SoundSection, joined, Use, times_set, every_front, every_back}
-use Rattle.bk_trans.proofs.Terms.{section_clean, section_sound, IsSection, text_size, Target, program_of, labels_of_declarations, Part, parts_of_declarations, target_of, named_tree, scheme, AreWords, SchemeIsAccepted}
+use Rattle.bk_trans.proofs.Words.{arith, ◌≡◌, ℕ, suc, ◌+◌, ◌≤◌, List, [], ◌∷◌, length, refl, ap, subst, OCODE_LABEL, OCODE_STATEMENTS, OCODE_WORDS, Declarations, Point, word, words_of, faults, reported_of, meanings, words, SoundSection, joined, Use, times_set, every_front, every_back, section_clean, section_sound, IsSection, text_size, Target, program_of, labels_of_declarations, Part, parts_of_declarations, target_of, named_tree, scheme, AreWords, SchemeIsAccepted}
 use Rattle.bk_ocode.proofs.Lemmas.{typed_is_section}
 use Rattle.bk_trans.specs.Program as p
 use Rattle.bk_trans.proofs.Named.{filling_names}

@@ -1,15 +1,10 @@
 -- The body of a procedure of a section without faults is good: what each node asks for is there.
-use Rattle.bk_trans.proofs.Words.{arith, ◌≡◌, ℕ, ◌+◌, ◌<◌, ◌≤◌, ◌^◌, true, false, not, Option, Some, None, List, [], ◌∷◌, ◌++◌, length, refl, sym, ap, subst, ◌∙◌, ⊤, false≢true, le-ltb, FRAME_WORDS, GLOBAL_NUMBER, VEC_NUMBER, OCODE_LABEL, Mention, Expression, Expressions, Command, Commands, Declaration, Declarations, Items, Definition, Definitions, Starts, name, parens, unary, binary, choice, apply, valof, none, more, assign, call, goto, label, case_of, default, when, test, while, for_loop, switch, result, simple, block, repeat, repeat_while, no_commands, also, constants, definitions, no_declarations, declare, no_items, item, variables, no_definitions, define, no_starts, value, vector, at_expression, size, Bound, Constant, Global, Static, Variable, Label, Enclosing, Role, Value, Truth, Address, Destination, not_assignable, no_result_or_return, vec_out_of_range, Binding, bound_in, bind, has_address, constant_word, AllDiffer, deeper, looping, switching, labelled, valued, labels_of, labels_of_each, parenthesised, within, words_of_vector, words_of_start, place_after, variables_of, Spot, procedures_in, onward, past, numbered, following, after_each, after_done, after_declared, after_one_declared, after_one_defined, after_constant, symbols_each, Point, at, labels_in_scope, procedures_in_scope, place_after_one_defined, place_after_defined, variables_in_scope, manifests_in_scope, globals_in_scope, scope_after_one, place_after_one, scope_after, place_after_all, unless, its_meaning, its_word, constant, each_constant, at_most, addressed, assigned, prefixed, pushed, chosen_at, defaulted_at, one_of, each_of, reported, reported_each, reported_destinations, reported_done, reported_done_each, reported_declared, reported_one_declared, reported_defined, reported_one_defined, reported_started, Usable, GoesTo, HasWord, HasWordUpTo, Sound, SoundEach, SoundDestinations, SoundDone, SoundDoneEach, SoundDeclared, SoundOneDeclared, SoundDefined, SoundOneDefined, SoundStarted, Use, every_front, every_back, every_both}
-use Rattle.bk_trans.proofs.Terms.{Operator as o, Prefix as sign, Simple as w, Sort as sort, cases_differ, Target, meant, worth, term_named, terms_named, condition_named, lvalue_named, lvalues_named, command_named, commands_named, declarations_named, declaration_named, definitions_named, definition_named, starts_named, labels, labels_each, labels_if, labels_at, labels_onto, labels_in, labels_through, labels_of_declaration, labels_of_declarations, labels_of_definition, labels_of_definitions, labels_of_starts, count, after_starts, after_definition, after_definitions, after_declaration, after_declarations, Part, parts, parts_each, parts_if, parts_at, parts_onto, parts_from, parts_in, parts_through, parts_of_declarations, parts_of_declaration, parts_of_definitions, parts_of_definition, parts_of_starts, goal_of}
 use Rattle.bk_scope.specs.Cases as chosen
 use Rattle.bk_trans.specs.Program as t
-use Rattle.bk_trans.proofs.Marks.{Mark, connective_mark, marks, marks_each, marks_if, marks_at, marks_onto, marks_all_onto, marks_from, marks_by_turns, marks_in, marks_through, marks_of_declaration, marks_of_declarations, marks_of_definition, marks_of_definitions, marks_of_starts, AllRight, Right}
-use Rattle.bk_trans.proofs.Good.{Exits, IsGoal, IsWord, Pushed, Held, Goes, case_words, case_words_through, AllWords, Good, GoodEach, GoodIf, GoodAt, GoodOnto, GoodAllOnto, GoodFrom, GoodIn, GoodThrough, GoodDeclared, GoodOneDeclared, GoodDefined, GoodOneDefined, GoodStarted}
 use Rattle.bk_trans.proofs.Scopes.{Sees, sees_bind, sees_all, sees_labels, sees_procedures, AllMean, PartsRight, label_found, label_found_through, procedure_found, statics_seen, PartRight}
-use Rattle.bk_trans.proofs.Forms.{grown_starts, grown_defined}
+use Rattle.bk_trans.proofs.Forms.{grown_starts, grown_defined, Exits, IsGoal, IsWord, Pushed, Held, Goes, case_words, case_words_through, AllWords, Good, GoodEach, GoodIf, GoodAt, GoodOnto, GoodAllOnto, GoodFrom, GoodIn, GoodThrough, GoodDeclared, GoodOneDeclared, GoodDefined, GoodOneDefined, GoodStarted, Mark, connective_mark, marks, marks_each, marks_if, marks_at, marks_onto, marks_all_onto, marks_from, marks_by_turns, marks_in, marks_through, marks_of_declaration, marks_of_declarations, marks_of_definition, marks_of_definitions, marks_of_starts, AllRight, Right, no_more}
 use Rattle.bk_trans.proofs.Reported.{AllFine, Fine, told_front, told_back, told_room, IsFine}
-use Rattle.bk_trans.proofs.Once.{no_more}
-use Rattle.bk_trans.proofs.Asked.{Asked, for_value, for_truth, role, asked, turn, negated}
+use Rattle.bk_trans.proofs.Asked.{Asked, for_value, for_truth, role, asked, turn, negated, arith, ◌≡◌, ℕ, ◌+◌, ◌<◌, ◌≤◌, ◌^◌, true, false, not, Option, Some, None, List, [], ◌∷◌, ◌++◌, length, refl, sym, ap, subst, ◌∙◌, ⊤, false≢true, le-ltb, FRAME_WORDS, GLOBAL_NUMBER, VEC_NUMBER, OCODE_LABEL, Mention, Expression, Expressions, Command, Commands, Declaration, Declarations, Items, Definition, Definitions, Starts, name, parens, unary, binary, choice, apply, valof, none, more, assign, call, goto, label, case_of, default, when, test, while, for_loop, switch, result, simple, block, repeat, repeat_while, no_commands, also, constants, definitions, no_declarations, declare, no_items, item, variables, no_definitions, define, no_starts, value, vector, at_expression, size, Bound, Constant, Global, Static, Variable, Label, Enclosing, Role, Value, Truth, Address, Destination, not_assignable, no_result_or_return, vec_out_of_range, Binding, bound_in, bind, has_address, constant_word, AllDiffer, deeper, looping, switching, labelled, valued, labels_of, labels_of_each, parenthesised, within, words_of_vector, words_of_start, place_after, variables_of, Spot, procedures_in, onward, past, numbered, following, after_each, after_done, after_declared, after_one_declared, after_one_defined, after_constant, symbols_each, Point, at, labels_in_scope, procedures_in_scope, place_after_one_defined, place_after_defined, variables_in_scope, manifests_in_scope, globals_in_scope, scope_after_one, place_after_one, scope_after, place_after_all, unless, its_meaning, its_word, constant, each_constant, at_most, addressed, assigned, prefixed, pushed, chosen_at, defaulted_at, one_of, each_of, reported, reported_each, reported_destinations, reported_done, reported_done_each, reported_declared, reported_one_declared, reported_defined, reported_one_defined, reported_started, Usable, GoesTo, HasWord, HasWordUpTo, Sound, SoundEach, SoundDestinations, SoundDone, SoundDoneEach, SoundDeclared, SoundOneDeclared, SoundDefined, SoundOneDefined, SoundStarted, Use, every_front, every_back, every_both, Operator as o, Prefix as sign, Simple as w, Sort as sort, cases_differ, Target, meant, worth, term_named, terms_named, condition_named, lvalue_named, lvalues_named, command_named, commands_named, declarations_named, declaration_named, definitions_named, definition_named, starts_named, labels, labels_each, labels_if, labels_at, labels_onto, labels_in, labels_through, labels_of_declaration, labels_of_declarations, labels_of_definition, labels_of_definitions, labels_of_starts, count, after_starts, after_definition, after_definitions, after_declaration, after_declarations, Part, parts, parts_each, parts_if, parts_at, parts_onto, parts_from, parts_in, parts_through, parts_of_declarations, parts_of_declaration, parts_of_definitions, parts_of_definition, parts_of_starts, goal_of}
 
 -- what a name in scope means in procedure k, with entry q and depth d
 abbrev pub Known : (ℕ → Use) → List Target → ℕ → ℕ → ℕ → Bound → Type 0

@@ -1,9 +1,7 @@
 -- The CASEs and the DEFAULT of a SWITCHON: their labels are jumped to at its depth, and their values differ.
-use Rattle.bk_trans.proofs.Words.{arith, ◌≡◌, ℕ, zero, suc, ◌+◌, ◌<◌, ◌≤◌, ◌^◌, false, not, Option, Some, None, List, [], ◌∷◌, ◌++◌, length, map, slice_get, refl, sym, ap, ◌∙◌, length-append, ⊤, signed, OCODE_LABEL, NoneOf, AllDiffer, Case, IsLabel, AreCases, Use, jumps, AllJump, Every, every_front, every_back, every_both, every_at}
 use Rattle.bk_trans.proofs.Terms.{w32, cast_unsigned, NamedCommand, NamedCommands, label, case_of, default, when, test, while, block, repeat, repeat_while, no_named_commands, also, no_declarations, labels_if, labels_in, labels_through, cases, cases_through, first_of, default_in, default_through, label_or}
 use Rattle.std.proofs.lemmas.Int.{of_z-to_z}
-use Rattle.bk_trans.proofs.Marks.{marks_if, marks_in, marks_through, AllRight, Right}
-use Rattle.bk_trans.proofs.Good.{case_words, case_words_through, AllWords}
+use Rattle.bk_trans.proofs.Good.{case_words, case_words_through, AllWords, marks_if, marks_in, marks_through, AllRight, Right, arith, ◌≡◌, ℕ, zero, suc, ◌+◌, ◌<◌, ◌≤◌, ◌^◌, false, not, Option, Some, None, List, [], ◌∷◌, ◌++◌, length, map, slice_get, refl, sym, ap, ◌∙◌, length-append, ⊤, signed, OCODE_LABEL, NoneOf, AllDiffer, Case, IsLabel, AreCases, Use, jumps, AllJump, Every, every_front, every_back, every_both, every_at}
 
 abbrev IsPlace : (ℕ → Use) → ℕ → ℕ → ℕ → Type 0
 IsPlace plan p s l = (plan l ≡ jumps p s) × IsLabel l

@@ -1,8 +1,7 @@
 -- What lists of statements whose numbers fit come to.
 use Rattle.bk_trans.proofs.Words.{◌≡◌, ℕ, zero, suc, ◌<◌, ◌^◌, Some, List, [], ◌∷◌, map, slice_get, refl, ap, ◌∙◌, arith, Case, GlobalEntry, Stmt}
 use Rattle.std.specs.Prelude.{FitsSigned}
-use Rattle.bk_trans.specs.Fitting.{Fits}
-use Rattle.bk_trans.proofs.Terms.{w32, word, case_in_words, entry_in_words, CasesFit, EntriesFit, AllFit}
+use Rattle.bk_trans.proofs.Terms.{w32, word, case_in_words, entry_in_words, CasesFit, EntriesFit, AllFit, Fits}
 
 pub word_is : (n : ℕ) → n < 2 ^ 32 → word n ≡ n
 word_is n h = omega arith

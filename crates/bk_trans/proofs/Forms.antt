@@ -1,14 +1,11 @@
 -- The code of each form goes from one depth to another and agrees with the plan: a value is pushed, a condition leaves nothing, a
 -- command nothing, and declarations their variables.
-use Rattle.bk_trans.proofs.Words.{arith, ◌≡◌, ℕ, ◌+◌, ◌-◌, ◌≤◌, Bool, true, false, not, cond, List, [], ◌∷◌, ◌++◌, map, refl, subst, ◌∙◌, ⊤, signed, FRAME_WORDS, OCODE_LABEL, Case, Stmt, IsLabel, AreCases, Use, jumps, results, AllJump, Fits, done, lands, takes, Every, every_front, every_back, first_bytes}
 use Rattle.bk_trans.proofs.Terms.{Simple as w, Bound as b, Variable as v, Dyadic as two, Stmt as t, Around, Target, labels, labels_each, labels_if, labels_at, labels_onto, labels_in, labels_through, labels_of_declaration, labels_of_declarations, labels_of_definition, labels_of_definitions, labels_of_starts, count, after_starts, after_declaration, after_declarations, after_definition, after_definitions, has_variables, Part, static_table, parts, parts_each, parts_if, parts_at, parts_onto, parts_from, parts_in, parts_through, parts_of_declarations, parts_of_declaration, parts_of_definitions, parts_of_definition, parts_of_starts, goal_of, push, truth_value, by_turns, value_code, each_code, jump_code, address_code, store_code, value_codes, store_codes, command_code, through_code, declarations_code, declaration_code, definitions_code, definition_code, starts_code, goal, variable, valued, looping, switching, label_or, default_in, cases, test_of_step}
 use Rattle.bk_ocode.specs.Typing as typing
 use Rattle.bk_trans.specs.Program.{Term, Terms, Condition, Lvalue, Lvalues, NamedCommand, NamedCommands, Declaration, Declarations, Definition, Definitions, Starts, named, number, text, truth, query, parens, unary, address, binary, choice, apply, valof, table, none, more, holds, within, fails, both, either, word, contents, subscript, byte, inside, nowhere, no_lvalues, onto, assign, call, goto, label, case_of, default, when, test, while, for_loop, switch, result, simple, block, repeat, repeat_while, no_named_commands, also, statics, lets, no_declarations, declare, variables, no_definitions, define, no_starts, value, vector}
-use Rattle.bk_trans.proofs.Marks.{Mark, marks, marks_each, marks_if, marks_at, marks_onto, marks_all_onto, marks_from, marks_by_turns, marks_in, marks_through, marks_of_declaration, marks_of_declarations, marks_of_definition, marks_of_definitions, marks_of_starts, AllRight, Right}
-use Rattle.bk_trans.proofs.Good.{Exits, in_loop, in_switch, in_valof, IsGoal, Good, GoodEach, GoodIf, GoodAt, GoodOnto, GoodAllOnto, GoodFrom, GoodIn, GoodThrough, GoodDeclared, GoodOneDeclared, GoodDefined, GoodOneDefined, GoodStarted}
+pub use Rattle.bk_trans.proofs.Good.{Exits, in_loop, in_switch, in_valof, IsGoal, Good, GoodEach, GoodIf, GoodAt, GoodOnto, GoodAllOnto, GoodFrom, GoodIn, GoodThrough, GoodDeclared, GoodOneDeclared, GoodDefined, GoodOneDefined, GoodStarted, Mark, marks, marks_each, marks_if, marks_at, marks_onto, marks_all_onto, marks_from, marks_by_turns, marks_in, marks_through, marks_of_declaration, marks_of_declarations, marks_of_definition, marks_of_definitions, marks_of_starts, AllRight, Right, no_more, arith, ◌≡◌, ℕ, ◌+◌, ◌-◌, ◌≤◌, Bool, true, false, not, cond, List, [], ◌∷◌, ◌++◌, map, refl, subst, ◌∙◌, ⊤, signed, FRAME_WORDS, OCODE_LABEL, Case, Stmt, IsLabel, AreCases, Use, jumps, results, AllJump, Fits, done, lands, takes, Every, every_front, every_back, first_bytes, IsWord, Pushed, Held, Goes, case_words, case_words_through, AllWords, connective_mark, no_exits, Room, set_both, words_none, inr, ◌==◌, Some, length, sym, ap, eqb-true, eq-eqb, length-append, GLOBAL_NUMBER, OCODE_STATEMENTS, Bound, GlobalEntry, joined, IsGlobal, AreEntries, outside, ended, AllEntries, Typed, enters, returns, gives, begins, points, ends, sets, times_set, every_both, total_both, all_found, every_at}
 use Rattle.bk_trans.proofs.Steps.{back, Steps, append, step, last, fits_number, fits_truth, next_truth, fits_local, fits_push, next_push, fits_address, fits_assign, fits_dyadic, fits_assign_at, fits_assign_byte, fits_jump, fits_jump_if, fits_give, fits_stack, fits_test, next_test, prefix_steps, dyadic_steps, infix_steps, go_steps, short_bytes}
 use Rattle.bk_trans.proofs.Cases.{default_is, cases_are, cases_jump, chosen}
-use Rattle.bk_trans.proofs.Once.{no_more}
 
 -- the tables among parts have words
 abbrev pub TableRight : (ℕ → Use) → Part → Type 0

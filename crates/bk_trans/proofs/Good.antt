@@ -1,9 +1,10 @@
 -- What the code of a part of the named tree asks for, in procedure p with depth s: each name's word is there, a jump finds its
 -- label, each command stands where it may, CASEs differ, and the frame has room.
-use Rattle.bk_trans.proofs.Words.{◌≡◌, ℕ, ◌+◌, ◌<◌, ◌≤◌, ◌^◌, Bool, true, false, Some, List, [], ◌∷◌, ◌++◌, ⊤, FRAME_WORDS, GLOBAL_NUMBER, Bound, AllDiffer, IsLabel, IsDepth, Use, Every}
-use Rattle.bk_trans.proofs.Terms.{Simple as w, Bound as b, Goal, Target, count, after_definition, after_declaration, after_declarations, goal_of}
+pub use Rattle.bk_trans.proofs.Words.{◌≡◌, ℕ, ◌+◌, ◌<◌, ◌≤◌, ◌^◌, Bool, true, false, Some, List, [], ◌∷◌, ◌++◌, ⊤, FRAME_WORDS, GLOBAL_NUMBER, Bound, AllDiffer, IsLabel, IsDepth, Use, Every, Simple as w, Bound as b, Goal, Target, count, after_definition, after_declaration, after_declarations, goal_of, arith, ◌-◌, not, cond, map, refl, subst, ◌∙◌, signed, OCODE_LABEL, Case, Stmt, AreCases, jumps, results, AllJump, Fits, done, lands, takes, every_front, every_back, first_bytes, zero, suc, Option, None, length, slice_get, sym, ap, length-append, NoneOf, every_both, every_at, ℤ, int_lt, pos, length-take, NAME_BYTES, Operator, Prefix, Standing, body, Typed, enters, goes, returns, gives, begins, points, ends, inr, ◌==◌, eqb-true, eq-eqb, OCODE_STATEMENTS, GlobalEntry, joined, IsGlobal, AreEntries, outside, ended, AllEntries, sets, times_set, total_both, all_found}
 use Rattle.bk_ocode.specs.Typing as typing
 use Rattle.bk_trans.specs.Program.{Term, Terms, Condition, Lvalue, Lvalues, NamedCommand, NamedCommands, Declaration, Declarations, Definition, Definitions, Starts, named, parens, unary, address, binary, choice, apply, valof, none, more, holds, within, fails, both, either, word, contents, subscript, byte, inside, nowhere, onto, assign, call, goto, label, case_of, default, when, test, while, for_loop, switch, result, simple, block, repeat, repeat_while, no_named_commands, also, statics, lets, no_declarations, declare, variables, no_definitions, define, no_starts, value, vector}
+pub use Rattle.bk_trans.proofs.Marks.{Mark, marks, marks_each, marks_if, marks_at, marks_onto, marks_all_onto, marks_from, marks_by_turns, marks_in, marks_through, marks_of_declaration, marks_of_declarations, marks_of_definition, marks_of_definitions, marks_of_starts, AllRight, Right, connective_mark}
+pub use Rattle.bk_trans.proofs.Once.{no_more, set_both, words_none}
 
 -- which exits there are
 pub record Exits : Type 0 where

@@ -1,10 +1,8 @@
 -- Filling gives the named tree: of a node that is sound, going on from what is told of it takes just the meanings and the words that
 -- stand there, and gives its named tree.
-use Rattle.bk_trans.proofs.Words.{◌≡◌, ℕ, ◌+◌, Bool, true, false, cond, Option, Some, None, List, [], ◌∷◌, ◌++◌, length, refl, sym, ap, ◌∙◌, false≢true, Mention, Expression, Expressions, Command, Commands, Declaration, Declarations, Items, Definition, Definitions, Starts, name, parens, unary, binary, choice, apply, valof, table, none, more, empty, assign, call, goto, label, case_of, default, when, test, while, for_loop, switch, result, simple, block, repeat, repeat_while, no_commands, also, constants, definitions, no_declarations, declare, no_items, item, routine, function, variables, no_definitions, define, no_starts, value, vector, at_expression, size, GLOBAL_NUMBER, VEC_NUMBER, Bound, Constant, Global, Static, Variable, Label, Enclosing, Role, Value, Address, Destination, Wrong, dynamic_name, label_not_here, not_assignable, no_result_or_return, global_out_of_range, vec_out_of_range, text_of, Binding, bound_in, bind, has_address, constant_word, kept, deeper, looping, switching, labelled, valued, called, outermost, labels_of, labels_of_each, with_formals, parenthesised, words_of_start, Spot, procedures_in, onward, past, numbered, following, after_each, after_done, after_declared, after_one_declared, after_one_defined, after_constant, symbols_each, beginning, Point, meaning, word, depth, at, deepest, without_depths, meanings_of, words_of, labels_in_scope, procedures_in_scope, place_after_one_defined, scope_after_one, place_after_one, scope_after, place_after_all, unless, used_at, gone_to, its_word, constant, each_constant, at_most, addressed, assigned, prefixed, depth_named, pushed, chosen_at, defaulted_at, single_at, each_of, one_of, manifest_items, static_items, global_items, its_meaning, its_global, its_frame, inside_procedure, procedure, reported, reported_each, reported_destinations, reported_done, reported_done_each, reported_declared, reported_one_declared, reported_defined, reported_one_defined, reported_started, reported_of, meanings, words, Usable, GoesTo, Callable, HasWord, HaveWords, ManifestsSound, StaticsSound, GlobalsSound, Sound, SoundEach, SoundDestinations, SoundDone, SoundDoneEach, SoundDeclared, SoundOneDeclared, SoundDefined, SoundOneDefined, SoundStarted, SoundSection}
-use Rattle.bk_trans.proofs.Terms.{eq-eqb, Operator as o, Prefix as q, Simple, Simple as w, Sort as sort, constant_right, section_sound, Supply, Filled, filled, meant, worth, words_named, step_named, statics_named, term_named, terms_named, condition_named, lvalue_named, lvalues_named, command_named, commands_named, declarations_named, declaration_named, definitions_named, definition_named, starts_named, named_tree, FillingNames}
 use Rattle.bk_trans.specs.Program as t
 use Rattle.bk_trans.specs.Filling as f
-use Rattle.bk_trans.proofs.Asked.{Asked, for_value, for_truth, role}
+use Rattle.bk_trans.proofs.Asked.{Asked, for_value, for_truth, role, ◌≡◌, ℕ, ◌+◌, Bool, true, false, cond, Option, Some, None, List, [], ◌∷◌, ◌++◌, length, refl, sym, ap, ◌∙◌, false≢true, Mention, Expression, Expressions, Command, Commands, Declaration, Declarations, Items, Definition, Definitions, Starts, name, parens, unary, binary, choice, apply, valof, table, none, more, empty, assign, call, goto, label, case_of, default, when, test, while, for_loop, switch, result, simple, block, repeat, repeat_while, no_commands, also, constants, definitions, no_declarations, declare, no_items, item, routine, function, variables, no_definitions, define, no_starts, value, vector, at_expression, size, GLOBAL_NUMBER, VEC_NUMBER, Bound, Constant, Global, Static, Variable, Label, Enclosing, Role, Value, Address, Destination, Wrong, dynamic_name, label_not_here, not_assignable, no_result_or_return, global_out_of_range, vec_out_of_range, text_of, Binding, bound_in, bind, has_address, constant_word, kept, deeper, looping, switching, labelled, valued, called, outermost, labels_of, labels_of_each, with_formals, parenthesised, words_of_start, Spot, procedures_in, onward, past, numbered, following, after_each, after_done, after_declared, after_one_declared, after_one_defined, after_constant, symbols_each, beginning, Point, meaning, word, depth, at, deepest, without_depths, meanings_of, words_of, labels_in_scope, procedures_in_scope, place_after_one_defined, scope_after_one, place_after_one, scope_after, place_after_all, unless, used_at, gone_to, its_word, constant, each_constant, at_most, addressed, assigned, prefixed, depth_named, pushed, chosen_at, defaulted_at, single_at, each_of, one_of, manifest_items, static_items, global_items, its_meaning, its_global, its_frame, inside_procedure, procedure, reported, reported_each, reported_destinations, reported_done, reported_done_each, reported_declared, reported_one_declared, reported_defined, reported_one_defined, reported_started, reported_of, meanings, words, Usable, GoesTo, Callable, HasWord, HaveWords, ManifestsSound, StaticsSound, GlobalsSound, Sound, SoundEach, SoundDestinations, SoundDone, SoundDoneEach, SoundDeclared, SoundOneDeclared, SoundDefined, SoundOneDefined, SoundStarted, SoundSection, eq-eqb, Operator as o, Prefix as q, Simple, Simple as w, Sort as sort, constant_right, section_sound, Supply, Filled, filled, meant, worth, words_named, step_named, statics_named, term_named, terms_named, condition_named, lvalue_named, lvalues_named, command_named, commands_named, declarations_named, declaration_named, definitions_named, definition_named, starts_named, named_tree, FillingNames}
 
 -- the meanings and words of these points, and then those
 abbrev given : List Point → Supply → Supply

@@ -1,20 +1,16 @@
 -- Each part of a section without faults that stands by itself is good: its procedures, wherever they are nested, its items of STATIC and
 -- its tables.
-use Rattle.bk_trans.proofs.Words.{arith, ◌≡◌, ℕ, ◌+◌, ◌<◌, ◌≤◌, ◌^◌, max, true, false, cond, Option, Some, List, [], ◌∷◌, ◌++◌, length, refl, sym, ap, subst, ◌∙◌, ⊤, false≢true, FRAME_WORDS, VEC_NUMBER, OCODE_LABEL, Mention, Expression, Expressions, Command, Commands, Declaration, Declarations, Definition, Definitions, Starts, name, parens, unary, binary, choice, apply, valof, table, none, more, assign, call, label, case_of, default, when, test, while, for_loop, switch, result, block, repeat, repeat_while, no_commands, also, constants, definitions, no_declarations, declare, routine, function, variables, no_definitions, define, no_starts, value, vector, at_expression, size, Bound, Constant, Global, Static, Variable, Label, Enclosing, Role, Value, Truth, Address, Destination, not_assignable, no_result_or_return, vec_out_of_range, Binding, bound_in, bind, constant_word, kept, deeper, looping, switching, labelled, valued, called, outermost, labels_of, labels_of_each, with_formals, parenthesised, words_of_start, place_after, variables_of, Spot, procedures_in, onward, past, numbered, following, after_each, after_done, after_declared, after_one_declared, after_one_defined, after_constant, symbols_each, beginning, Claim, is_claimed, Point, meaning, word, depth, wrong, claim, claimed, judged, deepest, without_depths, at, labels_in_scope, procedures_in_scope, place_after_one_defined, variables_in_scope, scope_after_one, place_after_one, scope_after, place_after_all, unless, its_meaning, its_global, its_frame, inside_procedure, constant, each_constant, at_most, assigned, prefixed, pushed, chosen_at, defaulted_at, one_of, each_of, reported, reported_each, reported_destinations, reported_done, reported_done_each, reported_declared, reported_one_declared, reported_defined, reported_one_defined, reported_started, Callable, FrameSound, Sound, SoundEach, SoundDestinations, SoundDone, SoundDoneEach, SoundDeclared, SoundOneDeclared, SoundDefined, SoundOneDefined, SoundStarted, Use, Every, every_front, every_back, every_both}
 use Rattle.bk_trans.proofs.Terms.{Operator as o, Prefix as sign, Sort as sort, Target, meant, worth, statics_named, term_named, terms_named, condition_named, lvalue_named, lvalues_named, command_named, commands_named, declarations_named, declaration_named, definitions_named, definition_named, starts_named, labels, labels_each, labels_if, labels_at, labels_onto, labels_in, labels_through, labels_of_declaration, labels_of_declarations, labels_of_definition, labels_of_definitions, labels_of_starts, count, after_definition, after_declaration, after_declarations, Part, procedure, static_table, parts, parts_each, parts_if, parts_at, parts_onto, parts_from, parts_in, parts_through, parts_of_items, parts_of_declarations, parts_of_declaration, parts_of_definitions, parts_of_definition, parts_of_starts, goal_of, labels_of_procedure}
 use Rattle.bk_trans.specs.Program as t
-use Rattle.bk_trans.proofs.Good.{IsWord}
 use Rattle.bk_trans.proofs.Scopes.{Sees, sees_bind, sees_all, sees_labels, sees_procedures, AllMean, PartsRight, sees_none, procedure_found, statics_seen, PartRight}
 use Rattle.bk_trans.proofs.Reported.{AllFine, Reported, told_front, told_back, Fine}
 use Rattle.bk_trans.proofs.Bodies.{Known, At, Placed, same_one_defined, same_defined, enter_labels, at_manifests, at_globals, good, good_in}
-use Rattle.bk_trans.proofs.Asked.{Asked, for_value, for_truth, role, asked}
+use Rattle.bk_trans.proofs.Asked.{Asked, for_value, for_truth, role, asked, arith, ◌≡◌, ℕ, ◌+◌, ◌<◌, ◌≤◌, ◌^◌, max, true, false, cond, Option, Some, List, [], ◌∷◌, ◌++◌, length, refl, sym, ap, subst, ◌∙◌, ⊤, false≢true, FRAME_WORDS, VEC_NUMBER, OCODE_LABEL, Mention, Expression, Expressions, Command, Commands, Declaration, Declarations, Definition, Definitions, Starts, name, parens, unary, binary, choice, apply, valof, table, none, more, assign, call, label, case_of, default, when, test, while, for_loop, switch, result, block, repeat, repeat_while, no_commands, also, constants, definitions, no_declarations, declare, routine, function, variables, no_definitions, define, no_starts, value, vector, at_expression, size, Bound, Constant, Global, Static, Variable, Label, Enclosing, Role, Value, Truth, Address, Destination, not_assignable, no_result_or_return, vec_out_of_range, Binding, bound_in, bind, constant_word, kept, deeper, looping, switching, labelled, valued, called, outermost, labels_of, labels_of_each, with_formals, parenthesised, words_of_start, place_after, variables_of, Spot, procedures_in, onward, past, numbered, following, after_each, after_done, after_declared, after_one_declared, after_one_defined, after_constant, symbols_each, beginning, Claim, is_claimed, Point, meaning, word, depth, wrong, claim, claimed, judged, deepest, without_depths, at, labels_in_scope, procedures_in_scope, place_after_one_defined, variables_in_scope, scope_after_one, place_after_one, scope_after, place_after_all, unless, its_meaning, its_global, its_frame, inside_procedure, constant, each_constant, at_most, assigned, prefixed, pushed, chosen_at, defaulted_at, one_of, each_of, reported, reported_each, reported_destinations, reported_done, reported_done_each, reported_declared, reported_one_declared, reported_defined, reported_one_defined, reported_started, Callable, FrameSound, Sound, SoundEach, SoundDestinations, SoundDone, SoundDoneEach, SoundDeclared, SoundOneDeclared, SoundDefined, SoundOneDefined, SoundStarted, Use, Every, every_front, every_back, every_both}
 use Rattle.bk_trans.proofs.Named.{addressed_assigned}
 use Rattle.bk_trans.proofs.Sections.{GoodName, GoodPart, AllGood}
-use Rattle.bk_trans.proofs.Forms.{AllTables}
+use Rattle.bk_trans.proofs.Forms.{AllTables, IsWord, Right, no_more}
 use Rattle.bk_scope.specs.Faults as faults
 use Rattle.bk_trans.proofs.Sections.{name_marks}
-use Rattle.bk_trans.proofs.Once.{no_more}
-use Rattle.bk_trans.proofs.Marks.{Right}
 
 -- what is told, frames apart: each word is one, and no claim was made before
 abbrev pub IsQuiet : Point → Type 0

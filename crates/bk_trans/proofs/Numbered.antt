@@ -1,13 +1,11 @@
 -- Each number has one target at most: labels have numbers of their own where they come into scope, and so have the procedures of a LET
 -- and the items of STATIC; in one list no name stands twice.
-use Rattle.bk_trans.proofs.Words.{arith, ◌≡◌, inl, inr, ℕ, ◌+◌, ◌≤◌, Bool, true, false, cond, Option, Some, List, [], ◌∷◌, ◌++◌, length, refl, sym, ap, subst, ◌∙◌, ⊤, VEC_NUMBER, Expression, Expressions, Command, Commands, Declaration, Declarations, Items, Definition, Definitions, Starts, parens, unary, binary, choice, apply, valof, none, more, assign, call, label, case_of, default, when, test, while, for_loop, switch, result, block, repeat, repeat_while, no_commands, also, constants, definitions, no_declarations, declare, no_items, item, routine, function, variables, no_definitions, define, no_starts, value, vector, at_expression, size, Bound, Static, Variable, Label, Enclosing, Role, Value, Truth, Address, Destination, not_assignable, no_result_or_return, vec_out_of_range, Binding, bound_in, bind, constant_word, deeper, looping, switching, labelled, valued, called, outermost, labels_of, labels_of_each, with_formals, parenthesised, words_of_start, Spot, procedures_in, onward, past, following, after_each, after_done, after_declared, after_one_declared, after_one_defined, after_constant, symbols_each, beginning, Claim, is_claimed, Point, meaning, word, depth, wrong, claim, claimed, judged, at, labels_in_scope, procedures_in_scope, place_after_one_defined, scope_after_one, place_after_one, scope_after, place_after_all, unless, its_meaning, constant, each_constant, at_most, assigned, prefixed, pushed, chosen_at, defaulted_at, one_of, each_of, reported, reported_each, reported_destinations, reported_done, reported_done_each, reported_declared, reported_one_declared, reported_defined, reported_one_defined, reported_started, naming, same_claim, Fault, is_global, numbers, numbers_each, numbers_done, numbers_done_each, numbers_declared, numbers_one_declared, numbers_items, numbers_defined, numbers_one_defined, numbers_started, procedure_in_scope, eqb-true, eq-eqb, ◌==◌, joined, sets, total, total_both, all_found}
-use Rattle.bk_trans.proofs.Terms.{Operator as o, Prefix as sign, Sort as sort, Clean, Target, meant, worth, statics_named, term_named, terms_named, condition_named, lvalue_named, lvalues_named, command_named, commands_named, declarations_named, declaration_named, definitions_named, definition_named, starts_named, labels, labels_if, labels_at, labels_onto, labels_in, labels_of_declaration, labels_of_declarations, labels_of_definition, count, after_definition, after_declaration, after_declarations, Part, parts_each, parts_if, parts_at, parts_onto, parts_from, parts_in, parts_through, parts_of_items, parts_of_declarations, parts_of_declaration, parts_of_definitions, parts_of_definition, parts_of_starts, goal_of, labels_of_procedure, bytes_eq, bytes_eq-Decides, target_of, target_of_word, target_of_label, goal}
 use Rattle.bk_scope.specs.Spots as spots
 use Rattle.bk_trans.proofs.Once.{past as beyond, own, no_more}
 use Rattle.bk_trans.proofs.Scopes.{Among, procedure_names, look_label, look_procedure, AllFound}
 use Rattle.bk_trans.proofs.Reported.{told_front, told_back}
 use Rattle.bk_trans.proofs.Nested.{Quiet, body_quiet}
-use Rattle.bk_trans.proofs.Asked.{Asked, for_value, for_truth, role, asked}
+use Rattle.bk_trans.proofs.Asked.{Asked, for_value, for_truth, role, asked, arith, ◌≡◌, inl, inr, ℕ, ◌+◌, ◌≤◌, Bool, true, false, cond, Option, Some, List, [], ◌∷◌, ◌++◌, length, refl, sym, ap, subst, ◌∙◌, ⊤, VEC_NUMBER, Expression, Expressions, Command, Commands, Declaration, Declarations, Items, Definition, Definitions, Starts, parens, unary, binary, choice, apply, valof, none, more, assign, call, label, case_of, default, when, test, while, for_loop, switch, result, block, repeat, repeat_while, no_commands, also, constants, definitions, no_declarations, declare, no_items, item, routine, function, variables, no_definitions, define, no_starts, value, vector, at_expression, size, Bound, Static, Variable, Label, Enclosing, Role, Value, Truth, Address, Destination, not_assignable, no_result_or_return, vec_out_of_range, Binding, bound_in, bind, constant_word, deeper, looping, switching, labelled, valued, called, outermost, labels_of, labels_of_each, with_formals, parenthesised, words_of_start, Spot, procedures_in, onward, past, following, after_each, after_done, after_declared, after_one_declared, after_one_defined, after_constant, symbols_each, beginning, Claim, is_claimed, Point, meaning, word, depth, wrong, claim, claimed, judged, at, labels_in_scope, procedures_in_scope, place_after_one_defined, scope_after_one, place_after_one, scope_after, place_after_all, unless, its_meaning, constant, each_constant, at_most, assigned, prefixed, pushed, chosen_at, defaulted_at, one_of, each_of, reported, reported_each, reported_destinations, reported_done, reported_done_each, reported_declared, reported_one_declared, reported_defined, reported_one_defined, reported_started, naming, same_claim, Fault, is_global, numbers, numbers_each, numbers_done, numbers_done_each, numbers_declared, numbers_one_declared, numbers_items, numbers_defined, numbers_one_defined, numbers_started, procedure_in_scope, eqb-true, eq-eqb, ◌==◌, joined, sets, total, total_both, all_found, Operator as o, Prefix as sign, Sort as sort, Clean, Target, meant, worth, statics_named, term_named, terms_named, condition_named, lvalue_named, lvalues_named, command_named, commands_named, declarations_named, declaration_named, definitions_named, definition_named, starts_named, labels, labels_if, labels_at, labels_onto, labels_in, labels_of_declaration, labels_of_declarations, labels_of_definition, count, after_definition, after_declaration, after_declarations, Part, parts_each, parts_if, parts_at, parts_onto, parts_from, parts_in, parts_through, parts_of_items, parts_of_declarations, parts_of_declaration, parts_of_definitions, parts_of_definition, parts_of_starts, goal_of, labels_of_procedure, bytes_eq, bytes_eq-Decides, target_of, target_of_word, target_of_label, goal}
 
 -- how often a target has a number
 abbrev pub numbered : ℕ → List Target → ℕ

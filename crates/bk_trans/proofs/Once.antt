@@ -1,7 +1,6 @@
 -- Labels are set once: those that a part sets, in its own code and in what stands by itself behind it, lie among its own, and
 -- each is set at most once. How often a label is set is counted.
-use Rattle.bk_trans.proofs.Words.{arith, ◌≡◌, ◌⊎◌, inl, inr, ◌<◌, ◌≤◌, ℕ, ◌+◌, ◌-◌, ◌==◌, min, Bool, true, false, cond, Some, List, [], ◌∷◌, ◌++◌, length, map, refl, ap, cases_lt, ne_eqb, signed, Operator, Prefix, Bound, Stmt, sets, times_set, total}
-use Rattle.bk_trans.proofs.Terms.{Operator as o, Prefix as q, Bound as b, Stmt as t, Target, StaticItem, labels_of_procedure, Part, parts_of_items, push, prefix_code, infix_code, truth_value, procedure_code, word_code, data_code}
+use Rattle.bk_trans.proofs.Words.{arith, ◌≡◌, ◌⊎◌, inl, inr, ◌<◌, ◌≤◌, ℕ, ◌+◌, ◌-◌, ◌==◌, min, Bool, true, false, cond, Some, List, [], ◌∷◌, ◌++◌, length, map, refl, ap, cases_lt, ne_eqb, signed, Operator, Prefix, Bound, Stmt, sets, times_set, total, Operator as o, Prefix as q, Bound as b, Stmt as t, Target, StaticItem, labels_of_procedure, Part, parts_of_items, push, prefix_code, infix_code, truth_value, procedure_code, word_code, data_code}
 use Rattle.bk_ocode.specs.Labels.{label_set}
 
 -- what stands by itself

@@ -1,6 +1,5 @@
 -- What is told of a part of a section without faults: no depth is past the limit, each word is one, and no claim was made before.
-use Rattle.bk_trans.proofs.Words.{arith, ◌+◌, ◌<◌, ◌≤◌, ◌^◌, Option, List, ◌++◌, length, ⊤, FRAME_WORDS, Operator, Prefix, Expression, name, parens, unary, binary, choice, apply, valof, table, size, Bound, Enclosing, Role, Value, Truth, Destination, Binding, bound_in, Claim, deeper, valued, labelled, parenthesised, role_of_operand, role_of_operands, place_of_second, labels_of, labels_in_scope, Spot, onward, past, following, Point, word, depth, claims_after, used_at, depth_named, prefixed, pushed, each_constant, reported, reported_each, reported_done, Every, every_front, every_back}
-use Rattle.bk_trans.proofs.Terms.{Operator as o, Prefix as q, Clean, first_clean, second_clean}
+use Rattle.bk_trans.proofs.Words.{arith, ◌+◌, ◌<◌, ◌≤◌, ◌^◌, Option, List, ◌++◌, length, ⊤, FRAME_WORDS, Operator, Prefix, Expression, name, parens, unary, binary, choice, apply, valof, table, size, Bound, Enclosing, Role, Value, Truth, Destination, Binding, bound_in, Claim, deeper, valued, labelled, parenthesised, role_of_operand, role_of_operands, place_of_second, labels_of, labels_in_scope, Spot, onward, past, following, Point, word, depth, claims_after, used_at, depth_named, prefixed, pushed, each_constant, reported, reported_each, reported_done, Every, every_front, every_back, Operator as o, Prefix as q, Clean, first_clean, second_clean}
 
 abbrev pub IsFine : Point → Type 0
 IsFine (depth m) = m ≤ FRAME_WORDS

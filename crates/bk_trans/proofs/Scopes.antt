@@ -1,12 +1,9 @@
 -- What names in scope mean at a place of a section without faults, and that a label and a static word that are in scope have a
 -- target in their plan.
-use Rattle.bk_trans.proofs.Words.{arith, ◌≡◌, ◌⊎◌, inl, inr, ℕ, ◌+◌, ◌≤◌, Bool, true, false, cond, Option, Some, None, List, [], ◌∷◌, ◌++◌, length, refl, sym, ap, subst, ◌∙◌, OCODE_LABEL, Command, Commands, Items, Definitions, label, case_of, default, when, test, while, switch, block, repeat, repeat_while, no_commands, also, no_declarations, no_items, item, routine, function, variables, no_definitions, define, Bound, Static, Label, Enclosing, Binding, bound_in, bind, bind_all, is_global, looping, switching, labels_of, labels_of_each, Spot, past, numbered, following, after_done, after_constant, after_one_defined, labels_in_scope, procedure_in_scope, procedures_in_scope, statics_in_scope, place_after_one_defined, IsLabel, IsDepth, Use, Every, every_front, every_back}
-use Rattle.bk_trans.proofs.Terms.{bytes_eq, bytes_eq-Decides, Goal, Target, meant, statics_named, term_named, condition_named, command_named, commands_named, definition_named, definitions_named, labels, labels_if, labels_in, labels_through, labels_of_procedure, labels_of_definition, labels_of_definitions, after_definition, Part, label_place, target_of, target_of_word, parts_of_items, parts, parts_if, parts_in, parts_through, parts_of_definition, parts_of_definitions, goal, goal_of}
+use Rattle.bk_trans.proofs.Words.{arith, ◌≡◌, ◌⊎◌, inl, inr, ℕ, ◌+◌, ◌≤◌, Bool, true, false, cond, Option, Some, None, List, [], ◌∷◌, ◌++◌, length, refl, sym, ap, subst, ◌∙◌, OCODE_LABEL, Command, Commands, Items, Definitions, label, case_of, default, when, test, while, switch, block, repeat, repeat_while, no_commands, also, no_declarations, no_items, item, routine, function, variables, no_definitions, define, Bound, Static, Label, Enclosing, Binding, bound_in, bind, bind_all, is_global, looping, switching, labels_of, labels_of_each, Spot, past, numbered, following, after_done, after_constant, after_one_defined, labels_in_scope, procedure_in_scope, procedures_in_scope, statics_in_scope, place_after_one_defined, IsLabel, IsDepth, Use, Every, every_front, every_back, bytes_eq, bytes_eq-Decides, Goal, Target, meant, statics_named, term_named, condition_named, command_named, commands_named, definition_named, definitions_named, labels, labels_if, labels_in, labels_through, labels_of_procedure, labels_of_definition, labels_of_definitions, after_definition, Part, label_place, target_of, target_of_word, parts_of_items, parts, parts_if, parts_in, parts_through, parts_of_definition, parts_of_definitions, goal, goal_of}
 use Rattle.bk_ocode.specs.Typing as typing
-use Rattle.bk_trans.proofs.Marks.{Mark, marks, marks_if, marks_in, marks_through, AllRight, Right}
-use Rattle.bk_trans.proofs.Good.{IsGoal, IsWord}
+use Rattle.bk_trans.proofs.Good.{IsGoal, IsWord, Mark, marks, marks_if, marks_in, marks_through, AllRight, Right, no_more}
 use Rattle.bk_trans.proofs.Sections.{part_marks, name_marks}
-use Rattle.bk_trans.proofs.Once.{no_more}
 
 -- what every name in scope means
 abbrev pub Sees : (Bound → Type 0) → List Binding → Type 0

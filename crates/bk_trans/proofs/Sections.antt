@@ -1,14 +1,10 @@
 -- A whole section: its procedures, data and GLOBAL agree with a plan, where each part is good and has its marks.
-use Rattle.bk_trans.proofs.Words.{arith, ◌≡◌, inr, ℕ, ◌+◌, ◌-◌, ◌≤◌, ◌==◌, Bool, true, false, cond, Some, List, [], ◌∷◌, ◌++◌, length, map, refl, sym, ap, ◌∙◌, eqb-true, eq-eqb, length-append, ⊤, signed, GLOBAL_NUMBER, OCODE_LABEL, OCODE_STATEMENTS, Bound, GlobalEntry, Stmt, joined, IsLabel, IsGlobal, AreEntries, Use, outside, ended, AllEntries, Typed, done, enters, returns, gives, begins, points, ends, sets, times_set, Every, every_front, every_back, every_both, total_both, all_found, every_at}
 use Rattle.bk_trans.proofs.Terms.{Bound as b, Stmt as t, Target, routine, function, labels, labels_in, labels_of_procedure, labels_of_definition, Part, procedure, static_item, static_table, parts, parts_in, target_of, outermost, procedure_code, word_code, data_code, entry_of, entries_of, section_code}
 use Rattle.bk_ocode.specs.Typing as typing
-use Rattle.bk_trans.proofs.Once.{set_both, words_none}
 use Rattle.bk_trans.proofs.Counted.{entry_few}
-use Rattle.bk_trans.proofs.Marks.{Mark, marks, marks_in, AllRight, Right}
 use Rattle.bk_trans.proofs.Marked.{times_marked, value_marked, command_marked}
-use Rattle.bk_trans.proofs.Good.{no_exits, Room, Good, GoodIn}
 use Rattle.bk_trans.proofs.Steps.{typed_then, short_bytes}
-use Rattle.bk_trans.proofs.Forms.{AllTables, Surrounds, value_typed, command_typed}
+use Rattle.bk_trans.proofs.Forms.{AllTables, Surrounds, value_typed, command_typed, no_exits, Room, Good, GoodIn, Mark, marks, marks_in, AllRight, Right, set_both, words_none, arith, ◌≡◌, inr, ℕ, ◌+◌, ◌-◌, ◌≤◌, ◌==◌, Bool, true, false, cond, Some, List, [], ◌∷◌, ◌++◌, length, map, refl, sym, ap, ◌∙◌, eqb-true, eq-eqb, length-append, ⊤, signed, GLOBAL_NUMBER, OCODE_LABEL, OCODE_STATEMENTS, Bound, GlobalEntry, Stmt, joined, IsLabel, IsGlobal, AreEntries, Use, outside, ended, AllEntries, Typed, done, enters, returns, gives, begins, points, ends, sets, times_set, Every, every_front, every_back, every_both, total_both, all_found, every_at}
 
 -- the marks of a part that stands by itself
 abbrev pub entry_mark : ℕ → Mark

@@ -1,9 +1,8 @@
 -- Statements of a procedure one behind another, from one depth to another, and each statement that the scheme gives by itself.
-use Rattle.bk_trans.proofs.Words.{arith, ◌≡◌, ℕ, ◌+◌, ◌-◌, ◌≤◌, Bool, true, false, cond, List, [], ◌∷◌, ◌++◌, length, ℤ, int_lt, pos, refl, sym, subst, Some, None, length-take, FRAME_WORDS, NAME_BYTES, signed, first_bytes, Operator, Prefix, Bound, Stmt, IsLabel, IsDepth, Use, jumps, results, Standing, body, Fits, Typed, done, enters, goes, lands, takes, returns, gives, begins, points, ends}
 use Rattle.bk_trans.proofs.Terms.{Operator as o, Prefix as q, Bound as b, Variable as v, Monadic as MonadicOperator, Dyadic as DyadicOperator, Dyadic as two, Stmt as t, Goal, Target, variable, push, prefix_code, infix_code, truth_value, go, test_of_step}
 use Rattle.bk_ocode.specs.Depth.{next_depth}
 use Rattle.bk_ocode.specs.Typing as typing
-use Rattle.bk_trans.proofs.Good.{IsGoal, Pushed, Held}
+use Rattle.bk_trans.proofs.Good.{IsGoal, Pushed, Held, arith, ◌≡◌, ℕ, ◌+◌, ◌-◌, ◌≤◌, Bool, true, false, cond, List, [], ◌∷◌, ◌++◌, length, ℤ, int_lt, pos, refl, sym, subst, Some, None, length-take, FRAME_WORDS, NAME_BYTES, signed, first_bytes, Operator, Prefix, Bound, Stmt, IsLabel, IsDepth, Use, jumps, results, Standing, body, Fits, Typed, done, enters, goes, lands, takes, returns, gives, begins, points, ends}
 
 -- one stretch behind another
 pub typed_then : {plan : ℕ → Use} {a : Standing} {xs : List Stmt} {b : Standing} {ys : List Stmt} {c : Standing} → Typed plan a xs b → Typed plan b ys c → Typed plan a (xs ++ ys) c

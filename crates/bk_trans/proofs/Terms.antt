@@ -26,7 +26,7 @@ pub use Rattle.bk_tree.specs.declared.tree.Sort.{Sort}
 pub use Rattle.bk_trans.specs.Alike.{word, variable_in_words, case_in_words, entry_in_words, stmt_in_words, in_words, target_in_words}
 pub use Rattle.bk_trans.specs.Depths.{after_definition, count, after_starts, after_definitions, after_declaration, after_declarations, has_variables}
 pub use Rattle.bk_trans.specs.Filling.{constants_of, program_of, Supply, meaning, constant, step_of, dropped, Filled, filled}
-pub use Rattle.bk_trans.specs.Fitting.{CasesFit, EntriesFit, AllFit}
+pub use Rattle.bk_trans.specs.Fitting.{CasesFit, EntriesFit, AllFit, Fits}
 pub use Rattle.bk_trans.specs.Labels.{labels, labels_if, labels_in, labels_through, labels_of_procedure, labels_of_definition, labels_of_definitions, labels_each, labels_at, labels_onto, labels_of_declaration, labels_of_declarations, labels_of_starts}
 pub use Rattle.bk_trans.specs.Laws.{FillingNames, AreWords, LabelsAreFew, SchemeIsAccepted, StatementsAreFew, WordsAreFew, LabelsAreSetOnce}
 pub use Rattle.bk_trans.specs.Naming.{meant, statics_named, term_named, condition_named, command_named, commands_named, definition_named, definitions_named, worth, terms_named, lvalue_named, lvalues_named, declarations_named, declaration_named, starts_named, words_named, step_named, named_tree}

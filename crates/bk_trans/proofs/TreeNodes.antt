@@ -1,6 +1,5 @@
 -- The nodes of the named tree of a section: filling gives no more of them than its source has.
-use Rattle.bk_trans.proofs.Words.{arith, ◌≤◌, ℕ, ◌+◌, length, Expression, Expressions, Command, Commands, Declaration, Declarations, Items, Definition, Definitions, Starts}
-use Rattle.bk_trans.proofs.Terms.{Operator as o, Prefix as q, Sort as s}
+use Rattle.bk_trans.proofs.Words.{arith, ◌≤◌, ℕ, ◌+◌, length, Expression, Expressions, Command, Commands, Declaration, Declarations, Items, Definition, Definitions, Starts, Operator as o, Prefix as q, Sort as s}
 use Rattle.bk_tree.specs.Tree as t
 use Rattle.bk_tree.specs.Limits as tree
 use Rattle.bk_trans.specs.Program as p

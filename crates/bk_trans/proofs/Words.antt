@@ -1,6 +1,6 @@
 -- What the proofs cite of the crates below: numbers and lists, the tree, scopes, and OCODE.
 pub use Rattle.bk_trans.proofs.Lists.{Every, all_found, every_at, every_back, every_both, every_front, map_same, total, total_both}
-pub use Rattle.bk_trans.proofs.Terms.{Bool, List, None, Option, Some, [], ap, append_assoc, arith, cond, eq-eqb, eqb-true, false, inl, inr, int_lt, length, length-append, map, max, min, negsuc, not, pos, refl, slice_get, subst, suc, sym, true, zero, ℕ, ℤ, ◌%◌, ◌*◌, ◌++◌, ◌+◌, ◌-◌, ◌<◌, ◌==◌, ◌^◌, ◌∙◌, ◌∷◌, ◌≡◌, ◌≤◌, ◌⊎◌, cases_lt, false≢true, le-ltb, ne_eqb, signed, at_expression, size, Operator, Prefix, Bound, Stmt, Local}
+pub use Rattle.bk_trans.proofs.Terms.{Bool, List, None, Option, Some, [], ap, append_assoc, arith, cond, eq-eqb, eqb-true, false, inl, inr, int_lt, length, length-append, map, max, min, negsuc, not, pos, refl, slice_get, subst, suc, sym, true, zero, ℕ, ℤ, ◌%◌, ◌*◌, ◌++◌, ◌+◌, ◌-◌, ◌<◌, ◌==◌, ◌^◌, ◌∙◌, ◌∷◌, ◌≡◌, ◌≤◌, ◌⊎◌, cases_lt, false≢true, le-ltb, ne_eqb, signed, at_expression, size, Operator, Prefix, Bound, Stmt, Local, Simple, Goal, Target, count, after_definition, after_declaration, after_declarations, goal_of, StaticItem, labels_of_procedure, Part, parts_of_items, push, prefix_code, infix_code, truth_value, procedure_code, word_code, data_code, bytes_eq, bytes_eq-Decides, meant, statics_named, term_named, condition_named, command_named, commands_named, definition_named, definitions_named, labels, labels_if, labels_in, labels_through, labels_of_definition, labels_of_definitions, label_place, target_of, target_of_word, parts, parts_if, parts_in, parts_through, parts_of_definition, parts_of_definitions, goal, Sort, cases_differ, worth, terms_named, lvalue_named, lvalues_named, declarations_named, declaration_named, starts_named, labels_each, labels_at, labels_onto, labels_of_declaration, labels_of_declarations, labels_of_starts, after_starts, after_definitions, parts_each, parts_at, parts_onto, parts_from, parts_of_declarations, parts_of_declaration, parts_of_starts, constant_right, section_sound, Supply, Filled, filled, words_named, step_named, named_tree, FillingNames, section_clean, IsSection, text_size, program_of, scheme, AreWords, SchemeIsAccepted, Clean, target_of_label, first_clean, second_clean}
 pub use Rattle.std.proofs.lemmas.List.{append-nil, length-take, map-append}
 pub use Rattle.std.specs.Bool.{⊤}
 pub use Rattle.bk_base.specs.Strings.{first_bytes}

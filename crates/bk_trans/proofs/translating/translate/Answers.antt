@@ -1,4 +1,4 @@
-use Rattle.std.proofs.Common.{ap, ◌∙◌}
+use Rattle.bk_trans.proofs.Terms.{ap, ◌∙◌}
 use Rattle.bk_tree.specs.Section.{declarations_of}
 use Rattle.bk_trans.proofs.FittingLemmas.{all_at}
 use Rattle.bk_trans.proofs.WholeSections.{translated}
