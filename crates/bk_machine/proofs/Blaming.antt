@@ -1,6 +1,5 @@
 -- How often the devices failed, behind the flush at the end of a run.
-use Rattle.bk_machine.proofs.Terms.{◌≡◌, ℕ, ◌≤◌, arith, WriteFault, Blames, BlamesBefore}
-use Rattle.bk_base.specs.declared.run_end.End.{End}
+use Rattle.bk_machine.proofs.Terms.{◌≡◌, ℕ, ◌≤◌, arith, WriteFault, Blames, BlamesBefore, End}
 
 module _ (reads reads' writes writes' : ℕ) where
   -- a flush that succeeds: the output had not failed before

@@ -1,12 +1,7 @@
 -- Steps on the words that are kept, and on the store.
-use Rattle.bk_machine.proofs.Terms.{◌≡◌, ℕ, ◌+◌, ◌-◌, List, ◌++◌, length, replicate, take, Bool, true, false, if◌then◌else◌, ◌≤◌, length-append, append_assoc, append-nil, take_all, replicate-append-replicate, Option, None, Some, ap, ◌∙◌, arith, subst, Ends, step, StoreLimit, word_sum}
-use Rattle.std.proofs.Common.{◌⊎◌, inl, inr}
-use Rattle.std.proofs.lemmas.List.{length-replicate}
-use Rattle.bk_machine.specs.declared.registers.Registers.{Registers}
+use Rattle.bk_machine.proofs.Terms.{◌≡◌, ℕ, ◌+◌, ◌-◌, List, ◌++◌, length, replicate, take, Bool, true, false, if◌then◌else◌, ◌≤◌, length-append, append_assoc, append-nil, take_all, replicate-append-replicate, Option, None, Some, ap, ◌∙◌, arith, subst, Ends, step, StoreLimit, word_sum, turn_of, OwnEnd, Stays, padded, Registers, ◌⊎◌, inl, inr, length-replicate}
 use Rattle.bk_machine.specs.declared.step.Effect.{Effect}
 use Rattle.bk_machine.specs.declared.step.Effect.TheVariants as effect
-use Rattle.bk_machine.specs.Inner.Effects.{turn_of, OwnEnd, Stays}
-use Rattle.bk_machine.specs.Kept.{padded}
 use Rattle.bk_machine.specs.ShorterStores.{step_longer, longer}
 
 -- ---- a step on the words that are kept is a step on the store

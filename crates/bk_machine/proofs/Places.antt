@@ -1,5 +1,5 @@
 -- Where labels are set, and what a table of them holds.
-use Rattle.bk_machine.proofs.Terms.{◌≡◌, ℕ, zero, suc, ◌+◌, ◌<◌, ◌≤◌, Bool, true, false, cond, eqb, List, [], ◌∷◌, ◌++◌, length, get_or, take, refl, sym, ap, ◌∙◌, arith, ◌||◌, Some, inl, inr, cases_Bool, eqb-true, eqb-false, eq-eqb, ne_eqb, or_cases, or_parts, or_right, false_from_ne_true, take_more, take_all, Item, SetLabel, SetGlobal, IsSegment, item_sets, sets, label_place, label_number, segment_size, slice_get, if◌then◌else◌, ◌==◌}
+pub use Rattle.bk_machine.proofs.Terms.{◌≡◌, ℕ, zero, suc, ◌+◌, ◌<◌, ◌≤◌, Bool, true, false, cond, eqb, List, [], ◌∷◌, ◌++◌, length, get_or, take, refl, sym, ap, ◌∙◌, arith, ◌||◌, Some, inl, inr, cases_Bool, eqb-true, eqb-false, eq-eqb, ne_eqb, or_cases, or_parts, or_right, false_from_ne_true, take_more, take_all, Item, SetLabel, SetGlobal, IsSegment, item_sets, sets, label_place, label_number, segment_size, slice_get, if◌then◌else◌, ◌==◌, ◌-◌, set, drop, map, length-append, append_assoc, drop_more, map_more, append-nil, drop_all, length-set, set-append_left, fold-append, fold_push, Instruction, items_of, Setting, Growth, SEGMENTS, grown, library_settings, item_settings, segment_settings, all_settings, all_words, with_setting, segment_words, stack_start, loaded_store, placed, AreSegments, AreBounded, settings_joined, items_bounded, segments_bounded, library_bounded, settings_length, below, below_length, stack_more, grown_after, fold, replicate, padded, segment_whole, segment_length, unwrap_or, get, nat_eq, STORE_MOST, reached_all, frame_of, starts}
 
 -- what a table holds after so many items
 abbrev pub numbered : ℕ → List Item → ℕ → ℕ → ℕ → ℕ

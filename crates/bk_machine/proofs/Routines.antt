@@ -1,5 +1,5 @@
 -- The routines of the library and their globals, one after another.
-use Rattle.bk_machine.proofs.Terms.{◌≡◌, ℕ, zero, suc, ◌+◌, ◌-◌, ◌*◌, ◌<◌, ◌≤◌, List, [], ◌∷◌, ◌++◌, get_or, take, length, refl, sym, append_assoc, ap, ◌∙◌, arith, fold, slice_set, fold_more, Setting, library_settings, library_words, routine_words, operation_word, with_setting}
+pub use Rattle.bk_machine.proofs.Terms.{◌≡◌, ℕ, zero, suc, ◌+◌, ◌-◌, ◌*◌, ◌<◌, ◌≤◌, List, [], ◌∷◌, ◌++◌, get_or, take, length, refl, sym, append_assoc, ap, ◌∙◌, arith, fold, slice_set, fold_more, Setting, library_settings, library_words, routine_words, operation_word, with_setting, length-set}
 
 -- the first so many routines
 abbrev pub routines : ℕ → List ℕ

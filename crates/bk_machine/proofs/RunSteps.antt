@@ -1,7 +1,5 @@
 -- How runs that exchange bytes with devices begin, go on and end.
-use Rattle.bk_machine.proofs.Terms.{append_known, Consumes, Appends, Keeps, Consumes-nil, Appends-nil, Consumes-trans, Appends-trans, Consumes-kept, Appends-kept, Status, DivideByZero, StoreLimit, StepLimit, BadOperation, ReadFault, WriteFault, AppendsPart, Begins, Begins-trans, Text, output_text, Goes, Outputs, Asks, Ends, step, Going, Over, next_byte, after_next, after, run, Devices, Exchanged, Follows, Leads, NotAsked, SinceAsk, LeadsToAsk, FlushesFirst, Paused, Finished, Waiting, CutShort, FailedOnTheWay, Broken, Went, Ran, IsOwn, AskFails, CameBy, Answered, ◌≡◌, ◌≢◌, ℕ, zero, suc, ◌+◌, ◌-◌, ◌^◌, ◌⊎◌, inl, inr, arith, List, [], ◌∷◌, ◌++◌, Option, None, Some, IsTrue, Bool, true, false, refl, sym, ap, subst, ◌∙◌, append_assoc, append-nil, if◌then◌else◌}
-use Rattle.bk_base.specs.declared.run_end.End.{End}
-use Rattle.bk_machine.specs.declared.registers.Registers.{Registers}
+pub use Rattle.bk_machine.proofs.Terms.{append_known, Consumes, Appends, Keeps, Consumes-nil, Appends-nil, Consumes-trans, Appends-trans, Consumes-kept, Appends-kept, Status, DivideByZero, StoreLimit, StepLimit, BadOperation, ReadFault, WriteFault, AppendsPart, Begins, Begins-trans, Text, output_text, Goes, Outputs, Asks, Ends, step, Going, Over, next_byte, after_next, after, run, Devices, Exchanged, Follows, Leads, NotAsked, SinceAsk, LeadsToAsk, FlushesFirst, Paused, Finished, Waiting, CutShort, FailedOnTheWay, Broken, Went, Ran, IsOwn, AskFails, CameBy, Answered, ◌≡◌, ◌≢◌, ℕ, zero, suc, ◌+◌, ◌-◌, ◌^◌, ◌⊎◌, inl, inr, arith, List, [], ◌∷◌, ◌++◌, Option, None, Some, IsTrue, Bool, true, false, refl, sym, ap, subst, ◌∙◌, append_assoc, append-nil, if◌then◌else◌, End, Registers, rules, length, Begins-refl, turn_of, padded, Ok, Keeps-refl, Err, Answer, byte_or_end, words_in}
 use Rattle.bk_machine.specs.declared.output.Output.{Output}
 use Rattle.bk_machine.specs.RunLaws.{onwards, run-add}
 

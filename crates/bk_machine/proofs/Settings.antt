@@ -1,11 +1,7 @@
 -- Settings of globals, and segments that are placed one after another.
-use Rattle.bk_machine.specs.Kept.{padded}
-use Rattle.bk_machine.proofs.Terms.{◌≡◌, ℕ, ◌+◌, ◌-◌, ◌<◌, ◌≤◌, List, [], ◌∷◌, ◌++◌, length, get_or, set, take, drop, refl, sym, ap, ◌∙◌, arith, map, length-append, append_assoc, take_more, drop_more, map_more, append-nil, drop_all, take_all, length-set, set-append_left, fold-append, fold_push, Item, Instruction, SetGlobal, IsSegment, items_of, Setting, Growth, SEGMENTS, grown, library_settings, item_settings, segment_settings, all_settings, all_words, with_setting, segment_size, segment_words, label_number, stack_start, loaded_store, placed, AreSegments, AreBounded, settings_joined, items_bounded, segments_bounded, library_bounded, settings_length, below, below_length, stack_more, grown_after, fold, replicate}
 use Rattle.bk_machine.specs.declared.segment.Intcode.{Intcode}
-use Rattle.bk_machine.specs.SizeLaws.{segment_length}
-use Rattle.bk_machine.specs.SegmentLaws.{segment_whole}
 use Rattle.bk_machine.proofs.Growing.{growth_of}
-use Rattle.bk_machine.proofs.Places.{got}
+use Rattle.bk_machine.proofs.Places.{got, ◌≡◌, ℕ, ◌+◌, ◌-◌, ◌<◌, ◌≤◌, List, [], ◌∷◌, ◌++◌, length, get_or, set, take, drop, refl, sym, ap, ◌∙◌, arith, map, length-append, append_assoc, take_more, drop_more, map_more, append-nil, drop_all, take_all, length-set, set-append_left, fold-append, fold_push, Item, Instruction, SetGlobal, IsSegment, items_of, Setting, Growth, SEGMENTS, grown, library_settings, item_settings, segment_settings, all_settings, all_words, with_setting, segment_size, segment_words, label_number, stack_start, loaded_store, placed, AreSegments, AreBounded, settings_joined, items_bounded, segments_bounded, library_bounded, settings_length, below, below_length, stack_more, grown_after, fold, replicate, padded, segment_whole, segment_length}
 
 -- one more item
 pub settings-more : (labels : ℕ → ℕ) (store : List ℕ) (items : List Item) (i : ℕ) (d : Item) → i < length items

@@ -1,5 +1,5 @@
 -- Texts that are written a piece at a time.
-use Rattle.bk_machine.proofs.Terms.{◌≡◌, ◌≢◌, ℕ, zero, suc, nat_eq, arith, ◌+◌, ◌-◌, List, [], ◌∷◌, ◌++◌, Option, Some, None, Bool, true, false, Result, Ok, Err, OnOk, OnErr, refl, sym, ap, ◌∙◌, append_assoc, nat_tests, Appends, Keeps, Appends-nil, Appends-trans, Appends-kept, AppendsPart, word_sum, Directive, Text, whole_text, cut_text, text_then, byte_of, string_rest, piece_text, directive, format_rest, Telling, PutsBytes}
+pub use Rattle.bk_machine.proofs.Terms.{◌≡◌, ◌≢◌, ℕ, zero, suc, nat_eq, arith, ◌+◌, ◌-◌, List, [], ◌∷◌, ◌++◌, Option, Some, None, Bool, true, false, Result, Ok, Err, OnOk, OnErr, refl, sym, ap, ◌∙◌, append_assoc, nat_tests, Appends, Keeps, Appends-nil, Appends-trans, Appends-kept, AppendsPart, word_sum, Directive, Text, whole_text, cut_text, text_then, byte_of, string_rest, piece_text, directive, format_rest, Telling, PutsBytes, rules, ◌<◌, replicate, replicate-append-replicate, Begins-trans, words_in, length, signed}
 use Rattle.bk_base.specs.declared.device.Failed.{Failed}
 
 -- ---- bytes

@@ -1,5 +1,4 @@
-use Rattle.bk_machine.proofs.Terms.{◌||◌, sym, ap, ◌∙◌, arith, unwrap_or, drop_all, frame_of, starts}
-use Rattle.bk_machine.proofs.Places.{or_false}
+use Rattle.bk_machine.proofs.Places.{or_false, ◌||◌, sym, ap, ◌∙◌, arith, unwrap_or, drop_all, frame_of, starts}
 use Rattle.bk_machine.proofs.Reaching.{stepped, part-next, all-next}
 use Rattle.bk_machine.proofs.extent.measure_segment.Goals as goal
 

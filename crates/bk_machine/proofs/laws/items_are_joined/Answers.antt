@@ -1,4 +1,4 @@
-use Rattle.bk_machine.specs.ItemWords.{items_joined}
+use Rattle.bk_machine.proofs.Terms.{items_joined}
 use Rattle.bk_machine.proofs.laws.items_are_joined.Goals as goal
 
 pub returns : goal.returns

@@ -1,4 +1,4 @@
-use Rattle.bk_machine.specs.SizeLaws.{number_there}
+use Rattle.bk_machine.proofs.Terms.{number_there}
 use Rattle.bk_machine.proofs.laws.labels_stand_at_their_items.Goals as goal
 
 pub returns : goal.returns

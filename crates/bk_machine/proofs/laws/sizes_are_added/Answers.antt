@@ -1,4 +1,4 @@
-use Rattle.bk_machine.specs.ItemWords.{sizes_added}
+use Rattle.bk_machine.proofs.Terms.{sizes_added}
 use Rattle.bk_machine.proofs.laws.sizes_are_added.Goals as goal
 
 pub returns : goal.returns

@@ -1,4 +1,4 @@
-use Rattle.bk_machine.specs.ItemWords.{words_of_bytes}
+use Rattle.bk_machine.proofs.Terms.{words_of_bytes}
 use Rattle.bk_machine.proofs.laws.words_of_bytes.Goals as goal
 
 pub returns : goal.returns

@@ -1,4 +1,4 @@
-use Rattle.bk_machine.specs.ItemWords.{words_of_item}
+use Rattle.bk_machine.proofs.Terms.{words_of_item}
 use Rattle.bk_machine.proofs.laws.words_of_item.Goals as goal
 
 pub returns : goal.returns

@@ -1,5 +1,4 @@
-use Rattle.std.proofs.Common.{◌≡◌, ◌-◌, ◌++◌, ap, ◌∙◌, arith}
-use Rattle.bk_machine.proofs.Routines.{routines, pushed, routines-all}
+use Rattle.bk_machine.proofs.Routines.{routines, pushed, routines-all, ◌≡◌, ◌-◌, ◌++◌, ap, ◌∙◌, arith}
 use Rattle.bk_machine.proofs.library.push_routines.Goals as goal
 
 pub loop-global-preserved : goal.loop-global-preserved

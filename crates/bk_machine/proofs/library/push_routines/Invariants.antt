@@ -1,5 +1,4 @@
-use Rattle.std.proofs.Common.{◌≡◌, ◌-◌, ◌++◌}
-use Rattle.bk_machine.proofs.Routines.{routines}
+use Rattle.bk_machine.proofs.Routines.{routines, ◌≡◌, ◌-◌, ◌++◌}
 use Rattle.bk_machine.proofs.library.push_routines.Given as goal
 
 abbrev pub invariant-loop-global : goal.invariant-loop-global

@@ -1,5 +1,4 @@
-use Rattle.bk_machine.proofs.Terms.{◌≡◌, ◌+◌, ◌-◌, ◌*◌, ap, sym, ◌∙◌, arith, take, fold, slice_set, length-set, library_settings, with_setting}
-use Rattle.bk_machine.proofs.Routines.{library-more}
+use Rattle.bk_machine.proofs.Routines.{library-more, ◌≡◌, ◌+◌, ◌-◌, ◌*◌, ap, sym, ◌∙◌, arith, take, fold, slice_set, length-set, library_settings, with_setting}
 use Rattle.bk_machine.proofs.library.set_globals.Goals as goal
 
 pub loop-global-preserved : goal.loop-global-preserved

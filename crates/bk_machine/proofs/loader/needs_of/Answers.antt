@@ -1,4 +1,4 @@
-use Rattle.std.proofs.Common.{arith}
+use Rattle.bk_machine.proofs.Terms.{arith}
 use Rattle.bk_machine.proofs.Settings.{stack-item}
 use Rattle.bk_machine.proofs.loader.needs_of.Goals as goal
 

@@ -1,4 +1,4 @@
-use Rattle.std.proofs.Common.{◌≡◌, false, true}
+use Rattle.bk_machine.proofs.Terms.{◌≡◌, false, true}
 use Rattle.bk_machine.proofs.Blaming.{blames_passed, blames_failed}
 use Rattle.bk_machine.proofs.machine.finish.Goals as goal
 

@@ -1,7 +1,6 @@
-use Rattle.bk_machine.proofs.Terms.{rules, ◌≡◌, ℕ, ◌-◌, List, ◌++◌, length, replicate, refl, signed}
 use Rattle.bk_base.specs.Decimal.{spelling}
 use Rattle.bk_base.specs.Format.{aligned, width}
-use Rattle.bk_machine.proofs.TellSteps.{part_front, puts_behind, puts_given}
+use Rattle.bk_machine.proofs.TellSteps.{part_front, puts_behind, puts_given, rules, ◌≡◌, ℕ, ◌-◌, List, ◌++◌, length, replicate, refl, signed}
 use Rattle.bk_machine.proofs.put_output.put_aligned.Goals as goal
 
 -- blanks, and then the number

@@ -1,5 +1,4 @@
-use Rattle.bk_machine.proofs.Terms.{rules, ◌≡◌, ℕ, ◌+◌, ◌-◌, ◌<◌, ◌++◌, arith, sym, ◌∙◌, ap, replicate, replicate-append-replicate, Keeps}
-use Rattle.bk_machine.proofs.TellSteps.{part_before}
+use Rattle.bk_machine.proofs.TellSteps.{part_before, rules, ◌≡◌, ℕ, ◌+◌, ◌-◌, ◌<◌, ◌++◌, arith, sym, ◌∙◌, ap, replicate, replicate-append-replicate, Keeps}
 use Rattle.bk_machine.proofs.put_output.put_blanks.Goals as goal
 
 -- n blanks are i and the others

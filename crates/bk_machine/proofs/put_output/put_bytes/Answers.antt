@@ -1,6 +1,4 @@
-use Rattle.bk_machine.proofs.Terms.{◌≡◌, suc, ◌+◌, ◌-◌, [], ◌∷◌, Some, None, refl, sym, ◌∙◌, arith, Begins-trans, byte_of, whole_text}
-use Rattle.bk_machine.proofs.TellSteps.{telling_on, telling_end, string_rest-byte, string_rest-cut}
-use Rattle.bk_machine.specs.Kept.{words_in}
+use Rattle.bk_machine.proofs.TellSteps.{telling_on, telling_end, string_rest-byte, string_rest-cut, ◌≡◌, suc, ◌+◌, ◌-◌, [], ◌∷◌, Some, None, refl, sym, ◌∙◌, arith, Begins-trans, byte_of, whole_text, words_in}
 use Rattle.bk_machine.proofs.put_output.put_bytes.Goals as goal
 
 pub loop-i-preserved : goal.loop-i-preserved

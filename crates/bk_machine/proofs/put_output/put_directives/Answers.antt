@@ -1,6 +1,4 @@
-use Rattle.bk_machine.proofs.Terms.{rules, ◌≡◌, ℕ, suc, ◌+◌, ◌-◌, ◌<◌, List, Some, None, true, sym, ◌∙◌, arith, word_sum, Begins-trans, Directive, directive, piece_text, text_then, format_rest}
-use Rattle.bk_machine.proofs.TellSteps.{telling_on, telling_all, telling_end, telling_cut, telling_failed, format_rest-none, format_rest-directive, format_rest-cut}
-use Rattle.bk_machine.specs.Kept.{words_in}
+use Rattle.bk_machine.proofs.TellSteps.{telling_on, telling_all, telling_end, telling_cut, telling_failed, format_rest-none, format_rest-directive, format_rest-cut, rules, ◌≡◌, ℕ, suc, ◌+◌, ◌-◌, ◌<◌, List, Some, None, true, sym, ◌∙◌, arith, word_sum, Begins-trans, Directive, directive, piece_text, text_then, format_rest, words_in}
 use Rattle.bk_machine.proofs.put_output.put_directives.Goals as goal
 
 -- the directive that is met, and the rest of the format

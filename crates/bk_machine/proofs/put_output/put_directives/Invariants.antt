@@ -1,5 +1,4 @@
-use Rattle.bk_machine.proofs.Terms.{◌≡◌, ◌+◌, ◌-◌, ◌≤◌, Begins, format_rest, Telling}
-use Rattle.bk_machine.specs.Kept.{words_in}
+use Rattle.bk_machine.proofs.Terms.{◌≡◌, ◌+◌, ◌-◌, ◌≤◌, Begins, format_rest, Telling, words_in}
 use Rattle.bk_machine.proofs.put_output.put_directives.Given as goal
 
 abbrev pub invariant-loop-i : goal.invariant-loop-i

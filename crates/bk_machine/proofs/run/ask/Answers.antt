@@ -1,5 +1,4 @@
-use Rattle.std.proofs.Common.{rules, ◌≡◌, true, None, Some, Ok, refl}
-use Rattle.bk_machine.proofs.RunSteps.{answered_end, answered_byte}
+use Rattle.bk_machine.proofs.RunSteps.{answered_end, answered_byte, rules, ◌≡◌, true, None, Some, Ok, refl}
 use Rattle.bk_machine.proofs.run.ask.Goals as goal
 
 pub returns-in-Ok-None-clause-answered : goal.returns-in-Ok-None-clause-answered

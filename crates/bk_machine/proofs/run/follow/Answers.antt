@@ -1,7 +1,4 @@
-use Rattle.bk_machine.proofs.Terms.{ℕ, Some, Err, ◌≡◌, ◌≢◌, refl, sym, ◌∙◌, ap, ReadFault, WriteFault, Answer, Answer as answer}
-use Rattle.bk_machine.specs.Inner.Effects.{turn_of, byte_or_end}
-use Rattle.bk_machine.specs.Kept.{words_in}
-use Rattle.bk_machine.proofs.RunSteps.{paused_goes, paused_asks, paused_outputs, finished_outputs, went_part, exchanged_took, went_own, went_ask_fails}
+use Rattle.bk_machine.proofs.RunSteps.{paused_goes, paused_asks, paused_outputs, finished_outputs, went_part, exchanged_took, went_own, went_ask_fails, ℕ, Some, Err, ◌≡◌, ◌≢◌, refl, sym, ◌∙◌, ap, ReadFault, WriteFault, Answer, Answer as answer, turn_of, byte_or_end, words_in}
 use Rattle.bk_machine.proofs.run.follow.Goals as goal
 
 pub returns-in-Goes-clause-went : goal.returns-in-Goes-clause-went

@@ -1,6 +1,4 @@
-use Rattle.bk_machine.proofs.Terms.{◌≡◌, ◌≢◌, ◌+◌, ◌-◌, arith, refl, sym, ◌∙◌, Begins-refl, Begins-trans, StepLimit, StoreLimit, Ends, step}
-use Rattle.bk_machine.specs.Kept.{padded}
-use Rattle.bk_machine.proofs.RunSteps.{paused_none, finished_ends, went_on, went_more}
+use Rattle.bk_machine.proofs.RunSteps.{paused_none, finished_ends, went_on, went_more, ◌≡◌, ◌≢◌, ◌+◌, ◌-◌, arith, refl, sym, ◌∙◌, Begins-refl, Begins-trans, StepLimit, StoreLimit, Ends, step, padded}
 use Rattle.bk_machine.proofs.KeptSteps.{padded_all}
 use Rattle.bk_machine.proofs.run.go.Goals as goal
 

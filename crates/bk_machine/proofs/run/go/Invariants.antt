@@ -1,6 +1,4 @@
-use Rattle.bk_machine.proofs.Terms.{◌≡◌, ◌+◌, ◌-◌, ℕ, Begins, HeldBy, Paused}
-use Rattle.bk_machine.specs.Runs.{devices}
-use Rattle.bk_machine.specs.Kept.{words_on}
+use Rattle.bk_machine.proofs.Terms.{◌≡◌, ◌+◌, ◌-◌, ℕ, Begins, HeldBy, Paused, words_on, devices}
 use Rattle.bk_machine.proofs.run.go.Given as goal
 
 abbrev pub invariant-loop-end : goal.invariant-loop-end

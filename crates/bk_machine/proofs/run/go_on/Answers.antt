@@ -1,7 +1,4 @@
-use Rattle.bk_machine.proofs.Terms.{rules, ◌≡◌, ◌+◌, ◌-◌, Some, length, arith, ap, refl, ◌∙◌, Begins-refl, Begins-trans, StepLimit, step}
-use Rattle.bk_machine.specs.Inner.Effects.{turn_of}
-use Rattle.bk_machine.specs.Kept.{padded}
-use Rattle.bk_machine.proofs.RunSteps.{paused_none, went_on, went_more}
+use Rattle.bk_machine.proofs.RunSteps.{paused_none, went_on, went_more, rules, ◌≡◌, ◌+◌, ◌-◌, Some, length, arith, ap, refl, ◌∙◌, Begins-refl, Begins-trans, StepLimit, step, turn_of, padded}
 use Rattle.bk_machine.proofs.KeptSteps.{step_kept}
 use Rattle.bk_machine.proofs.run.go_on.Goals as goal
 

@@ -1,6 +1,4 @@
-use Rattle.bk_machine.proofs.Terms.{◌≡◌, Begins, HeldBy, Paused}
-use Rattle.bk_machine.specs.Kept.{padded}
-use Rattle.bk_machine.specs.Runs.{devices}
+use Rattle.bk_machine.proofs.Terms.{◌≡◌, Begins, HeldBy, Paused, padded, devices}
 use Rattle.bk_machine.proofs.run.go_on.Given as goal
 
 abbrev pub invariant-loop-i : goal.invariant-loop-i

@@ -1,6 +1,5 @@
-use Rattle.bk_machine.proofs.Terms.{◌≡◌, ◌+◌, ◌≤◌, eqb, ap, ◌∙◌, arith, take, unwrap_or, get, nat_eq, STORE_MOST, segment_size}
 use Rattle.bk_machine.proofs.Reaching.{stepped, part-next, all-next, reached-size}
-use Rattle.bk_machine.proofs.Places.{table-set, table-kept, table-all, cond_le}
+use Rattle.bk_machine.proofs.Places.{table-set, table-kept, table-all, cond_le, ◌≡◌, ◌+◌, ◌≤◌, eqb, ap, ◌∙◌, arith, take, unwrap_or, get, nat_eq, STORE_MOST, segment_size}
 use Rattle.bk_machine.proofs.labels.Labels.of.Goals as goal
 use Rattle.bk_machine.proofs.labels.Labels.of.Goals.{in-SetLabel+in_ok-set_number, in_default}
 

@@ -1,5 +1,4 @@
-use Rattle.bk_machine.proofs.Terms.{◌≡◌, ℕ, ◌<◌, ◌≤◌, take, unwrap_or, get, nat_eq, STORE_MOST, reached_all}
-use Rattle.bk_machine.proofs.Places.{numbered}
+use Rattle.bk_machine.proofs.Places.{numbered, ◌≡◌, ℕ, ◌<◌, ◌≤◌, take, unwrap_or, get, nat_eq, STORE_MOST, reached_all}
 use Rattle.bk_machine.proofs.labels.Labels.of.Given as goal
 
 abbrev pub invariant-loop-item : goal.invariant-loop-item

@@ -1,5 +1,4 @@
-use Rattle.bk_machine.proofs.Terms.{refl, Keeps-refl, Begins-trans}
-use Rattle.bk_machine.proofs.RunSteps.{went_flushed}
+use Rattle.bk_machine.proofs.RunSteps.{went_flushed, refl, Keeps-refl, Begins-trans}
 use Rattle.bk_machine.proofs.machine.Machine.run.Goals as goal
 
 pub returns-then-ne-clause-ran : goal.returns-then-ne-clause-ran

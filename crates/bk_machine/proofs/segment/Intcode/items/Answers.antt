@@ -1,5 +1,5 @@
 use Rattle.std.proofs.Math.Logic.{∥∥₁_elim}
-use Rattle.bk_machine.specs.SegmentLaws.{IsSegment-prop}
+use Rattle.bk_machine.proofs.Terms.{IsSegment-prop}
 use Rattle.bk_machine.proofs.segment.Intcode.items.Goals as goal
 
 pub returns-clause-whole : goal.returns-clause-whole
