@@ -1,7 +1,6 @@
 -- One word stands for one item.
-use Rattle.bk_intcode.proofs.Terms.{◌≡◌, ◌≢◌, ℕ, ◌<◌, ◌≤◌, ◌^◌, ◌++◌, ◌==◌, nat_eq, Bool, true, false, if◌then◌else◌, pos, ℤ, FitsSigned, w32, List, [], ◌∷◌, length, get_or, arith, refl, sym, ap, ◌∙◌, decimal_injective, signed_decimal_injective, get_or_append_left, take-append_seam, drop-append-add, IsInRange, spelling, Function, Load, Store, Add, Jump, JumpTrue, JumpFalse, Call, Operate, Operand, Number, Local, Global, Label, Item, Instruction, SetLabel, Byte, Word, LabelWord, SetGlobal, Frame, End, letter, indirect_text, operand_text, item_text, IsOperand, IsItem, mag-fits, rest_same, apart, digit-at, at_seam, no_spelling}
 use Rattle.bk_intcode.proofs.OperandLemmas.{no_operand-indirect}
-use Rattle.bk_intcode.proofs.WordLemmas.{other_class, letter-class, global_parts}
+use Rattle.bk_intcode.proofs.WordLemmas.{other_class, letter-class, global_parts, ◌≡◌, ◌≢◌, ℕ, ◌<◌, ◌≤◌, ◌^◌, ◌++◌, ◌==◌, nat_eq, Bool, true, false, if◌then◌else◌, pos, ℤ, FitsSigned, w32, List, [], ◌∷◌, length, get_or, arith, refl, sym, ap, ◌∙◌, decimal_injective, signed_decimal_injective, get_or_append_left, take-append_seam, drop-append-add, IsInRange, spelling, Function, Load, Store, Add, Jump, JumpTrue, JumpFalse, Call, Operate, Operand, Number, Local, Global, Label, Item, Instruction, SetLabel, Byte, Word, LabelWord, SetGlobal, Frame, End, letter, indirect_text, operand_text, item_text, IsOperand, IsItem, mag-fits, rest_same, apart, digit-at, at_seam, no_spelling}
 
 natural_same : (m n : ℕ) → m < 2 ^ 64 → n < 2 ^ 64 → spelling (pos m) ≡ spelling (pos n) → m ≡ n
 natural_same m n p q is = decimal_injective m n p q is

@@ -1,7 +1,5 @@
 -- The words of a text say one thing.
-use Rattle.bk_intcode.proofs.Terms.{◌≡◌, ◌≢◌, inl, inr, ℕ, zero, suc, ◌+◌, ◌-◌, ◌<◌, ◌≤◌, ◌^◌, ◌++◌, ◌&&◌, ◌==◌, nat_lt, Bool, true, false, IsTrue, if◌then◌else◌, pos, List, [], ◌∷◌, Some, None, length, take, get_or, map, slice_get, arith, refl, sym, ap, ◌∙◌, subst, append_assoc, append-nil, length-append, length-take, eq-eqb, lt-ltb, list_all, cases_lt, length-map, decimal_injective, spelling, INTCODE_ITEMS, IntcodeKind, BadLetter, BadNumber, ByteOver255, LabelNotSet, LabelSetTwice, Truncated, TooLong, FrameGivenTwice, sets, item_uses, operand_uses, IsSegment, IsItem, AreItems, operand_is_set, use_is_set, gives_frame, Function, Load, Operand, Label, Item, Instruction, SetLabel, Byte, LabelWord, SetGlobal, Frame, End, letter, item_text, all_set, item_fault, Means, WordFault, begins_item, IsByteOver255, IsPartial, FaultAfter, FaultAt, CutAt, segment, nothing, fault, Says, SayOneThing, rest_same, first-numeral, or_cases}
-use borrow.Author.Tests.{eqb-true}
-use Rattle.bk_intcode.proofs.WordLemmas.{each_digit, other_class, nothing-empty}
+use Rattle.bk_intcode.proofs.WordLemmas.{each_digit, other_class, nothing-empty, ◌≡◌, ◌≢◌, inl, inr, ℕ, zero, suc, ◌+◌, ◌-◌, ◌<◌, ◌≤◌, ◌^◌, ◌++◌, ◌&&◌, ◌==◌, nat_lt, Bool, true, false, IsTrue, if◌then◌else◌, pos, List, [], ◌∷◌, Some, None, length, take, get_or, map, slice_get, arith, refl, sym, ap, ◌∙◌, subst, append_assoc, append-nil, length-append, length-take, eq-eqb, lt-ltb, list_all, cases_lt, length-map, decimal_injective, spelling, INTCODE_ITEMS, IntcodeKind, BadLetter, BadNumber, ByteOver255, LabelNotSet, LabelSetTwice, Truncated, TooLong, FrameGivenTwice, sets, item_uses, operand_uses, IsSegment, IsItem, AreItems, operand_is_set, use_is_set, gives_frame, Function, Load, Operand, Label, Item, Instruction, SetLabel, Byte, LabelWord, SetGlobal, Frame, End, letter, item_text, all_set, item_fault, Means, WordFault, begins_item, IsByteOver255, IsPartial, FaultAfter, FaultAt, CutAt, segment, nothing, fault, Says, SayOneThing, rest_same, first-numeral, or_cases, eqb-true}
 use Rattle.bk_intcode.proofs.PartialLemmas.{get_low, get-take, sets-at}
 use Rattle.bk_intcode.proofs.ItemSame.{item_same}
 

@@ -1,6 +1,5 @@
 -- Items of a segment that goes on, one item more, and the whole segment.
-use Rattle.bk_intcode.proofs.Terms.{◌≡◌, ◌≢◌, ◌⊎◌, inl, inr, ℕ, zero, suc, ◌<◌, ◌++◌, ◌||◌, ◌&&◌, ◌==◌, nat_lt, Bool, true, false, IsTrue, if◌then◌else◌, List, [], ◌∷◌, Some, None, length, take, slice_get, arith, refl, sym, ◌∙◌, ap, subst, eq-eqb, length-append, list_all, cases_lt, take-append-le, take-append_seam, INTCODE_ITEMS, LabelNotSet, LabelSetTwice, TooLong, FrameGivenTwice, sets, item_sets, item_uses, operand_uses, IsSegment, IsItem, AreItems, operand_is_set, use_is_set, is_frame, gives_frame, Operand, Label, Item, Instruction, SetLabel, LabelWord, SetGlobal, Frame, End, all_set, label_not_set, label_set_twice, too_long, frame_given_twice, item_fault, IsPartial}
-use borrow.Author.Tests.{ltb-true, eqb-true}
+use Rattle.bk_intcode.proofs.Terms.{◌≡◌, ◌≢◌, ◌⊎◌, inl, inr, ℕ, zero, suc, ◌<◌, ◌++◌, ◌||◌, ◌&&◌, ◌==◌, nat_lt, Bool, true, false, IsTrue, if◌then◌else◌, List, [], ◌∷◌, Some, None, length, take, slice_get, arith, refl, sym, ◌∙◌, ap, subst, eq-eqb, length-append, list_all, cases_lt, take-append-le, take-append_seam, INTCODE_ITEMS, LabelNotSet, LabelSetTwice, TooLong, FrameGivenTwice, sets, item_sets, item_uses, operand_uses, IsSegment, IsItem, AreItems, operand_is_set, use_is_set, is_frame, gives_frame, Operand, Label, Item, Instruction, SetLabel, LabelWord, SetGlobal, Frame, End, all_set, label_not_set, label_set_twice, too_long, frame_given_twice, item_fault, IsPartial, ltb-true, eqb-true}
 
 pub at_push : {X : Type 0} (xs : List X) (y : X) (k : ℕ) (x : X) → slice_get (xs ++ y ∷ []) k ≡ Some x → ((k < length xs) × (slice_get xs k ≡ Some x)) ⊎ ((k ≡ length xs) × (y ≡ x))
 at_push [] y zero x is = inr (refl, cc)

@@ -1,5 +1,6 @@
 -- Answers by cases, from what holds of their values.
-use Rattle.std.proofs.Common.{Option, None, Some, Result, Ok, Err, OnErr, IfOk, IfErr, IfNone}
+pub use Rattle.bk_intcode.proofs.Terms.{Option, None, Some, Result, Ok, Err, OnErr, IfOk, IfErr, IfNone, ◌∷◌, List, ℕ, sym, subst, letter, MeansNothing, pos, spelling, ◌≡◌, ◌∙◌, ap, IntcodeKind, Holds, WordFault, begins_item, rules, Begins-trans, arith, ◌≢◌, Operand, operand_text, IsOperand, ◌++◌, [], item_text, AppendsPart-front}
+pub use Rattle.bk_intcode.proofs.WordLemmas.{nothing-instruction, nothing-data, no_data-label, no_global-place, no_global-number, no_global-label, nothing-frame}
 
 pub on_err : {T E P : Type 0} (r : Result T E) → P → OnErr r P
 on_err (Ok x) p = tt

@@ -1,7 +1,6 @@
 -- The words of what is printed.
-use Rattle.bk_intcode.proofs.Terms.{◌≡◌, ◌≢◌, ℕ, suc, ◌++◌, Bool, true, false, pos, List, [], ◌∷◌, map, arith, refl, sym, ap, ◌∙◌, append_assoc, spelling, Function, Load, Operand, Number, Local, Global, Label, Item, Instruction, SetLabel, Byte, Word, LabelWord, SetGlobal, Frame, End, letter, indirect_text, operand_text, item_text, IsOperand, IsItem, AreItems, items_of, segment_text, is_blank, words_of, AreInWord, texts_of, words_of_all, PrintedIsParted, PrintedAreParted, PrintedSaysAgain, numeral-inside, spelling-inside, words_of-word, AreInWord-append}
 use Rattle.bk_machine.specs.SegmentLaws.{segment_whole}
-use Rattle.bk_intcode.proofs.WordLemmas.{nothing-empty}
+use Rattle.bk_intcode.proofs.WordLemmas.{nothing-empty, ◌≡◌, ◌≢◌, ℕ, suc, ◌++◌, Bool, true, false, pos, List, [], ◌∷◌, map, arith, refl, sym, ap, ◌∙◌, append_assoc, spelling, Function, Load, Operand, Number, Local, Global, Label, Item, Instruction, SetLabel, Byte, Word, LabelWord, SetGlobal, Frame, End, letter, indirect_text, operand_text, item_text, IsOperand, IsItem, AreItems, items_of, segment_text, is_blank, words_of, AreInWord, texts_of, words_of_all, PrintedIsParted, PrintedAreParted, PrintedSaysAgain, numeral-inside, spelling-inside, words_of-word, AreInWord-append}
 
 operand-inside : (o : Operand) → IsOperand o → AreInWord (operand_text o)
 operand-inside (Number n) fits = spelling-inside n fits

@@ -1,5 +1,5 @@
 -- The names of the layers below that several of these proofs use.
-pub use Rattle.std.proofs.Common.{◌≡◌, ◌+◌, ◌++◌, ◌∷◌, [], List, length, Err, sym, subst, ap, ◌∙◌, arith, rules, None, length-append, ℕ, ◌≢◌, ◌⊎◌, inl, inr, zero, suc, ◌-◌, ◌<◌, ◌≤◌, ◌^◌, ◌||◌, ◌&&◌, ◌==◌, nat_lt, Bool, true, false, IsTrue, if◌then◌else◌, pos, Some, take, get_or, map, slice_get, refl, append_assoc, append-nil, length-take, eq-eqb, lt-ltb, w32, ℤ, Option, nat_eq, FitsSigned, drop, length-drop, Ok, Result, negsuc}
+pub use Rattle.std.proofs.Common.{◌≡◌, ◌+◌, ◌++◌, ◌∷◌, [], List, length, Err, sym, subst, ap, ◌∙◌, arith, rules, None, length-append, ℕ, ◌≢◌, ◌⊎◌, inl, inr, zero, suc, ◌-◌, ◌<◌, ◌≤◌, ◌^◌, ◌||◌, ◌&&◌, ◌==◌, nat_lt, Bool, true, false, IsTrue, if◌then◌else◌, pos, Some, take, get_or, map, slice_get, refl, append_assoc, append-nil, length-take, eq-eqb, lt-ltb, w32, ℤ, Option, nat_eq, FitsSigned, drop, length-drop, Ok, Result, negsuc, OnErr, IfOk, IfErr, IfNone}
 pub use Rattle.std.proofs.Math.Seq.{take-append_seam, drop-append-add}
 pub use Rattle.std.proofs.lemmas.Bool.{cases_lt, false_from_ne_true, or_cases}
 pub use Rattle.std.proofs.lemmas.Fmt.{decimal_injective, length-decimal-le, signed_decimal_injective}
@@ -38,3 +38,4 @@ pub use Rattle.bk_intcode.specs.SegmentReading.{GivesSegment, IsPartial, FaultAf
 pub use Rattle.bk_intcode.specs.SegmentText.{segment_text}
 pub use Rattle.bk_intcode.specs.WordMeaning.{MeansNothing, Means, WordFault, begins_item, IsByteOver255, is_digit, is_function}
 pub use Rattle.bk_intcode.specs.declared.words.Found.{Found}
+pub use borrow.Author.Tests.{ltb-true, eqb-true}

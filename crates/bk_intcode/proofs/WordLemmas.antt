@@ -1,5 +1,5 @@
 -- Which words stand for no item.
-use Rattle.bk_intcode.proofs.Terms.{◌≡◌, ◌≢◌, ℕ, ◌+◌, ◌<◌, ◌≤◌, ◌^◌, ◌++◌, ◌-◌, zero, suc, nat_eq, eq-eqb, Bool, true, false, if◌then◌else◌, pos, ℤ, FitsSigned, w32, List, [], ◌∷◌, length, get_or, take, drop, arith, refl, sym, ap, ◌∙◌, subst, inl, inr, length-append, length-drop, spelling, IsLabel, Function, Load, Operand, Item, Instruction, SetLabel, Byte, Word, LabelWord, SetGlobal, Frame, End, letter, indirect_text, operand_text, item_text, IsOperand, IsItem, MeansNothing, is_digit, is_function, WordFault, fits-pos, rest_same, digit-at, at_seam, first-numeral, no_spelling, spelling-some, IsInRange, cases_lt, take-append_seam, drop-append-add, get_or_append_left, take_all, BadNumber}
+pub use Rattle.bk_intcode.proofs.Terms.{◌≡◌, ◌≢◌, ℕ, ◌+◌, ◌<◌, ◌≤◌, ◌^◌, ◌++◌, ◌-◌, zero, suc, nat_eq, eq-eqb, Bool, true, false, if◌then◌else◌, pos, ℤ, FitsSigned, w32, List, [], ◌∷◌, length, get_or, take, drop, arith, refl, sym, ap, ◌∙◌, subst, inl, inr, length-append, length-drop, spelling, IsLabel, Function, Load, Operand, Item, Instruction, SetLabel, Byte, Word, LabelWord, SetGlobal, Frame, End, letter, indirect_text, operand_text, item_text, IsOperand, IsItem, MeansNothing, is_digit, is_function, WordFault, fits-pos, rest_same, digit-at, at_seam, first-numeral, no_spelling, spelling-some, IsInRange, cases_lt, take-append_seam, drop-append-add, get_or_append_left, take_all, BadNumber, ◌&&◌, ◌==◌, nat_lt, IsTrue, Some, None, map, slice_get, append_assoc, append-nil, length-take, lt-ltb, list_all, length-map, decimal_injective, INTCODE_ITEMS, IntcodeKind, BadLetter, ByteOver255, LabelNotSet, LabelSetTwice, Truncated, TooLong, FrameGivenTwice, sets, item_uses, operand_uses, IsSegment, AreItems, operand_is_set, use_is_set, gives_frame, Label, all_set, item_fault, Means, begins_item, IsByteOver255, IsPartial, FaultAfter, FaultAt, CutAt, segment, nothing, fault, Says, SayOneThing, or_cases, eqb-true, signed_decimal_injective, Store, Add, Jump, JumpTrue, JumpFalse, Call, Operate, Number, Local, Global, mag-fits, apart, items_of, segment_text, is_blank, words_of, AreInWord, texts_of, words_of_all, PrintedIsParted, PrintedAreParted, PrintedSaysAgain, numeral-inside, spelling-inside, words_of-word, AreInWord-append}
 use Rattle.bk_intcode.proofs.OperandLemmas.{no_operand-indirect}
 
 -- The kind of item that begins with a byte: 0 an instruction, 1 a label that is set, else the letter.

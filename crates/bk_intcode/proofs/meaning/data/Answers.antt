@@ -1,6 +1,4 @@
-use Rattle.bk_intcode.proofs.Terms.{sym, pos, spelling}
-use Rattle.bk_intcode.proofs.Parts.{on_none}
-use Rattle.bk_intcode.proofs.WordLemmas.{nothing-data, no_data-label}
+use Rattle.bk_intcode.proofs.Parts.{on_none, sym, pos, spelling, nothing-data, no_data-label}
 use Rattle.bk_intcode.proofs.meaning.data.Goals as goal
 
 pub returns-in_err-label-in-Some-clause-none : goal.returns-in_err-label-in-Some-clause-none

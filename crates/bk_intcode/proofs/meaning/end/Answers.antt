@@ -1,5 +1,4 @@
-use Rattle.std.proofs.Common.{◌≡◌, ◌==◌, List, ℕ, true, false, length, ap, ◌∙◌, sym}
-use Rattle.bk_intcode.proofs.WordLemmas.{nothing-end}
+use Rattle.bk_intcode.proofs.WordLemmas.{nothing-end, ◌≡◌, ◌==◌, List, ℕ, true, false, length, ap, ◌∙◌, sym}
 use Rattle.bk_intcode.proofs.meaning.end.Goals as goal
 
 pub returns-else-is_empty-clause-none : goal.returns-else-is_empty-clause-none

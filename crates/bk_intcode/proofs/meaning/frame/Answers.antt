@@ -1,5 +1,4 @@
-use Rattle.bk_intcode.proofs.Parts.{on_none}
-use Rattle.bk_intcode.proofs.WordLemmas.{nothing-frame}
+use Rattle.bk_intcode.proofs.Parts.{on_none, nothing-frame}
 use Rattle.bk_intcode.proofs.meaning.frame.Goals as goal
 
 pub returns-in_err-within-clause-none : goal.returns-in_err-within-clause-none

@@ -1,6 +1,4 @@
-use Rattle.bk_intcode.proofs.Terms.{◌∷◌, List, ℕ, sym, subst, letter, MeansNothing}
-use Rattle.bk_intcode.proofs.Parts.{on_none}
-use Rattle.bk_intcode.proofs.WordLemmas.{nothing-instruction}
+use Rattle.bk_intcode.proofs.Parts.{on_none, ◌∷◌, List, ℕ, sym, subst, letter, MeansNothing, nothing-instruction}
 use Rattle.bk_intcode.proofs.meaning.instruction.Goals as goal
 
 pub returns-in_err-operand-clause-none : goal.returns-in_err-operand-clause-none

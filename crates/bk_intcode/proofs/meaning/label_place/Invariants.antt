@@ -1,4 +1,4 @@
-use Rattle.std.proofs.Common.{◌≡◌, ℕ, ◌<◌, get_or}
+use Rattle.bk_intcode.proofs.Terms.{◌≡◌, ℕ, ◌<◌, get_or}
 use Rattle.bk_intcode.proofs.meaning.label_place.Given as goal
 
 abbrev pub invariant-loop-i : goal.invariant-loop-i

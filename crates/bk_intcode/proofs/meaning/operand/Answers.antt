@@ -1,5 +1,4 @@
-use Rattle.bk_intcode.proofs.Terms.{◌≡◌, ◌≢◌, ◌∙◌, ◌∷◌, ap, sym, subst, List, ℕ, Operand, operand_text, IsOperand}
-use Rattle.bk_intcode.proofs.Parts.{on_none}
+use Rattle.bk_intcode.proofs.Parts.{on_none, ◌≡◌, ◌≢◌, ◌∙◌, ◌∷◌, ap, sym, subst, List, ℕ, Operand, operand_text, IsOperand}
 use Rattle.bk_intcode.proofs.OperandLemmas.{no_operand-empty, no_operand-local, no_operand-global, no_operand-label}
 use Rattle.bk_intcode.proofs.meaning.operand.Goals as goal
 

@@ -1,6 +1,4 @@
-use Rattle.std.proofs.Common.{arith}
-use Rattle.bk_intcode.proofs.Parts.{on_none}
-use Rattle.bk_intcode.proofs.WordLemmas.{no_global-place, no_global-number, no_global-label}
+use Rattle.bk_intcode.proofs.Parts.{on_none, arith, no_global-place, no_global-number, no_global-label}
 use Rattle.bk_intcode.proofs.meaning.set_global.Goals as goal
 
 pub returns-in_err-place-clause-none : goal.returns-in_err-place-clause-none

@@ -1,5 +1,4 @@
-use Rattle.bk_intcode.proofs.Terms.{rules, Begins-trans}
-use Rattle.bk_intcode.proofs.Parts.{on_err}
+use Rattle.bk_intcode.proofs.Parts.{on_err, rules, Begins-trans}
 use Rattle.bk_intcode.proofs.SegmentLemmas.{AppendsPart-line, Appends-line}
 use Rattle.bk_intcode.proofs.printing.print.Goals as goal
 

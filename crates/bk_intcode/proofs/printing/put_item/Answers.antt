@@ -1,5 +1,4 @@
-use Rattle.bk_intcode.proofs.Terms.{sym, ap, ◌∙◌, ◌++◌, ◌≡◌, ◌∷◌, [], List, ℕ, item_text, AppendsPart-front}
-use Rattle.bk_intcode.proofs.Parts.{on_err}
+use Rattle.bk_intcode.proofs.Parts.{on_err, sym, ap, ◌∙◌, ◌++◌, ◌≡◌, ◌∷◌, [], List, ℕ, item_text, AppendsPart-front}
 use Rattle.bk_intcode.proofs.printing.put_item.Goals as goal
 
 pub returns-in_err-put_all-clause-part : goal.returns-in_err-put_all-clause-part

@@ -1,5 +1,4 @@
-use Rattle.bk_intcode.proofs.Terms.{◌≡◌, ◌∙◌, ◌∷◌, sym, subst, ap, List, ℕ, Some, IntcodeKind, Holds, WordFault, begins_item}
-use Rattle.bk_intcode.proofs.Parts.{if_err_map}
+use Rattle.bk_intcode.proofs.Parts.{if_err_map, ◌≡◌, ◌∙◌, ◌∷◌, sym, subst, ap, List, ℕ, Some, IntcodeKind, Holds, WordFault, begins_item}
 use Rattle.bk_intcode.proofs.ItemLengths.{long_fault}
 use Rattle.bk_intcode.proofs.words.held_meaning.Goals as goal
 
