@@ -1,5 +1,5 @@
 -- Steps of the loops, and what is left at their ends.
-use Rattle.std.proofs.Common.{◌≡◌, ℕ, zero, suc, ◌+◌, ◌<◌, ◌≤◌, min, List, [], ◌∷◌, ◌++◌, length, get_or, drop, replicate, refl, arith}
+pub use Rattle.std.proofs.Common.{◌≡◌, ℕ, zero, suc, ◌+◌, ◌<◌, ◌≤◌, min, List, [], ◌∷◌, ◌++◌, length, get_or, drop, replicate, refl, arith, append_assoc, append-nil, sym, ap, ◌∙◌, rules, map}
 use Rattle.bk_tree.specs.declared.tree.Expr.{Expr}
 use Rattle.bk_tree.specs.declared.tree.Decl.{Decl}
 use Rattle.bk_tree.specs.Tree.{expressions_in, declarations_in}

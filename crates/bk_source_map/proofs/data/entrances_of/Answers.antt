@@ -1,6 +1,5 @@
-use Rattle.std.proofs.Common.{arith, ◌++◌, List, append_assoc, append-nil, sym, ap, ◌∙◌}
 use Rattle.bk_source_map.specs.declared.data.Entrance.{Entrance}
-use Rattle.bk_source_map.proofs.Steps.{entrances_step, entrances_ended}
+use Rattle.bk_source_map.proofs.Steps.{entrances_step, entrances_ended, arith, ◌++◌, List, append_assoc, append-nil, sym, ap, ◌∙◌}
 use Rattle.bk_source_map.proofs.data.entrances_of.Goals as goal
 
 pub loop-i-preserved : goal.loop-i-preserved

@@ -1,8 +1,7 @@
-use Rattle.std.proofs.Common.{rules, arith, ◌≡◌, ◌++◌, ℕ, List, append-nil, map, refl, sym, ap, ◌∙◌}
 use Rattle.std.proofs.lemmas.Grind.{common_steps}
 use Rattle.bk_tree.specs.Tree.{expression, expressions_in, command_in, commands_in, declaration, declarations_in, definition, definitions_in, starts_in, step_in, mention, apply, assign, call, for_loop, block, definitions, variables}
 use Rattle.bk_tree.proofs.Lemmas.{Let_is, Variables_is, Apply_is, Assign_is, Call_is, Block_is, For_is}
-use Rattle.bk_source_map.proofs.Steps.{turns_ended}
+use Rattle.bk_source_map.proofs.Steps.{turns_ended, rules, arith, ◌≡◌, ◌++◌, ℕ, List, append-nil, map, refl, sym, ap, ◌∙◌}
 use Rattle.bk_source_map.proofs.nodes.+nodes.Goals as goal
 
 pub act-returns-after-loop-i : goal.act-returns-after-loop-i

@@ -1,6 +1,5 @@
-use Rattle.std.proofs.Common.{rules, arith}
 use Rattle.std.proofs.lemmas.Grind.{common_steps}
-use Rattle.bk_source_map.proofs.Steps.{leave_some}
+use Rattle.bk_source_map.proofs.Steps.{leave_some, rules, arith}
 use Rattle.bk_source_map.proofs.put.put_leave.Goals as goal
 
 pub returns-in_ok-put-in-len1-up : goal.returns-in_ok-put-in-len1-up
