@@ -35,8 +35,6 @@ viewed_fault : {O : Type 0} (Writes : O → O → Viewed → Type 0) (Fails : O 
     → NotAssembled fault old new ended → reads ≡ (if is_read_fault fault then 1 else 0)
     → HasViewed Writes Fails (Err fault) sections old new ended reads × Stops Writes Fails (Err fault) out out
 viewed_fault Writes Fails (Source fault) sections old new ended reads out refused count = ((refused, count), refl)
-viewed_fault Writes Fails (Ocode number fault) sections old new ended reads out refused count = absurd refused
-viewed_fault Writes Fails (Intcode number fault) sections old new ended reads out refused count = absurd refused
 viewed_fault Writes Fails Read sections old new ended reads out refused count = ((refused, count), refl)
 viewed_fault Writes Fails Memory sections old new ended reads out refused count = ((refused, count), inl refl)
 viewed_fault Writes Fails x sections old new ended reads out refused count = absurd refused
@@ -110,8 +108,6 @@ module _ {O : Type 0} (Writes : O → O → Viewed → Type 0) (Fails : O → O 
       pub section_not_compiled : (fault : KitFault) → Refuses fault text line → ShowsSections Writes Fails (Err fault) old new ended reads before after
       section_not_compiled (Source fault) refuses = refused_as_source (Source fault) refl refuses
       section_not_compiled Memory refuses = refused_as_source Memory refl refuses
-      section_not_compiled (Ocode number fault) refuses = absurd refuses
-      section_not_compiled (Intcode number fault) refuses = absurd refuses
       section_not_compiled x refuses = absurd refuses
 
       module _ (after' : O) where
@@ -214,10 +210,6 @@ module _ {O : Type 0} (taken passed : O → Option (List ℕ)) (faults : O → �
   stops_grows (Err Write) mid after stops = left_grows mid after unshown.Device stops
   stops_grows (Err Memory) mid after (inl same) = same_grows mid after same
   stops_grows (Err Memory) mid after (inr leaves) = left_grows mid after unshown.Memory leaves
-  stops_grows (Ok done) mid after same = same_grows mid after same
-  stops_grows (Err (Source fault)) mid after same = same_grows mid after same
-  stops_grows (Err (Ocode number fault)) mid after same = same_grows mid after same
-  stops_grows (Err (Intcode number fault)) mid after same = same_grows mid after same
   stops_grows x mid after same = same_grows mid after same
 
   module _ (answer : Result (Unit {0}) KitFault) (old new : Option (List ℕ)) (ended : Bool) (reads : ℕ) (before after : O) (shows : ShowsSections Puts Leaves answer old new ended reads before after) where
