@@ -1,13 +1,7 @@
 -- Hints of a section whose line is read to its end.
-use Rattle.bk_kit.proofs.Terms.{◌≡◌, ◌∙◌, sym, refl, subst, append_assoc, Some, None, Result, Ok, Err, Bool, true, false, List, ◌++◌, ℕ, Option, Consumes, Consumes-trans, KitFault}
-use Rattle.bk_lines.specs.declared.places.Start.{Start}
-use Rattle.bk_filters.specs.Interpreting.{Streams}
+pub use Rattle.bk_kit.proofs.Terms.{◌≡◌, ◌∙◌, sym, refl, subst, append_assoc, Some, None, Result, Ok, Err, Bool, true, false, List, ◌++◌, ℕ, Option, Consumes, Consumes-trans, KitFault, Report, Streams, HintsAt, HintsIn, IsCut, is_of_bytes, ChecksSource, TextHints, NotChecked, Refusal, Start, output, ReportsCheck, file_read, rules, ReadsOn, read_from, ap}
 use Rattle.bk_kit.specs.declared.cut.CutSection.{CutSection}
-use Rattle.bk_kit.specs.declared.checker.Refusal.{Refusal}
-use Rattle.bk_checker.specs.declared.report.Report.{Report}
-use Rattle.bk_kit.specs.declared.checker.NotChecked.{NotChecked}
 use Rattle.bk_kit.specs.declared.checker.NotChecked.TheVariants as n
-use Rattle.bk_kit.specs.Checking.{HintsAt, HintsIn, IsCut, is_of_bytes, ChecksSource, TextHints}
 
 -- hints of a text with more bytes
 pub hints_on : (old now new : Option (List ℕ)) (refusal said : Refusal) (cut : CutSection) (more : List ℕ) → HintsIn refusal old now → refusal.cut ≡ Some cut

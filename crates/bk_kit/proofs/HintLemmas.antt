@@ -1,15 +1,8 @@
 -- Where the hints of a refused source begin.
-use Rattle.bk_kit.proofs.Terms.{◌≡◌, ℕ, ◌++◌, List, [], ◌∷◌, Option, None, Some, refl, sym, subst, ap, ◌∙◌, inl, inr, append_assoc, append-nil, Consumes, Consumes-nothing, Consumes-trans}
-use Rattle.bk_tree.specs.Position.{column_after}
-use Rattle.bk_lines.specs.declared.places.Start.{Start}
-use Rattle.bk_lines.specs.Places.{line_after}
-use Rattle.bk_kit.specs.declared.checker.Refusal.{Refusal}
-use Rattle.std.specs.Prelude.{◌⊎◌, IfSome}
+use Rattle.bk_kit.proofs.Terms.{◌≡◌, ℕ, ◌++◌, List, [], ◌∷◌, Option, None, Some, refl, sym, subst, ap, ◌∙◌, inl, inr, append_assoc, append-nil, Consumes, Consumes-nothing, Consumes-trans, IsAdded, IsPlaced, StartsAfter, HintsAt, HintsIn, IsCut, InSource, AllInSource, IsPlacedIn, Refusal, line_after, Start, column_after, ◌⊎◌, IfSome}
 use Rattle.std.proofs.lemmas.List.Elements.{All-weaker, All-contains, All-same, All-push, All-nil}
 use Rattle.bk_reports.specs.declared.notice.Notice.{Notice}
 use Rattle.bk_checker.specs.declared.source.SourceText.{SourceText}
-use Rattle.bk_checker.specs.Reports.{IsAdded, IsPlaced}
-use Rattle.bk_kit.specs.Checking.{StartsAfter, HintsAt, HintsIn, IsCut, InSource, AllInSource, IsPlacedIn}
 
 -- What comes next begins here.
 pub record Reached (old now : Option (List ℕ)) (start : Start) : Type 0 where

@@ -1,5 +1,5 @@
 -- Numbers and limits that a command line gives.
-use Rattle.bk_kit.proofs.Terms.{◌≡◌, ◌∙◌, ◌⊎◌, inl, inr, ℕ, ◌<◌, ◌^◌, List, [], Bool, true, false, Bor, option_map, Option, None, Some, Result, Ok, Err, IfErr, IfSome, IsSome, codes, length, refl, sym, ap, ap₂, subst, arith, ParsesUnsigned, ParsesBool, Box, rows_of, found_of, subcommand_name_of, subcommand_rows, subcommand_rows_of, is_simple_and_free, fault_of, App, Row, Text, ReadsOne, IsAmong, one_of, first_of, subcommand_of, takes, Bounds, ErrorKind, ErrorKind as kind}
+pub use Rattle.bk_kit.proofs.Terms.{◌≡◌, ◌∙◌, ◌⊎◌, inl, inr, ℕ, ◌<◌, ◌^◌, List, [], Bool, true, false, Bor, option_map, Option, None, Some, Result, Ok, Err, IfErr, IfSome, IsSome, codes, length, refl, sym, ap, ap₂, subst, arith, ParsesUnsigned, ParsesBool, Box, rows_of, found_of, subcommand_name_of, subcommand_rows, subcommand_rows_of, is_simple_and_free, fault_of, App, Row, Text, ReadsOne, IsAmong, one_of, first_of, subcommand_of, takes, Bounds, ErrorKind, ErrorKind as kind, first_value-rows, one_text-rows, part_text}
 use Rattle.std.specs.Box.{box_value}
 use Rattle.clap.specs.declared.parser.matches.ArgMatches.{ArgMatches}
 use Rattle.clap.specs.declared.parser.matches.ArgMatches.TheViews.{out-ArgMatches, out-SubCommand}

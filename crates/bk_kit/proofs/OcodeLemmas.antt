@@ -1,7 +1,6 @@
 -- Sections of OCODE that were read of a text, and the answer where the next is refused.
-use Rattle.bk_kit.proofs.Terms.{◌≡◌, ℕ, Bool, IsTrue, List, Option, Err, length, if◌then◌else◌, refl, OcodeFault, Refused, Fault, Device, Stmt, ocode, ocode_refused, is_read, OcodeRefused, Refused as refusals}
+use Rattle.bk_kit.proofs.Terms.{◌≡◌, ℕ, Bool, IsTrue, List, Option, Err, length, if◌then◌else◌, refl, OcodeFault, Refused, Fault, Device, Stmt, ocode, ocode_refused, is_read, OcodeRefused, Refused as refusals, Front, Front-refused, Front-stops}
 use Rattle.bk_ocode.specs.SectionAnswer.{Answers, AppliesWhateverFollows, StopsAtDevice, is_device}
-use Rattle.bk_filters.proofs.Lemmas.{Front, Front-refused, Front-stops}
 
 module _ (all : List (List Stmt)) (old now new : Option (List ℕ)) (was ended : Bool) (front : Front ocode all old now was) where
   pub sections_refused : (reported : Refused OcodeFault) → (IsTrue was → ⊥) → Answers (Err reported) now new ended → AppliesWhateverFollows (Err reported) now new ended

@@ -1,8 +1,6 @@
 -- A source whose sections are written one after another.
-use Rattle.bk_kit.proofs.Terms.{◌≡◌, inl, inr, ◌⊎◌, ℕ, ◌<◌, ◌≤◌, Bool, true, false, List, [], ◌∷◌, ◌++◌, map, Option, None, Some, Result, Ok, Err, IfOk, IfErr, refl, sym, ap, subst, ◌∙◌, append-nil, map-append, Keeps, Begins, Begins-refl, Begins-trans, Begins-Keeps, INPUT_BYTES, Section, lexed, Symbol, Declarations, declarations_of, stmts_of, Stmt, Represents, KitFault, Source, Ocode, Intcode, TooSmall, NoStart, Read, Write, Memory, CompiledSection, SectionCode, HasTheseTrees, Compiled, HasCode, Refuses, trees_in, codes_in, is_read, is_read_fault, IsUndecided, IsDelivered, Settles, NotAssembled, ReadsSource, IsTree, Means, stmts_of_tree, Output, NotShown, NotShown as unshown, IsErr, if◌then◌else◌}
+pub use Rattle.bk_kit.proofs.Terms.{◌≡◌, inl, inr, ◌⊎◌, ℕ, ◌<◌, ◌≤◌, Bool, true, false, List, [], ◌∷◌, ◌++◌, map, Option, None, Some, Result, Ok, Err, IfOk, IfErr, refl, sym, ap, subst, ◌∙◌, append-nil, map-append, Keeps, Begins, Begins-refl, Begins-trans, Begins-Keeps, INPUT_BYTES, Section, lexed, Symbol, Declarations, declarations_of, stmts_of, Stmt, Represents, KitFault, Source, Ocode, Intcode, TooSmall, NoStart, Read, Write, Memory, CompiledSection, SectionCode, HasTheseTrees, Compiled, HasCode, Refuses, trees_in, codes_in, is_read, is_read_fault, IsUndecided, IsDelivered, Settles, NotAssembled, ReadsSource, IsTree, Means, stmts_of_tree, Output, NotShown, NotShown as unshown, IsErr, if◌then◌else◌, WithTrees, trees_none, not_read, no_memory, not_compiled, trees_go_on, trees_end, stops_reading, has_read, IsViewed, AreViewed, trees_viewed, Written, Stops, HasViewed, ShowsSections, PutsSection, NotPut, Shows, PassesAll, ShowsSource, rules, ◌-◌, ◌^◌, arith, some_taken, symbols_of}
 use Rattle.bk_show.specs.Viewed.{Viewed}
-use Rattle.bk_filters.proofs.Lemmas.{WithTrees, trees_none, not_read, no_memory, not_compiled, trees_go_on, trees_end, stops_reading, has_read}
-use Rattle.bk_kit.specs.Showing.{IsViewed, AreViewed, trees_viewed, Written, Stops, HasViewed, ShowsSections, PutsSection, NotPut, Shows, PassesAll, ShowsSource}
 
 -- ---- the values of one section
 

@@ -1,9 +1,4 @@
-use Rattle.bk_kit.proofs.Terms.{◌≡◌, ◌⊎◌, ◌++◌, sym, subst, arith, List, [], map, rules, Declarations, declarations_of, KitFault, trees_in, Compiled, Refuses, HasTheseTrees, is_read_fault, NotAssembled, ReadsSource}
-use Rattle.bk_tree.specs.Position.{column_after}
-use Rattle.bk_lines.specs.Places.{line_after}
-use Rattle.bk_filters.proofs.Lemmas.{some_taken, WithTrees, trees_none, not_read, no_memory, not_compiled, trees_go_on, trees_end, stops_reading, has_read}
-use Rattle.bk_checker.specs.Reports.{IsAdded}
-use Rattle.bk_kit.specs.Checking.{HintsAt, IsCut}
+use Rattle.bk_kit.proofs.Terms.{◌≡◌, ◌⊎◌, ◌++◌, sym, subst, arith, List, [], map, rules, Declarations, declarations_of, KitFault, trees_in, Compiled, Refuses, HasTheseTrees, is_read_fault, NotAssembled, ReadsSource, IsAdded, some_taken, WithTrees, trees_none, not_read, no_memory, not_compiled, trees_go_on, trees_end, stops_reading, has_read, HintsAt, IsCut, line_after, column_after}
 use Rattle.bk_kit.proofs.HintLemmas.{reached_none, reached_on, hinted, not_hinted, in_source, none_yet, all_later, all_pushed}
 use Rattle.bk_kit.proofs.checker.read_trees.Goals as goal
 

@@ -1,6 +1,4 @@
-use Rattle.bk_kit.proofs.Terms.{◌≡◌, ◌-◌, ◌^◌, [], map, declarations_of}
-use Rattle.bk_kit.specs.Checking.{AllInSource}
-use Rattle.bk_filters.proofs.Lemmas.{WithTrees}
+use Rattle.bk_kit.proofs.Terms.{◌≡◌, ◌-◌, ◌^◌, [], map, declarations_of, WithTrees, AllInSource}
 use Rattle.bk_kit.proofs.HintLemmas.{Reached}
 use Rattle.bk_kit.proofs.checker.read_trees.Given as goal
 

@@ -1,5 +1,4 @@
-use Rattle.bk_kit.proofs.Terms.{codes, found_of, first_value-rows}
-use Rattle.bk_kit.proofs.LineLemmas.{text_of, text_given}
+use Rattle.bk_kit.proofs.LineLemmas.{text_of, text_given, codes, found_of, first_value-rows}
 use Rattle.bk_kit.proofs.command_line.file_of.Goals as goal
 
 pub returns-clause-reads : goal.returns-clause-reads

@@ -1,5 +1,4 @@
-use Rattle.bk_kit.proofs.Terms.{rules, ◌≡◌, false, None, Some, IsSome, codes, rows_of, found_of, one_of, truth_text}
-use Rattle.bk_kit.specs.declared.command_line.LineFault.TheVariants.{Bad}
+use Rattle.bk_kit.proofs.Terms.{rules, ◌≡◌, false, None, Some, IsSome, codes, rows_of, found_of, one_of, truth_text, Bad}
 use Rattle.bk_kit.proofs.LineLemmas.{limits_refused, sizes_refused, trace_refused, names_refused}
 use Rattle.bk_kit.proofs.command_line.interpret_order.Goals as goal
 

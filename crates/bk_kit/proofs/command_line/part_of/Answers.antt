@@ -1,6 +1,5 @@
-use Rattle.bk_kit.proofs.Terms.{◌≡◌, ◌∙◌, Option, None, Some, codes, ap, Text, first_of, rows_of, found_of, part_text}
 use Rattle.bk_show.specs.declared.part.Part.{Part}
-use Rattle.bk_kit.proofs.LineLemmas.{if_some_map}
+use Rattle.bk_kit.proofs.LineLemmas.{if_some_map, ◌≡◌, ◌∙◌, Option, None, Some, codes, ap, Text, first_of, rows_of, found_of, part_text}
 use Rattle.bk_kit.proofs.command_line.part_of.Goals as goal
 
 same_text : (found : Option Text) (a b : Text) → found ≡ Some a → found ≡ Some b → a ≡ b

@@ -1,5 +1,4 @@
-use Rattle.bk_kit.proofs.Terms.{rules, ◌≡◌, None, rows_of, found_of}
-use Rattle.bk_kit.specs.declared.command_line.LineFault.TheVariants.{Bad}
+use Rattle.bk_kit.proofs.Terms.{rules, ◌≡◌, None, rows_of, found_of, Bad}
 use Rattle.bk_kit.proofs.LineLemmas.{run_trace_refused}
 use Rattle.bk_kit.proofs.command_line.run_order.Goals as goal
 

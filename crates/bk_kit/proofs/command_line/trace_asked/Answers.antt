@@ -1,5 +1,4 @@
-use Rattle.bk_kit.proofs.Terms.{codes, found_of, one_text-rows}
-use Rattle.bk_kit.proofs.LineLemmas.{truth_of, truth_given}
+use Rattle.bk_kit.proofs.LineLemmas.{truth_of, truth_given, codes, found_of, one_text-rows}
 use Rattle.bk_kit.proofs.command_line.trace_asked.Goals as goal
 
 pub returns-clause-reads : goal.returns-clause-reads

@@ -1,6 +1,4 @@
-use Rattle.std.proofs.Common.{rules, refl, ◌++◌}
-use Rattle.bk_kit.specs.Checking.{HintsAt}
-use Rattle.bk_kit.proofs.Cuts.{hints_on}
+use Rattle.bk_kit.proofs.Cuts.{hints_on, HintsAt, rules, refl, ◌++◌}
 use Rattle.bk_kit.proofs.cut.with_line.Goals as goal
 
 pub returns-in-Ok-clause-hints : goal.returns-in-Ok-clause-hints

@@ -1,10 +1,5 @@
-use Rattle.std.proofs.Common.{◌≡◌, rules, refl, sym, ap, subst, Result, Err}
-use Rattle.bk_checker.specs.declared.report.Report.{Report}
-use Rattle.bk_kit.specs.declared.checker.NotChecked.{NotChecked}
 use Rattle.bk_kit.specs.declared.checker.NotChecked.TheVariants.{Text}
-use Rattle.bk_kit.specs.Checking.{TextHints, ReadsOn}
-use Rattle.bk_kit.specs.Tracing.{read_from}
-use Rattle.bk_kit.proofs.Cuts.{not_cut}
+use Rattle.bk_kit.proofs.Cuts.{not_cut, Report, TextHints, ReadsOn, read_from, NotChecked, ◌≡◌, rules, refl, sym, ap, subst, Result, Err}
 use Rattle.bk_kit.proofs.cut.with_whole_line.Goals as goal
 
 pub returns-in-Err-Text : goal.returns-in-Err-Text

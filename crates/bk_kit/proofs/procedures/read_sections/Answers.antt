@@ -1,5 +1,4 @@
-use Rattle.bk_kit.proofs.Terms.{◌≡◌, ◌∙◌, List, [], ◌∷◌, ◌++◌, length, map, ap, sym, subst, rules, map-append, length-map, stmts_of, Stmt, ocode}
-use Rattle.bk_filters.proofs.Lemmas.{Front, Front-push, Front-whole}
+use Rattle.bk_kit.proofs.Terms.{◌≡◌, ◌∙◌, List, [], ◌∷◌, ◌++◌, length, map, ap, sym, subst, rules, map-append, length-map, stmts_of, Stmt, ocode, Front, Front-push, Front-whole}
 use Rattle.bk_kit.proofs.OcodeLemmas.{sections_refused, refused_fails}
 use Rattle.bk_kit.proofs.procedures.read_sections.Goals as goal
 

@@ -1,5 +1,4 @@
-use Rattle.bk_kit.proofs.Terms.{◌-◌, ◌^◌, length, map, stmts_of, ocode}
-use Rattle.bk_filters.proofs.Lemmas.{Front}
+use Rattle.bk_kit.proofs.Terms.{◌-◌, ◌^◌, length, map, stmts_of, ocode, Front}
 use Rattle.bk_kit.proofs.procedures.read_sections.Given as goal
 
 abbrev pub invariant-loop-section : goal.invariant-loop-section

@@ -1,9 +1,5 @@
-use Rattle.std.proofs.Common.{rules, refl}
 use Rattle.std.specs.String.{string_bytes}
-use Rattle.bk_filters.specs.Telling.{output}
-use Rattle.bk_kit.specs.Checking.{ReportsCheck}
-use Rattle.bk_kit.specs.Tracing.{file_read}
-use Rattle.bk_kit.proofs.Cuts.{text_hints}
+use Rattle.bk_kit.proofs.Cuts.{text_hints, output, ReportsCheck, file_read, rules, refl}
 use Rattle.bk_kit.proofs.service.serve_check.Goals as goal
 
 pub returns : goal.returns

@@ -1,5 +1,4 @@
-use Rattle.bk_kit.proofs.Terms.{inr, refl, ap, symbols_of, declarations_of}
-use Rattle.bk_kit.proofs.ShowLemmas.{section_put, if_ok_map, if_err_map}
+use Rattle.bk_kit.proofs.ShowLemmas.{section_put, if_ok_map, if_err_map, inr, refl, ap, symbols_of, declarations_of}
 use Rattle.bk_kit.proofs.showing.put_section.Goals as goal
 
 pub returns-clause-puts : goal.returns-clause-puts

@@ -1,7 +1,4 @@
-use Rattle.bk_kit.proofs.Terms.{subst, arith, Err, IfErr, rules, Compiled, Refuses}
-use Rattle.bk_filters.proofs.Lemmas.{some_taken}
-use Rattle.bk_kit.specs.Showing.{ShowsSections}
-use Rattle.bk_kit.proofs.ShowLemmas.{showing_none, section_not_read, section_not_compiled, section_without_memory, section_not_put, section_is_last, section_goes_on, shows_err}
+use Rattle.bk_kit.proofs.ShowLemmas.{showing_none, section_not_read, section_not_compiled, section_without_memory, section_not_put, section_is_last, section_goes_on, shows_err, subst, arith, Err, IfErr, rules, Compiled, Refuses, some_taken, ShowsSections}
 use Rattle.bk_kit.proofs.showing.show_sections.Goals as goal
 
 pub loop-lexer-init : goal.loop-lexer-init

@@ -1,5 +1,4 @@
-use Rattle.std.proofs.Common.{◌-◌, ◌^◌}
-use Rattle.bk_kit.proofs.ShowLemmas.{Showing}
+use Rattle.bk_kit.proofs.ShowLemmas.{Showing, ◌-◌, ◌^◌}
 use Rattle.bk_kit.proofs.showing.show_sections.Given as goal
 
 abbrev pub invariant-loop-lexer : goal.invariant-loop-lexer

@@ -1,6 +1,4 @@
-use Rattle.std.proofs.Common.{rules}
-use Rattle.bk_kit.proofs.Terms.{ap}
-use Rattle.bk_kit.proofs.ShowLemmas.{shown_grows, shown_so, shows_still, both_grow, shown_all, shown_no_more}
+use Rattle.bk_kit.proofs.ShowLemmas.{shown_grows, shown_so, shows_still, both_grow, shown_all, shown_no_more, ap, rules}
 use Rattle.bk_kit.proofs.showing.show_source.Goals as goal
 
 pub returns-in_default : goal.returns-in_default

@@ -1,6 +1,5 @@
-use Rattle.bk_kit.proofs.Terms.{◌≢◌, Ok, ap, refl, segments, store_of, registers_of, Begins-trans, WriteFault}
+use Rattle.bk_kit.proofs.Terms.{◌≢◌, Ok, ap, refl, segments, store_of, registers_of, Begins-trans, WriteFault, source_runs}
 use Rattle.bk_filters.specs.AnyReader.{ran_with_any}
-use Rattle.bk_filters.proofs.Lemmas.{source_runs}
 use Rattle.bk_kit.proofs.source_trace.trace_source.Goals as goal
 
 pub returns-clause-headline : goal.returns-clause-headline

@@ -1,6 +1,4 @@
-use Rattle.std.proofs.Common.{sym, ◌∙◌}
-use Rattle.bk_filters.proofs.Lemmas.{line_told}
-use Rattle.bk_filters.specs.Telling.{output}
+use Rattle.bk_kit.proofs.Terms.{line_told, output, sym, ◌∙◌}
 use Rattle.bk_kit.proofs.status.report_pieces.Goals as goal
 
 pub returns-then-is_ok : goal.returns-then-is_ok

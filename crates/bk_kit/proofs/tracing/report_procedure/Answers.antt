@@ -1,4 +1,4 @@
-use Rattle.bk_base.specs.DeviceLaws.{Begins-trans}
+use Rattle.bk_kit.proofs.Terms.{Begins-trans}
 use Rattle.bk_kit.proofs.tracing.report_procedure.Goals as goal
 
 pub returns-then-is_ok-clause-passes : goal.returns-then-is_ok-clause-passes

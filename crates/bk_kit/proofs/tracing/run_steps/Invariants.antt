@@ -1,5 +1,4 @@
-use Rattle.bk_kit.proofs.Terms.{◌≡◌, ◌≤◌, None, Begins, HeldBy, Paused, store_of, registers_of, end_of}
-use Rattle.bk_machine.specs.Runs.{devices}
+use Rattle.bk_kit.proofs.Terms.{◌≡◌, ◌≤◌, None, Begins, HeldBy, Paused, store_of, registers_of, end_of, devices}
 use Rattle.bk_kit.proofs.tracing.run_steps.Given as goal
 
 abbrev pub invariant-loop-i : goal.invariant-loop-i
