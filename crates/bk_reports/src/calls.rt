@@ -2,6 +2,7 @@
 
 use crate::notice::Within;
 use crate::spelling::{add, add_number};
+use crate::text::Text;
 use crate::values::callee_name;
 use bk_check::{Call, Continuation, Evaluator};
 use bk_lasting::Lasting;
@@ -21,16 +22,16 @@ struct CallLine<'a> {
 }
 
 /// Adds a call, and how often it is there.
-fn add_call(text: &mut Vec<u8>, call: CallLine, times: usize) -> Result<(), AllocError> {
-    add(text, &[b"  in ", call.callee, b", called on line "])?;
-    add_number(text, call.line as usize)?;
-    add(text, &[b", from ", call.caller])?;
+fn add_call(text: &mut Text, call: CallLine, times: usize) {
+    add(text, &[b"  in ", call.callee, b", called on line "]);
+    add_number(text, call.line as usize);
+    add(text, &[b", from ", call.caller]);
     if times > 1 {
-        add(text, &[b", repeated "])?;
-        add_number(text, times)?;
-        add(text, &[b" times"])?;
+        add(text, &[b", repeated "]);
+        add_number(text, times);
+        add(text, &[b" times"]);
     }
-    add(text, &[b"\n"])
+    add(text, &[b"\n"]);
 }
 
 /// What is written of the calls, and the one that is to be written next.
@@ -43,19 +44,15 @@ struct Listing<'a> {
 }
 
 /// Takes a further call outwards.
-fn take<'a>(
-    text: &mut Vec<u8>,
-    listing: &mut Listing<'a>,
-    call: CallLine<'a>,
-) -> Result<(), AllocError> {
+fn take<'a>(text: &mut Text, listing: &mut Listing<'a>, call: CallLine<'a>) {
     let last = listing.last;
     if let Some(before) = last {
         if before == call {
             listing.times = listing.times.saturating_add(1);
-            return Ok(());
+            return;
         }
         if listing.lines < LINES - 2 {
-            add_call(text, before, listing.times)?;
+            add_call(text, before, listing.times);
             listing.lines = listing.lines.saturating_add(1);
         } else {
             listing.left_out = listing.left_out.saturating_add(listing.times);
@@ -63,14 +60,13 @@ fn take<'a>(
     }
     listing.last = Some(call);
     listing.times = 1;
-    Ok(())
 }
 
 /// Adds the outermost calls, and how many before them are left out.
-fn add_last(text: &mut Vec<u8>, listing: &Listing) -> Result<(), AllocError> {
+fn add_last(text: &mut Text, listing: &Listing) {
     if listing.left_out > 0 {
-        add(text, &[b"  and "])?;
-        add_number(text, listing.left_out)?;
+        add(text, &[b"  and "]);
+        add_number(text, listing.left_out);
         add(
             text,
             &[if listing.left_out == 1 {
@@ -78,11 +74,10 @@ fn add_last(text: &mut Vec<u8>, listing: &Listing) -> Result<(), AllocError> {
             } else {
                 b" further calls\n"
             }],
-        )?;
+        );
     }
-    match listing.last {
-        Some(call) => add_call(text, call, listing.times),
-        None => Ok(()),
+    if let Some(call) = listing.last {
+        add_call(text, call, listing.times);
     }
 }
 
@@ -121,7 +116,7 @@ pub fn innermost_call(m: &Evaluator) -> (Position, Within) {
 /// The calls that are active, a line each, innermost first, so that START is at the end; ten lines at most. Equal calls one after another
 /// have one line.
 pub fn calls_text<'a>(m: &Evaluator<'a>, program: &[Lasting<'a>]) -> Result<Vec<u8>, AllocError> {
-    let mut text = Vec::new(m.alloc);
+    let mut text = Text::new(m.alloc);
     let mut inner: Option<Call> = None;
     let mut listing = Listing {
         last: None,
@@ -139,7 +134,7 @@ pub fn calls_text<'a>(m: &Evaluator<'a>, program: &[Lasting<'a>]) -> Result<Vec<
                     line: call.at.line().number(),
                     caller: callee_name(program, caller.callee),
                 };
-                take(&mut text, &mut listing, line)?;
+                take(&mut text, &mut listing, line);
             }
             inner = Some(*caller);
         }
@@ -149,9 +144,9 @@ pub fn calls_text<'a>(m: &Evaluator<'a>, program: &[Lasting<'a>]) -> Result<Vec<
             add(
                 &mut text,
                 &[b"  in ", callee_name(program, call.callee), b"\n"],
-            )?;
+            );
         }
-        _ => add_last(&mut text, &listing)?,
+        _ => add_last(&mut text, &listing),
     }
-    Ok(text)
+    text.whole()
 }

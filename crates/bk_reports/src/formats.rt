@@ -3,7 +3,7 @@
 use crate::remarks::{Found, is_own, make_remark};
 use bk_tree::{Expr, Position};
 use itoa::Buffer;
-use std::alloc::{AllocError, Global};
+use std::alloc::Global;
 
 /// How many bytes of a format belong to the directive that `%` and the bytes after it are, besides the `%`; none where WRITEF writes
 /// the `%` as it is.
@@ -53,16 +53,10 @@ pub fn directives(format: &[u8]) -> usize {
 }
 
 /// A call of WRITEF with more arguments than its format has directives.
-fn in_arguments(
-    alloc: Global,
-    found: &mut Found,
-    at: Position,
-    format: &[u8],
-    given: usize,
-) -> Result<(), AllocError> {
+fn in_arguments(alloc: Global, found: &mut Found, at: Position, format: &[u8], given: usize) {
     let wanted = directives(format);
     if given <= wanted {
-        return Ok(());
+        return;
     }
     let mut first = Buffer::new();
     let mut second = Buffer::new();
@@ -86,7 +80,7 @@ fn in_arguments(
                 b" follow it"
             },
         ],
-    )
+    );
 }
 
 /// A call of WRITEF with a `%` that it writes as it is, or with too many arguments.
@@ -96,15 +90,15 @@ pub fn in_format(
     at: Position,
     callee: &Expr,
     arguments: &[Expr],
-) -> Result<(), AllocError> {
+) {
     let Expr::Name { letters: name, .. } = callee else {
-        return Ok(());
+        return;
     };
     let [Expr::Text { bytes: format, .. }, given @ ..] = arguments else {
-        return Ok(());
+        return;
     };
     if name.as_slice() != b"WRITEF".as_slice() || is_own(found, name) {
-        return Ok(());
+        return;
     }
     match plain_percent(format) {
         None => in_arguments(alloc, found, at, format, given.len()),
@@ -118,6 +112,6 @@ pub fn in_format(
                 b"` as it is; it knows `%S`, `%N`, `%C`, `%I0` to `%I9` and `%%`",
             ],
         ),
-        _ => Ok(()),
+        _ => {}
     }
 }

@@ -97,7 +97,7 @@ fn remark_shared(
     global: &ConstItem,
     first: &ConstItem,
     number: i32,
-) -> Result<(), AllocError> {
+) {
     let ConstItem::Item { at, letters, .. } = global;
     let ConstItem::Item {
         at: first_at,
@@ -120,30 +120,24 @@ fn remark_shared(
             b"` of line ",
             line.format(first_at.line().number()).as_bytes(),
         ],
-    )
+    );
 }
 
 /// Remarks on globals of a declaration that have the number of one before them, and another name.
-fn on_items(
-    alloc: Global,
-    found: &mut Found,
-    decls: &[Decl],
-    items: &[ConstItem],
-) -> Result<(), AllocError> {
+fn on_items(alloc: Global, found: &mut Found, decls: &[Decl], items: &[ConstItem]) {
     for item in items {
         let ConstItem::Item { at, letters, expr } = item;
         if let Some(number) = number(expr)
             && let Some(first) = first_with(decls, *at, letters, number)
         {
-            remark_shared(alloc, found, item, first, number)?;
+            remark_shared(alloc, found, item, first, number);
         }
     }
-    Ok(())
 }
 
 /// Remarks on globals of a section that have one number and two names. What another section calls a global may be meant, as where a
 /// program puts a routine of its own in the place of one of the library.
-pub fn on_globals(alloc: Global, found: &mut Found, decls: &[Decl]) -> Result<(), AllocError> {
+pub fn on_globals(alloc: Global, found: &mut Found, decls: &[Decl]) {
     let mut count: usize = 0;
     for decl in decls {
         if let Decl::Constants {
@@ -154,9 +148,8 @@ pub fn on_globals(alloc: Global, found: &mut Found, decls: &[Decl]) -> Result<()
         {
             count = count.saturating_add(items.len());
             if count <= GLOBALS {
-                on_items(alloc, found, decls, items)?;
+                on_items(alloc, found, decls, items);
             }
         }
     }
-    Ok(())
 }

@@ -25,6 +25,7 @@ mod setting;
 mod sought;
 mod spelling;
 mod stops;
+mod text;
 mod unset;
 mod values;
 mod walk;

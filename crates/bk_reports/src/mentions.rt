@@ -1,7 +1,7 @@
 //! The names that a section declares, and those that its expressions have.
 
 use bk_tree::{ConstItem, Name, Position};
-use std::alloc::{AllocError, Global};
+use std::alloc::Global;
 
 /// How many pairs of names are compared at most.
 const PAIRS: usize = 4_000_000;
@@ -40,6 +40,8 @@ pub struct Names {
     spellings: Vec<u8>,
     declared: Vec<Declared>,
     used: Vec<Used>,
+    /// Whether there was memory for all of them.
+    is_whole: bool,
 }
 
 impl Names {
@@ -49,17 +51,32 @@ impl Names {
             spellings: Vec::new(alloc),
             declared: Vec::new(alloc),
             used: Vec::new(alloc),
+            is_whole: true,
         }
     }
 
     /// Keeps a name.
-    fn keep(&mut self, name: &[u8]) -> Result<Spelled, AllocError> {
+    fn keep(&mut self, name: &[u8]) -> Spelled {
         let start = self.spellings.len();
-        self.spellings.extend_from_slice(name)?;
-        Ok(Spelled {
+        if self.spellings.extend_from_slice(name).is_err() {
+            self.is_whole = false;
+        }
+        Spelled {
             start,
             count: name.len(),
-        })
+        }
+    }
+
+    /// Adds a name in an expression.
+    fn add_use(&mut self, used: Used) {
+        if self.used.push(used).is_err() {
+            self.is_whole = false;
+        }
+    }
+
+    /// Whether there was memory for all the names.
+    pub fn is_whole(&self) -> bool {
+        self.is_whole
     }
 
     /// The bytes of a name.
@@ -69,62 +86,49 @@ impl Names {
     }
 
     /// Adds a declaration; of a procedure with so many formals.
-    pub fn declare(
-        &mut self,
-        name: &[u8],
-        at: Position,
-        formals: Option<usize>,
-    ) -> Result<(), AllocError> {
-        let name = self.keep(name)?;
-        self.declared.push(Declared { name, at, formals })?;
-        Ok(())
+    pub fn declare(&mut self, name: &[u8], at: Position, formals: Option<usize>) {
+        let name = self.keep(name);
+        if self.declared.push(Declared { name, at, formals }).is_err() {
+            self.is_whole = false;
+        }
     }
 
     /// Adds declarations of variables.
-    pub fn declare_all(&mut self, names: &[Name]) -> Result<(), AllocError> {
+    pub fn declare_all(&mut self, names: &[Name]) {
         for name in names {
-            self.declare(&name.letters, name.at, None)?;
+            self.declare(&name.letters, name.at, None);
         }
-        Ok(())
     }
 
     /// Adds the declarations of a MANIFEST, STATIC or GLOBAL.
-    pub fn declare_items(&mut self, items: &[ConstItem]) -> Result<(), AllocError> {
+    pub fn declare_items(&mut self, items: &[ConstItem]) {
         for item in items {
             let ConstItem::Item { at, letters, .. } = item;
-            self.declare(letters, *at, None)?;
+            self.declare(letters, *at, None);
         }
-        Ok(())
     }
 
     /// Adds a name in an expression, and with how many arguments it is called, if it is.
-    pub fn note(
-        &mut self,
-        name: &[u8],
-        at: Position,
-        arguments: Option<usize>,
-    ) -> Result<(), AllocError> {
-        let name = self.keep(name)?;
+    pub fn note(&mut self, name: &[u8], at: Position, arguments: Option<usize>) {
+        let name = self.keep(name);
         let arguments = arguments.unwrap_or(0);
-        self.used.push(Used {
+        self.add_use(Used {
             name,
             at,
             arguments,
             is_tested: false,
-        })?;
-        Ok(())
+        });
     }
 
     /// Adds a name that is a condition by itself.
-    pub fn note_test(&mut self, name: &[u8], at: Position) -> Result<(), AllocError> {
-        let name = self.keep(name)?;
-        self.used.push(Used {
+    pub fn note_test(&mut self, name: &[u8], at: Position) {
+        let name = self.keep(name);
+        self.add_use(Used {
             name,
             at,
             arguments: 0,
             is_tested: true,
-        })?;
-        Ok(())
+        });
     }
 
     /// How many declarations there are; none where there are too many names to compare each with each.

@@ -1,12 +1,10 @@
 //! The operands of an act: how they are written, their values, and what is wrong with one by itself.
 
 use crate::setting::say_setting;
-use crate::spelling::add_word;
 use crate::values::{Page, callee_name};
 use bk_lasting::{GLOBALS_OBJECT, Lasting, Sense};
 use bk_objects::{Origin, Routine, Worth};
 use bk_tree::Expr;
-use std::alloc::AllocError;
 
 /// A part of an act: how it is written, and its value.
 #[derive(Clone, Copy)]
@@ -27,64 +25,59 @@ pub fn bare(expr: &Expr) -> &Expr {
 }
 
 /// Adds how an operand is written.
-pub fn say_written(page: &mut Page, operand: Operand) -> Result<(), AllocError> {
-    page.say(&[operand.words])?;
-    match operand.expr {
-        Some(expr) => page.say_expr(expr),
-        None => Ok(()),
+pub fn say_written(page: &mut Page, operand: Operand) {
+    page.say(&[operand.words]);
+    if let Some(expr) = operand.expr {
+        page.say_expr(expr);
     }
 }
 
 /// Adds an operand with its value.
-pub fn say_operand(page: &mut Page, operand: Operand) -> Result<(), AllocError> {
-    page.say(&[operand.words])?;
+pub fn say_operand(page: &mut Page, operand: Operand) {
+    page.say(&[operand.words]);
     match operand.expr {
         Some(expr) => page.say_is(expr, operand.value),
         None => {
-            page.say(&[b" is "])?;
-            page.say_value(operand.value)
+            page.say(&[b" is "]);
+            page.say_value(operand.value);
         }
     }
 }
 
 /// Adds that an expression has no value, and why.
-pub fn say_no_value(page: &mut Page, operand: Operand, origin: Origin) -> Result<(), AllocError> {
+pub fn say_no_value(page: &mut Page, operand: Operand, origin: Origin) {
     if let Some(expr) = operand.expr
         && let Expr::Query { .. } = bare(expr)
     {
-        return page.say(&[b"`?` has no value"]);
+        page.say(&[b"`?` has no value"]);
+        return;
     }
-    say_written(page, operand)?;
-    page.say(&[b" has no value: "])?;
-    page.say_origin(origin)
+    say_written(page, operand);
+    page.say(&[b" has no value: "]);
+    page.say_origin(origin);
 }
 
 /// Adds that an operand is the address of an object that is gone, and where it got it; of formals, of the one at this offset.
-pub fn say_dead(
-    page: &mut Page,
-    operand: Operand,
-    object: u64,
-    offset: u32,
-) -> Result<(), AllocError> {
-    page.say_gone(object, offset)?;
-    page.say(&[b", and "])?;
-    say_written(page, operand)?;
-    page.say(&[b" is its address"])?;
-    say_setting(page, operand)
+pub fn say_dead(page: &mut Page, operand: Operand, object: u64, offset: u32) {
+    page.say_gone(object, offset);
+    page.say(&[b", and "]);
+    say_written(page, operand);
+    page.say(&[b" is its address"]);
+    say_setting(page, operand);
 }
 
 /// Adds what is wrong with an operand by itself: it was never set, or its object is gone. False says that nothing is.
-pub fn say_fault_of(page: &mut Page, operand: Operand) -> Result<bool, AllocError> {
+pub fn say_fault_of(page: &mut Page, operand: Operand) -> bool {
     match operand.value {
         Worth::Unset(origin) => {
-            say_no_value(page, operand, origin)?;
-            Ok(true)
+            say_no_value(page, operand, origin);
+            true
         }
         Worth::Address(offset, object) if page.is_dead(object) => {
-            say_dead(page, operand, object, offset)?;
-            Ok(true)
+            say_dead(page, operand, object, offset);
+            true
         }
-        _ => Ok(false),
+        _ => false,
     }
 }
 
@@ -127,19 +120,19 @@ fn gives(value: Worth) -> bool {
 }
 
 /// Adds how a procedure is called, where an operand is its name, or the name of what holds it.
-pub fn say_uncalled(page: &mut Page, operand: Operand) -> Result<(), AllocError> {
+pub fn say_uncalled(page: &mut Page, operand: Operand) {
     let name = callee_name(page.program, operand.value);
     match name_of(operand) {
         Some(written) if written == name => {}
         Some(_) if gives(operand.value) && shared(page, operand).is_none() => {}
-        _ => return Ok(()),
+        _ => return,
     }
     let arguments: &[u8] = if takes_arguments(page.program, operand.value) {
         b"(..)"
     } else {
         b"()"
     };
-    page.say(&[b"; `", name, arguments, b"` calls it"])
+    page.say(&[b"; `", name, arguments, b"` calls it"]);
 }
 
 /// The number of the global that a name means, if it means one.
@@ -158,11 +151,10 @@ fn shared<'a>(page: &Page<'_, 'a>, operand: Operand) -> Option<(u32, &'a [u8])> 
 }
 
 /// Adds another name of the global that an operand is, if it has one.
-pub fn say_shared(page: &mut Page, operand: Operand) -> Result<(), AllocError> {
+pub fn say_shared(page: &mut Page, operand: Operand) {
     if let Some((number, other)) = shared(page, operand) {
-        page.say(&[b"; the global "])?;
-        add_word(&mut page.text, number)?;
-        return page.say(&[b" is also called ", other]);
+        page.say(&[b"; the global "]);
+        page.say_word(number);
+        page.say(&[b" is also called ", other]);
     }
-    Ok(())
 }

@@ -3,12 +3,10 @@
 use crate::made::{Made, in_procedure, seek};
 use crate::operands::{Operand, name_of};
 use crate::sought::{Kind, Search, Words};
-use crate::spelling::{add_expr, add_number};
 use crate::values::{Object, Page};
 use bk_lasting::Lasting;
 use bk_objects::Worth;
 use bk_tree::{Expr, Operator, Position};
-use std::alloc::AllocError;
 
 /// Where the text sets words or bytes of the vector that it makes at a position, by this name; no procedure is looked at in which another
 /// vector has it.
@@ -84,80 +82,62 @@ fn parts_named<'a>(
 
 /// Adds where the text sets words or bytes of a vector, of which another was never set: by the name that leads to it, or else by its own.
 /// It says nothing where there are more places than two.
-pub fn say_parts_set(
-    page: &mut Page,
-    base: Option<Operand>,
-    object: u64,
-) -> Result<(), AllocError> {
-    match page.object(object) {
-        Object::Made(made) if matches!(made.kind, Kind::Vector) => say_parts_of(page, base, made),
-        _ => Ok(()),
+pub fn say_parts_set(page: &mut Page, base: Option<Operand>, object: u64) {
+    if let Object::Made(made) = page.object(object)
+        && matches!(made.kind, Kind::Vector)
+    {
+        say_parts_of(page, base, made);
     }
 }
 
 /// The same of a vector that the source makes here.
-fn say_parts_of<'a>(
-    page: &mut Page<'_, 'a>,
-    base: Option<Operand>,
-    made: Made<'a>,
-) -> Result<(), AllocError> {
+fn say_parts_of<'a>(page: &mut Page<'_, 'a>, base: Option<Operand>, made: Made<'a>) {
     match parts_named(page, base, made.at) {
         Some((name, found)) => say_parts(page, name, &found),
         None => {
             let found = parts_set(page, made.at, made.name);
-            say_parts(page, made.name, &found)
+            say_parts(page, made.name, &found);
         }
     }
 }
 
 /// Adds where a word or a byte is set.
-fn say_part(page: &mut Page, word: &Expr, number: u32) -> Result<(), AllocError> {
-    page.say(&[b"; "])?;
-    page.say_expr(word)?;
-    page.say(&[b" is set on line "])?;
-    add_number(&mut page.text, number as usize)
+fn say_part(page: &mut Page, word: &Expr, number: u32) {
+    page.say(&[b"; "]);
+    page.say_expr(word);
+    page.say(&[b" is set on line "]);
+    page.say_number(number as usize);
 }
 
 /// Adds where a second one is set, which is perhaps written as the first is.
-fn say_second_part(
-    page: &mut Page,
-    first: &Expr,
-    second: &Expr,
-    number: u32,
-) -> Result<(), AllocError> {
-    let mut before = Vec::new(page.m.alloc);
-    let mut spelled = Vec::new(page.m.alloc);
-    add_expr(&mut before, first)?;
-    add_expr(&mut spelled, second)?;
+fn say_second_part(page: &mut Page, first: &Expr, second: &Expr, number: u32) {
+    let before = page.spelled(first);
+    let spelled = page.spelled(second);
     if before.as_slice() == spelled.as_slice() {
-        page.say(&[b" and on line "])?;
+        page.say(&[b" and on line "]);
     } else {
-        page.say(&[b", and ", &spelled, b" on line "])?;
+        page.say(&[b", and ", &spelled, b" on line "]);
     }
-    add_number(&mut page.text, number as usize)
+    page.say_number(number as usize);
 }
 
 /// Adds the lines, two at most, where words or bytes are set that a name leads to.
-fn say_parts<'a>(
-    page: &mut Page<'_, 'a>,
-    name: &'a [u8],
-    found: &Search,
-) -> Result<(), AllocError> {
+fn say_parts<'a>(page: &mut Page<'_, 'a>, name: &'a [u8], found: &Search) {
     let (Some(setter), Some(first)) = (found.words_set.first, found.first_word) else {
-        return Ok(());
+        return;
     };
     if found.words_set.count > 2 || !is_part_of(page, first, name) {
-        return Ok(());
+        return;
     }
     match (found.words_set.second, found.second_word) {
         (Some(last), Some(second)) => {
             if !is_part_of(page, second, name) {
-                return Ok(());
+                return;
             }
-            say_part(page, first, setter.line)?;
-            say_second_part(page, first, second, last.line)
+            say_part(page, first, setter.line);
+            say_second_part(page, first, second, last.line);
         }
-        _ if setter.line == page.at.line().number() => Ok(()),
+        _ if setter.line == page.at.line().number() => {}
         _ => say_part(page, first, setter.line),
     }
 }

@@ -74,28 +74,30 @@ fn remark_twice<'a>(
     at: Position,
     name: &'a [u8],
     before: &'a [u8],
-) -> Result<(), AllocError> {
+) {
     make_remark(
         alloc,
         found,
         at,
         &[b"`", name, b"` hides that of line ", before],
-    )
+    );
 }
 
 /// Remarks on procedures of a block, or of a section, that have the name of one not far before them.
-pub fn twice(alloc: Global, found: &mut Found, decls: &[Decl]) -> Result<(), AllocError> {
-    let all = defs_of(alloc, decls)?;
+pub fn twice(alloc: Global, found: &mut Found, decls: &[Decl]) {
+    let Ok(all) = defs_of(alloc, decls) else {
+        found.fails();
+        return;
+    };
     for (i, def) in all.iter().enumerate() {
         if let Some(defined) = procedure(def)
             && let Some(before) = place_of_last(&all[i.saturating_sub(NEAR)..i], defined.name)
         {
             let mut number = Buffer::new();
             let spelling = number.format(before.line().number()).as_bytes();
-            remark_twice(alloc, found, defined.at, defined.name, spelling)?;
+            remark_twice(alloc, found, defined.at, defined.name, spelling);
         }
     }
-    Ok(())
 }
 
 /// Whether START is among the items of a declaration of globals.
@@ -145,9 +147,9 @@ pub fn begins(section: &Section) -> bool {
 }
 
 /// A remark on a procedure START that is no global, or on MAIN where there is no START.
-pub fn no_start(alloc: Global, found: &mut Found, decls: &[Decl]) -> Result<(), AllocError> {
+pub fn no_start(alloc: Global, found: &mut Found, decls: &[Decl]) {
     if let Some(at) = defined_in(decls, b"START") {
-        return make_remark(
+        make_remark(
             alloc,
             found,
             at,
@@ -155,31 +157,26 @@ pub fn no_start(alloc: Global, found: &mut Found, decls: &[Decl]) -> Result<(), 
                 b"`START` is no global here, so no run begins with it; `GET \"LIBHDR\"` before it makes it one",
             ],
         );
+        return;
     }
-    match defined_in(decls, b"MAIN") {
-        Some(at) => make_remark(
+    if let Some(at) = defined_in(decls, b"MAIN") {
+        make_remark(
             alloc,
             found,
             at,
             &[b"a run begins with `START`, and not with `MAIN`"],
-        ),
-        None => Ok(()),
+        );
     }
 }
 
 /// A remark on a procedure that is no global and that nothing in its section names.
-fn remark_unused<'a>(
-    alloc: Global,
-    found: &mut Found,
-    at: Position,
-    name: &'a [u8],
-) -> Result<(), AllocError> {
+fn remark_unused<'a>(alloc: Global, found: &mut Found, at: Position, name: &'a [u8]) {
     make_remark(
         alloc,
         found,
         at,
         &[b"nothing calls `", name, b"`, which is no global"],
-    )
+    );
 }
 
 /// A remark on a call with more arguments than the procedure has formals.
@@ -189,7 +186,7 @@ pub fn remark_arguments<'a>(
     at: Position,
     name: &'a [u8],
     counts: (usize, usize),
-) -> Result<(), AllocError> {
+) {
     let (arguments, formals) = counts;
     let formats = name == b"WRITES".as_slice();
     let mut given = Buffer::new();
@@ -216,16 +213,11 @@ pub fn remark_arguments<'a>(
                 b""
             },
         ],
-    )
+    );
 }
 
 /// A remark on a procedure that is a condition, and is not called.
-fn remark_test<'a>(
-    alloc: Global,
-    found: &mut Found,
-    at: Position,
-    name: &'a [u8],
-) -> Result<(), AllocError> {
+fn remark_test<'a>(alloc: Global, found: &mut Found, at: Position, name: &'a [u8]) {
     make_remark(
         alloc,
         found,
@@ -237,57 +229,45 @@ fn remark_test<'a>(
             name,
             b"()` calls it",
         ],
-    )
+    );
 }
 
 /// Remarks on a use of a procedure that has so many formals.
-fn on_use(
-    alloc: Global,
-    found: &mut Found,
-    used: Used,
-    name: &[u8],
-    formals: usize,
-) -> Result<(), AllocError> {
+fn on_use(alloc: Global, found: &mut Found, used: Used, name: &[u8], formals: usize) {
     if used.is_tested {
-        return remark_test(alloc, found, used.at, name);
+        remark_test(alloc, found, used.at, name);
+        return;
     }
     if used.arguments > formals {
-        return remark_arguments(alloc, found, used.at, name, (used.arguments, formals));
+        remark_arguments(alloc, found, used.at, name, (used.arguments, formals));
     }
-    Ok(())
 }
 
 /// Remarks on the procedure that the declaration with this index is, where nothing calls it, or a call gives it too many arguments. One
 /// whose name means something else elsewhere in the section is not looked at, since a call may be of that.
-fn on_procedure(
-    alloc: Global,
-    found: &mut Found,
-    names: &Names,
-    index: usize,
-) -> Result<(), AllocError> {
+fn on_procedure(alloc: Global, found: &mut Found, names: &Names, index: usize) {
     let Some((at, formals)) = names.own_procedure(index) else {
-        return Ok(());
+        return;
     };
     let name = names.name_of(index);
     let mut is_used = false;
     for i in 0..names.uses() {
         if let Some(used) = names.use_of(i, name) {
             is_used = true;
-            on_use(alloc, found, used, name, formals)?;
+            on_use(alloc, found, used, name, formals);
         }
     }
     if is_used {
-        return Ok(());
+        return;
     }
-    remark_unused(alloc, found, at, name)
+    remark_unused(alloc, found, at, name);
 }
 
 /// Remarks on the procedures of a section.
-pub fn on_procedures(alloc: Global, found: &mut Found, names: &Names) -> Result<(), AllocError> {
+pub fn on_procedures(alloc: Global, found: &mut Found, names: &Names) {
     for i in 0..names.declarations() {
-        on_procedure(alloc, found, names, i)?;
+        on_procedure(alloc, found, names, i);
     }
-    Ok(())
 }
 
 /// A remark on a function that assigns to its own name, and whose VALOF has no RESULTIS.
@@ -297,10 +277,10 @@ pub fn in_function<'a>(
     name: &'a [u8],
     formals: &'a [Name],
     body: &'a Expr,
-) -> Result<(), AllocError> {
+) {
     for formal in formals {
         if formal.letters.as_slice() == name {
-            return Ok(());
+            return;
         }
     }
     let mut search = Search::new(body.at(), name);
@@ -311,8 +291,11 @@ pub fn in_function<'a>(
         set_at,
         ..
     } = search;
-    match set_at {
-        Some(at) if declared == 0 && results.count == 0 => make_remark(
+    if let Some(at) = set_at
+        && declared == 0
+        && results.count == 0
+    {
+        make_remark(
             alloc,
             found,
             at,
@@ -321,7 +304,6 @@ pub fn in_function<'a>(
                 name,
                 b" := E` assigns to the word of the procedure; `RESULTIS E` gives the value of its `VALOF`",
             ],
-        ),
-        _ => Ok(()),
+        );
     }
 }

@@ -9,6 +9,7 @@ use crate::procedures::{
     begins, defined_in, in_function, no_start, on_procedures, remark_arguments, twice,
 };
 use crate::spelling::{add, add_expr};
+use crate::text::Text;
 use bk_base::word_text;
 use bk_tree::{Command, Decl, Def, Expr, Init, Operator, Position, Prefix, Section};
 use std::alloc::{AllocError, Global};
@@ -36,6 +37,15 @@ pub struct Found {
     names: Names,
     /// The routines of the library that the program defines itself, of which nothing is known.
     own_routines: Vec<&'static [u8]>,
+    /// Whether there was memory for all of this.
+    is_whole: bool,
+}
+
+impl Found {
+    /// Notes that memory ended.
+    pub fn fails(&mut self) {
+        self.is_whole = false;
+    }
 }
 
 /// Whether the program defines this routine itself.
@@ -67,42 +77,43 @@ fn wanted_arguments(name: &[u8]) -> Option<usize> {
 }
 
 /// A call of a routine of the library with more arguments than it takes.
-fn in_library_call(
-    alloc: Global,
-    found: &mut Found,
-    at: Position,
-    callee: &Expr,
-    given: usize,
-) -> Result<(), AllocError> {
+fn in_library_call(alloc: Global, found: &mut Found, at: Position, callee: &Expr, given: usize) {
     let Expr::Name { letters: name, .. } = callee else {
-        return Ok(());
+        return;
     };
-    match wanted_arguments(name) {
-        Some(wanted) if given > wanted && !is_own(found, name) => {
-            remark_arguments(alloc, found, at, name, (given, wanted))
-        }
-        _ => Ok(()),
+    if let Some(wanted) = wanted_arguments(name)
+        && given > wanted
+        && !is_own(found, name)
+    {
+        remark_arguments(alloc, found, at, name, (given, wanted));
     }
 }
 
 /// Adds a remark, if there is room for it.
-pub fn make_remark(
+pub fn make_remark(alloc: Global, found: &mut Found, at: Position, pieces: &[&[u8]]) {
+    if found.remarks.len() >= REMARKS {
+        return;
+    }
+    if add_remark(alloc, found, at, pieces).is_err() {
+        found.fails();
+    }
+}
+
+/// Adds a remark.
+fn add_remark(
     alloc: Global,
     found: &mut Found,
     at: Position,
     pieces: &[&[u8]],
 ) -> Result<(), AllocError> {
-    if found.remarks.len() >= REMARKS {
-        return Ok(());
-    }
-    let mut text = Vec::new(alloc);
-    add(&mut text, pieces)?;
+    let mut text = Text::new(alloc);
+    add(&mut text, pieces);
     found.remarks.push(Remark {
         notice: Notice::new(
             alloc,
             at,
             Within::Section(found.section),
-            text,
+            text.whole()?,
             Vec::new(alloc),
         ),
         unless_noted_from: None,
@@ -111,8 +122,12 @@ pub fn make_remark(
 }
 
 /// Remarks on the cases of a SWITCHON into which the commands before them go on, with no comment that says so.
-fn in_cases(alloc: Global, found: &mut Found, body: &Command) -> Result<(), AllocError> {
-    for fall in &falls(alloc, body)? {
+fn in_cases(alloc: Global, found: &mut Found, body: &Command) {
+    let Ok(all) = falls(alloc, body) else {
+        found.fails();
+        return;
+    };
+    for fall in &all {
         let made = found.remarks.len();
         make_remark(
             alloc,
@@ -121,12 +136,11 @@ fn in_cases(alloc: Global, found: &mut Found, body: &Command) -> Result<(), Allo
             &[
                 b"the commands before this go on into it, since no `ENDCASE` ends them; if that is meant, a comment before this stops the remark",
             ],
-        )?;
+        );
         if let Some(remark) = found.remarks.get_mut(made) {
             remark.unless_noted_from = Some(fall.from);
         }
     }
-    Ok(())
 }
 
 /// The number that an expression is, if it is written as one.
@@ -158,22 +172,20 @@ fn is_length(expr: &Expr) -> bool {
 }
 
 /// A FOR without a step, from a length to 0 or 1: it is perhaps meant to count down.
-fn in_upward(
-    alloc: Global,
-    found: &mut Found,
-    at: Position,
-    from: &Expr,
-    to: &Expr,
-) -> Result<(), AllocError> {
+fn in_upward(alloc: Global, found: &mut Found, at: Position, from: &Expr, to: &Expr) {
     let Some(last) = number(to) else {
-        return Ok(());
+        return;
     };
     if last < 0 || last > 1 || !is_length(from) {
-        return Ok(());
+        return;
     }
     let limit = word_text(last);
-    let mut first = Vec::new(alloc);
-    add_expr(&mut first, from)?;
+    let mut first = Text::new(alloc);
+    add_expr(&mut first, from);
+    let Ok(first) = first.whole() else {
+        found.fails();
+        return;
+    };
     make_remark(
         alloc,
         found,
@@ -185,7 +197,7 @@ fn in_upward(
             limit.as_bytes(),
             b"; perhaps `BY -1` is missing",
         ],
-    )
+    );
 }
 
 /// A FOR whose command is never done.
@@ -196,21 +208,21 @@ fn in_for(
     from: &Expr,
     to: &Expr,
     by: &Option<Box<Expr>>,
-) -> Result<(), AllocError> {
+) {
     let step = match by {
         None => Some(1),
         Some(by) => number(by),
     };
     if by.is_none() {
-        in_upward(alloc, found, at, from, to)?;
+        in_upward(alloc, found, at, from, to);
     }
     let (Some(from), Some(to), Some(step)) = (number(from), number(to), step) else {
-        return Ok(());
+        return;
     };
     let first = word_text(from);
     let last = word_text(to);
     if step > 0 && from > to {
-        return make_remark(
+        make_remark(
             alloc,
             found,
             at,
@@ -222,9 +234,10 @@ fn in_for(
                 b"; perhaps `BY -1` is missing",
             ],
         );
+        return;
     }
     if step < 0 && from < to {
-        return make_remark(
+        make_remark(
             alloc,
             found,
             at,
@@ -237,20 +250,18 @@ fn in_for(
             ],
         );
     }
-    Ok(())
 }
 
 /// A `\` in a string that begins an escape in C.
-fn in_text(alloc: Global, found: &mut Found, at: Position, bytes: &[u8]) -> Result<(), AllocError> {
+fn in_text(alloc: Global, found: &mut Found, at: Position, bytes: &[u8]) {
     if bytes.windows(2).any(|pair| matches!(pair, b"\\n" | b"\\t")) {
-        return make_remark(
+        make_remark(
             alloc,
             found,
             at,
             &[b"`\\` begins no escape in a string: `*N` is the end of a line, and `*T` a tab"],
         );
     }
-    Ok(())
 }
 
 /// Whether an expression compares two others.
@@ -288,7 +299,7 @@ fn compares_numbers(expr: &Expr) -> bool {
 }
 
 /// `&` or `|` whose operands are perhaps grouped otherwise than is meant.
-fn in_operands(alloc: Global, found: &mut Found, expr: &Expr) -> Result<(), AllocError> {
+fn in_operands(alloc: Global, found: &mut Found, expr: &Expr) {
     let Expr::Binary {
         operator,
         sign,
@@ -297,32 +308,32 @@ fn in_operands(alloc: Global, found: &mut Found, expr: &Expr) -> Result<(), Allo
         ..
     } = expr
     else {
-        return Ok(());
+        return;
     };
     let operator = *operator;
     let at = *sign;
     if operator == Operator::Either && compares(left) && number(right).is_some() {
-        return make_remark(
+        make_remark(
             alloc,
             found,
             at,
             &[b"`X = A | B` groups as `(X = A) | B`; `X = A | X = B` compares with both"],
         );
+        return;
     }
     if operator == Operator::Both && compares_numbers(right) && !compares(left) {
-        return make_remark(
+        make_remark(
             alloc,
             found,
             at,
             &[b"`X & A = B` groups as `X & (A = B)`; `(X & A) = B` compares what `&` gives"],
         );
     }
-    Ok(())
 }
 
 /// Notes the names that are conditions by themselves, in a condition.
 #[cycle(tests)]
-fn note_tests(found: &mut Found, expr: &Expr) -> Result<(), AllocError> {
+fn note_tests(found: &mut Found, expr: &Expr) {
     match expr {
         Expr::Name { at, letters } => found.names.note_test(letters, *at),
         Expr::Parens { inside, .. } => note_tests(found, inside),
@@ -337,22 +348,20 @@ fn note_tests(found: &mut Found, expr: &Expr) -> Result<(), AllocError> {
             right,
             ..
         } => {
-            note_tests(found, left)?;
-            note_tests(found, right)
+            note_tests(found, left);
+            note_tests(found, right);
         }
-        _ => Ok(()),
+        _ => {}
     }
 }
 
 /// What is suspicious in an expression.
 #[cycle(remarks)]
-fn in_expr(alloc: Global, found: &mut Found, expr: &Expr) -> Result<(), AllocError> {
+fn in_expr(alloc: Global, found: &mut Found, expr: &Expr) {
     match expr {
         Expr::Text { at, bytes } => in_text(alloc, found, *at, bytes),
         Expr::Name { at, letters } => found.names.note(letters, *at, None),
-        Expr::Number { .. } | Expr::Truth { .. } | Expr::Query { .. } | Expr::Table { .. } => Ok(
-            (),
-        ),
+        Expr::Number { .. } | Expr::Truth { .. } | Expr::Query { .. } | Expr::Table { .. } => {}
         Expr::Parens { inside, .. } => in_expr(alloc, found, inside),
         Expr::Unary { operand, .. } => in_expr(alloc, found, operand),
         Expr::Binary {
@@ -360,9 +369,9 @@ fn in_expr(alloc: Global, found: &mut Found, expr: &Expr) -> Result<(), AllocErr
             right: b,
             ..
         } => {
-            in_operands(alloc, found, expr)?;
-            in_expr(alloc, found, a)?;
-            in_expr(alloc, found, b)
+            in_operands(alloc, found, expr);
+            in_expr(alloc, found, a);
+            in_expr(alloc, found, b);
         }
         Expr::Choice {
             condition,
@@ -370,10 +379,10 @@ fn in_expr(alloc: Global, found: &mut Found, expr: &Expr) -> Result<(), AllocErr
             no,
             ..
         } => {
-            note_tests(found, condition)?;
-            in_expr(alloc, found, condition)?;
-            in_expr(alloc, found, yes)?;
-            in_expr(alloc, found, no)
+            note_tests(found, condition);
+            in_expr(alloc, found, condition);
+            in_expr(alloc, found, yes);
+            in_expr(alloc, found, no);
         }
         Expr::Apply {
             sign,
@@ -381,8 +390,8 @@ fn in_expr(alloc: Global, found: &mut Found, expr: &Expr) -> Result<(), AllocErr
             arguments,
             ..
         } => {
-            in_call(alloc, found, *sign, callee, arguments)?;
-            in_exprs(alloc, found, arguments)
+            in_call(alloc, found, *sign, callee, arguments);
+            in_exprs(alloc, found, arguments);
         }
         Expr::Valof { command, .. } => in_command(alloc, found, command),
     }
@@ -390,15 +399,9 @@ fn in_expr(alloc: Global, found: &mut Found, expr: &Expr) -> Result<(), AllocErr
 
 /// What is suspicious in a call.
 #[cycle(remarks)]
-fn in_call(
-    alloc: Global,
-    found: &mut Found,
-    at: Position,
-    callee: &Expr,
-    arguments: &[Expr],
-) -> Result<(), AllocError> {
-    in_format(alloc, found, at, callee, arguments)?;
-    in_library_call(alloc, found, at, callee, arguments.len())?;
+fn in_call(alloc: Global, found: &mut Found, at: Position, callee: &Expr, arguments: &[Expr]) {
+    in_format(alloc, found, at, callee, arguments);
+    in_library_call(alloc, found, at, callee, arguments.len());
     match callee {
         Expr::Name { at, letters } => found.names.note(letters, *at, Some(arguments.len())),
         _ => in_expr(alloc, found, callee),
@@ -407,37 +410,36 @@ fn in_call(
 
 /// What is suspicious in some expressions.
 #[cycle(remarks)]
-fn in_exprs(alloc: Global, found: &mut Found, exprs: &[Expr]) -> Result<(), AllocError> {
+fn in_exprs(alloc: Global, found: &mut Found, exprs: &[Expr]) {
     for expr in exprs {
-        in_expr(alloc, found, expr)?;
+        in_expr(alloc, found, expr);
     }
-    Ok(())
 }
 
 /// What is suspicious in a command.
 #[cycle(remarks)]
-fn in_command(alloc: Global, found: &mut Found, command: &Command) -> Result<(), AllocError> {
+fn in_command(alloc: Global, found: &mut Found, command: &Command) {
     match command {
-        Command::Empty | Command::Goto { .. } | Command::Simple { .. } => Ok(()),
+        Command::Empty | Command::Goto { .. } | Command::Simple { .. } => {}
         Command::Assign {
             destinations: dests,
             values,
             ..
         } => {
-            in_exprs(alloc, found, dests)?;
-            in_exprs(alloc, found, values)
+            in_exprs(alloc, found, dests);
+            in_exprs(alloc, found, values);
         }
         Command::Call {
             at,
             callee,
             arguments,
         } => {
-            in_call(alloc, found, *at, callee, arguments)?;
-            in_exprs(alloc, found, arguments)
+            in_call(alloc, found, *at, callee, arguments);
+            in_exprs(alloc, found, arguments);
         }
         Command::Label { at, letters, body } => {
-            found.names.declare(letters, *at, None)?;
-            in_command(alloc, found, body)
+            found.names.declare(letters, *at, None);
+            in_command(alloc, found, body);
         }
         Command::Case { body, .. } | Command::Default { body, .. } | Command::Repeat { body, .. } =>
             in_command(alloc, found, body),
@@ -451,14 +453,14 @@ fn in_command(alloc: Global, found: &mut Found, command: &Command) -> Result<(),
             body,
             ..
         } => {
-            note_tests(found, value)?;
-            in_expr(alloc, found, value)?;
-            in_command(alloc, found, body)
+            note_tests(found, value);
+            in_expr(alloc, found, value);
+            in_command(alloc, found, body);
         }
         Command::SwitchOn { value, body, .. } => {
-            in_expr(alloc, found, value)?;
-            in_cases(alloc, found, body)?;
-            in_command(alloc, found, body)
+            in_expr(alloc, found, value);
+            in_cases(alloc, found, body);
+            in_command(alloc, found, body);
         }
         Command::Test {
             condition: value,
@@ -466,10 +468,10 @@ fn in_command(alloc: Global, found: &mut Found, command: &Command) -> Result<(),
             no,
             ..
         } => {
-            note_tests(found, value)?;
-            in_expr(alloc, found, value)?;
-            in_command(alloc, found, yes)?;
-            in_command(alloc, found, no)
+            note_tests(found, value);
+            in_expr(alloc, found, value);
+            in_command(alloc, found, yes);
+            in_command(alloc, found, no);
         }
         Command::For {
             at,
@@ -480,11 +482,11 @@ fn in_command(alloc: Global, found: &mut Found, command: &Command) -> Result<(),
             body,
             ..
         } => {
-            in_for(alloc, found, *at, from, to, by)?;
-            found.names.declare(&name.letters, name.at, None)?;
-            in_expr(alloc, found, from)?;
-            in_expr(alloc, found, to)?;
-            in_command(alloc, found, body)
+            in_for(alloc, found, *at, from, to, by);
+            found.names.declare(&name.letters, name.at, None);
+            in_expr(alloc, found, from);
+            in_expr(alloc, found, to);
+            in_command(alloc, found, body);
         }
         Command::ResultIs { value, .. } => in_expr(alloc, found, value),
         Command::Block {
@@ -492,55 +494,52 @@ fn in_command(alloc: Global, found: &mut Found, command: &Command) -> Result<(),
             commands,
             ..
         } => {
-            in_decls(alloc, found, decls)?;
-            in_commands(alloc, found, commands)
+            in_decls(alloc, found, decls);
+            in_commands(alloc, found, commands);
         }
         Command::RepeatWhile {
             body,
             condition: value,
             ..
         } => {
-            in_command(alloc, found, body)?;
-            note_tests(found, value)?;
-            in_expr(alloc, found, value)
+            in_command(alloc, found, body);
+            note_tests(found, value);
+            in_expr(alloc, found, value);
         }
     }
 }
 
 /// What is suspicious in some commands.
 #[cycle(remarks)]
-fn in_commands(alloc: Global, found: &mut Found, commands: &[Command]) -> Result<(), AllocError> {
+fn in_commands(alloc: Global, found: &mut Found, commands: &[Command]) {
     for command in commands {
-        in_command(alloc, found, command)?;
+        in_command(alloc, found, command);
     }
-    Ok(())
 }
 
 /// What is suspicious in declarations and in what they define.
 #[cycle(remarks)]
-fn in_decls(alloc: Global, found: &mut Found, decls: &[Decl]) -> Result<(), AllocError> {
-    twice(alloc, found, decls)?;
+fn in_decls(alloc: Global, found: &mut Found, decls: &[Decl]) {
+    twice(alloc, found, decls);
     for decl in decls {
         match decl {
-            Decl::Let { defs, .. } => in_defs(alloc, found, defs)?,
-            Decl::Constants { items, .. } => found.names.declare_items(items)?,
+            Decl::Let { defs, .. } => in_defs(alloc, found, defs),
+            Decl::Constants { items, .. } => found.names.declare_items(items),
         }
     }
-    Ok(())
 }
 
 /// What is suspicious in the definitions of a LET.
 #[cycle(remarks)]
-fn in_defs(alloc: Global, found: &mut Found, defs: &[Def]) -> Result<(), AllocError> {
+fn in_defs(alloc: Global, found: &mut Found, defs: &[Def]) {
     for def in defs {
-        in_def(alloc, found, def)?;
+        in_def(alloc, found, def);
     }
-    Ok(())
 }
 
 /// What is suspicious in a definition.
 #[cycle(remarks)]
-fn in_def(alloc: Global, found: &mut Found, def: &Def) -> Result<(), AllocError> {
+fn in_def(alloc: Global, found: &mut Found, def: &Def) {
     match def {
         Def::Routine {
             at,
@@ -548,9 +547,9 @@ fn in_def(alloc: Global, found: &mut Found, def: &Def) -> Result<(), AllocError>
             formals,
             body,
         } => {
-            found.names.declare(letters, *at, Some(formals.len()))?;
-            found.names.declare_all(formals)?;
-            in_command(alloc, found, body)
+            found.names.declare(letters, *at, Some(formals.len()));
+            found.names.declare_all(formals);
+            in_command(alloc, found, body);
         }
         Def::Function {
             at,
@@ -558,27 +557,26 @@ fn in_def(alloc: Global, found: &mut Found, def: &Def) -> Result<(), AllocError>
             formals,
             body,
         } => {
-            found.names.declare(letters, *at, Some(formals.len()))?;
-            found.names.declare_all(formals)?;
-            in_function(alloc, found, letters, formals, body)?;
-            in_expr(alloc, found, body)
+            found.names.declare(letters, *at, Some(formals.len()));
+            found.names.declare_all(formals);
+            in_function(alloc, found, letters, formals, body);
+            in_expr(alloc, found, body);
         }
         Def::Variables { names, inits, .. } => {
-            found.names.declare_all(names)?;
-            in_inits(alloc, found, inits)
+            found.names.declare_all(names);
+            in_inits(alloc, found, inits);
         }
     }
 }
 
 /// What is suspicious in what variables begin with.
 #[cycle(remarks)]
-fn in_inits(alloc: Global, found: &mut Found, inits: &[Init]) -> Result<(), AllocError> {
+fn in_inits(alloc: Global, found: &mut Found, inits: &[Init]) {
     for init in inits {
         if let Init::Value(value) = init {
-            in_expr(alloc, found, value)?;
+            in_expr(alloc, found, value);
         }
     }
-    Ok(())
 }
 
 /// What is suspicious in the sections of a program, in the order of the source within each kind: ten remarks at most.
@@ -588,17 +586,24 @@ pub fn remarks_on(alloc: Global, sections: &[Section]) -> Result<Vec<Remark>, Al
         section: 0,
         names: Names::new(alloc),
         own_routines: own_routines(alloc, sections)?,
+        is_whole: true,
     };
     let has_start = sections.iter().any(begins);
     for (number, section) in sections.iter().enumerate() {
         found.section = number;
         if !has_start {
-            no_start(alloc, &mut found, section.decls())?;
+            no_start(alloc, &mut found, section.decls());
         }
-        in_decls(alloc, &mut found, section.decls())?;
+        in_decls(alloc, &mut found, section.decls());
         let names = replace(&mut found.names, Names::new(alloc));
-        on_procedures(alloc, &mut found, &names)?;
-        on_globals(alloc, &mut found, section.decls())?;
+        if !names.is_whole() {
+            found.fails();
+        }
+        on_procedures(alloc, &mut found, &names);
+        on_globals(alloc, &mut found, section.decls());
+    }
+    if !found.is_whole {
+        return Err(AllocError);
     }
     Ok(found.remarks)
 }

@@ -3,12 +3,10 @@
 use crate::made::seek;
 use crate::operands::bare;
 use crate::sought::{Search, Setters};
-use crate::spelling::add_number;
 use crate::values::Page;
 use bk_lasting::{Body, Lasting, Procedure};
 use bk_objects::Worth;
 use bk_tree::{Command, Expr, Position, Simple};
-use std::alloc::AllocError;
 
 /// The command of the VALOF on a line that is the body of a procedure.
 fn command_of<'a>(procedure: &Procedure<'a>, line: u32) -> Option<&'a Command> {
@@ -118,61 +116,61 @@ fn keyword_of(command: &Command) -> Option<(&'static [u8], Position)> {
 }
 
 /// Adds the last command of the VALOF on a line in the procedure with a number.
-pub fn say_last(page: &mut Page, line: u32, number: u32) -> Result<(), AllocError> {
+pub fn say_last(page: &mut Page, line: u32, number: u32) {
     let Some(Lasting::Code(procedure)) = page.program.get(number as usize) else {
-        return Ok(());
+        return;
     };
     let Some(command) = command_of(procedure, line) else {
-        return Ok(());
+        return;
     };
     let last = last_of(command);
     let Some((keyword, at)) = keyword_of(last) else {
-        return Ok(());
+        return;
     };
-    page.say(&[b"; its last command is the `", keyword, b"` of line "])?;
-    add_number(&mut page.text, at.line().number() as usize)?;
-    match last {
-        Command::SwitchOn { body, .. } => say_switch_end(page, body),
-        _ => Ok(()),
+    page.say(&[b"; its last command is the `", keyword, b"` of line "]);
+    page.say_number(at.line().number() as usize);
+    if let Command::SwitchOn { body, .. } = last {
+        say_switch_end(page, body);
     }
 }
 
 /// Adds what the procedure gives that is called by its name, in a call that has this value, where that is known.
-pub fn say_call_result(page: &mut Page, call: &Expr, x: Option<Worth>) -> Result<(), AllocError> {
+pub fn say_call_result(page: &mut Page, call: &Expr, x: Option<Worth>) {
     if let Expr::Apply { callee, .. } = bare(call)
         && let Expr::Name { letters, .. } = &**callee
         && let Some(Worth::Procedure(number)) = page.known(callee)
         && let Some(Lasting::Code(procedure)) = page.program.get(number as usize)
         && procedure.name == letters.as_slice()
     {
-        return say_result(page, procedure, x);
+        say_result(page, procedure, x);
     }
-    Ok(())
 }
 
 /// Adds what the procedure gives that is called where another name was set, if one place sets that.
-pub fn say_given(page: &mut Page, setters: Setters, x: Worth) -> Result<(), AllocError> {
-    match setters.first {
-        Some(setter) if setters.count == 1 => say_call_result(page, setter.value, Some(x)),
-        _ => Ok(()),
+pub fn say_given(page: &mut Page, setters: Setters, x: Worth) {
+    if let Some(setter) = setters.first
+        && setters.count == 1
+    {
+        say_call_result(page, setter.value, Some(x));
     }
 }
 
 /// Adds what a procedure gives.
-fn say_gives(page: &mut Page, procedure: &Procedure, given: &Expr) -> Result<(), AllocError> {
-    page.say(&[b"; ", procedure.name, b" gives `"])?;
-    page.say_expr(given)?;
-    page.say(&[b"`, on line "])?;
-    add_number(&mut page.text, given.at().line().number() as usize)
+fn say_gives(page: &mut Page, procedure: &Procedure, given: &Expr) {
+    page.say(&[b"; ", procedure.name, b" gives `"]);
+    page.say_expr(given);
+    page.say(&[b"`, on line "]);
+    page.say_number(given.at().line().number() as usize);
 }
 
 /// Adds the value of a procedure; of one with VALOF, the line of the first RESULTIS that has this number, or its only RESULTIS.
-fn say_result(page: &mut Page, procedure: &Procedure, x: Option<Worth>) -> Result<(), AllocError> {
+fn say_result(page: &mut Page, procedure: &Procedure, x: Option<Worth>) {
     let Body::Value(given) = procedure.body else {
-        return Ok(());
+        return;
     };
     if !matches!(bare(given), Expr::Valof { .. }) {
-        return say_gives(page, procedure, given);
+        say_gives(page, procedure, given);
+        return;
     }
     let mut search = Search::new(Position::first(), b"");
     search.value = x;
@@ -185,24 +183,27 @@ fn say_result(page: &mut Page, procedure: &Procedure, x: Option<Worth>) -> Resul
     if let Some(line) = result_line
         && let Some(x) = x
     {
-        page.say(&[b"; ", procedure.name, b" has `RESULTIS "])?;
-        page.say_value(x)?;
-        page.say(&[b"` on line "])?;
-        return add_number(&mut page.text, line as usize);
+        page.say(&[b"; ", procedure.name, b" has `RESULTIS "]);
+        page.say_value(x);
+        page.say(&[b"` on line "]);
+        page.say_number(line as usize);
+        return;
     }
     match (results.first, x) {
         (Some(only), None | Some(Worth::Number(_) | Worth::Address(_, _))) if results.count == 1 =>
-            { say_gives(page, procedure, only.value) }
-        _ => Ok(()),
+            {
+                say_gives(page, procedure, only.value);
+            }
+        _ => {}
     }
 }
 
 /// Adds how a SWITCHON with this body may have ended, if the text tells: by a number that no CASE has, or by ENDCASE.
-fn say_switch_end(page: &mut Page, body: &Command) -> Result<(), AllocError> {
+fn say_switch_end(page: &mut Page, body: &Command) {
     match (has_default(body), has_endcase(body)) {
         (false, true) => page.say(&[b", which has no `DEFAULT`, and which `ENDCASE` leaves"]),
         (true, true) => page.say(&[b", which `ENDCASE` leaves"]),
         (false, false) if leaves(body) => page.say(&[b", which has no `DEFAULT`"]),
-        _ => Ok(()),
+        _ => {}
     }
 }

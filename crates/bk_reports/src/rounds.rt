@@ -4,18 +4,18 @@ use crate::depth::is_mostly_one;
 use crate::jumps::{Back, back_at, between, label_of};
 use crate::made::{in_procedure, loop_at};
 use crate::names::names_at;
-use crate::operations::{drop_twice, say_names};
+use crate::operations::say_names;
 use crate::remarks::number;
 use crate::setting::{say_link_setting, say_loop_setter, say_places, say_setters};
 use crate::sought::{Few, Search, Setter, Setters, is_up_to, place_of};
-use crate::spelling::{add, add_expr, add_number, has_piece};
+use crate::spelling::add;
+use crate::text::Text;
 use crate::values::{Object, Page};
 use crate::walk::{in_command, in_expr};
 use bk_check::{Continuation, OnDone, OnTruth};
 use bk_lasting::{Env, Lasting, Sense};
 use bk_objects::{Cell, Worth};
 use bk_tree::{Command, Expr, Name, Operator, Position, Prefix};
-use std::alloc::AllocError;
 
 /// How many calls are active where a recursion may be without end.
 pub const MANY: u64 = 1000;
@@ -64,24 +64,24 @@ fn loop_of<'m, 'a>(frame: &'m Continuation<'a>) -> Option<(&'a Command, &'m Env<
 }
 
 /// Adds the value of a name, if that is a number or an address, unless it is there already.
-fn say_value_once(page: &mut Page, name: &[u8], is_read: bool) -> Result<(), AllocError> {
+fn say_value_once(page: &mut Page, name: &[u8], is_read: bool) {
     let Some(x) = page.variable(name) else {
-        return Ok(());
+        return;
     };
     if !matches!(x, Worth::Number(_) | Worth::Address(_, _)) || is_own_vector(page, name, x) {
-        return Ok(());
+        return;
     }
-    let mut piece = Vec::new(page.m.alloc);
-    add(&mut piece, &[b"; ", name, b" is "])?;
-    if has_piece(&page.text, &piece) {
-        return Ok(());
+    let mut piece = Text::new(page.m.alloc);
+    add(&mut piece, &[b"; ", name, b" is "]);
+    let piece = page.text.part(piece);
+    if page.has(&piece) {
+        return;
     }
-    page.say(&[&piece])?;
-    page.say_value(x)?;
+    page.say(&[&piece]);
+    page.say_value(x);
     if is_read && matches!(x, Worth::Number(0xFFFF_FFFF)) {
-        return page.say(&[b", as `RDCH` gives at the end of the input"]);
+        page.say(&[b", as `RDCH` gives at the end of the input"]);
     }
-    Ok(())
 }
 
 /// Whether a value is the vector or the TABLE of this name.
@@ -100,13 +100,12 @@ fn is_own_vector(page: &Page, name: &[u8], x: Worth) -> bool {
 }
 
 /// Adds the values of some names.
-fn say_values(page: &mut Page, names: Few, read: Few) -> Result<(), AllocError> {
+fn say_values(page: &mut Page, names: Few, read: Few) {
     for name in names.each() {
         if let Some(name) = name {
-            say_value_once(page, name, read.has(name))?;
+            say_value_once(page, name, read.has(name));
         }
     }
-    Ok(())
 }
 
 /// The names of an expression.
@@ -198,16 +197,12 @@ fn still<'a>(page: &Page<'_, 'a>, command: &'a Command, names: Few<'a>) -> usize
 }
 
 /// Adds that nothing in a loop sets the variables of its condition, if that is so.
-fn say_unset<'a>(
-    page: &mut Page<'_, 'a>,
-    command: &'a Command,
-    condition: &'a Expr,
-) -> Result<(), AllocError> {
+fn say_unset<'a>(page: &mut Page<'_, 'a>, command: &'a Command, condition: &'a Expr) {
     if !is_of_names(condition) {
-        return Ok(());
+        return;
     }
     match still(page, command, names_of(condition)) {
-        0 => Ok(()),
+        0 => {}
         1 => page.say(&[b", and nothing in the loop sets it"]),
         _ => page.say(&[b", and nothing in the loop sets them"]),
     }
@@ -290,58 +285,48 @@ fn rounds_back<'a>(
 
 /// Adds what the word is that a name is set to next, and that the name comes back to its value over several; `back` is after how many
 /// rounds.
-fn say_link(
-    page: &mut Page,
-    name: &[u8],
-    value: &Expr,
-    back: Option<usize>,
-) -> Result<(), AllocError> {
+fn say_link(page: &mut Page, name: &[u8], value: &Expr, back: Option<usize>) {
     match page.known(value) {
         Some(x @ Worth::Address(_, _)) => {
-            page.say(&[b"; "])?;
-            page.say_is(value, x)?;
+            page.say(&[b"; "]);
+            page.say_is(value, x);
         }
         Some(x @ Worth::Number(_)) if back == Some(1) => {
-            let before = page.text.len();
-            page.say(&[b"; "])?;
-            page.say_is(value, x)?;
-            drop_twice(&mut page.text, before);
+            let before = page.length();
+            page.say(&[b"; "]);
+            page.say_is(value, x);
+            page.drop_twice(before);
         }
         _ => {}
     }
     match (back, page.variable(name)) {
         (Some(rounds), Some(first)) if rounds > 1 => {
-            page.say(&[b"; `", name, b" := "])?;
-            page.say_expr(value)?;
-            page.say(&[b"` leads back to "])?;
-            page.say_value(first)?;
-            page.say(&[b" in "])?;
-            add_number(&mut page.text, rounds)?;
-            page.say(&[b" rounds"])
+            page.say(&[b"; `", name, b" := "]);
+            page.say_expr(value);
+            page.say(&[b"` leads back to "]);
+            page.say_value(first);
+            page.say(&[b" in "]);
+            page.say_number(rounds);
+            page.say(&[b" rounds"]);
         }
-        _ => Ok(()),
+        _ => {}
     }
 }
 
 /// Adds the words of vectors that a loop sets names to, as the next of a list.
-fn say_links<'a>(
-    page: &mut Page<'_, 'a>,
-    command: &'a Command,
-    names: Few<'a>,
-) -> Result<(), AllocError> {
+fn say_links<'a>(page: &mut Page<'_, 'a>, command: &'a Command, names: Few<'a>) {
     for name in names.each() {
         if let Some(name) = name
             && let Some(setter) = only_setter(command, name)
             && !is_of_names(setter.value)
         {
             let back = rounds_back(page, command, name, setter.value);
-            say_link(page, name, setter.value, back)?;
+            say_link(page, name, setter.value, back);
             if back.is_some() {
-                say_link_setting(page, setter.value)?;
+                say_link_setting(page, setter.value);
             }
         }
     }
-    Ok(())
 }
 
 /// Adds where a loop sets the names of its condition that one place of it sets, on another line, or two; none that RDCH gives, or that
@@ -351,13 +336,13 @@ fn say_loop_setters<'a>(
     command: &'a Command,
     names: Few<'a>,
     read: Few<'a>,
-) -> Result<(), AllocError> {
+) {
     for name in names.each() {
         if let Some(name) = name
             && page.variable(name).is_some()
             && !read.has(name)
         {
-            let before = page.text.len();
+            let before = page.length();
             let setters = setters_of(command, name);
             if let Some(setter) = setters.first
                 && setters.count == 1
@@ -365,41 +350,31 @@ fn say_loop_setters<'a>(
                 && (is_of_names(setter.value)
                     || rounds_back(page, command, name, setter.value).is_none())
             {
-                say_loop_setter(page, name, setter)?;
+                say_loop_setter(page, name, setter);
             } else if setters.count == 2 {
-                say_setters(page, name, setters)?;
+                say_setters(page, name, setters);
             }
-            drop_twice(&mut page.text, before);
+            page.drop_twice(before);
         }
     }
-    Ok(())
 }
 
 /// Adds where the program sets the globals and static words of a condition that its loop does not set itself.
-fn say_outer_setters<'a>(
-    page: &mut Page<'_, 'a>,
-    command: &'a Command,
-    names: Few<'a>,
-) -> Result<(), AllocError> {
+fn say_outer_setters<'a>(page: &mut Page<'_, 'a>, command: &'a Command, names: Few<'a>) {
     for name in names.each() {
         if let Some(name) = name
             && let Some(Worth::Number(_)) = page.variable(name)
             && is_constant_in(page, command, name)
         {
-            let before = page.text.len();
-            say_places(page, name)?;
-            drop_twice(&mut page.text, before);
+            let before = page.length();
+            say_places(page, name);
+            page.drop_twice(before);
         }
     }
-    Ok(())
 }
 
 /// Adds the values of the names that a loop has in its condition, and of those that it sets.
-fn say_state<'a>(
-    page: &mut Page<'_, 'a>,
-    command: &'a Command,
-    condition: Option<&'a Expr>,
-) -> Result<(), AllocError> {
+fn say_state<'a>(page: &mut Page<'_, 'a>, command: &'a Command, condition: Option<&'a Expr>) {
     let mut search = Search::new(command.at(), b"");
     in_command(&mut search, command);
     let Search {
@@ -410,35 +385,29 @@ fn say_state<'a>(
     } = search;
     match condition {
         Some(condition) => {
-            say_values(page, names_of(condition), read)?;
-            say_unset(page, command, condition)?;
-            say_names(page, condition)?;
-            say_loop_setters(page, command, names_of(condition), read)?;
-            say_outer_setters(page, command, names_of(condition))?;
+            say_values(page, names_of(condition), read);
+            say_unset(page, command, condition);
+            say_names(page, condition);
+            say_loop_setters(page, command, names_of(condition), read);
+            say_outer_setters(page, command, names_of(condition));
         }
-        None => say_values(page, tested, read)?,
+        None => say_values(page, tested, read),
     }
-    say_values(page, assigned, read)?;
-    say_links(page, command, assigned)
+    say_values(page, assigned, read);
+    say_links(page, command, assigned);
 }
 
 /// Adds a loop that has a condition, as it is written.
-fn say_conditional(
-    page: &mut Page,
-    keyword: &[u8],
-    condition: &Expr,
-    place: &[u8],
-    at: Position,
-) -> Result<(), AllocError> {
-    add(&mut page.text, &[b"the `", keyword, b" "])?;
-    add_expr(&mut page.text, condition)?;
-    add(&mut page.text, &[b"`", place])?;
-    add_number(&mut page.text, at.line().number() as usize)?;
-    add(&mut page.text, &[b" goes on"])
+fn say_conditional(page: &mut Page, keyword: &[u8], condition: &Expr, place: &[u8], at: Position) {
+    page.say(&[b"the `", keyword, b" "]);
+    page.say_expr(condition);
+    page.say(&[b"`", place]);
+    page.say_number(at.line().number() as usize);
+    page.say(&[b" goes on"]);
 }
 
 /// Adds a loop, and the values of the names in its condition, and of those that it sets.
-fn say_loop<'a>(page: &mut Page<'_, 'a>, command: &'a Command) -> Result<(), AllocError> {
+fn say_loop<'a>(page: &mut Page<'_, 'a>, command: &'a Command) {
     match command {
         Command::While {
             at,
@@ -447,8 +416,8 @@ fn say_loop<'a>(page: &mut Page<'_, 'a>, command: &'a Command) -> Result<(), All
             ..
         } => {
             let keyword: &[u8] = if *truth { b"WHILE" } else { b"UNTIL" };
-            say_conditional(page, keyword, condition, b" of line ", *at)?;
-            say_state(page, command, Some(condition))
+            say_conditional(page, keyword, condition, b" of line ", *at);
+            say_state(page, command, Some(condition));
         }
         Command::RepeatWhile {
             at,
@@ -461,14 +430,14 @@ fn say_loop<'a>(page: &mut Page<'_, 'a>, command: &'a Command) -> Result<(), All
             } else {
                 b"REPEATUNTIL"
             };
-            say_conditional(page, keyword, condition, b" that begins on line ", *at)?;
-            say_state(page, command, Some(condition))
+            say_conditional(page, keyword, condition, b" that begins on line ", *at);
+            say_state(page, command, Some(condition));
         }
         _ => {
-            page.say(&[b"the `REPEAT` that begins on line "])?;
-            add_number(&mut page.text, command.at().line().number() as usize)?;
-            page.say(&[b" goes on"])?;
-            say_state(page, command, None)
+            page.say(&[b"the `REPEAT` that begins on line "]);
+            page.say_number(command.at().line().number() as usize);
+            page.say(&[b" goes on"]);
+            say_state(page, command, None);
         }
     }
 }
@@ -546,26 +515,24 @@ fn is_endless(round: Round) -> bool {
 }
 
 /// Adds a FOR that goes on, the value of its variable, and what in it keeps it from its end.
-fn say_round(page: &mut Page, round: Round) -> Result<(), AllocError> {
+fn say_round(page: &mut Page, round: Round) {
     let name: &[u8] = &round.variable.letters;
-    page.say(&[b"the `FOR ", name, b"` of line "])?;
-    add_number(&mut page.text, round.variable.at.line().number() as usize)?;
-    page.say(&[b" goes on"])?;
+    page.say(&[b"the `FOR ", name, b"` of line "]);
+    page.say_number(round.variable.at.line().number() as usize);
+    page.say(&[b" goes on"]);
     if let Some(object) = round.object
         && let Some(Cell::Holds(x)) = page.m.store.cell(object, 0)
     {
-        page.say(&[b"; ", name, b" is "])?;
-        page.say_value(x)?;
+        page.say(&[b"; ", name, b" is "]);
+        page.say_value(x);
     }
     if round.step == 0 {
-        return page.say(&[b"; its step is 0"]);
+        page.say(&[b"; its step is 0"]);
+        return;
     }
-    match set_in_body(round) {
-        Some(line) => {
-            page.say(&[b"; ", name, b" is set on line "])?;
-            add_number(&mut page.text, line as usize)
-        }
-        None => Ok(()),
+    if let Some(line) = set_in_body(round) {
+        page.say(&[b"; ", name, b" is set on line "]);
+        page.say_number(line as usize);
     }
 }
 
@@ -580,30 +547,30 @@ fn loop_begun<'a>(page: &Page<'_, 'a>, at: Position) -> Option<&'a Command> {
 }
 
 /// Adds the loop whose round begins at a position, unless it is a FOR that mostly ends: how many that is.
-fn say_begun(page: &mut Page, at: Position) -> Result<usize, AllocError> {
+fn say_begun(page: &mut Page, at: Position) -> usize {
     let Some(command) = loop_begun(page, at) else {
-        return Ok(0);
+        return 0;
     };
     let round = round_begun(page, command);
     match round {
         Some(round) if is_endless(round) => {
-            begin_piece(page)?;
-            say_round(page, round)?;
+            begin_piece(page);
+            say_round(page, round);
         }
-        Some(_) => return Ok(0),
+        Some(_) => return 0,
         None => {
-            begin_piece(page)?;
-            say_loop(page, command)?;
+            begin_piece(page);
+            say_loop(page, command);
         }
     }
-    Ok(1)
+    1
 }
 
 /// Adds the loops that were to go on, innermost first, where a round may begin at this position.
-fn say_loops(page: &mut Page, at: Position) -> Result<(), AllocError> {
+fn say_loops(page: &mut Page, at: Position) {
     let m = page.m;
     let here = page.names;
-    let mut count = say_begun(page, at)?;
+    let mut count = say_begun(page, at);
     for (i, frame) in m.frames.iter().enumerate().rev() {
         if count >= LOOPS {
             break;
@@ -612,33 +579,32 @@ fn say_loops(page: &mut Page, at: Position) -> Result<(), AllocError> {
             && let Some(frames) = m.frames.get(..i)
         {
             page.names = names_at(page.program, frames, env);
-            begin_piece(page)?;
-            say_loop(page, command)?;
+            begin_piece(page);
+            say_loop(page, command);
             count += 1;
         } else if let Some(round) = round_of(frame)
             && is_endless(round)
         {
-            begin_piece(page)?;
-            say_round(page, round)?;
+            begin_piece(page);
+            say_round(page, round);
             count += 1;
         }
     }
     page.names = here;
-    Ok(())
 }
 
 /// Begins a piece of the text of what goes on.
-fn begin_piece(page: &mut Page) -> Result<(), AllocError> {
-    let piece: &[u8] = if page.text.len() == USED_UP.len() {
+fn begin_piece(page: &mut Page) {
+    let piece: &[u8] = if page.length() == USED_UP.len() {
         b": "
     } else {
         b"; "
     };
-    page.say(&[piece])
+    page.say(&[piece]);
 }
 
 /// Adds the innermost FOR that goes on.
-fn say_for_loop(page: &mut Page, at: Position) -> Result<(), AllocError> {
+fn say_for_loop(page: &mut Page, at: Position) {
     let begun = match loop_begun(page, at) {
         Some(command) => round_begun(page, command),
         None => None,
@@ -647,12 +613,9 @@ fn say_for_loop(page: &mut Page, at: Position) -> Result<(), AllocError> {
         Some(round) => Some(round),
         None => page.m.frames.iter().rev().find_map(round_of),
     };
-    match round {
-        Some(round) => {
-            begin_piece(page)?;
-            say_round(page, round)
-        }
-        None => Ok(()),
+    if let Some(round) = round {
+        begin_piece(page);
+        say_round(page, round);
     }
 }
 
@@ -673,32 +636,31 @@ fn loop_here(page: &Page) -> Option<Position> {
 
 /// Adds that nothing in the innermost loop of the procedure that is active sets the variables of its condition, if it is a WHILE, and
 /// that is so.
-pub fn say_still_loop(page: &mut Page) -> Result<(), AllocError> {
+pub fn say_still_loop(page: &mut Page) {
     let Some(at) = loop_here(page) else {
-        return Ok(());
+        return;
     };
     let Some(command) = loop_at(page.program, at) else {
-        return Ok(());
+        return;
     };
     let Command::While { condition, .. } = command else {
-        return Ok(());
+        return;
     };
     let names = names_of(condition);
     if !is_of_names(condition) || still(page, command, names) == 0 {
-        return Ok(());
+        return;
     }
-    page.say(&[b"; nothing in the loop of line "])?;
-    add_number(&mut page.text, at.line().number() as usize)?;
+    page.say(&[b"; nothing in the loop of line "]);
+    page.say_number(at.line().number() as usize);
     let mut before: &[u8] = b" sets ";
     for name in names.each() {
         if let Some(name) = name
             && page.variable(name).is_some()
         {
-            page.say(&[before, name])?;
+            page.say(&[before, name]);
             before = b" or ";
         }
     }
-    Ok(())
 }
 
 /// The GOTO that makes the innermost loop of the procedure that is active.
@@ -711,46 +673,45 @@ fn back_here<'a>(page: &Page<'_, 'a>) -> Option<Back<'a>> {
 }
 
 /// Adds a loop that a GOTO makes.
-fn say_back<'a>(page: &mut Page<'_, 'a>, back: Back<'a>) -> Result<(), AllocError> {
-    page.say(&[b": the `GOTO ", back.name, b"` of line "])?;
-    add_number(&mut page.text, back.line as usize)?;
-    page.say(&[b" goes back to the label of line "])?;
-    add_number(&mut page.text, back.label_line as usize)?;
+fn say_back<'a>(page: &mut Page<'_, 'a>, back: Back<'a>) {
+    page.say(&[b": the `GOTO ", back.name, b"` of line "]);
+    page.say_number(back.line as usize);
+    page.say(&[b" goes back to the label of line "]);
+    page.say_number(back.label_line as usize);
     let Search {
         tested,
         assigned,
         read,
         ..
     } = between(page.program, back);
-    say_values(page, tested, read)?;
-    say_values(page, assigned, read)
+    say_values(page, tested, read);
+    say_values(page, assigned, read);
 }
 
 /// Adds the values of the formals of the procedure that is active.
-pub fn say_formals(page: &mut Page) -> Result<(), AllocError> {
+pub fn say_formals(page: &mut Page) {
     let Some(names) = page.names else {
-        return Ok(());
+        return;
     };
     let mut before: &[u8] = b"; in ";
     for formal in names.procedure.formals.iter().take(FORMALS) {
         if let Some(x) = page.value_of(&formal.letters)
             && !matches!(x, Worth::Unset(_))
         {
-            page.say(&[before])?;
+            page.say(&[before]);
             if before == b"; in ".as_slice() {
-                page.say(&[names.procedure.name, b", "])?;
+                page.say(&[names.procedure.name, b", "]);
             }
-            page.say(&[&formal.letters, b" is "])?;
-            page.say_value(x)?;
+            page.say(&[&formal.letters, b" is "]);
+            page.say_value(x);
             before = b", ";
         }
     }
-    Ok(())
 }
 
 /// Adds the values of the globals and static words that are numbers, and that the procedures without formals test whose calls are the
 /// innermost.
-fn say_tested_globals(page: &mut Page) -> Result<(), AllocError> {
+fn say_tested_globals(page: &mut Page) {
     let m = page.m;
     for frame in m.frames.iter().rev().take(NEAR) {
         if let Continuation::Returned(call) = frame
@@ -764,40 +725,39 @@ fn say_tested_globals(page: &mut Page) -> Result<(), AllocError> {
                     && let Some(Worth::Number(_)) = page.variable(name)
                     && !is_local(page, name)
                 {
-                    say_value_once(page, name, false)?;
+                    say_value_once(page, name, false);
                 }
             }
         }
     }
-    Ok(())
 }
 
 /// Adds how many calls are active, of which there are many, and the values of the formals of the innermost.
-fn say_many(page: &mut Page) -> Result<(), AllocError> {
-    page.say(&[b": "])?;
-    add_number(&mut page.text, page.m.calls as usize)?;
-    page.say(&[b" calls are active, perhaps of a recursion without end"])?;
-    say_formals(page)?;
-    say_tested_globals(page)
+fn say_many(page: &mut Page) {
+    page.say(&[b": "]);
+    page.say_number(page.m.calls as usize);
+    page.say(&[b" calls are active, perhaps of a recursion without end"]);
+    say_formals(page);
+    say_tested_globals(page);
 }
 
 /// Adds that the turns are used up at a position, and what goes on there.
-pub fn say_turns(page: &mut Page, at: Position) -> Result<(), AllocError> {
-    page.say(&[USED_UP])?;
+pub fn say_turns(page: &mut Page, at: Position) {
+    page.say(&[USED_UP]);
     if page.m.calls > MANY {
-        say_many(page)?;
+        say_many(page);
     } else if is_mostly_one(page) {
-        say_many(page)?;
-        say_loops(page, at)?;
+        say_many(page);
+        say_loops(page, at);
     } else {
-        let before = page.text.len();
+        let before = page.length();
         if let Some(back) = back_here(page) {
-            say_back(page, back)?;
+            say_back(page, back);
         }
-        say_loops(page, at)?;
-        if page.text.len() == before {
-            say_for_loop(page, at)?;
+        say_loops(page, at);
+        if page.length() == before {
+            say_for_loop(page, at);
         }
     }
-    page.say(&[b"; `-t 1000000000` gives as many turns as `run` has steps"])
+    page.say(&[b"; `-t 1000000000` gives as many turns as `run` has steps"]);
 }

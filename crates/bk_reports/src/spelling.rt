@@ -1,20 +1,19 @@
 //! Expressions, routines and numbers as they are written.
 
+use crate::text::Text;
 use bk_base::word_text;
 use bk_objects::{FormatPart, Routine};
 use bk_tree::{Expr, Operator, Prefix};
 use itoa::Buffer;
-use std::alloc::AllocError;
 
 /// How many bytes of an expression or a string are written at most.
 const LONGEST: usize = 40;
 
 /// Adds pieces of text.
-pub fn add(text: &mut Vec<u8>, pieces: &[&[u8]]) -> Result<(), AllocError> {
+pub fn add(text: &mut Text, pieces: &[&[u8]]) {
     for piece in pieces {
-        text.extend_from_slice(piece)?;
+        text.add(piece);
     }
-    Ok(())
 }
 
 /// The name of a routine of the library.
@@ -90,15 +89,15 @@ pub fn has_piece(text: &[u8], piece: &[u8]) -> bool {
 }
 
 /// Adds a number.
-pub fn add_number(text: &mut Vec<u8>, number: usize) -> Result<(), AllocError> {
+pub fn add_number(text: &mut Text, number: usize) {
     let mut buffer = Buffer::new();
-    add(text, &[buffer.format(number).as_bytes()])
+    add(text, &[buffer.format(number).as_bytes()]);
 }
 
 /// Adds a word as a signed number.
-pub fn add_word(text: &mut Vec<u8>, word: u32) -> Result<(), AllocError> {
+pub fn add_word(text: &mut Text, word: u32) {
     let spelling = word_text(word.cast_signed());
-    add(text, &[spelling.as_bytes()])
+    add(text, &[spelling.as_bytes()]);
 }
 
 /// How the place of a number in an order ends, as in 2nd.
@@ -115,13 +114,13 @@ fn ordinal_ending(number: usize) -> &'static [u8] {
 }
 
 /// Adds the place of a number in an order, as 2nd.
-pub fn add_ordinal(text: &mut Vec<u8>, number: usize) -> Result<(), AllocError> {
-    add_number(text, number)?;
-    add(text, &[ordinal_ending(number)])
+pub fn add_ordinal(text: &mut Text, number: usize) {
+    add_number(text, number);
+    add(text, &[ordinal_ending(number)]);
 }
 
 /// Adds a byte of a string.
-fn add_string_byte(text: &mut Vec<u8>, byte: u8) -> Result<(), AllocError> {
+fn add_string_byte(text: &mut Text, byte: u8) {
     match byte {
         b'\n' => add(text, &[b"*N"]),
         b'\t' => add(text, &[b"*T"]),
@@ -136,78 +135,76 @@ fn add_string_byte(text: &mut Vec<u8>, byte: u8) -> Result<(), AllocError> {
 }
 
 /// Adds a byte as a character constant.
-pub fn add_character(text: &mut Vec<u8>, byte: u8) -> Result<(), AllocError> {
-    add(text, &[b"'"])?;
+pub fn add_character(text: &mut Text, byte: u8) {
+    add(text, &[b"'"]);
     match byte {
-        b'\'' => add(text, &[b"*'"])?,
-        _ => add_string_byte(text, byte)?,
+        b'\'' => add(text, &[b"*'"]),
+        _ => add_string_byte(text, byte),
     }
-    add(text, &[b"'"])
+    add(text, &[b"'"]);
 }
 
 /// Adds a string between quotes: its beginning where it is long.
-pub fn add_string(text: &mut Vec<u8>, bytes: &[u8]) -> Result<(), AllocError> {
-    text.push(b'"')?;
+pub fn add_string(text: &mut Text, bytes: &[u8]) {
+    add(text, &[b"\""]);
     for byte in bytes.iter().take(LONGEST) {
-        add_string_byte(text, *byte)?;
+        add_string_byte(text, *byte);
     }
     if bytes.len() > LONGEST {
-        add(text, &[b".."])?;
+        add(text, &[b".."]);
     }
-    text.push(b'"')?;
-    Ok(())
+    add(text, &[b"\""]);
 }
 
 /// Adds a directive of a format.
-pub fn add_directive(text: &mut Vec<u8>, part: FormatPart) -> Result<(), AllocError> {
+pub fn add_directive(text: &mut Text, part: FormatPart) {
     match part {
         FormatPart::String => add(text, &[b"%S"]),
         FormatPart::Number => add(text, &[b"%N"]),
         FormatPart::Character => add(text, &[b"%C"]),
         FormatPart::Column(width) => {
-            add(text, &[b"%I"])?;
-            add_number(text, usize::from(width))
+            add(text, &[b"%I"]);
+            add_number(text, usize::from(width));
         }
         FormatPart::Byte(_) | FormatPart::Percent => add(text, &[b"%%"]),
     }
 }
 
 /// Adds an expression as it is written, but for blanks. What is long is cut.
-pub fn add_expr(text: &mut Vec<u8>, expr: &Expr) -> Result<(), AllocError> {
-    let start = text.len();
-    put_expr(text, expr)?;
-    if text.len().saturating_sub(start) > LONGEST {
+pub fn add_expr(text: &mut Text, expr: &Expr) {
+    let start = text.bytes().len();
+    put_expr(text, expr);
+    if text.bytes().len().saturating_sub(start) > LONGEST {
         text.truncate(start.saturating_add(LONGEST));
-        add(text, &[b".."])?;
+        add(text, &[b".."]);
     }
-    Ok(())
 }
 
 /// Adds an expression.
 #[cycle(spelling)]
-fn put_expr(text: &mut Vec<u8>, expr: &Expr) -> Result<(), AllocError> {
+fn put_expr(text: &mut Text, expr: &Expr) {
     match expr {
         Expr::Name { letters, .. } => add(text, &[letters]),
         Expr::Number { word, .. } => add_word(text, *word),
         Expr::Text { bytes, .. } => add_string(text, bytes),
         Expr::Truth { truth, .. } => if *truth {
-            add(text, &[b"TRUE"])
+            add(text, &[b"TRUE"]);
         } else {
-            add(text, &[b"FALSE"])
+            add(text, &[b"FALSE"]);
         },
         Expr::Query { .. } => add(text, &[b"?"]),
         Expr::Parens { inside, .. } => {
-            add(text, &[b"("])?;
-            put_expr(text, inside)?;
-            add(text, &[b")"])
+            add(text, &[b"("]);
+            put_expr(text, inside);
+            add(text, &[b")"]);
         }
         Expr::Unary {
             prefix,
             operand,
             ..
         } => {
-            add(text, &[prefix_symbol(*prefix)])?;
-            put_expr(text, operand)
+            add(text, &[prefix_symbol(*prefix)]);
+            put_expr(text, operand);
         }
         Expr::Binary {
             operator: Operator::Both,
@@ -215,17 +212,16 @@ fn put_expr(text: &mut Vec<u8>, expr: &Expr) -> Result<(), AllocError> {
             right,
             ..
         } if is_chain(left, right) => {
-            put_expr(text, left)?;
+            put_expr(text, left);
             if let Expr::Binary {
                 operator,
                 right: last,
                 ..
             } = &**right
             {
-                add(text, &[b" ", operator_symbol(*operator), b" "])?;
-                put_expr(text, last)?;
+                add(text, &[b" ", operator_symbol(*operator), b" "]);
+                put_expr(text, last);
             }
-            Ok(())
         }
         Expr::Binary {
             operator,
@@ -238,9 +234,9 @@ fn put_expr(text: &mut Vec<u8>, expr: &Expr) -> Result<(), AllocError> {
             } else {
                 b" "
             };
-            put_expr(text, left)?;
-            add(text, &[blank, operator_symbol(*operator), blank])?;
-            put_expr(text, right)
+            put_expr(text, left);
+            add(text, &[blank, operator_symbol(*operator), blank]);
+            put_expr(text, right);
         }
         Expr::Choice {
             condition,
@@ -248,26 +244,26 @@ fn put_expr(text: &mut Vec<u8>, expr: &Expr) -> Result<(), AllocError> {
             no,
             ..
         } => {
-            put_expr(text, condition)?;
-            add(text, &[b" -> "])?;
-            put_expr(text, yes)?;
-            add(text, &[b", "])?;
-            put_expr(text, no)
+            put_expr(text, condition);
+            add(text, &[b" -> "]);
+            put_expr(text, yes);
+            add(text, &[b", "]);
+            put_expr(text, no);
         }
         Expr::Apply {
             callee,
             arguments,
             ..
         } => {
-            put_expr(text, callee)?;
-            add(text, &[b"("])?;
-            put_exprs(text, arguments)?;
-            add(text, &[b")"])
+            put_expr(text, callee);
+            add(text, &[b"("]);
+            put_exprs(text, arguments);
+            add(text, &[b")"]);
         }
         Expr::Valof { .. } => add(text, &[b"VALOF .."]),
         Expr::Table { items, .. } => {
-            add(text, &[b"TABLE "])?;
-            put_exprs(text, items)
+            add(text, &[b"TABLE "]);
+            put_exprs(text, items);
         }
     }
 }
@@ -291,12 +287,11 @@ fn is_chain(left: &Expr, right: &Expr) -> bool {
 
 /// Adds expressions, with commas between them.
 #[cycle(spelling)]
-fn put_exprs(text: &mut Vec<u8>, exprs: &[Expr]) -> Result<(), AllocError> {
+fn put_exprs(text: &mut Text, exprs: &[Expr]) {
     for (i, expr) in exprs.iter().enumerate() {
         if i > 0 {
-            add(text, &[b", "])?;
+            add(text, &[b", "]);
         }
-        put_expr(text, expr)?;
+        put_expr(text, expr);
     }
-    Ok(())
 }

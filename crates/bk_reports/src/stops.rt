@@ -27,18 +27,18 @@ pub fn stop_text<'a>(
     let mut page = Page::new(m, program, at);
     match next {
         Next::Undefined(subject, reason) => {
-            say_act(&mut page, subject, *reason)?;
-            say_both(&mut page)?;
+            say_act(&mut page, subject, *reason);
+            say_both(&mut page);
         }
         Next::DivideByZero(subject) => {
-            say_division(&mut page, subject)?;
-            say_both(&mut page)?;
+            say_division(&mut page, subject);
+            say_both(&mut page);
         }
-        Next::Going(at) => say_turns(&mut page, *at)?,
+        Next::Going(at) => say_turns(&mut page, *at),
         _ => {}
     }
     let Page { text, .. } = page;
-    Ok(text)
+    text.whole()
 }
 
 /// Which limit of a check was reached in the call at this position.
@@ -55,13 +55,13 @@ pub fn limit_text<'a>(
             b"the words of the vectors and variables that are in use are more than a check can hold"
         }
     };
-    page.say(&[b"too deep: ", what])?;
+    page.say(&[b"too deep: ", what]);
     if m.calls > MANY {
-        say_formals(&mut page)?;
+        say_formals(&mut page);
     }
     if matches!(limit, Limit::Calls) || m.calls > MANY {
-        page.say(&[b"; does the recursion end?"])?;
+        page.say(&[b"; does the recursion end?"]);
     }
     let Page { text, .. } = page;
-    Ok(text)
+    text.whole()
 }

@@ -4,14 +4,12 @@ use crate::made::{in_procedure, loop_at};
 use crate::operations::say_names;
 use crate::setting::{cell_of, has_outside, is_formal, is_set_in, line, setters_of_all};
 use crate::sought::{Search, Setters};
-use crate::spelling::{add_number, add_word};
 use crate::values::{Object, Page};
 use crate::walk::in_expr;
 use bk_check::{Continuation, OnValue};
 use bk_lasting::{GLOBALS_OBJECT, Lasting, Procedure, Sense};
 use bk_objects::Worth;
 use bk_tree::{Command, Expr, Position};
-use std::alloc::AllocError;
 
 /// Where the variable is declared that a name means.
 pub fn variable_at(page: &Page, name: &[u8]) -> Option<Position> {
@@ -29,23 +27,18 @@ fn let_of(page: &Page, object: u64) -> Option<Position> {
 
 /// Adds that another variable has the name of one that was never set, or that an assignment to it was not reached; `query` is the line
 /// of the `?` that it has.
-pub fn say_unreached(
-    page: &mut Page,
-    name: &[u8],
-    object: u64,
-    query: u32,
-) -> Result<(), AllocError> {
+pub fn say_unreached(page: &mut Page, name: &[u8], object: u64, query: u32) {
     let Some(names) = page.names else {
-        return Ok(());
+        return;
     };
     let Some(spelled) = names.spelled(name) else {
-        return Ok(());
+        return;
     };
     let Some(at) = let_of(page, object) else {
-        return Ok(());
+        return;
     };
     if line(at) != query {
-        return Ok(());
+        return;
     }
     let Search {
         other,
@@ -54,24 +47,26 @@ pub fn say_unreached(
         ..
     } = in_procedure(names.procedure, at, spelled);
     if let Some(other) = other {
-        page.say(&[b"; the ", name, b" of line "])?;
-        add_number(&mut page.text, other as usize)?;
-        return page.say(&[b" is another variable"]);
+        page.say(&[b"; the ", name, b" of line "]);
+        page.say_number(other as usize);
+        page.say(&[b" is another variable"]);
+        return;
     }
     if is_taken {
-        return Ok(());
+        return;
     }
-    say_assignment(page, name, setters, b"")?;
-    match setters.first {
-        Some(setter) if setter.line != line(page.at) => say_for_of(page, setter.value),
-        _ => Ok(()),
+    say_assignment(page, name, setters, b"");
+    if let Some(setter) = setters.first
+        && setter.line != line(page.at)
+    {
+        say_for_of(page, setter.value);
     }
 }
 
 /// Adds from where to where a FOR goes in the procedure that is active, if an expression is its variable and nothing else has its name.
-fn say_for_of<'a>(page: &mut Page<'_, 'a>, value: &'a Expr) -> Result<(), AllocError> {
+fn say_for_of<'a>(page: &mut Page<'_, 'a>, value: &'a Expr) {
     let (Some(names), Expr::Name { letters, .. }) = (page.names, value) else {
-        return Ok(());
+        return;
     };
     let Search {
         declared,
@@ -79,10 +74,10 @@ fn say_for_of<'a>(page: &mut Page<'_, 'a>, value: &'a Expr) -> Result<(), AllocE
         ..
     } = in_procedure(names.procedure, Position::first(), letters);
     if declared != 1 || is_formal(names.procedure, letters) {
-        return Ok(());
+        return;
     }
     let Some(at) = declared_at else {
-        return Ok(());
+        return;
     };
     let Some(
         Command::For {
@@ -93,16 +88,16 @@ fn say_for_of<'a>(page: &mut Page<'_, 'a>, value: &'a Expr) -> Result<(), AllocE
         },
     ) = loop_at(page.program, at)
     else {
-        return Ok(());
+        return;
     };
-    page.say(&[b"; the `FOR ", letters, b"` of line "])?;
-    add_number(&mut page.text, line(at) as usize)?;
-    page.say(&[b" goes from "])?;
-    page.say_expr(from)?;
-    page.say(&[b" to "])?;
-    page.say_expr(to)?;
-    say_names(page, from)?;
-    say_names(page, to)
+    page.say(&[b"; the `FOR ", letters, b"` of line "]);
+    page.say_number(line(at) as usize);
+    page.say(&[b" goes from "]);
+    page.say_expr(from);
+    page.say(&[b" to "]);
+    page.say_expr(to);
+    say_names(page, from);
+    say_names(page, to);
 }
 
 /// Whether an expression has a name.
@@ -115,23 +110,18 @@ fn has_name(expr: &Expr, name: &[u8]) -> bool {
 
 /// Adds that the first of some assignments to a name was not reached, unless it is on the line of the act, or uses the name itself;
 /// `procedure` is the name of the procedure that has it, where that may be another.
-fn say_assignment(
-    page: &mut Page,
-    name: &[u8],
-    setters: Setters,
-    procedure: &[u8],
-) -> Result<(), AllocError> {
+fn say_assignment(page: &mut Page, name: &[u8], setters: Setters, procedure: &[u8]) {
     let Setters { first, .. } = setters;
-    match first {
-        Some(setter) if setter.line != line(page.at) && !has_name(setter.value, name) => {
-            page.say(&[b"; the assignment of line "])?;
-            add_number(&mut page.text, setter.line as usize)?;
-            if !procedure.is_empty() && !page.is_here(procedure) {
-                page.say(&[b", in ", procedure, b","])?;
-            }
-            page.say(&[b" was not reached"])
+    if let Some(setter) = first
+        && setter.line != line(page.at)
+        && !has_name(setter.value, name)
+    {
+        page.say(&[b"; the assignment of line "]);
+        page.say_number(setter.line as usize);
+        if !procedure.is_empty() && !page.is_here(procedure) {
+            page.say(&[b", in ", procedure, b","]);
         }
-        _ => Ok(()),
+        page.say(&[b" was not reached"]);
     }
 }
 
@@ -166,16 +156,17 @@ fn callee_of<'m, 'a>(page: &Page<'m, 'a>) -> Option<(&'m Procedure<'a>, &'a [u8]
 }
 
 /// Adds that a call passes the value of a name, where its procedure sets the formal.
-pub fn say_by_value(page: &mut Page, name: &[u8]) -> Result<(), AllocError> {
-    match callee_of(page) {
-        Some((procedure, formal)) if is_set_in(procedure, formal) => page.say(&[
+pub fn say_by_value(page: &mut Page, name: &[u8]) {
+    if let Some((procedure, formal)) = callee_of(page)
+        && is_set_in(procedure, formal)
+    {
+        page.say(&[
             b"; ",
             procedure.name,
             b" gets its value, and sets a formal of its own; `@",
             name,
             b"` is its address",
-        ]),
-        _ => Ok(()),
+        ]);
     }
 }
 
@@ -218,39 +209,40 @@ fn is_static(program: &[Lasting], name: &[u8]) -> bool {
 }
 
 /// Adds why nothing was assigned to a global, as far as the text tells.
-pub fn say_no_global(page: &mut Page, name: &[u8], number: u32) -> Result<(), AllocError> {
+pub fn say_no_global(page: &mut Page, name: &[u8], number: u32) {
     if let Some(other) = page.other_number(name, number) {
-        page.say(&[b"; elsewhere ", name, b" is the global "])?;
-        return add_word(&mut page.text, other);
+        page.say(&[b"; elsewhere ", name, b" is the global "]);
+        page.say_word(other);
+        return;
     }
     if is_own_procedure(page.program, name) {
-        return page.say(&[
+        page.say(&[
             b"; the procedure ",
             name,
             b" of another section is no global there",
         ]);
+        return;
     }
     if is_static(page.program, name) {
-        return page.say(&[
+        page.say(&[
             b"; elsewhere ",
             name,
             b" is a static word, which no other section sees",
         ]);
+        return;
     }
     let Some((spelled, _, _)) = cell_of(page, name) else {
-        return Ok(());
+        return;
     };
     let setters = setters_of_all(page.program, spelled, (GLOBALS_OBJECT, number), None);
     if setters.count > 0 {
         let procedure = first_to_set(page.program, spelled, (GLOBALS_OBJECT, number));
-        return say_assignment(page, name, setters, procedure);
+        say_assignment(page, name, setters, procedure);
+        return;
     }
-    match local_of(page.program, spelled) {
-        Some((other, procedure)) => {
-            page.say(&[b"; the ", name, b" of line "])?;
-            add_number(&mut page.text, other as usize)?;
-            page.say(&[b", in ", procedure, b", is another variable"])
-        }
-        None => Ok(()),
+    if let Some((other, procedure)) = local_of(page.program, spelled) {
+        page.say(&[b"; the ", name, b" of line "]);
+        page.say_number(other as usize);
+        page.say(&[b", in ", procedure, b", is another variable"]);
     }
 }

@@ -6,14 +6,15 @@ use crate::operands::bare;
 use crate::results::say_last;
 use crate::sought::Kind;
 use crate::spelling::{
-    add, add_character, add_expr, add_number, add_string, add_word, routine_kind, routine_name,
+    add, add_character, add_expr, add_number, add_string, add_word, has_piece, routine_kind,
+    routine_name,
 };
+use crate::text::Text;
 use bk_base::word;
 use bk_check::Evaluator;
 use bk_lasting::{Env, GLOBALS_OBJECT, Lasting, Sense};
 use bk_objects::{Cell, Computed, Origin, Worth, combine, read};
 use bk_tree::{Expr, Position, Prefix};
-use std::alloc::AllocError;
 
 /// In how many frames the name of a static word is sought at most.
 const NEAR: usize = 1000;
@@ -21,7 +22,7 @@ const NEAR: usize = 1000;
 /// What is written, and what it is written of.
 #[derive(Drop)]
 pub struct Page<'m, 'a> {
-    pub text: Vec<u8>,
+    pub text: Text,
     pub m: &'m Evaluator<'a>,
     pub program: &'m [Lasting<'a>],
     /// What names mean where the act is done, if that is known.
@@ -104,11 +105,10 @@ fn byte_of(words: &[u32], place: u32) -> u8 {
 }
 
 /// Adds the bytes of a string of these words.
-fn add_bytes(bytes: &mut Vec<u8>, words: &[u32]) -> Result<(), AllocError> {
+fn add_bytes(bytes: &mut Text, words: &[u32]) {
     for i in 0..u32::from(byte_of(words, 0)) {
-        bytes.push(byte_of(words, i.saturating_add(1)))?;
+        bytes.add(&[byte_of(words, i.saturating_add(1))]);
     }
-    Ok(())
 }
 
 /// Whether words are those of a string that can be printed.
@@ -131,6 +131,17 @@ fn is_string(words: &[u32]) -> bool {
     true
 }
 
+/// Whether what a text has from a place on, after a semicolon, is in it before that place, too.
+fn is_twice(text: &[u8], place: usize) -> bool {
+    let (Some(before), Some(added)) = (text.get(..place), text.get(place..)) else {
+        return false;
+    };
+    match added {
+        [b';', piece @ ..] => has_piece(before, piece) || before.starts_with(piece.trim_ascii()),
+        _ => false,
+    }
+}
+
 /// What an object is.
 #[derive(Clone, Copy)]
 pub enum Object<'m, 'a> {
@@ -147,7 +158,7 @@ impl<'m, 'a> Page<'m, 'a> {
     /// An empty page, for an act that is done at this position.
     pub fn new(m: &'m Evaluator<'a>, program: &'m [Lasting<'a>], at: Position) -> Page<'m, 'a> {
         Page {
-            text: Vec::new(m.alloc),
+            text: Text::new(m.alloc),
             m,
             program,
             names: names_in(m, program),
@@ -156,13 +167,47 @@ impl<'m, 'a> Page<'m, 'a> {
     }
 
     /// Adds pieces of text.
-    pub fn say(&mut self, pieces: &[&[u8]]) -> Result<(), AllocError> {
-        add(&mut self.text, pieces)
+    pub fn say(&mut self, pieces: &[&[u8]]) {
+        add(&mut self.text, pieces);
+    }
+
+    /// Adds a number.
+    pub fn say_number(&mut self, number: usize) {
+        add_number(&mut self.text, number);
+    }
+
+    /// Adds a word as a signed number.
+    pub fn say_word(&mut self, word: u32) {
+        add_word(&mut self.text, word);
+    }
+
+    /// How many bytes the text has.
+    pub fn length(&self) -> usize {
+        self.text.bytes().len()
+    }
+
+    /// Whether a piece is in the text.
+    pub fn has(&self, piece: &[u8]) -> bool {
+        has_piece(self.text.bytes(), piece)
+    }
+
+    /// Takes away what the text has behind so many bytes, if that is in it before, too.
+    pub fn drop_twice(&mut self, length: usize) {
+        if is_twice(self.text.bytes(), length) {
+            self.text.truncate(length);
+        }
+    }
+
+    /// How an expression is written.
+    pub fn spelled(&mut self, expr: &Expr) -> Vec<u8> {
+        let mut spelled = Text::new(self.m.alloc);
+        add_expr(&mut spelled, expr);
+        self.text.part(spelled)
     }
 
     /// Adds an expression.
-    pub fn say_expr(&mut self, expr: &Expr) -> Result<(), AllocError> {
-        add_expr(&mut self.text, expr)
+    pub fn say_expr(&mut self, expr: &Expr) {
+        add_expr(&mut self.text, expr);
     }
 
     /// What an object is.
@@ -230,33 +275,33 @@ impl<'m, 'a> Page<'m, 'a> {
     }
 
     /// Adds of which procedure an object is, where it is not the one that is active.
-    fn say_of(&mut self, procedure: &[u8], object: u64) -> Result<(), AllocError> {
+    fn say_of(&mut self, procedure: &[u8], object: u64) {
         if self.is_here(procedure) && !self.is_dead(object) {
-            return Ok(());
+            return;
         }
-        self.say(&[b" of ", procedure])
+        self.say(&[b" of ", procedure]);
     }
 
     /// Adds what an object is called in `word 3 of ..`.
-    pub fn say_object(&mut self, object: u64) -> Result<(), AllocError> {
+    pub fn say_object(&mut self, object: u64) {
         match self.object(object) {
             Object::Made(made) => match made.kind {
                 Kind::Formals => self.say(&[b"the formals of ", made.name]),
                 Kind::Variable | Kind::Vector => {
-                    self.say(&[made.name])?;
-                    self.say_of(made.procedure, object)
+                    self.say(&[made.name]);
+                    self.say_of(made.procedure, object);
                 }
             },
             Object::Globals => self.say(&[b"the global vector"]),
             Object::Static(name) => self.say(&[name]),
             Object::String(words) => {
-                self.say(&[b"the string "])?;
-                self.say_string(words)
+                self.say(&[b"the string "]);
+                self.say_string(words);
             }
             Object::Table => match self.table_name(object) {
                 Some(made) => {
-                    self.say(&[made.name])?;
-                    self.say_of(made.procedure, object)
+                    self.say(&[made.name]);
+                    self.say_of(made.procedure, object);
                 }
                 None => self.say(&[b"a TABLE"]),
             },
@@ -266,126 +311,119 @@ impl<'m, 'a> Page<'m, 'a> {
     }
 
     /// Adds the name of the formal that a cell is; false where it is none.
-    pub fn say_formal_name(&mut self, object: u64, offset: u32) -> Result<bool, AllocError> {
+    pub fn say_formal_name(&mut self, object: u64, offset: u32) -> bool {
         let program = self.program;
         let Object::Made(made) = self.object(object) else {
-            return Ok(false);
+            return false;
         };
         let procedure = made.procedure;
         let Some(name) = formal_name(program, made.kind, made.at, offset) else {
-            return Ok(false);
+            return false;
         };
-        self.say(&[name])?;
-        self.say_of(procedure, object)?;
-        Ok(true)
+        self.say(&[name]);
+        self.say_of(procedure, object);
+        true
     }
 
     /// Adds a string of these words.
-    fn say_string(&mut self, words: &[u32]) -> Result<(), AllocError> {
-        let mut bytes = Vec::new(self.m.alloc);
-        add_bytes(&mut bytes, words)?;
-        add_string(&mut self.text, &bytes)
+    fn say_string(&mut self, words: &[u32]) {
+        let mut bytes = Text::new(self.m.alloc);
+        add_bytes(&mut bytes, words);
+        let bytes = self.text.part(bytes);
+        add_string(&mut self.text, &bytes);
     }
 
     /// Adds the bytes of the string at an address, if one is there.
-    pub fn add_text(&self, bytes: &mut Vec<u8>, x: Worth) -> Result<(), AllocError> {
+    pub fn add_text(&self, bytes: &mut Text, x: Worth) {
         if let Worth::Address(0, object) = x
             && let Object::String(words) = self.object(object)
         {
-            return add_bytes(bytes, words);
+            add_bytes(bytes, words);
         }
-        Ok(())
     }
 
     /// Adds that the object of an address is gone; of formals, the one at this offset.
-    pub fn say_gone(&mut self, object: u64, offset: u32) -> Result<(), AllocError> {
+    pub fn say_gone(&mut self, object: u64, offset: u32) {
         let program = self.program;
         let Object::Made(made) = self.object(object) else {
-            return self.say(&[b"a variable or vector is gone"]);
+            self.say(&[b"a variable or vector is gone"]);
+            return;
         };
         let procedure = made.procedure;
         let line = made.at.line().number();
         match formal_name(program, made.kind, made.at, offset) {
-            Some(name) => self.say(&[name, b", a formal of ", procedure])?,
+            Some(name) => self.say(&[name, b", a formal of ", procedure]),
             None => {
-                self.say_object(object)?;
-                self.say(&[b", made on line "])?;
-                add_number(&mut self.text, line as usize)?;
+                self.say_object(object);
+                self.say(&[b", made on line "]);
+                self.say_number(line as usize);
             }
         }
-        self.say(&[b", is gone"])
+        self.say(&[b", is gone"]);
     }
 
     /// Adds a distance in words.
-    fn say_offset(&mut self, offset: u32) -> Result<(), AllocError> {
+    fn say_offset(&mut self, offset: u32) {
         let distance = offset.cast_signed();
         if distance == 0 {
-            return Ok(());
+            return;
         }
-        self.say(&[if distance < 0 { b" - " } else { b" + " }])?;
-        add_word(&mut self.text, distance.unsigned_abs())
+        self.say(&[if distance < 0 { b" - " } else { b" + " }]);
+        self.say_word(distance.unsigned_abs());
     }
 
     /// Adds the address of a formal, or of a word after them.
-    fn say_formal(
-        &mut self,
-        procedure: &[u8],
-        owner: &[u8],
-        at: Position,
-        offset: u32,
-    ) -> Result<(), AllocError> {
+    fn say_formal(&mut self, procedure: &[u8], owner: &[u8], at: Position, offset: u32) {
         let is_here = self.is_here(procedure);
         match formal_name(self.program, Kind::Formals, at, offset) {
             Some(name) => {
-                self.say(&[b"@", name])?;
-                if is_here {
-                    Ok(())
-                } else {
-                    self.say(&[b" of ", procedure])
+                self.say(&[b"@", name]);
+                if is_here {} else {
+                    self.say(&[b" of ", procedure]);
                 }
             }
             None => {
-                self.say(&[b"the address of word "])?;
-                add_word(&mut self.text, offset)?;
-                self.say(&[b" of the formals of ", owner])
+                self.say(&[b"the address of word "]);
+                self.say_word(offset);
+                self.say(&[b" of the formals of ", owner]);
             }
         }
     }
 
     /// Adds an address.
-    fn say_address(&mut self, object: u64, offset: u32) -> Result<(), AllocError> {
+    fn say_address(&mut self, object: u64, offset: u32) {
         match self.object(object) {
             Object::Made(made) => match made.kind {
                 Kind::Formals => self.say_formal(made.procedure, made.name, made.at, offset),
                 Kind::Variable => {
-                    self.say(&[b"@", made.name])?;
-                    self.say_offset(offset)?;
-                    self.say_of(made.procedure, object)
+                    self.say(&[b"@", made.name]);
+                    self.say_offset(offset);
+                    self.say_of(made.procedure, object);
                 }
                 Kind::Vector => {
-                    self.say(&[made.name])?;
-                    self.say_offset(offset)?;
-                    self.say_of(made.procedure, object)
+                    self.say(&[made.name]);
+                    self.say_offset(offset);
+                    self.say_of(made.procedure, object);
                 }
             },
             Object::Globals => match self.global(offset) {
                 Some(name) => self.say(&[b"@", name]),
                 None => {
-                    self.say(&[b"the address of global "])?;
-                    add_word(&mut self.text, offset)
+                    self.say(&[b"the address of global "]);
+                    self.say_word(offset);
                 }
             },
             Object::Static(name) => {
-                self.say(&[b"@", name])?;
-                self.say_offset(offset)
+                self.say(&[b"@", name]);
+                self.say_offset(offset);
             }
             Object::Entry(name) => {
-                self.say(&[b"@", name])?;
-                self.say_offset(offset)
+                self.say(&[b"@", name]);
+                self.say_offset(offset);
             }
             Object::String(_) | Object::Table => {
-                self.say_object(object)?;
-                self.say_offset(offset)
+                self.say_object(object);
+                self.say_offset(offset);
             }
             Object::Unknown => self.say(&[b"the address of a variable or vector"]),
         }
@@ -429,22 +467,22 @@ impl<'m, 'a> Page<'m, 'a> {
     }
 
     /// Adds a global, by its name if it has one.
-    pub fn say_global(&mut self, number: u32) -> Result<(), AllocError> {
-        self.say(&[b"the global "])?;
+    pub fn say_global(&mut self, number: u32) {
+        self.say(&[b"the global "]);
         if let Some(name) = self.other_name(b"", number) {
-            self.say(&[name, b", "])?;
+            self.say(&[name, b", "]);
         }
-        add_word(&mut self.text, number)
+        self.say_word(number);
     }
 
     /// Adds a value.
-    pub fn say_value(&mut self, x: Worth) -> Result<(), AllocError> {
+    pub fn say_value(&mut self, x: Worth) {
         match x {
-            Worth::Number(number) => add_word(&mut self.text, number),
+            Worth::Number(number) => self.say_word(number),
             Worth::Address(offset, object) => self.say_address(object, offset),
             Worth::Procedure(number) => {
                 let name = procedure_name(self.program, number);
-                self.say(&[b"the procedure ", name])
+                self.say(&[b"the procedure ", name]);
             }
             Worth::Routine(routine) => self.say(&[
                 b"the ",
@@ -457,12 +495,12 @@ impl<'m, 'a> Page<'m, 'a> {
     }
 
     /// Adds what a value is, where its name says it already.
-    fn say_kind(&mut self, x: Worth) -> Result<(), AllocError> {
+    fn say_kind(&mut self, x: Worth) {
         match x {
             Worth::Number(_) => self.say(&[b"a number"]),
             Worth::Procedure(_) => self.say(&[b"a procedure"]),
             Worth::Routine(routine) => {
-                self.say(&[b"a ", routine_kind(routine), b" of the library"])
+                self.say(&[b"a ", routine_kind(routine), b" of the library"]);
             }
             Worth::Unset(_) => self.say(&[b"not set"]),
             Worth::Address(_, object) => match self.object(object) {
@@ -479,24 +517,23 @@ impl<'m, 'a> Page<'m, 'a> {
     }
 
     /// Adds an expression and its value, as in `P is V + 2`.
-    pub fn say_is(&mut self, expr: &Expr, x: Worth) -> Result<(), AllocError> {
-        let start = self.text.len();
-        self.say_expr(expr)?;
-        let name = self.text.len();
-        self.say(&[b" is "])?;
-        let value = self.text.len();
-        self.say_value(x)?;
+    pub fn say_is(&mut self, expr: &Expr, x: Worth) {
+        let start = self.length();
+        self.say_expr(expr);
+        let name = self.length();
+        self.say(&[b" is "]);
+        let value = self.length();
+        self.say_value(x);
         if self.is_said_twice(start, name, value, x) {
             self.text.truncate(value);
-            self.say_kind(x)?;
+            self.say_kind(x);
         }
-        Ok(())
     }
 
     /// Whether the text of a value is that of its expression, or ends in it.
     fn is_said_twice(&self, start: usize, name: usize, value: usize, x: Worth) -> bool {
-        let expr = self.text.get(start..name).unwrap_or(&[]);
-        let spelled = self.text.get(value..).unwrap_or(&[]);
+        let expr = self.text.bytes().get(start..name).unwrap_or(&[]);
+        let spelled = self.text.bytes().get(value..).unwrap_or(&[]);
         match x {
             Worth::Procedure(_) | Worth::Routine(_) => callee_name(self.program, x) == expr,
             Worth::Address(_, _) => spelled == expr
@@ -506,25 +543,25 @@ impl<'m, 'a> Page<'m, 'a> {
     }
 
     /// Adds why there is no value.
-    pub fn say_origin(&mut self, origin: Origin) -> Result<(), AllocError> {
+    pub fn say_origin(&mut self, origin: Origin) {
         match origin {
             Origin::Never => self.say(&[b"nothing was assigned to it"]),
             Origin::Query(line) => {
-                self.say(&[b"it is the `?` of line "])?;
-                add_number(&mut self.text, line as usize)
+                self.say(&[b"it is the `?` of line "]);
+                self.say_number(line as usize);
             }
             Origin::Valof(line, number) => {
                 let name = procedure_name(self.program, u64::from(number));
-                self.say(&[b"the `VALOF` of line "])?;
-                add_number(&mut self.text, line as usize)?;
-                self.say(&[b", of ", name, b", ended without `RESULTIS`"])?;
-                say_last(self, line, number)
+                self.say(&[b"the `VALOF` of line "]);
+                self.say_number(line as usize);
+                self.say(&[b", of ", name, b", ended without `RESULTIS`"]);
+                say_last(self, line, number);
             }
             Origin::Body(line, number) => {
                 let name = procedure_name(self.program, u64::from(number));
-                self.say(&[name, b", called on line "])?;
-                add_number(&mut self.text, line as usize)?;
-                self.say(&[b", is a routine, with `BE`, and gives none"])
+                self.say(&[name, b", called on line "]);
+                self.say_number(line as usize);
+                self.say(&[b", is a routine, with `BE`, and gives none"]);
             }
             Origin::Library(routine) => self.say(&[routine_name(routine), b" gives none"]),
             Origin::Argument => self.say(&[b"its argument is missing"]),
@@ -572,16 +609,15 @@ impl<'m, 'a> Page<'m, 'a> {
     }
 
     /// Adds how the byte of a string of one byte is written.
-    pub fn say_character(&mut self, x: Worth) -> Result<(), AllocError> {
+    pub fn say_character(&mut self, x: Worth) {
         if let Worth::Address(_, object) = x
             && let Object::String(words) = self.object(object)
             && byte_of(words, 0) == 1
         {
-            self.say(&[b"; `"])?;
-            add_character(&mut self.text, byte_of(words, 1))?;
-            return self.say(&[b"` is its byte"]);
+            self.say(&[b"; `"]);
+            add_character(&mut self.text, byte_of(words, 1));
+            self.say(&[b"` is its byte"]);
         }
-        Ok(())
     }
 
     /// The variable that holds the address of a TABLE: of those that do, the first of the outermost procedure.

@@ -5,34 +5,32 @@ use crate::operands::{Operand, bare, say_dead, say_fault_of};
 use crate::parts::say_parts_set;
 use crate::setting::say_setting;
 use crate::sought::Kind;
-use crate::spelling::{add_number, add_word};
 use crate::values::{Object, Page};
 use bk_base::word;
 use bk_lasting::GLOBALS_OBJECT;
 use bk_objects::{Cell, Origin, Worth, read_byte};
 use bk_tree::{Expr, Prefix};
-use std::alloc::AllocError;
 
 /// Adds which words, or bytes, an object of this size has.
-pub fn say_extent(page: &mut Page, what: &[u8], size: usize) -> Result<(), AllocError> {
+pub fn say_extent(page: &mut Page, what: &[u8], size: usize) {
     match size {
         0 => page.say(&[b", which has no words"]),
         1 => page.say(&[b", which has one ", what, b", 0"]),
         _ => {
-            page.say(&[b", which has ", what, b"s 0 to "])?;
-            add_number(&mut page.text, size.saturating_sub(1))
+            page.say(&[b", which has ", what, b"s 0 to "]);
+            page.say_number(size.saturating_sub(1));
         }
     }
 }
 
 /// Adds which bytes of a word are set.
-pub fn say_partly(page: &mut Page, bytes: [bool; 4]) -> Result<(), AllocError> {
-    page.say(&[b", of which only"])?;
+pub fn say_partly(page: &mut Page, bytes: [bool; 4]) {
+    page.say(&[b", of which only"]);
     let mut before: &[u8] = b" byte ";
     for (i, is_set) in bytes.iter().enumerate() {
         if *is_set {
-            page.say(&[before])?;
-            add_number(&mut page.text, i)?;
+            page.say(&[before]);
+            page.say_number(i);
             before = b" and byte ";
         }
     }
@@ -41,46 +39,38 @@ pub fn say_partly(page: &mut Page, bytes: [bool; 4]) -> Result<(), AllocError> {
         b" was set"
     } else {
         b" were set"
-    }])
+    }]);
 }
 
 /// Adds that there is no value, and why.
-fn say_unset(page: &mut Page, relative: &[u8], origin: Origin) -> Result<(), AllocError> {
+fn say_unset(page: &mut Page, relative: &[u8], origin: Origin) {
     match origin {
         Origin::Never => page.say(&[relative, b" was never set"]),
         _ => {
-            page.say(&[relative, b" has no value: "])?;
-            page.say_origin(origin)
+            page.say(&[relative, b" has no value: "]);
+            page.say_origin(origin);
         }
     }
 }
 
 /// Adds where another procedure makes a vector that a word or a byte is behind.
-fn say_made(page: &mut Page, object: u64, number: u32) -> Result<(), AllocError> {
-    match page.object(object) {
-        Object::Made(made)
-            if matches!(made.kind, Kind::Vector)
-                && number.cast_signed() >= 0
-                && !page.is_here(made.procedure) => {
-            page.say(&[b"; ", made.name, b" is made on line "])?;
-            add_number(&mut page.text, made.at.line().number() as usize)
-        }
-        _ => Ok(()),
+fn say_made(page: &mut Page, object: u64, number: u32) {
+    if let Object::Made(made) = page.object(object)
+        && matches!(made.kind, Kind::Vector)
+        && number.cast_signed() >= 0
+        && !page.is_here(made.procedure)
+    {
+        page.say(&[b"; ", made.name, b" is made on line "]);
+        page.say_number(made.at.line().number() as usize);
     }
 }
 
 /// Adds what is wrong with a cell of an object that lives; `relative` is what joins a sentence to it.
-fn say_state(
-    page: &mut Page,
-    base: Option<Operand>,
-    object: u64,
-    offset: u32,
-    relative: &[u8],
-) -> Result<(), AllocError> {
+fn say_state(page: &mut Page, base: Option<Operand>, object: u64, offset: u32, relative: &[u8]) {
     match page.m.store.cell(object, offset) {
         None => {
-            say_extent(page, b"word", page.m.store.size(object).unwrap_or(0))?;
-            say_made(page, object, offset)
+            say_extent(page, b"word", page.m.store.size(object).unwrap_or(0));
+            say_made(page, object, offset);
         }
         Some(Cell::Places(a, b, c, d)) => say_partly(
             page,
@@ -88,8 +78,8 @@ fn say_state(
         ),
         Some(Cell::Holds(x)) => match x {
             Worth::Unset(origin) => {
-                say_unset(page, relative, origin)?;
-                say_set_words(page, base, object)
+                say_unset(page, relative, origin);
+                say_set_words(page, base, object);
             }
             _ => page.say(&[b", which can't be used here"]),
         },
@@ -129,129 +119,105 @@ fn is_address(expr: &Expr) -> bool {
 }
 
 /// Adds which address an operand is, unless its expression says it. True says that the object is called by that expression.
-fn say_base(page: &mut Page, base: Option<Operand>) -> Result<bool, AllocError> {
+fn say_base(page: &mut Page, base: Option<Operand>) -> bool {
     if let Some(operand) = base
         && let Some(written) = operand.expr
         && let Worth::Address(offset, object) = operand.value
     {
         if offset == 0 && is_called(page, written, object) {
-            return Ok(true);
+            return true;
         }
         if !is_address(written) {
-            page.say_is(written, operand.value)?;
-            page.say(&[b", and "])?;
+            page.say_is(written, operand.value);
+            page.say(&[b", and "]);
         }
     }
-    Ok(false)
+    false
 }
 
 /// Adds how a byte is written: as an expression, or as the byte with this number of an operand.
-fn say_byte_of(
-    page: &mut Page,
-    expr: Option<&Expr>,
-    base: Operand,
-    number: u32,
-) -> Result<(), AllocError> {
+fn say_byte_of(page: &mut Page, expr: Option<&Expr>, base: Operand, number: u32) {
     if let Some(expr) = expr {
-        return page.say_expr(expr);
+        page.say_expr(expr);
+        return;
     }
     match base.expr {
-        Some(Expr::Name { letters, .. }) => page.say(&[letters, b"%"])?,
-        _ => page.say(&[b"its byte "])?,
+        Some(Expr::Name { letters, .. }) => page.say(&[letters, b"%"]),
+        _ => page.say(&[b"its byte "]),
     }
-    add_word(&mut page.text, number)
+    page.say_word(number);
 }
 
 /// Adds the name of an object, or the expression that it is called by.
-fn say_owner(
-    page: &mut Page,
-    base: Option<Operand>,
-    object: u64,
-    is_called: bool,
-) -> Result<(), AllocError> {
+fn say_owner(page: &mut Page, base: Option<Operand>, object: u64, is_called: bool) {
     if is_called
         && let Some(operand) = base
         && let Some(written) = operand.expr
     {
-        return page.say_expr(bare(written));
+        page.say_expr(bare(written));
+        return;
     }
-    page.say_object(object)
+    page.say_object(object);
 }
 
 /// Adds that the object of a cell is gone, to which an expression leads.
-fn say_dead_cell(
-    page: &mut Page,
-    expr: &Expr,
-    base: Option<Operand>,
-    object: u64,
-    offset: u32,
-) -> Result<(), AllocError> {
+fn say_dead_cell(page: &mut Page, expr: &Expr, base: Option<Operand>, object: u64, offset: u32) {
     let Some(operand) = base else {
-        page.say_gone(object, offset)?;
-        page.say(&[b", and "])?;
-        page.say_expr(expr)?;
-        return page.say(&[b" is in it"]);
+        page.say_gone(object, offset);
+        page.say(&[b", and "]);
+        page.say_expr(expr);
+        page.say(&[b" is in it"]);
+        return;
     };
     let place = match operand.value {
         Worth::Address(place, _) => place,
         _ => offset,
     };
-    say_dead(page, operand, object, place)
+    say_dead(page, operand, object, place);
 }
 
 /// Adds which word of an object a cell is; nothing where the object is a variable of one word.
-fn say_place(
-    page: &mut Page,
-    base: Option<Operand>,
-    object: u64,
-    offset: u32,
-    is_called: bool,
-) -> Result<(), AllocError> {
-    if page.say_formal_name(object, offset)? {
-        return Ok(());
+fn say_place(page: &mut Page, base: Option<Operand>, object: u64, offset: u32, is_called: bool) {
+    if page.say_formal_name(object, offset) {
+        return;
     }
     if object == GLOBALS_OBJECT && page.m.store.cell(object, offset).is_some() {
-        return page.say_global(offset);
+        page.say_global(offset);
+        return;
     }
     if offset != 0 || !is_variable(page, object) {
-        page.say(&[b"word "])?;
-        add_word(&mut page.text, offset)?;
-        page.say(&[b" of "])?;
+        page.say(&[b"word "]);
+        page.say_word(offset);
+        page.say(&[b" of "]);
     }
-    say_owner(page, base, object, is_called)
+    say_owner(page, base, object, is_called);
 }
 
 /// Adds what is wrong with the cell at an address, to which an expression leads.
-pub fn say_cell(
-    page: &mut Page,
-    expr: &Expr,
-    base: Option<Operand>,
-    object: u64,
-    offset: u32,
-) -> Result<(), AllocError> {
+pub fn say_cell(page: &mut Page, expr: &Expr, base: Option<Operand>, object: u64, offset: u32) {
     if page.is_dead(object) {
-        return say_dead_cell(page, expr, base, object, offset);
+        say_dead_cell(page, expr, base, object, offset);
+        return;
     }
-    let is_called = say_base(page, base)?;
+    let is_called = say_base(page, base);
     if !is_called {
-        page.say_expr(expr)?;
-        page.say(&[b" is "])?;
+        page.say_expr(expr);
+        page.say(&[b" is "]);
     }
-    say_place(page, base, object, offset, is_called)?;
-    say_state(page, base, object, offset, relative(is_called))?;
+    say_place(page, base, object, offset, is_called);
+    say_state(page, base, object, offset, relative(is_called));
     if matches!(page.object(object), Object::String(_)) {
-        page.say(&[b"; `!` gives words, and `%` the bytes of a string"])?;
+        page.say(&[b"; `!` gives words, and `%` the bytes of a string"]);
     }
-    say_base_setting(page, base)
+    say_base_setting(page, base);
 }
 
 /// Adds where an operand got its value that is the address of a word inside an object.
-fn say_base_setting(page: &mut Page, base: Option<Operand>) -> Result<(), AllocError> {
-    match base {
-        Some(operand) if matches!(operand.value, Worth::Address(1.., _)) => {
-            say_setting(page, operand)
-        }
-        _ => Ok(()),
+fn say_base_setting(page: &mut Page, base: Option<Operand>) {
+    if let Some(operand) = base
+        && matches!(operand.value, Worth::Address(1.., _))
+    {
+        say_setting(page, operand);
     }
 }
 
@@ -276,7 +242,7 @@ fn set_words(page: &Page, object: u64, size: u32) -> (u32, u32, u32) {
 }
 
 /// Adds which words of a vector are set, of which another is not, and where.
-fn say_set_words(page: &mut Page, base: Option<Operand>, object: u64) -> Result<(), AllocError> {
+fn say_set_words(page: &mut Page, base: Option<Operand>, object: u64) {
     let Object::Made(
         Made {
             kind: Kind::Vector,
@@ -284,40 +250,43 @@ fn say_set_words(page: &mut Page, base: Option<Operand>, object: u64) -> Result<
         },
     ) = page.object(object)
     else {
-        return Ok(());
+        return;
     };
     let size = page.m.store.size(object).unwrap_or(0);
     if size < 2 {
-        return Ok(());
+        return;
     }
     let (count, first, last) = set_words(page, object, u32::try_from(size).unwrap_or(u32::MAX));
     if count == 0 {
-        return page.say(&[b", nor was any other"]);
+        page.say(&[b", nor was any other"]);
+        return;
     }
-    say_range(page, size, (count, first, last))?;
-    say_parts_set(page, base, object)
+    say_range(page, size, (count, first, last));
+    say_parts_set(page, base, object);
 }
 
 /// Adds which words of a vector of this size are set: how many, the first and the last.
-fn say_range(page: &mut Page, size: usize, set: (u32, u32, u32)) -> Result<(), AllocError> {
+fn say_range(page: &mut Page, size: usize, set: (u32, u32, u32)) {
     let (count, first, last) = set;
     if last.saturating_sub(first) >= count {
-        page.say(&[b"; "])?;
-        add_word(&mut page.text, count)?;
-        page.say(&[b" of its "])?;
-        add_number(&mut page.text, size)?;
-        return page.say(&[b" words were"]);
+        page.say(&[b"; "]);
+        page.say_word(count);
+        page.say(&[b" of its "]);
+        page.say_number(size);
+        page.say(&[b" words were"]);
+        return;
     }
     if count == 1 {
-        page.say(&[b"; word "])?;
-        add_word(&mut page.text, first)?;
-        return page.say(&[b" was"]);
+        page.say(&[b"; word "]);
+        page.say_word(first);
+        page.say(&[b" was"]);
+        return;
     }
-    page.say(&[b"; words "])?;
-    add_word(&mut page.text, first)?;
-    page.say(&[b" to "])?;
-    add_word(&mut page.text, last)?;
-    page.say(&[b" were"])
+    page.say(&[b"; words "]);
+    page.say_word(first);
+    page.say(&[b" to "]);
+    page.say_word(last);
+    page.say(&[b" were"]);
 }
 
 /// Whether an object is a variable.
@@ -330,70 +299,63 @@ fn is_variable(page: &Page, object: u64) -> bool {
 }
 
 /// Adds the length of the string that is at an address, if its byte 0 is set.
-pub fn say_length(page: &mut Page, at: Worth) -> Result<(), AllocError> {
+pub fn say_length(page: &mut Page, at: Worth) {
     match read_byte(&page.m.store, at, Worth::Number(0)) {
         Ok(length) => {
-            page.say(&[b"; byte 0, the length of the string, is "])?;
-            add_number(&mut page.text, usize::from(length))
+            page.say(&[b"; byte 0, the length of the string, is "]);
+            page.say_number(usize::from(length));
         }
-        Err(_) => Ok(()),
+        Err(_) => {}
     }
 }
 
 /// Adds which bytes an object has, and the length of a string.
-fn say_beyond_bytes(page: &mut Page, at: Worth, object: u64) -> Result<(), AllocError> {
+fn say_beyond_bytes(page: &mut Page, at: Worth, object: u64) {
     let size = page.m.store.size(object).unwrap_or(0).saturating_mul(4);
-    say_extent(page, b"byte", size)?;
+    say_extent(page, b"byte", size);
     if page.is_text(at) {
-        return say_length(page, Worth::Address(0, object));
+        say_length(page, Worth::Address(0, object));
     }
-    Ok(())
 }
 
 /// Adds what is wrong with a byte of the words from an address on, to which an expression leads, or the operand alone.
-pub fn say_byte(
-    page: &mut Page,
-    expr: Option<&Expr>,
-    base: Operand,
-    at: Worth,
-    number: u32,
-) -> Result<(), AllocError> {
+pub fn say_byte(page: &mut Page, expr: Option<&Expr>, base: Operand, at: Worth, number: u32) {
     let Worth::Address(offset, object) = at else {
-        return Ok(());
+        return;
     };
-    if say_fault_of(page, base)? {
-        return Ok(());
+    if say_fault_of(page, base) {
+        return;
     }
-    let is_called = say_base(page, Some(base))?;
+    let is_called = say_base(page, Some(base));
     if !is_called {
-        say_byte_of(page, expr, base, number)?;
-        page.say(&[b" is "])?;
+        say_byte_of(page, expr, base, number);
+        page.say(&[b" is "]);
     }
-    page.say(&[b"byte "])?;
-    add_word(&mut page.text, word::sum(word::product(4, offset), number))?;
-    page.say(&[b" of "])?;
-    say_owner(page, Some(base), object, is_called)?;
+    page.say(&[b"byte "]);
+    page.say_word(word::sum(word::product(4, offset), number));
+    page.say(&[b" of "]);
+    say_owner(page, Some(base), object, is_called);
     let cell = word::sum(offset, word::distance_of_byte(number));
     match page.m.store.cell(object, cell) {
         None => {
-            say_beyond_bytes(page, at, object)?;
-            say_made(page, object, number)
+            say_beyond_bytes(page, at, object);
+            say_made(page, object, number);
         }
         Some(Cell::Places(_, _, _, _)) => {
-            say_unset(page, relative(is_called), Origin::Never)?;
-            say_parts_set(page, Some(base), object)
+            say_unset(page, relative(is_called), Origin::Never);
+            say_parts_set(page, Some(base), object);
         }
         Some(Cell::Holds(x)) => match x {
             Worth::Unset(origin) => {
-                say_unset(page, relative(is_called), origin)?;
-                say_parts_set(page, Some(base), object)
+                say_unset(page, relative(is_called), origin);
+                say_parts_set(page, Some(base), object);
             }
             _ => {
-                page.say(&[b", where the word is no number: it is "])?;
+                page.say(&[b", where the word is no number: it is "]);
                 if matches!(x, Worth::Address(_, _)) && !page.is_text(x) {
-                    page.say(&[b"the address "])?;
+                    page.say(&[b"the address "]);
                 }
-                page.say_value(x)
+                page.say_value(x);
             }
         },
     }
