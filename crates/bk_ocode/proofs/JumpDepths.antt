@@ -1,5 +1,5 @@
 -- A jump finds its label with the depth that it has.
-pub use Rattle.bk_ocode.proofs.Depths.{keeps_in, context-depth, ◌≡◌, ◌≢◌, ℕ, zero, suc, ◌+◌, ◌-◌, ◌<◌, ◌==◌, Bool, true, false, not, ◌||◌, List, [], ◌∷◌, Some, None, take, slice_get, refl, sym, ◌∙◌, ap, subst, arith, if◌then◌else◌, inl, inr, eq-eqb, eqb-true, next_depth, depth_after, label_set, jump_labels, Context, at_start, changed, all_changed, with_depth, jumped, set_by, label_followed, after, after_all, context_of, AreFaultless, Setting, JumpDepths, LabelUse, Stmt, Jump, JumpIf, Label, Switch, is_other_lab, are_other_jumps, jumps_disagree, result_named, follows_badly, own_disagrees, fault_in, jump_depth, IsAmong, JumpHasItsLabelsDepth, Setting as setting, JumpDepths as jumps, not-false, or_parts, ◌≤◌, ◌++◌, drop, ◌⊎◌, list_all, result_label, may_stand, position_after, start_after, mentioned, misplaced, is_lab_from, jumps_set, label_not_set, IsSection, JumpFindsItsLabel, ResultFindsItsLabel, Position, Outer, Datum, GiveResult, Entry, EndProcedure, DataLabel, DataNumber, DataAddress, Globals, and_parts, Keeps, cond, Option, length, is_some, ne_eqb, append_assoc, append-nil, length-append, ℤ, list_any, drop-append_seam, FRAME_WORDS, OCODE_STATEMENTS, OCODE_WORDS, OcodeKind, Body, Taker, Last, GlobalEntry, Static, Load, Address, Assign, TakeResult, Save, ReturnItem, Return, stmt_words, least_depth, followed, data_labels, item_label, global_labels, role, IsDepth, InRange, is_data, is_entry, data_set, is_set, over, left_after, is_badly_followed, not_followed, depths_disagree, too_long, text_size, Use, unused, jumps, results, word, entry, Standing, outside, body, ended, AllJump, AllEntries, Agrees, Fits, Typed, done, enters, goes, lands, takes, returns, gives, begins, holds, points, ends, sets, times_set, TypedIsSection, le-ltb, lt-leb, le-leb, and_from, or_from, ⊤, at_seam, get-append, nat_le, nat_lt, leb-false, ltb-false, DataFindsItsLabel, ItemFindsItsLabel, GlobalFindsItsEntry, GlobalIsLast, TextIsShort, StmtPlace, same_Some, or_cases, take-append_seam}
+pub use Rattle.bk_ocode.proofs.Depths.{keeps_in, context-depth, ◌≡◌, ◌≢◌, ℕ, zero, suc, ◌+◌, ◌-◌, ◌<◌, ◌==◌, Bool, true, false, not, ◌||◌, List, [], ◌∷◌, Some, None, take, slice_get, refl, sym, ◌∙◌, ap, subst, arith, if◌then◌else◌, inl, inr, eq-eqb, eqb-true, next_depth, depth_after, label_set, jump_labels, Context, at_start, changed, all_changed, with_depth, jumped, set_by, label_followed, after, after_all, context_of, AreFaultless, Setting, JumpDepths, LabelUse, Stmt, Jump, JumpIf, Label, Switch, is_other_lab, are_other_jumps, jumps_disagree, result_named, follows_badly, own_disagrees, fault_in, jump_depth, IsAmong, JumpHasItsLabelsDepth, Setting as setting, JumpDepths as depths, not-false, or_parts, ◌≤◌, ◌++◌, drop, ◌⊎◌, list_all, result_label, may_stand, position_after, start_after, mentioned, misplaced, is_lab_from, jumps_set, label_not_set, IsSection, JumpFindsItsLabel, ResultFindsItsLabel, Position, Outer, Datum, GiveResult, Entry, EndProcedure, DataLabel, DataNumber, DataAddress, Globals, and_parts, Keeps, cond, Option, length, is_some, ne_eqb, append_assoc, append-nil, length-append, ℤ, list_any, drop-append_seam, FRAME_WORDS, OCODE_STATEMENTS, OCODE_WORDS, OcodeKind, Body, Taker, Last, GlobalEntry, Static, Load, Address, Assign, TakeResult, Save, ReturnItem, Return, stmt_words, least_depth, followed, data_labels, item_label, global_labels, role, IsDepth, InRange, is_data, is_entry, data_set, is_set, over, left_after, is_badly_followed, not_followed, depths_disagree, too_long, text_size, Use, unused, jumps, results, word, entry, Standing, outside, body, ended, AllJump, AllEntries, Agrees, Fits, Typed, done, enters, goes, lands, takes, returns, gives, begins, holds, points, ends, sets, times_set, TypedIsSection, le-ltb, lt-leb, le-leb, and_from, or_from, ⊤, at_seam, get-append, nat_le, nat_lt, leb-false, ltb-false, DataFindsItsLabel, ItemFindsItsLabel, GlobalFindsItsEntry, GlobalIsLast, TextIsShort, StmtPlace, same_Some, or_cases, take-append_seam}
 use Rattle.bk_ocode.proofs.LabelsOnce.{order, slice_get-take, not_before, Preserves, all_changed_keeps, after_keeps}
 
 -- a statement that does not set the label keeps what set it
@@ -32,26 +32,26 @@ chosenP P false x y e p = absurd (let h : false ≡ true = e in cc)
 
 -- jumps came with this depth, and perhaps with others
 abbrev CameWith : ℕ → JumpDepths → Type 0
-CameWith k jumps.Unused = ⊥
-CameWith k (jumps.One d) = d ≡ k
-CameWith k jumps.Several = Unit {0}
+CameWith k depths.Unused = ⊥
+CameWith k (depths.One d) = d ≡ k
+CameWith k depths.Several = Unit {0}
 
 abbrev Came : ℕ → LabelUse → Type 0
 Came k known = CameWith k known.jumps
 
-one_or_several : (b : Bool) (d k : ℕ) → (b ≡ true → d ≡ k) → CameWith k (if b then jumps.One d else jumps.Several)
+one_or_several : (b : Bool) (d k : ℕ) → (b ≡ true → d ≡ k) → CameWith k (if b then depths.One d else depths.Several)
 one_or_several true d k f = f refl
 one_or_several false d k f = tt
 
 with_depth-now : (k : ℕ) (j : JumpDepths) → CameWith k (with_depth k j)
-with_depth-now k jumps.Unused = refl
-with_depth-now k (jumps.One d) = one_or_several (d == k) d k (λ e. eqb-true d k e)
-with_depth-now k jumps.Several = tt
+with_depth-now k depths.Unused = refl
+with_depth-now k (depths.One d) = one_or_several (d == k) d k (λ e. eqb-true d k e)
+with_depth-now k depths.Several = tt
 
 with_depth-keeps : (d k : ℕ) (j : JumpDepths) → CameWith k j → CameWith k (with_depth d j)
-with_depth-keeps d k jumps.Unused came = absurd came
-with_depth-keeps d k (jumps.One e) came = one_or_several (e == d) e k (λ _. came)
-with_depth-keeps d k jumps.Several came = tt
+with_depth-keeps d k depths.Unused came = absurd came
+with_depth-keeps d k (depths.One e) came = one_or_several (e == d) e k (λ _. came)
+with_depth-keeps d k depths.Several came = tt
 
 jumped-keeps : (d k : ℕ) → Preserves (Came k) (jumped d)
 jumped-keeps d k known came = with_depth-keeps d k known.jumps came
@@ -110,9 +110,9 @@ take-of-take [] (suc j) (suc i) low = refl
 take-of-take (s ∷ rest) (suc j) (suc i) low = ap (λ (t : List Stmt). s ∷ t) (take-of-take rest j i (omega (arith, low)))
 
 agreed : (k depth : ℕ) (j : JumpDepths) → CameWith k j → are_other_jumps depth j ≡ false → k ≡ depth
-agreed k depth jumps.Unused came e = absurd came
-agreed k depth (jumps.One d) came e = sym came ∙ eqb-true d depth (not-false (d == depth) e)
-agreed k depth jumps.Several came e = absurd (let h : true ≡ false = e in cc)
+agreed k depth depths.Unused came e = absurd came
+agreed k depth (depths.One d) came e = sym came ∙ eqb-true d depth (not-false (d == depth) e)
+agreed k depth depths.Several came e = absurd (let h : true ≡ false = e in cc)
 
 none_other : (c : Context) (k : ℕ) (ls : List ℕ) (l : ℕ) → jumps_disagree c k ls ≡ false → IsAmong l ls → is_other_lab k (c.uses l).setting ≡ false
 none_other c k [] l none among = absurd among
