@@ -18,7 +18,8 @@ use std::alloc::AllocError;
 /// How many steps are taken at once at most.
 const STEPS: u32 = 64;
 
-/// Goes on with what comes next, in some steps. What a library routine gives, and the end of a run, stay as they are.
+/// Goes on with what comes next, in some steps: up to where more cells live than ever before, so that a limit is told where it is reached.
+/// What a library routine gives, and the end of a run, stay as they are.
 pub fn step<'a>(
     m: &mut Evaluator<'a>,
     program: &[Lasting<'a>],
@@ -31,7 +32,8 @@ pub fn step<'a>(
 {
     let mut next = next;
     let mut left = STEPS;
-    'steps: while left == STEPS || (left > 0 && goes_on(m, &next)) {
+    let most_cells = m.most_cells;
+    'steps: while left == STEPS || (left > 0 && m.most_cells == most_cells && goes_on(m, &next)) {
         left -= 1;
         next = once(m, program, next)?;
     }
